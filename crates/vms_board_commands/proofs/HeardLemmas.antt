@@ -22,7 +22,7 @@ use Rattle.vms_commands.specs.Outcomes.{Outcome, done, ended}
 use Rattle.vms_commands.specs.StepEndings.{StepAs}
 use Rattle.vms_commands.specs.Steps.{Step, Untold, Gives, Ends}
 use Rattle.vms_commands.specs.declared.ending.Ending.{Ending}
-use Rattle.vms_commands.specs.declared.ending.Ending.TheVariants.{Done, Refused}
+use Rattle.vms_commands.specs.declared.ending.Ending.TheVariants.{Done, Refused, WouldLose}
 use Rattle.vms_script.specs.Lines.{ScriptLine}
 use Rattle.vms_session.specs.Events.{events_of, trace_from}
 use Rattle.vms_spec.specs.Images.{Image}
@@ -39,17 +39,20 @@ use Rattle.vms_board_commands.specs.Load.{Loads, Traces, Faulty, Unfit}
 abbrev pub IsOther : Ending → Type 0
 IsOther Done = ⊥
 IsOther (Refused line) = ⊥
+IsOther (WouldLose line) = ⊥
 IsOther ending = Unit {0}
 
 pub other_heard : (A : Type 0) (step : Step A) (outcome : A → List ℕ → Outcome → Type 0) (held : Option Held) (before now : ℕ) (o o' : Outlet) (e : Ending) → IsOther e
     → HearsBy A step outcome held before now o o' e
 other_heard A step outcome held before now o o' Done other = absurd other
 other_heard A step outcome held before now o o' (Refused line) other = absurd other
+other_heard A step outcome held before now o o' (WouldLose line) other = absurd other
 other_heard A step outcome held before now o o' e other = tt
 
 pub script_other : (s s' : Stock) (e : Ending) → NoScript s s' e → IsOther e
 script_other s s' Done c = absurd c
 script_other s s' (Refused line) c = absurd c
+script_other s s' (WouldLose line) c = absurd c
 script_other s s' e c = tt
 
 -- ---- steps
@@ -63,6 +66,7 @@ pub heard_so : (A : Type 0) (step : Step A) (outcome : A → List ℕ → Outcom
     → HearsEnd (outcome a) held before now o o' e → HearsBy A step outcome held before now o o' e
 heard_so A step outcome a held before now o o' Done is h = (a, is, h)
 heard_so A step outcome a held before now o o' (Refused line) is h = (a, is, h)
+heard_so A step outcome a held before now o o' (WouldLose line) is h = (a, is, h)
 heard_so A step outcome a held before now o o' e is h = tt
 
 -- ---- what is done
@@ -78,6 +82,7 @@ written_end outcome held bytes text n before now o o' Done is ends given w = rec
   given = given;
 }
 written_end outcome held bytes text n before now o o' (Refused line) is ends given w = absurd w
+written_end outcome held bytes text n before now o o' (WouldLose line) is ends given w = absurd w
 written_end outcome held bytes text n before now o o' e is ends given w = tt
 
 -- where nothing is left behind a stream, it is all of the bytes
@@ -90,11 +95,11 @@ all_taken set names bytes taken machine images takes none =
 -- ---- what a restore hears
 
 -- with this line and so many bytes it is the outcome of all of them
-pub all_of : (outcome : List ℕ → Outcome → Type 0) (bytes said line : List ℕ) (n before now : ℕ) → outcome bytes (ended 1 said n) → line ≡ said → length bytes ≡ n
-    → now ≡ capped (before + length bytes) → Hears outcome line before now
-all_of outcome bytes said line n before now o is ends given = record {
+pub all_of : (outcome : List ℕ → Outcome → Type 0) (status : ℕ) (bytes said line : List ℕ) (n before now : ℕ) → outcome bytes (ended status said n) → line ≡ said
+    → length bytes ≡ n → now ≡ capped (before + length bytes) → Hears outcome status line before now
+all_of outcome status bytes said line n before now o is ends given = record {
   bytes = bytes;
-  is = subst (λ (k : ℕ). outcome bytes (ended 1 line k)) (sym ends) (subst (λ (l : List ℕ). outcome bytes (ended 1 l n)) (sym is) o);
+  is = subst (λ (k : ℕ). outcome bytes (ended status line k)) (sym ends) (subst (λ (l : List ℕ). outcome bytes (ended status l n)) (sym is) o);
   given = given;
 }
 
@@ -104,7 +109,7 @@ module _ {S : Type 0} (kind : Family S) (level : ℕ) (lines : List ScriptLine) 
   loads bytes x = Loads kind level lines bytes held x
 
   -- at a fault the bytes end with its unit, else with the stream
-  by-fault : (bytes : List ℕ) → IsBytes bytes → now ≡ capped (before + length bytes) → IsRefused kind level (bytes ++ []) (Some []) r → Hears loads line.items before now
+  by-fault : (bytes : List ℕ) → IsBytes bytes → now ≡ capped (before + length bytes) → IsRefused kind level (bytes ++ []) (Some []) r → Hears loads 1 line.items before now
   by-fault bytes ok given (inl f) =
       let set = kind.set kind.newest in
       let names = kind.machine level ∷ [] in
@@ -112,7 +117,7 @@ module _ {S : Type 0} (kind : Family S) (level : ℕ) (lines : List ScriptLine) 
       subst (λ (m : List ℕ). Reads set names (bytes ++ m) (Some m) [] 0 (Err (faults.Refused r))) (sym none) (f.0.0, f.0.1, f.1) in
       let heard : HearsLoad set names before now [] 0 (Err (faults.Refused r)) = record { bytes = bytes; octets = ok; given = given; says = here } in
       let e = heard_holds set names before now [] 0 r heard in
-      all_of loads e.bytes (refused_line set r.at r.section r.reason) line.items (r.at + e.size) before now (Faulty r.at r.section r.reason e.size e.fault) said e.ends
+      all_of loads 1 e.bytes (refused_line set r.at r.section r.reason) line.items (r.at + e.size) before now (Faulty r.at r.section r.reason e.size e.fault) said e.ends
       (e.given ∙ ap (λ (n : ℕ). capped (before + n)) (sym e.ends))
   by-fault bytes ok given (inr f) =
       let misfit : IsMisfitAt kind level bytes r.at r.section r.reason = subst (λ (l : List ℕ). IsMisfitAt kind level l r.at r.section r.reason) (append-nil bytes) f.0 in
@@ -121,9 +126,9 @@ module _ {S : Type 0} (kind : Family S) (level : ℕ) (lines : List ScriptLine) 
       let all : length (bytes ++ []) ≡ length bytes = ap length (append-nil bytes) in
       let ends : length bytes ≡ r.at =
       omega (arith, all, ap length none, length-drop r.at (bytes ++ []), ap length takes.prefix, length-append takes.bytes takes.rest, takes.long) in
-      all_of loads bytes (refused_line (kind.set kind.newest) r.at r.section r.reason) line.items r.at before now (Unfit r.at r.section r.reason misfit) said ends given
+      all_of loads 1 bytes (refused_line (kind.set kind.newest) r.at r.section r.reason) line.items r.at before now (Unfit r.at r.section r.reason misfit) said ends given
 
-  pub restore_heard : (new : Standing S) (fault : RestoreFault) → fault ≡ restores.Refused r → HearsBoard kind level before now new (Err fault) → Hears loads line.items before now
+  pub restore_heard : (new : Standing S) (fault : RestoreFault) → fault ≡ restores.Refused r → HearsBoard kind level before now new (Err fault) → Hears loads 1 line.items before now
   restore_heard new fault same h =
       let first : HearsBoard kind level before now new (Err (restores.Refused r)) = subst (λ (f : RestoreFault). HearsBoard kind level before now new (Err f)) same h in
       by-fault first.bytes first.octets first.given (first.says [] refl)

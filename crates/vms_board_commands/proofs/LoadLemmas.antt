@@ -140,15 +140,7 @@ written_events kind events m o o' e w = subst (λ (es : List Event). WritesAs (t
 pub trace_cause : (text : List ℕ) (i i' : Intake) (o o' : Outlet) (e : Ending) → WritesAs text o o' e → StreamCause i i' o o' e
 trace_cause text i i' o o' endings.Done w = tt
 trace_cause text i i' o o' endings.WriteFault w = w.1
-trace_cause text i i' o o' (endings.Refused line) w = absurd w
-trace_cause text i i' o o' endings.BadWords w = absurd w
-trace_cause text i i' o o' (endings.BadText line) w = absurd w
-trace_cause text i i' o o' (endings.NotCompatible line) w = absurd w
-trace_cause text i i' o o' endings.ReadFault w = absurd w
-trace_cause text i i' o o' endings.ShelfFault w = absurd w
-trace_cause text i i' o o' (endings.NotThere line) w = absurd w
-trace_cause text i i' o o' (endings.TooLarge line) w = absurd w
-trace_cause text i i' o o' endings.NoMemory w = absurd w
+trace_cause text i i' o o' e w = absurd w
 
 -- ---- how many bytes the input gives
 

@@ -13,7 +13,7 @@ use Rattle.vms_session.specs.declared.line.PlayFault.{PlayFault}
 use Rattle.vms_script.specs.Lines.{ScriptLine}
 use Rattle.vms_session.specs.Session.{Session}
 use Rattle.vms_commands.specs.declared.ending.Ending.{Ending}
-use Rattle.vms_commands.specs.declared.ending.Ending.TheVariants.{Done, Refused, BadWords, BadText, NotCompatible, ReadFault, WriteFault, ShelfFault, NotThere, TooLarge, NoMemory}
+use Rattle.vms_commands.specs.declared.ending.Ending.TheVariants.{Done, ReadFault, WriteFault, ShelfFault, NoMemory}
 use Rattle.vms_session.proofs.CourseLemmas.{rose_since}
 use Rattle.vms_session.specs.Playing.{HasPlayCause}
 use Rattle.vms_session.specs.declared.line.PlayFault.TheVariants as faults
@@ -96,27 +96,16 @@ module _ (i i' : Intake) (o o' : Outlet) (a b s' : Stock) (held : b.held ≡ a.h
 
   pub ends_since : (e : Ending) → EndsAs i i' o o' b s' e x → EndsAs i i' o o' a s' e x
   ends_since Done h = done-since h
-  ends_since (Refused line) h = h
-  ends_since BadWords h = h
-  ends_since (BadText line) h = h
-  ends_since (NotCompatible line) h = h
   ends_since ReadFault h = comes-since h
   ends_since WriteFault h = comes-since h
   ends_since ShelfFault (inl h) = inl (comes-since h)
   ends_since ShelfFault (inr h) = inr (fails-since h)
-  ends_since (NotThere line) h = h
-  ends_since (TooLarge line) h = h
   ends_since NoMemory h = comes-since h
+  ends_since e h = h
 
 pub lines_since : (o o' : Outlet) (a b s' : Stock) (e : Ending) → a.faults ≤ b.faults → LinesCause o o' b s' e → LinesCause o o' a s' e
 lines_since o o' a b s' Done le c = tt
 lines_since o o' a b s' WriteFault le c = c
 lines_since o o' a b s' ShelfFault le c = rose_since a.faults b.faults s'.faults le c
 lines_since o o' a b s' NoMemory le c = tt
-lines_since o o' a b s' (Refused line) le c = absurd c
-lines_since o o' a b s' BadWords le c = absurd c
-lines_since o o' a b s' (BadText line) le c = absurd c
-lines_since o o' a b s' (NotCompatible line) le c = absurd c
-lines_since o o' a b s' ReadFault le c = absurd c
-lines_since o o' a b s' (NotThere line) le c = absurd c
-lines_since o o' a b s' (TooLarge line) le c = absurd c
+lines_since o o' a b s' e le c = absurd c

@@ -7,7 +7,7 @@ use Rattle.dev_board.specs.declared.event.Event.{Event}
 use Rattle.vms_io.specs.Told.{Stock}
 use Rattle.vms_commands.specs.StepEndings.{FetchCause}
 use Rattle.vms_commands.specs.declared.ending.Ending.{Ending}
-use Rattle.vms_commands.specs.declared.ending.Ending.TheVariants.{Done, Refused, BadWords, BadText, NotCompatible, ReadFault, WriteFault, ShelfFault, NotThere, TooLarge, NoMemory}
+use Rattle.vms_commands.specs.declared.ending.Ending.TheVariants.{BadText, ShelfFault, NotThere, TooLarge, NoMemory}
 use Rattle.vms_session.proofs.RunLemmas.{are_events}
 use Rattle.vms_script.proofs.GrammarOnly.{reads_exactly}
 use Rattle.vms_script.specs.Grammar.{AreLines}
@@ -39,26 +39,12 @@ no_script s s' ShelfFault h = h
 no_script s s' (NotThere line) h = tt
 no_script s s' (TooLarge line) h = tt
 no_script s s' NoMemory h = tt
-no_script s s' Done h = absurd h
-no_script s s' (Refused line) h = absurd h
-no_script s s' BadWords h = absurd h
-no_script s s' (BadText line) h = absurd h
-no_script s s' (NotCompatible line) h = absurd h
-no_script s s' ReadFault h = absurd h
-no_script s s' WriteFault h = absurd h
+no_script s s' e h = absurd h
 
 read-no-script : (T : Type 0) (s s' : Stock) (e : Ending) → ReadCause {T = T} (Err e) → NoScript s s' e
 read-no-script T s s' (BadText line) h = tt
 read-no-script T s s' NoMemory h = tt
-read-no-script T s s' Done h = absurd h
-read-no-script T s s' (Refused line) h = absurd h
-read-no-script T s s' BadWords h = absurd h
-read-no-script T s s' (NotCompatible line) h = absurd h
-read-no-script T s s' ReadFault h = absurd h
-read-no-script T s s' WriteFault h = absurd h
-read-no-script T s s' ShelfFault h = absurd h
-read-no-script T s s' (NotThere line) h = absurd h
-read-no-script T s s' (TooLarge line) h = absurd h
+read-no-script T s s' e h = absurd h
 
 pub read_caused : (T : Type 0) (s s' : Stock) (r : Result T Ending) → ReadCause r → ScriptCause s s' r
 read_caused T s s' (Ok v) h = tt

@@ -4,7 +4,7 @@ use Rattle.vms_io.specs.Shelves.{Held}
 use Rattle.vms_io.specs.Told.{Outlet}
 use Rattle.vms_check.specs.declared.mismatch.Mismatch.{Mismatch}
 use Rattle.vms_commands.specs.declared.ending.Ending.{Ending}
-use Rattle.vms_commands.specs.declared.ending.Ending.TheVariants.{Done, Refused, BadWords, BadText, NotCompatible, ReadFault, WriteFault, ShelfFault, NotThere, TooLarge, NoMemory}
+use Rattle.vms_commands.specs.declared.ending.Ending.TheVariants.{Done, BadText, NotCompatible, WriteFault, NoMemory}
 use Rattle.vms_commands.specs.Endings.{Quiet}
 use Rattle.vms_commands.specs.Fetching.{named_sets}
 use Rattle.vms_commands.specs.SetWords.{SetWord}
@@ -20,12 +20,7 @@ compare_quiet asks o o' (BadText line) c = c.1
 compare_quiet asks o o' (NotCompatible line) c = c
 compare_quiet asks o o' WriteFault c = tt
 compare_quiet asks o o' NoMemory c = c
-compare_quiet asks o o' (Refused line) c = absurd c
-compare_quiet asks o o' BadWords c = absurd c
-compare_quiet asks o o' ReadFault c = absurd c
-compare_quiet asks o o' ShelfFault c = absurd c
-compare_quiet asks o o' (NotThere line) c = absurd c
-compare_quiet asks o o' (TooLarge line) c = absurd c
+compare_quiet asks o o' e c = absurd c
 
 sound_verdict : (held : Option Held) (m : Option Mismatch) → IsSound held (verdict m)
 sound_verdict held None = tt

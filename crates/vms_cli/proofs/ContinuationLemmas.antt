@@ -18,7 +18,7 @@ use Rattle.vms_commands.specs.Steps.{Step, Untold, Gives, Ends}
 use Rattle.vms_script.specs.Lines.{ScriptLine}
 use Rattle.vms_session.specs.Events.{events_of}
 use Rattle.vms_cli.specs.Answers.{HasOutcome}
-use Rattle.vms_cli.specs.Commands.{Asked, IsaBoard, Show, Analyze, Pack, Check, Counter, Save, Load, Drill, Play, ClockBoard}
+use Rattle.vms_cli.specs.Commands.{Asked, IsaBoard, ClockBoard, Load}
 use Rattle.vms_cli.specs.Continuation.{Continuation, ContinuesBy, goes_on}
 
 module _ {S : Type 0} (f : Family S) (Alike : S → S → Type 0) (IsSound : S → Type 0) (going : BoardsGoOn f Alike IsSound) where
@@ -36,14 +36,6 @@ module _ {S : Type 0} (f : Family S) (Alike : S → S → Type 0) (IsSound : S �
 
 pub continues_so : (asked : Option Asked) (status : ℕ) (old new : Outside)
     → ((o : Outcome) → HasOutcome asked old.input.left old.shelf.held o → DoesOrStops status old new o) → Continuation asked status old new
-continues_so None status old new all = tt
-continues_so (Some (Show set)) status old new all = tt
-continues_so (Some Analyze) status old new all = tt
-continues_so (Some (Pack set name)) status old new all = tt
-continues_so (Some (Check one other)) status old new all = tt
-continues_so (Some (Counter one other)) status old new all = tt
-continues_so (Some (Save board set script)) status old new all = tt
 continues_so (Some (Load (IsaBoard level) script)) status old new all = continues_by isa Alike IsSound boards_go_on level (scripted None old.shelf.held script) status old new all
 continues_so (Some (Load (ClockBoard version) script)) status old new all = continues_by clock AlikeClocks IsSoundClock clocks_go_on version (scripted None old.shelf.held script) status old new all
-continues_so (Some (Play level script)) status old new all = tt
-continues_so (Some (Drill level seed count)) status old new all = tt
+continues_so asked status old new all = tt

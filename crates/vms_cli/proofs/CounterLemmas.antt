@@ -23,7 +23,7 @@ use Rattle.vms_counter.specs.declared.finding.Finding.{Finding}
 use Rattle.vms_counter.specs.declared.finding.Finding.TheVariants as findings
 use Rattle.vms_counter.specs.Found.{answer_of}
 use Rattle.vms_commands.specs.declared.ending.Ending.{Ending}
-use Rattle.vms_commands.specs.declared.ending.Ending.TheVariants.{Done, Refused, BadWords, BadText, NotCompatible, ReadFault, WriteFault, ShelfFault, NotThere, TooLarge, NoMemory}
+use Rattle.vms_commands.specs.declared.ending.Ending.TheVariants.{Done, BadText, WriteFault, NoMemory}
 use Rattle.vms_commands.specs.Endings.{Quiet}
 use Rattle.vms_commands.specs.Fetching.{fetched_set, named_sets, SetText, set_in, sets_in}
 use Rattle.vms_commands.specs.Lines.{refused_line}
@@ -42,13 +42,7 @@ find_quiet asks o o' Done c = tt
 find_quiet asks o o' (BadText line) c = c.1
 find_quiet asks o o' WriteFault c = tt
 find_quiet asks o o' NoMemory c = c
-find_quiet asks o o' (NotCompatible line) c = absurd c
-find_quiet asks o o' (Refused line) c = absurd c
-find_quiet asks o o' BadWords c = absurd c
-find_quiet asks o o' ReadFault c = absurd c
-find_quiet asks o o' ShelfFault c = absurd c
-find_quiet asks o o' (NotThere line) c = absurd c
-find_quiet asks o o' (TooLarge line) c = absurd c
+find_quiet asks o o' e c = absurd c
 
 -- ---- both sets are well formed
 

@@ -1,21 +1,35 @@
 -- Each ending of a command, by what it touches.
-use Rattle.std.proofs.Common.{◌≡◌, ℕ, Bool, true, false, List, [], ◌∷◌, ◌++◌, Option, Some, None, inl, inr, refl, ap}
+use Rattle.std.proofs.Common.{◌≡◌, ℕ, Bool, true, false, ◌||◌, ◌==◌, List, [], ◌∷◌, ◌++◌, Option, Some, None, inl, inr, refl, ap, ◌∙◌}
+use Rattle.std.proofs.lemmas.Bool.{or_right}
 use Rattle.std.specs.Io.KnownBytes.{Keeps}
 use Rattle.vms_io.specs.Causes.{Rose}
 use Rattle.vms_io.specs.Told.{Intake, Outlet, Stock}
 use Rattle.vms_board_commands.specs.Causes.{LinesCause, LoadCause, NoScript, PlayCause, StreamCause as BoardCause, WriteCause}
 use Rattle.vms_commands.specs.declared.ending.Ending.{Ending}
-use Rattle.vms_commands.specs.declared.ending.Ending.TheVariants.{Done, Refused, BadWords, BadText, NotCompatible, ReadFault, WriteFault, ShelfFault, NotThere, TooLarge, NoMemory}
+use Rattle.vms_commands.specs.declared.ending.Ending.TheVariants.{Done, Refused, BadWords, BadText, NotCompatible, ReadFault, WriteFault, ShelfFault, NotThere, TooLarge, NoMemory, WouldLose}
 use Rattle.vms_commands.specs.Endings.{Caused, SetCause, status_of}
 use Rattle.vms_commands.specs.Fetching.{is_on_shelf}
 use Rattle.vms_commands.specs.Texts.{TextCause}
 use Rattle.vms_commands.proofs.EndLemmas.{same_keeps}
 use Rattle.vms_cli.specs.Analyze.{ListCause}
-use Rattle.vms_cli.specs.Causes.{CheckCause, CounterCause, EndsCause, IsBadWords, ShowCause, StreamCause}
+use Rattle.vms_cli.specs.Causes.{CheckCause, ConvertCause, CounterCause, EndsCause, IsBadWords, RewriteCause, ShowCause, StreamCause}
 use Rattle.vms_cli.specs.Check.{asks_shelf}
-use Rattle.vms_cli.specs.Commands.{Asked, IsaBoard, ClockBoard, Show, Analyze, Pack, Check, Counter, Save, Load, Drill, Play}
+use Rattle.vms_cli.specs.Commands.{Asked, IsaBoard, ClockBoard, Show, Convert, Analyze, Pack, Check, Counter, Save, Load, Drill, Play}
 use Rattle.vms_cli.specs.Statuses.{asks, is_among, of_shelf, statuses_of, stores_at, takes_at, writes_at}
 use Rattle.vms_cli.proofs.RowTables.{stores_one, writes_one, wrong}
+
+or_here : (b c d : Bool) → b || c ≡ true → (c ≡ true → d ≡ true) → b || d ≡ true
+or_here true c d e f = refl
+or_here false c d e f = f e
+
+-- a status is among those of two lists where it is among those of one
+among_left : (xs ys : List ℕ) (k : ℕ) → is_among xs k ≡ true → is_among (xs ++ ys) k ≡ true
+among_left [] ys k e = absurd (cc)
+among_left (n ∷ xs) ys k e = or_here (n == k) (is_among xs k) (is_among (xs ++ ys) k) e (among_left xs ys k)
+
+among_right : (xs ys : List ℕ) (k : ℕ) → is_among ys k ≡ true → is_among (xs ++ ys) k ≡ true
+among_right [] ys k e = e
+among_right (n ∷ xs) ys k e = or_right (n == k) (is_among (xs ++ ys) k) (among_right xs ys k e)
 
 module _ (i i' : Intake) (o o' : Outlet) (s s' : Stock) where
   -- a fault only where its count rose
@@ -53,23 +67,13 @@ module _ (i i' : Intake) (o o' : Outlet) (s s' : Stock) where
   text_so (NotThere line) c = (refl, tt, λ f. c)
   text_so (TooLarge line) c = (refl, tt, λ f. c)
   text_so NoMemory c = (refl, tt, λ f. c)
-  text_so (Refused line) c = absurd c
-  text_so BadWords c = absurd c
-  text_so (NotCompatible line) c = absurd c
-  text_so ReadFault c = absurd c
+  text_so e c = absurd c
 
   drill_so : (e : Ending) → WriteCause o o' e → IsOf own_text text_at e
   drill_so Done c = (refl, tt, λ f. absurd (wrong f))
   drill_so WriteFault c = (refl, c, λ f. absurd (wrong f))
   drill_so NoMemory c = (refl, tt, λ f. c)
-  drill_so (Refused line) c = absurd c
-  drill_so BadWords c = absurd c
-  drill_so (BadText line) c = absurd c
-  drill_so (NotCompatible line) c = absurd c
-  drill_so ReadFault c = absurd c
-  drill_so ShelfFault c = absurd c
-  drill_so (NotThere line) c = absurd c
-  drill_so (TooLarge line) c = absurd c
+  drill_so e c = absurd c
 
   counter_so : (b : Bool) (e : Ending) → CounterCause b o o' s s' e → IsOf (own_text ++ of_shelf b) text_at e
   counter_so b Done c = (refl, tt, λ f. absurd (wrong f))
@@ -79,10 +83,7 @@ module _ (i i' : Intake) (o o' : Outlet) (s s' : Stock) where
   counter_so b (NotThere line) c = (ap (λ (x : Bool). is_among (own_text ++ of_shelf x) 8) c.0, tt, λ f. c.1)
   counter_so b (TooLarge line) c = (ap (λ (x : Bool). is_among (own_text ++ of_shelf x) 9) c.0, tt, λ f. c.1)
   counter_so b NoMemory c = (refl, tt, λ f. c)
-  counter_so b (Refused line) c = absurd c
-  counter_so b BadWords c = absurd c
-  counter_so b (NotCompatible line) c = absurd c
-  counter_so b ReadFault c = absurd c
+  counter_so b e c = absurd c
 
   abbrev own_check : List ℕ
   own_check = 0 ∷ 4 ∷ 6 ∷ 10 ∷ []
@@ -96,22 +97,11 @@ module _ (i i' : Intake) (o o' : Outlet) (s s' : Stock) where
   check_so b (NotThere line) c = (ap (λ (x : Bool). is_among (own_check ++ of_shelf x) 8) c.0, tt, λ f. c.1)
   check_so b (TooLarge line) c = (ap (λ (x : Bool). is_among (own_check ++ of_shelf x) 9) c.0, tt, λ f. c.1)
   check_so b NoMemory c = (refl, tt, λ f. c)
-  check_so b (Refused line) c = absurd c
-  check_so b BadWords c = absurd c
-  check_so b ReadFault c = absurd c
+  check_so b e c = absurd c
 
   bad_words_so : (e : Ending) → IsBadWords e → o' ≡ o → IsOf (2 ∷ 6 ∷ []) [] e
   bad_words_so BadWords c same = (refl, tt, λ f. same_keeps o o' same)
-  bad_words_so Done c same = absurd c
-  bad_words_so (Refused line) c same = absurd c
-  bad_words_so (BadText line) c same = absurd c
-  bad_words_so (NotCompatible line) c same = absurd c
-  bad_words_so ReadFault c same = absurd c
-  bad_words_so WriteFault c same = absurd c
-  bad_words_so ShelfFault c same = absurd c
-  bad_words_so (NotThere line) c same = absurd c
-  bad_words_so (TooLarge line) c same = absurd c
-  bad_words_so NoMemory c same = absurd c
+  bad_words_so e c same = absurd c
 
   -- ---- of those that read the input
 
@@ -130,45 +120,51 @@ module _ (i i' : Intake) (o o' : Outlet) (s s' : Stock) where
   list_so ReadFault c = ((refl, c.0, λ f. c.1), λ f. absurd (wrong f))
   list_so WriteFault c = ((refl, c, λ f. absurd (wrong f)), λ f. absurd (wrong f))
   list_so NoMemory c = ((refl, tt, λ f. c), λ f. absurd (wrong f))
-  list_so BadWords c = absurd c
-  list_so (BadText line) c = absurd c
-  list_so (NotCompatible line) c = absurd c
-  list_so ShelfFault c = absurd c
-  list_so (NotThere line) c = absurd c
-  list_so (TooLarge line) c = absurd c
+  list_so e c = absurd c
 
   abbrev all_stream : Bool → List ℕ
   all_stream b = own_stream ++ of_shelf b
 
-  set_so : (b : Bool) (e : Ending) → SetCause b s s' e → i' ≡ i → Keeps o.written o'.written → Reads (all_stream b) stream_at e
-  set_so b (BadText line) c same k = ((ap (λ (x : Bool). is_among (all_stream x) 3) c, tt, λ f. k), λ f. same)
-  set_so b ShelfFault c same k = ((ap (λ (x : Bool). is_among (all_stream x) 7) c.0, c.1, λ f. k), λ f. same)
-  set_so b (NotThere line) c same k = ((ap (λ (x : Bool). is_among (all_stream x) 8) c, tt, λ f. k), λ f. same)
-  set_so b (TooLarge line) c same k = ((ap (λ (x : Bool). is_among (all_stream x) 9) c, tt, λ f. k), λ f. same)
-  set_so b NoMemory c same k = ((refl, tt, λ f. k), λ f. same)
-  set_so b Done c same k = absurd c
-  set_so b (Refused line) c same k = absurd c
-  set_so b BadWords c same k = absurd c
-  set_so b (NotCompatible line) c same k = absurd c
-  set_so b ReadFault c same k = absurd c
-  set_so b WriteFault c same k = absurd c
+  -- of a set that isn't had, whatever else the command can answer
+  set_so : (own takes : List ℕ) → is_among own 10 ≡ true → (b : Bool) (e : Ending) → SetCause b s s' e → i' ≡ i → Keeps o.written o'.written
+      → Reads (own ++ of_shelf b) takes e
+  set_so own takes ten b (BadText line) c same k = ((ap (λ (x : Bool). is_among (own ++ of_shelf x) 3) c ∙ among_right own (of_shelf true) 3 refl, tt, λ f. k), λ f. same)
+  set_so own takes ten b ShelfFault c same k = ((ap (λ (x : Bool). is_among (own ++ of_shelf x) 7) c.0 ∙ among_right own (of_shelf true) 7 refl, c.1, λ f. k), λ f. same)
+  set_so own takes ten b (NotThere line) c same k = ((ap (λ (x : Bool). is_among (own ++ of_shelf x) 8) c ∙ among_right own (of_shelf true) 8 refl, tt, λ f. k), λ f. same)
+  set_so own takes ten b (TooLarge line) c same k = ((ap (λ (x : Bool). is_among (own ++ of_shelf x) 9) c ∙ among_right own (of_shelf true) 9 refl, tt, λ f. k), λ f. same)
+  set_so own takes ten b NoMemory c same k = ((among_left own (of_shelf b) 10 ten, tt, λ f. k), λ f. same)
+  set_so own takes ten b e c same k = absurd c
 
   shown_so : (b : Bool) (e : Ending) → StreamCause i i' o o' e → Reads (all_stream b) stream_at e
   shown_so b Done c = ((refl, tt, λ f. absurd (wrong f)), λ f. absurd (wrong f))
   shown_so b (Refused line) c = ((refl, tt, λ f. c), λ f. absurd (wrong f))
   shown_so b ReadFault c = ((refl, c.0, λ f. c.1), λ f. absurd (wrong f))
   shown_so b WriteFault c = ((refl, c, λ f. absurd (wrong f)), λ f. absurd (wrong f))
-  shown_so b BadWords c = absurd c
-  shown_so b (BadText line) c = absurd c
-  shown_so b (NotCompatible line) c = absurd c
-  shown_so b ShelfFault c = absurd c
-  shown_so b (NotThere line) c = absurd c
-  shown_so b (TooLarge line) c = absurd c
-  shown_so b NoMemory c = absurd c
+  shown_so b e c = absurd c
 
   show_so : (b : Bool) (e : Ending) → ShowCause b i i' o o' s s' e → Reads (all_stream b) stream_at e
-  show_so b e (inl c) = set_so b e c.0 c.1 c.2
+  show_so b e (inl c) = set_so own_stream stream_at refl b e c.0 c.1 c.2
   show_so b e (inr c) = shown_so b e c
+
+  abbrev own_convert : List ℕ
+  own_convert = 0 ∷ 1 ∷ 4 ∷ 5 ∷ 6 ∷ 10 ∷ 11 ∷ []
+
+  abbrev convert_at : List ℕ
+  convert_at = 0 ∷ 1 ∷ 5 ∷ 6 ∷ 10 ∷ 11 ∷ []
+
+  rewritten_so : (b : Bool) (e : Ending) → RewriteCause i i' o o' e → Reads (own_convert ++ of_shelf b) convert_at e
+  rewritten_so b Done c = ((refl, tt, λ f. absurd (wrong f)), λ f. absurd (wrong f))
+  rewritten_so b (Refused line) c = ((refl, tt, λ f. c), λ f. absurd (wrong f))
+  rewritten_so b (NotCompatible line) c = ((refl, tt, λ f. c.1), λ f. c.0)
+  rewritten_so b ReadFault c = ((refl, c.0, λ f. c.1), λ f. absurd (wrong f))
+  rewritten_so b WriteFault c = ((refl, c, λ f. absurd (wrong f)), λ f. absurd (wrong f))
+  rewritten_so b NoMemory c = ((refl, tt, λ f. c), λ f. absurd (wrong f))
+  rewritten_so b (WouldLose line) c = ((refl, tt, λ f. c), λ f. absurd (wrong f))
+  rewritten_so b e c = absurd c
+
+  convert_so : (b : Bool) (e : Ending) → ConvertCause b i i' o o' s s' e → Reads (own_convert ++ of_shelf b) convert_at e
+  convert_so b e (inl c) = set_so own_convert convert_at refl b e c.0 c.1 c.2
+  convert_so b e (inr c) = rewritten_so b e c
 
   -- a script that isn't had is such a text
   script_set : (e : Ending) → NoScript s s' e → SetCause true s s' e
@@ -177,12 +173,7 @@ module _ (i i' : Intake) (o o' : Outlet) (s s' : Stock) where
   script_set (NotThere line) c = refl
   script_set (TooLarge line) c = refl
   script_set NoMemory c = tt
-  script_set Done c = absurd c
-  script_set (Refused line) c = absurd c
-  script_set BadWords c = absurd c
-  script_set (NotCompatible line) c = absurd c
-  script_set ReadFault c = absurd c
-  script_set WriteFault c = absurd c
+  script_set e c = absurd c
 
   restored_so : (e : Ending) → BoardCause i i' o o' e → Reads (all_stream true) stream_at e
   restored_so Done c = ((refl, tt, λ f. absurd (wrong f)), λ f. absurd (wrong f))
@@ -190,15 +181,10 @@ module _ (i i' : Intake) (o o' : Outlet) (s s' : Stock) where
   restored_so ReadFault c = ((refl, c.0, λ f. c.1), λ f. absurd (wrong f))
   restored_so WriteFault c = ((refl, c, λ f. absurd (wrong f)), λ f. absurd (wrong f))
   restored_so NoMemory c = ((refl, tt, λ f. c.0), λ f. c.1)
-  restored_so BadWords c = absurd c
-  restored_so (BadText line) c = absurd c
-  restored_so (NotCompatible line) c = absurd c
-  restored_so ShelfFault c = absurd c
-  restored_so (NotThere line) c = absurd c
-  restored_so (TooLarge line) c = absurd c
+  restored_so e c = absurd c
 
   load_so : (e : Ending) → LoadCause i i' o o' s s' e → Reads (all_stream true) stream_at e
-  load_so e (inl c) = set_so true e (script_set e c.0) c.1 c.2
+  load_so e (inl c) = set_so own_stream stream_at refl true e (script_set e c.0) c.1 c.2
   load_so e (inr c) = restored_so e c
 
   -- ---- of a session
@@ -215,25 +201,14 @@ module _ (i i' : Intake) (o o' : Outlet) (s s' : Stock) where
   unread_so (NotThere line) c k same = ((refl, tt, λ f. k), λ f. same)
   unread_so (TooLarge line) c k same = ((refl, tt, λ f. k), λ f. same)
   unread_so NoMemory c k same = ((refl, tt, λ f. k), λ f. same)
-  unread_so Done c k same = absurd c
-  unread_so (Refused line) c k same = absurd c
-  unread_so BadWords c k same = absurd c
-  unread_so (NotCompatible line) c k same = absurd c
-  unread_so ReadFault c k same = absurd c
-  unread_so WriteFault c k same = absurd c
+  unread_so e c k same = absurd c
 
   lines_so : (e : Ending) → LinesCause o o' s s' e → Stores e
   lines_so Done c = ((refl, tt, λ f. absurd (wrong f)), λ f. absurd (wrong f))
   lines_so WriteFault c = ((refl, c, λ f. absurd (wrong f)), λ f. absurd (wrong f))
   lines_so ShelfFault c = ((refl, c, λ f. absurd (wrong f)), λ f. absurd (wrong f))
   lines_so NoMemory c = ((refl, tt, λ f. absurd (wrong f)), λ f. absurd (wrong f))
-  lines_so (Refused line) c = absurd c
-  lines_so BadWords c = absurd c
-  lines_so (BadText line) c = absurd c
-  lines_so (NotCompatible line) c = absurd c
-  lines_so ReadFault c = absurd c
-  lines_so (NotThere line) c = absurd c
-  lines_so (TooLarge line) c = absurd c
+  lines_so e c = absurd c
 
   play_so : (e : Ending) → PlayCause o o' s s' e → Stores e
   play_so e (inl c) = unread_so e c.0 c.1 c.2
@@ -247,6 +222,9 @@ module _ (i i' : Intake) (o o' : Outlet) (s s' : Stock) where
       record { can = r.0; risen = r.1; out = r.2; input = λ f. c.1; held = λ f. ap (λ (x : Stock). x.held) c.3; shelf = λ f. c.3; unnamed = λ f. c.2 }
   ends_so (Some (Show set)) e c =
       let r = show_so (is_on_shelf set) e c.0 in
+      record { can = r.0.0; risen = r.0.1; out = r.0.2; input = r.1; held = λ f. c.1; shelf = c.2; unnamed = λ f. absurd (cc) }
+  ends_so (Some (Convert set)) e c =
+      let r = convert_so (is_on_shelf set) e c.0 in
       record { can = r.0.0; risen = r.0.1; out = r.0.2; input = r.1; held = λ f. c.1; shelf = c.2; unnamed = λ f. absurd (cc) }
   ends_so (Some Analyze) e c =
       let r = list_so e c.0 in
@@ -288,13 +266,8 @@ module _ (i i' : Intake) (o o' : Outlet) (s s' : Stock) where
 
   pub caused_so : (asked : Option Asked) (e : Ending) → EndsSo asked e → Caused i i' o o' s s' e
   caused_so asked Done h = tt
-  caused_so asked (Refused line) h = own_ends asked (Refused line) h (writes_one (Lacks 1) refl refl refl asked) (stores_one (Lacks 1) refl refl asked)
-  caused_so asked BadWords h = own_ends asked BadWords h (writes_one (Lacks 2) refl refl refl asked) (stores_one (Lacks 2) refl refl asked)
-  caused_so asked (BadText line) h = own_ends asked (BadText line) h (writes_one (Lacks 3) refl refl refl asked) (stores_one (Lacks 3) refl refl asked)
-  caused_so asked (NotCompatible line) h = own_ends asked (NotCompatible line) h (writes_one (Lacks 4) refl refl refl asked) (stores_one (Lacks 4) refl refl asked)
   caused_so asked ReadFault h = (h.risen, h.out (writes_one (Lacks 5) refl refl refl asked))
   caused_so asked WriteFault h = h.risen
   caused_so asked ShelfFault h = h.risen
-  caused_so asked (NotThere line) h = own_ends asked (NotThere line) h (writes_one (Lacks 8) refl refl refl asked) (stores_one (Lacks 8) refl refl asked)
-  caused_so asked (TooLarge line) h = own_ends asked (TooLarge line) h (writes_one (Lacks 9) refl refl refl asked) (stores_one (Lacks 9) refl refl asked)
   caused_so asked NoMemory h = tt
+  caused_so asked e h = own_ends asked e h (writes_one (Lacks (status_of e)) refl refl refl asked) (stores_one (Lacks (status_of e)) refl refl asked)

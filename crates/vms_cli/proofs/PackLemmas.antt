@@ -21,7 +21,7 @@ use Rattle.vms_values.specs.declared.fault.Values.{Values as Given}
 use Rattle.vms_values.specs.declared.fault.ValuesFault.TheVariants as faults
 use Rattle.vms_values_laws.proofs.Stated.{accepted_holds}
 use Rattle.vms_commands.specs.declared.ending.Ending.{Ending}
-use Rattle.vms_commands.specs.declared.ending.Ending.TheVariants.{Done, Refused, BadWords, BadText, NotCompatible, ReadFault, WriteFault, ShelfFault, NotThere, TooLarge, NoMemory}
+use Rattle.vms_commands.specs.declared.ending.Ending.TheVariants.{Done, BadText, WriteFault, NoMemory}
 use Rattle.vms_commands.specs.Endings.{Quiet}
 use Rattle.vms_commands.specs.Fetching.{SetText, fetched, fetched_set, longest_file, set_in, word_set}
 use Rattle.vms_commands.specs.SetWords.{SetWord}
@@ -119,13 +119,7 @@ write_quiet o o' Done c = tt
 write_quiet o o' (BadText line) c = c
 write_quiet o o' WriteFault c = tt
 write_quiet o o' NoMemory c = c
-write_quiet o o' (Refused line) c = absurd c
-write_quiet o o' BadWords c = absurd c
-write_quiet o o' (NotCompatible line) c = absurd c
-write_quiet o o' ReadFault c = absurd c
-write_quiet o o' ShelfFault c = absurd c
-write_quiet o o' (NotThere line) c = absurd c
-write_quiet o o' (TooLarge line) c = absurd c
+write_quiet o o' e c = absurd c
 
 sound_read : (held : Option Held) (set : Set) (r : ValuesRead) → IsSound held (packed_by set r)
 sound_read held set (Values machine images) = tt

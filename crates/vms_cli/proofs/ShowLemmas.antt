@@ -30,7 +30,7 @@ use Rattle.vms_desc.proofs.AskLaws.{few_cells}
 use Rattle.vms_image.specs.Typed.{Typed, state_of}
 use Rattle.vms_values.specs.Printing.{AreOf, IsOf, machine_of}
 use Rattle.vms_commands.specs.declared.ending.Ending.{Ending}
-use Rattle.vms_commands.specs.declared.ending.Ending.TheVariants.{Done, Refused}
+use Rattle.vms_commands.specs.declared.ending.Ending.TheVariants.{Done, Refused, WouldLose}
 use Rattle.vms_commands.specs.Endings.{EndsAs, SetCause, WritesAs}
 use Rattle.vms_commands.specs.Lines.{refused_line}
 use Rattle.vms_commands.specs.Outcomes.{Outcome, done, ended, TakesBytes}
@@ -156,16 +156,17 @@ gives_within m (Ends status line) t i i' h within well = absurd h
 pub set_other : (asks : Bool) (s s' : Stock) (e : Ending) → SetCause asks s s' e → IsOther e
 set_other asks s s' Done c = absurd c
 set_other asks s s' (Refused line) c = absurd c
+set_other asks s s' (WouldLose line) c = absurd c
 set_other asks s s' e c = tt
 
 pub heard_refused : (set : Set) → IsFit set → (held : Option Held) (before now : ℕ) (images : List Image) (taken : ℕ) (fault : LoadFault) (r : Refusal) → fault ≡ faults.Refused r
     → (line : ArrayVec ℕ) → line.items ≡ refused_line set r.at r.section r.reason → HearsLoad set (accepted_of set None) before now images taken (Err fault)
-    → Hears (ShowsWell held set) line.items before now
+    → Hears (ShowsWell held set) 1 line.items before now
 heard_refused set fit held before now images taken fault r same line said h =
     let first : HearsLoad set (accepted_of set None) before now images taken (Err (faults.Refused r)) =
     subst (λ (f : LoadFault). HearsLoad set (accepted_of set None) before now images taken (Err f)) same h in
     let e = heard_holds set (accepted_of set None) before now images taken r first in
-    all_of (ShowsWell held set) e.bytes (refused_line set r.at r.section r.reason) line.items (r.at + e.size) before now
+    all_of (ShowsWell held set) 1 e.bytes (refused_line set r.at r.section r.reason) line.items (r.at + e.size) before now
     (fit.well, Refuses r.at r.section r.reason e.size e.fault) said e.ends (e.given ∙ ap (λ (n : ℕ). capped (before + n)) (sym e.ends))
 
 -- a stream was taken from all of the bytes, and its text was written, or some of it

@@ -6,7 +6,7 @@ use Rattle.vms_check.specs.Comparing.{first_mismatch}
 use Rattle.vms_check.specs.declared.mismatch.Mismatch.{Mismatch}
 use Rattle.vms_cli.specs.Answers.{HasOutcome}
 use Rattle.vms_cli.specs.Check.{AreCompatible, Verdict, compared, verdict}
-use Rattle.vms_cli.specs.Commands.{Asked, Show, Analyze, Pack, Check, Counter, Save, Load, Drill, Play}
+use Rattle.vms_cli.specs.Commands.{Asked, Check}
 use Rattle.vms_commands.specs.Fetching.{named_sets}
 use Rattle.vms_commands.specs.Outcomes.{Outcome, Outside, DoesOrStops, ended, HasPart, ReadFault, OutFault, NotesFault, ShelfFault, WantsMemory}
 use Rattle.vms_commands.specs.SetLines.{mismatch_line}
@@ -44,14 +44,6 @@ module _ (status : ℕ) (old new : Outside) (zero : status ≡ 0) where
 
 pub verdict_so : (asked : Option Asked) (left : Option (List ℕ)) (held : Option Held) (status : ℕ) (old new : Outside)
     → ((o : Outcome) → HasOutcome asked left held o → DoesOrStops status old new o) → Verdict asked held status
-verdict_so None left held status old new all = tt
-verdict_so (Some (Show set)) left held status old new all = tt
-verdict_so (Some Analyze) left held status old new all = tt
-verdict_so (Some (Pack set name)) left held status old new all = tt
 verdict_so (Some (Check a b)) left held status old new all =
     λ zero. are_compatible status old new zero held (named_sets held a b) (sound_sets held a b) all
-verdict_so (Some (Counter a b)) left held status old new all = tt
-verdict_so (Some (Save board set script)) left held status old new all = tt
-verdict_so (Some (Load board script)) left held status old new all = tt
-verdict_so (Some (Play level script)) left held status old new all = tt
-verdict_so (Some (Drill level seed count)) left held status old new all = tt
+verdict_so asked left held status old new all = tt

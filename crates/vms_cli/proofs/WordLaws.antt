@@ -6,11 +6,10 @@ use Rattle.dev_base.specs.Levels.{IsLevel}
 use Rattle.dev_base.specs.declared.limits.TheConstants.{NEWEST}
 use Rattle.vms_rtc.specs.declared.limits.TheConstants.{NEWEST_CLOCK}
 use Rattle.vms_io.specs.Shelves.{Held}
-use Rattle.vms_commands.specs.SetWords.{Isa, Clock, ShippedSet, SetWord, named_in, set_word, shipped_word, shipped_words}
+use Rattle.vms_commands.specs.SetWords.{Isa, Clock, ShippedSet, SetWord, Shipped, OnShelf, named_in, set_word, shipped_word, shipped_words}
 use Rattle.vms_script.specs.Names.{is_shelf_name}
-use Rattle.vms_session.specs.Laws.{HoldsAll}
-use Rattle.vms_cli.specs.Commands.{Asked, BoardWord, IsaBoard, ClockBoard, Show, Analyze, Pack, Check, Counter, Save, Load, Drill, Play, asked_of, board_word, board_words, check_of, counter_of, drill_of, few_events, isa_level, load_of, number_word, on_board, pack_of, pair_of, play_of, save_of, save_under, show_of, triple_of}
-use Rattle.vms_cli.specs.Laws.{AskedLaw, CanBeAsked, IsBoard, MaySaveOn, GoesBy, WordsLaw}
+use Rattle.vms_cli.specs.Commands.{Asked, BoardWord, IsaBoard, ClockBoard, Analyze, Pack, Play, asked_of, board_word, board_words, check_of, convert_of, counter_of, drill_of, few_events, isa_level, load_of, number_word, on_board, pack_of, pair_of, play_of, save_of, save_under, show_of, single_of, triple_of}
+use Rattle.vms_cli.specs.Laws.{AskedLaw, CanBeAsked, IsBoard, MaySaveOn}
 
 -- ---- boards
 
@@ -95,6 +94,12 @@ show-asked : (set : Option SetWord) → CanBeAsked (show_of set)
 show-asked None = tt
 show-asked (Some set) = tt
 
+convert-asked : (set : Option SetWord) → CanBeAsked (convert_of set)
+convert-asked None = tt
+convert-asked (Some (Shipped (Isa number))) = tt
+convert-asked (Some (Shipped (Clock number))) = tt
+convert-asked (Some (OnShelf name)) = tt
+
 check-asked : (old new : Option SetWord) → CanBeAsked (check_of old new)
 check-asked None None = tt
 check-asked None (Some new) = tt
@@ -160,6 +165,12 @@ drill-asked (Some level) None (Some count) is = tt
 drill-asked (Some level) (Some seed) None is = tt
 drill-asked (Some level) (Some seed) (Some count) is = is
 
+single-asked : (name set : List ℕ) → CanBeAsked (single_of name set)
+unfolding single_of
+single-asked name set =
+    either-asked (bytes_eq name (codes "show")) (show_of (set_word set)) _ (show-asked (set_word set))
+    (either-asked (bytes_eq name (codes "convert")) (convert_of (set_word set)) None (convert-asked (set_word set)) tt)
+
 pair-asked : (name one other : List ℕ) → CanBeAsked (pair_of name one other)
 unfolding pair_of
 pair-asked name one other =
@@ -180,24 +191,7 @@ triple-asked name one two three =
 pub words_ask : AskedLaw
 words_ask [] = tt
 words_ask (name ∷ []) = either-asked (bytes_eq name (codes "analyze")) (Some Analyze) None tt tt
-words_ask (name ∷ set ∷ []) = either-asked (bytes_eq name (codes "show")) (show_of (set_word set)) None (show-asked (set_word set)) tt
+words_ask (name ∷ set ∷ []) = single-asked name set
 words_ask (name ∷ one ∷ other ∷ []) = pair-asked name one other
 words_ask (name ∷ one ∷ two ∷ three ∷ []) = triple-asked name one two three
 words_ask (name ∷ one ∷ two ∷ three ∷ four ∷ words) = tt
-
--- ---- what `play` goes by
-
-goes-by : (asked : Option Asked) (held : Held) → CanBeAsked asked → HoldsAll held → GoesBy asked held
-goes-by None held can holds = tt
-goes-by (Some (Show set)) held can holds = tt
-goes-by (Some Analyze) held can holds = tt
-goes-by (Some (Pack set values)) held can holds = tt
-goes-by (Some (Check old new)) held can holds = tt
-goes-by (Some (Counter old new)) held can holds = tt
-goes-by (Some (Save board set script)) held can holds = tt
-goes-by (Some (Load board script)) held can holds = tt
-goes-by (Some (Drill level seed count)) held can holds = tt
-goes-by (Some (Play level script)) held can holds = (can, holds)
-
-pub words_hold : WordsLaw
-words_hold words held holds = goes-by (asked_of words) held (words_ask words) holds

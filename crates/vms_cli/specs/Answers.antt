@@ -14,7 +14,8 @@ use Rattle.vms_board_commands.specs.Save.{saved_after}
 use Rattle.vms_board_commands.specs.Scripts.{scripted}
 use Rattle.vms_cli.specs.Analyze.{IsListing}
 use Rattle.vms_cli.specs.Check.{checked, Verdict}
-use Rattle.vms_cli.specs.Commands.{Asked, BoardWord, IsaBoard, ClockBoard, Show, Analyze, Pack, Check, Counter, Save, Load, Drill, Play, asked_of}
+use Rattle.vms_cli.specs.Commands.{Asked, BoardWord, IsaBoard, ClockBoard, Show, Convert, Analyze, Pack, Check, Counter, Save, Load, Drill, Play, asked_of}
+use Rattle.vms_cli.specs.Convert.{ConvertsBy, target}
 use Rattle.vms_cli.specs.Counter.{CountersBy}
 use Rattle.vms_cli.specs.Continuation.{Continuation}
 use Rattle.vms_cli.specs.Pack.{packs}
@@ -32,6 +33,7 @@ saved_on (ClockBoard version) set held script = saved_after clock version set he
 abbrev pub HasOutcome : Option Asked → Option (List ℕ) → Option Held → Outcome → Type 0
 HasOutcome None input held o = o ≡ ended 2 bad_words 0
 HasOutcome (Some (Show set)) input held o = ShowsBy (word_set held set) input held o
+HasOutcome (Some (Convert set)) input held o = ConvertsBy (target held set) input held o
 HasOutcome (Some Analyze) input held o = IsSomeAnd input (λ bytes. IsListing held bytes o)
 HasOutcome (Some (Pack set name)) input held o = HasText held (packs held set name) o
 HasOutcome (Some (Check old new)) input held o = HasText held (checked held old new) o

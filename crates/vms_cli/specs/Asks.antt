@@ -7,7 +7,7 @@ use Rattle.vms_cli.specs.declared.boards.BoardWord.TheVariants.{Isa, Clock}
 use Rattle.vms_cli.specs.declared.boards.SavedBoard.{SavedBoard}
 use Rattle.vms_cli.specs.declared.boards.SavedBoard.TheVariants as saved
 use Rattle.vms_cli.specs.declared.words.Command.{Command}
-use Rattle.vms_cli.specs.declared.words.Command.TheVariants.{Show, Analyze, Pack, Check, Counter, Save, Load, Drill, Play}
+use Rattle.vms_cli.specs.declared.words.Command.TheVariants.{Show, Convert, Analyze, Pack, Check, Counter, Save, Load, Drill, Play}
 
 abbrev pub board_asked : BoardWord → commands.BoardWord
 board_asked (Isa board) = commands.IsaBoard board.level
@@ -20,6 +20,7 @@ saved_asked (saved.Clock board) = (commands.ClockBoard board.version, board.set)
 
 abbrev pub asked : Command → commands.Asked
 asked (Show set) = commands.Show (set_asked set)
+asked (Convert set) = commands.Convert (set_asked set)
 asked Analyze = commands.Analyze
 asked (Pack set values) = commands.Pack (set_asked set) values.now
 asked (Check old new) = commands.Check (set_asked old) (set_asked new)

@@ -4,7 +4,7 @@ use Rattle.std.specs.Io.KnownBytes.{Keeps}
 use Rattle.vms_io.specs.Causes.{Rose}
 use Rattle.vms_io.specs.Told.{Intake, Outlet, Stock}
 use Rattle.vms_commands.specs.declared.ending.Ending.{Ending}
-use Rattle.vms_commands.specs.declared.ending.Ending.TheVariants.{Done, Refused, BadWords, BadText, NotCompatible, ReadFault, WriteFault, ShelfFault, NotThere, TooLarge, NoMemory}
+use Rattle.vms_commands.specs.declared.ending.Ending.TheVariants.{Done, Refused, BadWords, BadText, NotCompatible, ReadFault, WriteFault, ShelfFault, NotThere, TooLarge, NoMemory, WouldLose}
 use Rattle.vms_commands.specs.Endings.{SetCause}
 use Rattle.vms_commands.specs.Fetching.{is_on_shelf, word_set}
 use Rattle.vms_commands.specs.SetWords.{SetWord}
@@ -15,7 +15,8 @@ use Rattle.vms_board_commands.specs.Causes.{DrillCauses, LoadCauses, PlayCauses}
 use Rattle.vms_board_commands.specs.Scripts.{scripted}
 use Rattle.vms_cli.specs.Analyze.{AnalyzeCauses}
 use Rattle.vms_cli.specs.Check.{asks_shelf}
-use Rattle.vms_cli.specs.Commands.{Asked, IsaBoard, Show, Analyze, Pack, Check, Counter, Save, Load, Drill, Play, ClockBoard}
+use Rattle.vms_cli.specs.Commands.{Asked, IsaBoard, Show, Convert, Analyze, Pack, Check, Counter, Save, Load, Drill, Play, ClockBoard}
+use Rattle.vms_cli.specs.Convert.{ConvertGives, ConvertHears, target}
 use Rattle.vms_cli.specs.Show.{GivesWithin, ShowHears}
 
 -- once the set of `show` is there
@@ -32,6 +33,24 @@ abbrev pub ShowCause : Bool → (input input' : Intake) (out out' : Outlet) (she
 ShowCause asks input input' out out' shelf shelf' ending =
     (SetCause asks shelf shelf' ending × (input' ≡ input) × Keeps out.written out'.written)
     ⊎ StreamCause input input' out out' ending
+
+-- once the set of `convert` is there
+abbrev pub RewriteCause : (input input' : Intake) (out out' : Outlet) → Ending → Type 0
+RewriteCause input input' out out' Done = Unit {0}
+RewriteCause input input' out out' (Refused line) = Keeps out.written out'.written
+RewriteCause input input' out out' (NotCompatible line) = (input' ≡ input) × Keeps out.written out'.written
+RewriteCause input input' out out' ReadFault =
+    Rose input.faults input'.faults × Keeps out.written out'.written
+RewriteCause input input' out out' WriteFault = Rose out.faults out'.faults
+RewriteCause input input' out out' NoMemory = Keeps out.written out'.written
+RewriteCause input input' out out' (WouldLose line) = Keeps out.written out'.written
+RewriteCause input input' out out' _ = ⊥
+
+-- the set wasn't had, and input and out weren't touched; or it was
+abbrev pub ConvertCause : Bool → (input input' : Intake) (out out' : Outlet) (shelf shelf' : Stock) → Ending → Type 0
+ConvertCause asks input input' out out' shelf shelf' ending =
+    (SetCause asks shelf shelf' ending × (input' ≡ input) × Keeps out.written out'.written)
+    ⊎ RewriteCause input input' out out' ending
 
 -- once the text of `pack` is fetched
 abbrev pub WriteCause : (out out' : Outlet) → Ending → Type 0
@@ -99,6 +118,12 @@ ShowCauses set input input' out out' shelf shelf' ending =
     × (is_on_shelf set ≡ false → shelf' ≡ shelf) × GivesWithin (word_set shelf.held set) input input'
     × ShowHears (word_set shelf.held set) shelf.held input.given input'.given out out' ending
 
+abbrev pub ConvertCauses : SetWord → (input input' : Intake) (out out' : Outlet) (shelf shelf' : Stock) → Ending → Type 0
+ConvertCauses set input input' out out' shelf shelf' ending =
+    ConvertCause (is_on_shelf set) input input' out out' shelf shelf' ending × (shelf'.held ≡ shelf.held)
+    × (is_on_shelf set ≡ false → shelf' ≡ shelf) × ConvertGives (target shelf.held set) input input'
+    × ConvertHears (target shelf.held set) shelf.held input.given input'.given out out' ending
+
 abbrev pub CheckCauses : Bool → (input input' : Intake) (out out' : Outlet) (shelf shelf' : Stock) → Ending → Type 0
 CheckCauses asks input input' out out' shelf shelf' ending =
     CheckCause asks out out' shelf shelf' ending × (input' ≡ input) × (shelf'.held ≡ shelf.held)
@@ -112,6 +137,7 @@ CounterCauses asks input input' out out' shelf shelf' ending =
 abbrev pub EndsCause : Option Asked → (input input' : Intake) (out out' : Outlet) (shelf shelf' : Stock) → Ending → Type 0
 EndsCause None input input' out out' shelf shelf' ending = BadWordsCauses input input' out out' shelf shelf' ending
 EndsCause (Some (Show set)) input input' out out' shelf shelf' ending = ShowCauses set input input' out out' shelf shelf' ending
+EndsCause (Some (Convert set)) input input' out out' shelf shelf' ending = ConvertCauses set input input' out out' shelf shelf' ending
 EndsCause (Some Analyze) input input' out out' shelf shelf' ending = AnalyzeCauses input input' out out' shelf shelf' ending
 EndsCause (Some (Pack set name)) input input' out out' shelf shelf' ending = TextCauses input input' out out' shelf shelf' ending
 EndsCause (Some (Check old new)) input input' out out' shelf shelf' ending =

@@ -7,19 +7,20 @@ use Rattle.vms_script.specs.Views.{number_read}
 use Rattle.vms_script.specs.declared.line.ScriptReason.{ScriptReason}
 use Rattle.vms_board.specs.Clock.{clock_machine}
 use Rattle.vms_board.specs.Isa.{machine_of}
-use Rattle.vms_commands.specs.SetWords.{Isa, Clock, ShippedSet, SetWord, named_in, set_word, shipped_word}
+use Rattle.vms_commands.specs.SetWords.{Isa, Clock, ShippedSet, SetWord, Shipped, OnShelf, named_in, set_word, shipped_word}
 
 -- a board: one of isa-1 to isa-4, by its level, or clk-1 or clk-2, by its version
 pub data BoardWord : Type 0 where
   IsaBoard : ℕ → BoardWord
   ClockBoard : ℕ → BoardWord
 
--- prints the values text of a stream by a set or by the stream's own description, writes the stream of a values text on the shelf,
--- compares two sets, looks for a state that shows why they aren't compatible, writes the stream of a board under a set after a script, lets a
--- script go on from the board that a stream restores, drills a
--- board, or plays a session
+-- prints the values text of a stream by a set or by the stream's own description, writes a stream under another set, writes the
+-- stream of a values text on the shelf, compares two sets, looks for a state that shows why they aren't compatible, writes the
+-- stream of a board under a set after a script, lets a script go on from the board that a stream restores, drills a board, or
+-- plays a session
 pub data Asked : Type 0 where
   Show : SetWord → Asked
+  Convert : SetWord → Asked
   Analyze : Asked
   Pack : SetWord → List ℕ → Asked
   Check : (old new : SetWord) → Asked
@@ -32,6 +33,19 @@ pub data Asked : Type 0 where
 abbrev pub show_of : Option SetWord → Option Asked
 show_of None = None
 show_of (Some set) = Some (Show set)
+
+-- of a shipped set of the boards isa-1 to isa-4, or of what the shelf holds under a name
+abbrev pub convert_of : Option SetWord → Option Asked
+convert_of (Some (Shipped (Clock number))) = None
+convert_of (Some (Shipped (Isa number))) = Some (Convert (Shipped (Isa number)))
+convert_of (Some (OnShelf name)) = Some (Convert (OnShelf name))
+convert_of None = None
+
+-- a command with one word behind its name
+unfoldable pub single_of : List ℕ → List ℕ → Option Asked
+single_of name set =
+    if bytes_eq name (codes "show") then show_of (set_word set)
+    else if bytes_eq name (codes "convert") then convert_of (set_word set) else None
 
 abbrev pub check_of : Option SetWord → Option SetWord → Option Asked
 check_of (Some old) (Some new) = Some (Check old new)
@@ -125,7 +139,7 @@ triple_of name one two three =
 
 abbrev pub asked_of : List (List ℕ) → Option Asked
 asked_of (name ∷ []) = if bytes_eq name (codes "analyze") then Some Analyze else None
-asked_of (name ∷ set ∷ []) = if bytes_eq name (codes "show") then show_of (set_word set) else None
+asked_of (name ∷ set ∷ []) = single_of name set
 asked_of (name ∷ one ∷ other ∷ []) = pair_of name one other
 asked_of (name ∷ one ∷ two ∷ three ∷ []) = triple_of name one two three
 asked_of _ = None

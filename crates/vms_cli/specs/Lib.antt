@@ -7,6 +7,7 @@ pub mod Check
 pub mod ClockSets
 pub mod Commands
 pub mod Continuation
+pub mod Convert
 pub mod Counter
 pub mod Laws
 pub mod Pack

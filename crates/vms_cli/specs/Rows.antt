@@ -15,7 +15,8 @@ use Rattle.vms_board_commands.specs.Load.{LoadGives, Loads}
 use Rattle.vms_board_commands.specs.Scripts.{scripted}
 use Rattle.vms_script.specs.Lines.{ScriptLine}
 use Rattle.vms_cli.specs.Analyze.{GivesListed, IsListing}
-use Rattle.vms_cli.specs.Commands.{Asked, IsaBoard, ClockBoard, Show, Analyze, Load}
+use Rattle.vms_cli.specs.Commands.{Asked, IsaBoard, ClockBoard, Show, Convert, Analyze, Load}
+use Rattle.vms_cli.specs.Convert.{ConvertGives, ConvertsWell, target}
 use Rattle.vms_cli.specs.Show.{GivesWithin, ShowsWell}
 use Rattle.vms_cli.specs.Statuses.{asks, is_among, statuses_of, stores_at, takes_at, writes_at}
 
@@ -44,6 +45,8 @@ pub record Seen (IsOutcome : List ℕ → Outcome → Type 0) (status : ℕ) (ol
 abbrev pub IsSeen : Option Asked → ℕ → Outside → Outside → Type 0
 IsSeen (Some (Show word)) status old new =
     Seen (λ bytes o. (set : Set) × IsGiven Set (word_set old.shelf.held word) set × ShowsWell old.shelf.held set bytes o) status old new
+IsSeen (Some (Convert word)) status old new =
+    Seen (λ bytes o. (to : Set) × IsGiven Set (target old.shelf.held word) to × ConvertsWell old.shelf.held to bytes o) status old new
 IsSeen (Some Analyze) status old new = Seen (IsListing old.shelf.held) status old new
 IsSeen (Some (Load (IsaBoard level) script)) status old new =
     Seen (λ bytes o. (lines : List ScriptLine) × IsGiven (List ScriptLine) (scripted None old.shelf.held script) lines × Loads isa level lines bytes old.shelf.held o) status old new
@@ -54,6 +57,7 @@ IsSeen asked status old new = Unit {0}
 -- how many bytes the input gives at most
 abbrev pub Gives : Option Asked → Option Held → Intake → Intake → Type 0
 Gives (Some (Show word)) held input input' = GivesWithin (word_set held word) input input'
+Gives (Some (Convert word)) held input input' = ConvertGives (target held word) input input'
 Gives (Some Analyze) held input input' = GivesListed input.given input'.given
 Gives (Some (Load (IsaBoard level) script)) held input input' = LoadGives isa (scripted None held script) input input'
 Gives (Some (Load (ClockBoard version) script)) held input input' = LoadGives clock (scripted None held script) input input'
@@ -69,6 +73,6 @@ pub record CanAnswer (asked : Option Asked) (status : ℕ) (old new : Outside) :
   -- and are left alone where they aren't needed
   pub shelf : asks asked ≡ false → new.shelf ≡ old.shelf
   pub unnamed : asked ≡ None → new.out ≡ old.out
-  -- of the input no more is given than may be, and what is done or refused is heard to the last byte
+  -- of the input no more is given than may be, and what is done, refused or would lose something is heard to the last byte
   pub given : Gives asked old.shelf.held old.input new.input
-  pub seen : (status ≡ 0) ⊎ (status ≡ 1) → IsSeen asked status old new
+  pub seen : (status ≡ 0) ⊎ (status ≡ 1) ⊎ (status ≡ 11) → IsSeen asked status old new

@@ -3,7 +3,7 @@ use Rattle.std.specs.Prelude.{ℕ, Bool, true, false, ◌==◌, List, [], ◌∷
 use Rattle.std.specs.List.{list_any}
 use Rattle.vms_commands.specs.Fetching.{is_on_shelf}
 use Rattle.vms_cli.specs.Check.{asks_shelf}
-use Rattle.vms_cli.specs.Commands.{Asked, Show, Analyze, Pack, Check, Counter, Save, Load, Drill, Play}
+use Rattle.vms_cli.specs.Commands.{Asked, Show, Convert, Analyze, Pack, Check, Counter, Save, Load, Drill, Play}
 
 -- the status is one of these
 abbrev pub is_among : List ℕ → ℕ → Bool
@@ -13,6 +13,7 @@ is_among statuses status = list_any (λ n. n == status) statuses
 abbrev pub asks : Option Asked → Bool
 asks None = false
 asks (Some (Show set)) = is_on_shelf set
+asks (Some (Convert set)) = is_on_shelf set
 asks (Some Analyze) = false
 asks (Some (Pack set name)) = true
 asks (Some (Check old new)) = asks_shelf old new
@@ -31,6 +32,7 @@ of_shelf false = []
 abbrev pub own_statuses : Option Asked → List ℕ
 own_statuses None = 2 ∷ 6 ∷ []
 own_statuses (Some (Show set)) = 0 ∷ 1 ∷ 5 ∷ 6 ∷ 10 ∷ []
+own_statuses (Some (Convert set)) = 0 ∷ 1 ∷ 4 ∷ 5 ∷ 6 ∷ 10 ∷ 11 ∷ []
 own_statuses (Some Analyze) = 0 ∷ 1 ∷ 5 ∷ 6 ∷ 10 ∷ []
 own_statuses (Some (Check old new)) = 0 ∷ 4 ∷ 6 ∷ 10 ∷ []
 own_statuses (Some (Load board script)) = 0 ∷ 1 ∷ 5 ∷ 6 ∷ 10 ∷ []
@@ -46,9 +48,10 @@ writes_at None = []
 writes_at (Some (Play level script)) = 0 ∷ 6 ∷ 7 ∷ 10 ∷ []
 writes_at asked = 0 ∷ 6 ∷ []
 
--- at these something of the input may be taken; `analyze` takes memory while it reads
+-- at these something of the input may be taken; `analyze` takes memory while it reads, and `convert` once it has read
 abbrev pub takes_at : Option Asked → List ℕ
 takes_at (Some (Show set)) = 0 ∷ 1 ∷ 5 ∷ 6 ∷ []
+takes_at (Some (Convert set)) = 0 ∷ 1 ∷ 5 ∷ 6 ∷ 10 ∷ 11 ∷ []
 takes_at (Some Analyze) = 0 ∷ 1 ∷ 5 ∷ 6 ∷ 10 ∷ []
 takes_at (Some (Load board script)) = 0 ∷ 1 ∷ 5 ∷ 6 ∷ []
 takes_at asked = []

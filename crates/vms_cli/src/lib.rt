@@ -5,6 +5,7 @@ mod analyze;
 mod board_words;
 mod boards;
 mod check;
+mod convert;
 mod counter;
 mod kinds;
 pub mod laws;

@@ -10,6 +10,7 @@ ghost use Rattle.vms_commands.specs.Outcomes.{Outcome};
 use crate::analyze::analyze_input;
 use crate::boards::Loading;
 use crate::check::check;
+use crate::convert::convert;
 use crate::counter::counter;
 use crate::kinds::{load, save};
 use crate::pack::pack;
@@ -35,10 +36,11 @@ use vms_io::{Shelf, Sink, Source, write_all_of};
 /// | 8 | a name isn't on the shelf |
 /// | 9 | what a name holds is too large |
 /// | 10 | memory is wanting |
+/// | 11 | the set doesn't keep all of the stream |
 ///
 /// One line goes to notes for each status but 0. On statuses but 0 and 6 out is untouched, but for `play`: on 7 and 10
 /// the traces of the lines before the one that failed stand on it. Nothing of the input is taken but by `show`,
-/// `analyze` and `load`.
+/// `convert`, `analyze` and `load`.
 pub fn vmstate<I: Source, O: Sink, N: Sink, H: Shelf>(
     alloc: Global,
     words: &Words,
@@ -106,6 +108,7 @@ fn run<I: Source, O: Sink, H: Shelf>(
 {
     match words.command() {
         Some(Command::Show { set }) => show(alloc, set, input, out, shelf),
+        Some(Command::Convert { set }) => convert(alloc, set, input, out, shelf),
         Some(Command::Analyze) => analyze_input(alloc, input, out),
         Some(Command::Pack { set, values }) => pack(alloc, set, values, out, shelf),
         Some(Command::Check { old, new }) => check(alloc, old, new, out, shelf),

@@ -4,7 +4,7 @@ ghost use Rattle.std.specs.Str.{bytes_eq};
 ghost use Rattle.std.specs.Option.{option_map};
 ghost use Rattle.vms_commands.specs.SetWords.{set_word, shipped_word};
 ghost use Rattle.vms_cli.specs.Asks.{asked, board_asked};
-ghost use Rattle.vms_cli.specs.Commands.{Analyze, asked_of, board_word, check_of, counter_of, drill_of, few_events, isa_level, load_of, number_word, on_board, pack_of, pair_of, play_of, save_of, show_of, triple_of, save_under, saved_set};
+ghost use Rattle.vms_cli.specs.Commands.{Analyze, asked_of, board_word, check_of, convert_of, counter_of, drill_of, few_events, isa_level, load_of, number_word, on_board, pack_of, pair_of, play_of, save_of, show_of, single_of, triple_of, save_under, saved_set};
 ghost use Rattle.vms_commands.specs.Asks.{shipped_asked};
 
 use crate::board_words::{board_word, events_word, isa_board, number_word};
@@ -20,6 +20,10 @@ use vms_script::is_shelf_name;
 pub(crate) enum Command<'a> {
     /// `show SET`
     Show {
+        set: SetWord<'a>,
+    },
+    /// `convert SET`
+    Convert {
         set: SetWord<'a>,
     },
     /// `analyze`
@@ -130,11 +134,17 @@ fn bare_of(name: &str) -> Option<Command<'static>>
 }
 
 // A command with one word behind its name.
+#[tactic(auto, unfolding(crate::specs::Commands::single_of))]
 fn single_of<'a>(name: &str, set: &'a str) -> Option<Command<'a>>
-    ensures { option_map asked result ≡ (if bytes_eq name.now (codes "show")
-        then show_of (set_word set.now) else None) }
+    ensures { option_map asked result ≡ single_of name.now set.now }
 {
-    if name == "show" { show_of(set) } else { None }
+    if name == "show" {
+        show_of(set)
+    } else if name == "convert" {
+        convert_of(set)
+    } else {
+        None
+    }
 }
 
 fn show_of(set: &str) -> Option<Command<'_>>
@@ -142,6 +152,17 @@ fn show_of(set: &str) -> Option<Command<'_>>
 {
     match set_word(set) {
         Some(set) => Some(Command::Show { set }),
+        None => None,
+    }
+}
+
+// `convert` takes no set of the clock boards.
+fn convert_of(set: &str) -> Option<Command<'_>>
+    ensures { option_map asked result ≡ convert_of (set_word set.now) }
+{
+    match set_word(set) {
+        Some(SetWord::Shipped(ShippedSet::Clock(_))) => None,
+        Some(set) => Some(Command::Convert { set }),
         None => None,
     }
 }

@@ -7,7 +7,7 @@ use Rattle.vms_io.specs.Causes.{AppendsPrefix, Rose, capped}
 use Rattle.vms_io.specs.Reading.{Takes}
 use Rattle.vms_io.specs.Told.{Intake, Outlet, Stock}
 use Rattle.vms_commands.specs.declared.ending.Ending.{Ending}
-use Rattle.vms_commands.specs.declared.ending.Ending.TheVariants.{Done, Refused, BadWords, BadText, NotCompatible, ReadFault, WriteFault, ShelfFault, NotThere, TooLarge, NoMemory}
+use Rattle.vms_commands.specs.declared.ending.Ending.TheVariants.{Done, Refused, BadWords, BadText, NotCompatible, ReadFault, WriteFault, ShelfFault, NotThere, TooLarge, NoMemory, WouldLose}
 use Rattle.vms_commands.specs.Endings.{Caused, EndsAs, EndsWith, Quiet, Tells, WritesAs}
 use Rattle.vms_commands.specs.Lines.{bad_words}
 use Rattle.vms_commands.specs.Outcomes.{Part, Outcome, Outside, ComesTo, ComesToFault, FailsToStore, TellsShelfFault, DoesOrStops, TakesBytes, done, ended, text_of, held_after}
@@ -29,15 +29,7 @@ comes_to_nothing o o' s s' parts keeps held = record { begun = 0; bytes = 0; tex
 pub quiet_same : (o : Outlet) (e : Ending) → Quiet o o e
 quiet_same o Done = tt
 quiet_same o WriteFault = tt
-quiet_same o (Refused line) = Keeps-refl o.written
-quiet_same o BadWords = Keeps-refl o.written
-quiet_same o (BadText line) = Keeps-refl o.written
-quiet_same o (NotCompatible line) = Keeps-refl o.written
-quiet_same o ReadFault = Keeps-refl o.written
-quiet_same o ShelfFault = Keeps-refl o.written
-quiet_same o (NotThere line) = Keeps-refl o.written
-quiet_same o (TooLarge line) = Keeps-refl o.written
-quiet_same o NoMemory = Keeps-refl o.written
+quiet_same o e = Keeps-refl o.written
 
 -- nothing is taken of an input
 nothing_left : (left : Option (List ℕ)) → IfSome left (λ bytes. left ≡ Some (drop 0 bytes))
@@ -78,15 +70,7 @@ text_written text i i' o o' s s' taken Done w same t = record {
   taken = t;
 }
 text_written text i i' o o' s s' taken WriteFault w same t = record { begun = 1; bytes = w.0.0; text = w.0.2; held = same }
-text_written text i i' o o' s s' taken NoMemory w same t = absurd w
-text_written text i i' o o' s s' taken (Refused r) w same t = absurd w
-text_written text i i' o o' s s' taken BadWords w same t = absurd w
-text_written text i i' o o' s s' taken ReadFault w same t = absurd w
-text_written text i i' o o' s s' taken (BadText r) w same t = absurd w
-text_written text i i' o o' s s' taken (NotCompatible r) w same t = absurd w
-text_written text i i' o o' s s' taken ShelfFault w same t = absurd w
-text_written text i i' o o' s s' taken (NotThere r) w same t = absurd w
-text_written text i i' o o' s s' taken (TooLarge r) w same t = absurd w
+text_written text i i' o o' s s' taken e w same t = absurd w
 
 -- the outside of these objects
 abbrev pub around : Intake → Outlet → Outlet → Stock → Outside
@@ -133,6 +117,7 @@ module _ (i i' : Intake) (o o' n n' : Outlet) (s s' : Stock) where
   outcome_so (NotCompatible line) status x d c t = ended_so 4 status (string_bytes line) x d c.0 c.1 t
   outcome_so (NotThere line) status x d c t = ended_so 8 status (string_bytes line) x d c.0 c.1 t
   outcome_so (TooLarge line) status x d c t = ended_so 9 status (string_bytes line) x d c.0 c.1 t
+  outcome_so (WouldLose line) status x d c t = ended_so 11 status line.items x d c.0 c.1 t
   outcome_so ReadFault status x d c (inl t) = inr record { why = inl (t.0, c.0, c.1, t.1); come = inl d }
   outcome_so ReadFault status x d c (inr t) = inr record { why = inr (inr (inl ((t.0, t.1), inr (inl t.2)))); come = inl d }
   outcome_so WriteFault status x d c (inl t) = inr record { why = inr (inl (t.0, c, t.1)); come = inl d }

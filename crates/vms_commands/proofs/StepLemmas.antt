@@ -8,7 +8,7 @@ use Rattle.vms_io.specs.Shelves.{Held}
 use Rattle.vms_io.specs.Told.{Intake, Outlet, Stock}
 use Rattle.vms_descfile.specs.Files.{Said, Parts, Syntax, Shape, IllFormed, file_said}
 use Rattle.vms_commands.specs.declared.ending.Ending.{Ending}
-use Rattle.vms_commands.specs.declared.ending.Ending.TheVariants.{Done, Refused, BadWords, BadText, NotCompatible, ReadFault, WriteFault, ShelfFault, NotThere, TooLarge, NoMemory}
+use Rattle.vms_commands.specs.declared.ending.Ending.TheVariants.{Done, BadText, NotCompatible, WriteFault, ShelfFault, NotThere, TooLarge, NoMemory}
 use Rattle.vms_commands.specs.Endings.{EndsAs, Quiet}
 use Rattle.vms_commands.specs.Fetching.{longest_file, text_under, fetched, SetText, Number, Text, fetched_set, said_set, set_in, sets_in, named_sets, word_set}
 use Rattle.vms_commands.specs.Lines.{too_large_line}
@@ -25,15 +25,7 @@ free_ends n Untold e h = tt
 free_ends n (Gives b) e h = h
 free_ends n (Ends status line) ShelfFault h = tt
 free_ends n (Ends status line) NoMemory h = tt
-free_ends n (Ends status line) Done h = absurd h
-free_ends n (Ends status line) (Refused text) h = absurd h
-free_ends n (Ends status line) BadWords h = absurd h
-free_ends n (Ends status line) (BadText text) h = absurd h
-free_ends n (Ends status line) (NotCompatible text) h = absurd h
-free_ends n (Ends status line) ReadFault h = absurd h
-free_ends n (Ends status line) WriteFault h = absurd h
-free_ends n (Ends status line) (NotThere text) h = absurd h
-free_ends n (Ends status line) (TooLarge text) h = absurd h
+free_ends n (Ends status line) e h = absurd h
 
 module _ {A B T U : Type 0} (m : T → A) (n : U → B) (f : A → Step B) where
   -- the first step ended the command
@@ -64,15 +56,7 @@ memory_text (Ends status line) o o' = tt
 free_text : (s : Step (List ℕ)) (o o' : Outlet) (e : Ending) → IsFree e → TextEnds s o o' e
 free_text s o o' ShelfFault h = shelf_text s o o'
 free_text s o o' NoMemory h = memory_text s o o'
-free_text s o o' Done h = absurd h
-free_text s o o' (Refused line) h = absurd h
-free_text s o o' BadWords h = absurd h
-free_text s o o' (BadText line) h = absurd h
-free_text s o o' (NotCompatible line) h = absurd h
-free_text s o o' ReadFault h = absurd h
-free_text s o o' WriteFault h = absurd h
-free_text s o o' (NotThere line) h = absurd h
-free_text s o o' (TooLarge line) h = absurd h
+free_text s o o' e h = absurd h
 
 module _ {A T : Type 0} (m : T → A) (f : A → Step (List ℕ)) (o o' : Outlet) (e : Ending) where
   -- a step ended the command
@@ -137,13 +121,7 @@ given_ends text i o o' s s' Done few same quiet h = record {
 given_ends text i o o' s s' WriteFault few same quiet h = record { begun = 1; bytes = h.0; text = h.2; held = same }
 given_ends text i o o' s s' ShelfFault few same quiet h = inl (comes_to_nothing o o' s s' _ quiet same)
 given_ends text i o o' s s' NoMemory few same quiet h = comes_to_nothing o o' s s' _ quiet same
-given_ends text i o o' s s' (Refused line) few same quiet h = absurd h
-given_ends text i o o' s s' BadWords few same quiet h = absurd h
-given_ends text i o o' s s' (BadText line) few same quiet h = absurd h
-given_ends text i o o' s s' (NotCompatible line) few same quiet h = absurd h
-given_ends text i o o' s s' ReadFault few same quiet h = absurd h
-given_ends text i o o' s s' (NotThere line) few same quiet h = absurd h
-given_ends text i o o' s s' (TooLarge line) few same quiet h = absurd h
+given_ends text i o o' s s' e few same quiet h = absurd h
 
 same_end : (status k : ℕ) (line text : List ℕ) → status ≡ k → line ≡ text → ended status line 0 ≡ ended k text 0
 same_end status k line text e f = ap (λ (n : ℕ). ended n line 0) e ∙ ap (λ (l : List ℕ). ended k l 0) f
@@ -156,11 +134,7 @@ ended_ends status line i o o' s s' (NotThere text) few same quiet h = ends_with 
 ended_ends status line i o o' s s' (TooLarge text) few same quiet h = ends_with 9 (string_bytes text) i _ few (same_end status 9 line (string_bytes text) h.0 h.1)
 ended_ends status line i o o' s s' ShelfFault few same quiet h = inl (comes_to_nothing o o' s s' _ quiet same)
 ended_ends status line i o o' s s' NoMemory few same quiet h = comes_to_nothing o o' s s' _ quiet same
-ended_ends status line i o o' s s' Done few same quiet h = absurd h
-ended_ends status line i o o' s s' (Refused text) few same quiet h = absurd h
-ended_ends status line i o o' s s' BadWords few same quiet h = absurd h
-ended_ends status line i o o' s s' ReadFault few same quiet h = absurd h
-ended_ends status line i o o' s s' WriteFault few same quiet h = absurd h
+ended_ends status line i o o' s s' e few same quiet h = absurd h
 
 -- what an ending says beside the outcome of a command whose steps give the text for out
 pub text_ends : (step : Step (List ℕ)) (i : Intake) (o o' : Outlet) (s s' : Stock) (e : Ending) (x : Outcome) → i.given < 2 ^ 64 → s'.held ≡ s.held
@@ -177,15 +151,7 @@ module _ {A T : Type 0} (m : T → A) (P : A → Outcome → Type 0) where
       → EndsAs i i o o' s s' e x
   free_by i o o' s s' ShelfFault x same quiet h = inl (comes_to_nothing o o' s s' _ quiet same)
   free_by i o o' s s' NoMemory x same quiet h = comes_to_nothing o o' s s' _ quiet same
-  free_by i o o' s s' Done x same quiet h = absurd h
-  free_by i o o' s s' (Refused text) x same quiet h = absurd h
-  free_by i o o' s s' BadWords x same quiet h = absurd h
-  free_by i o o' s s' (BadText text) x same quiet h = absurd h
-  free_by i o o' s s' (NotCompatible text) x same quiet h = absurd h
-  free_by i o o' s s' ReadFault x same quiet h = absurd h
-  free_by i o o' s s' WriteFault x same quiet h = absurd h
-  free_by i o o' s s' (NotThere text) x same quiet h = absurd h
-  free_by i o o' s s' (TooLarge text) x same quiet h = absurd h
+  free_by i o o' s s' e x same quiet h = absurd h
 
   -- where the step ended it
   pub ended_by : (step : Step A) (i : Intake) (o o' : Outlet) (s s' : Stock) (e : Ending) (x : Outcome) → i.given < 2 ^ 64 → s'.held ≡ s.held → Quiet o o' e

@@ -4,7 +4,7 @@ use Rattle.std.specs.Io.KnownBytes.{Appends, Keeps}
 use Rattle.vms_io.specs.Causes.{Rose, AppendsPrefix}
 use Rattle.vms_io.specs.Told.{Intake, Outlet, Stock}
 use Rattle.vms_commands.specs.declared.ending.Ending.{Ending}
-use Rattle.vms_commands.specs.declared.ending.Ending.TheVariants.{Done, Refused, BadWords, BadText, NotCompatible, ReadFault, WriteFault, ShelfFault, NotThere, TooLarge, NoMemory}
+use Rattle.vms_commands.specs.declared.ending.Ending.TheVariants.{Done, Refused, BadWords, BadText, NotCompatible, ReadFault, WriteFault, ShelfFault, NotThere, TooLarge, NoMemory, WouldLose}
 use Rattle.vms_commands.specs.Lines.{bad_words, read_fault, write_fault, shelf_fault, out_of_memory}
 use Rattle.vms_commands.specs.Outcomes.{Outcome, text_of, held_after, TakesBytes, ComesTo, ComesToFault}
 
@@ -21,6 +21,7 @@ status_of ShelfFault = 7
 status_of (NotThere line) = 8
 status_of (TooLarge line) = 9
 status_of NoMemory = 10
+status_of (WouldLose line) = 11
 
 abbrev pub line_of : Ending → List ℕ
 line_of Done = []
@@ -34,6 +35,7 @@ line_of ShelfFault = shelf_fault
 line_of (NotThere line) = string_bytes line
 line_of (TooLarge line) = string_bytes line
 line_of NoMemory = out_of_memory
+line_of (WouldLose line) = line.items
 
 -- the line was written and the status answered, or a prefix of it and a write fault answered; nothing is told of what is done
 abbrev pub Tells : Outlet → Outlet → Ending → ℕ → Type 0
@@ -70,6 +72,7 @@ EndsAs input input' out out' shelf shelf' ShelfFault o = ComesToFault out out' s
 EndsAs input input' out out' shelf shelf' (NotThere line) o = EndsWith 8 (string_bytes line) input input' o
 EndsAs input input' out out' shelf shelf' (TooLarge line) o = EndsWith 9 (string_bytes line) input input' o
 EndsAs input input' out out' shelf shelf' NoMemory o = ComesTo out out' shelf shelf' o.parts
+EndsAs input input' out out' shelf shelf' (WouldLose line) o = EndsWith 11 line.items input input' o
 
 -- ---- the cause of an ending, told or not
 

@@ -28,6 +28,8 @@ pub enum Ending {
     TooLarge(String),
     /// Memory is wanting.
     NoMemory,
+    /// A set doesn't keep all of a stream, with this line.
+    WouldLose(NoteLine),
 }
 
 impl Ending {
@@ -49,6 +51,7 @@ impl Ending {
             Ending::NotThere(_) => 8,
             Ending::TooLarge(_) => 9,
             Ending::NoMemory => 10,
+            Ending::WouldLose(_) => 11,
         }
     }
 
@@ -68,6 +71,7 @@ impl Ending {
             Ending::NotCompatible(line) => line.as_bytes(),
             Ending::NotThere(line) => line.as_bytes(),
             Ending::TooLarge(line) => line.as_bytes(),
+            Ending::WouldLose(line) => line.as_slice(),
         }
     }
 }

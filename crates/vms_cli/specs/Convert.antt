@@ -1,0 +1,120 @@
+-- The command `convert`: its outcome, and what is heard of its input.
+use Rattle.std.specs.Prelude.{◌≡◌, ℕ, ◌+◌, ◌<◌, ◌≤◌, List, [], ◌∷◌, ◌++◌, length, Option, Some, None, IsSomeAnd, Result, Ok, Err, codes, string_bytes}
+use Rattle.std.specs.declared.alloc.Global.{Global}
+use Rattle.std.specs.declared.string.String.{String}
+use Rattle.arrayvec.specs.ArrayVec.{ArrayVec}
+use Rattle.dev_base.specs.declared.limits.TheConstants.{NEWEST}
+use Rattle.vms_io.specs.Shelves.{Held}
+use Rattle.vms_io.specs.Told.{Intake, Outlet}
+use Rattle.vms_spec.specs.declared.Reason.{Reason}
+use Rattle.vms_spec.specs.Good.{IsFit}
+use Rattle.vms_spec.specs.Images.{Image}
+use Rattle.vms_spec.specs.Sets.{Set}
+use Rattle.vms_spec.specs.Layout.{device_cells}
+use Rattle.vms_desc.specs.Described.{device_at}
+use Rattle.vms_desc.specs.Formed.{shipped_set}
+use Rattle.vms_elements.specs.Parts.{cell_name}
+use Rattle.vms_stream.specs.Faults.{Fault}
+use Rattle.vms_stream.specs.Streams.{Takes}
+use Rattle.vms_frames.specs.declared.fault.Refusal.{Refusal}
+use Rattle.vms_load.specs.Staging.{most_given}
+use Rattle.vms_check.specs.Comparing.{Compatible, first_mismatch}
+use Rattle.vms_check.specs.declared.mismatch.Mismatch.{Mismatch}
+use Rattle.vms_convert.specs.Calls.{IsStreamFor, LosesFirst}
+use Rattle.vms_convert.specs.declared.fault.ConvertFault.{ConvertFault}
+use Rattle.vms_convert.specs.declared.fault.ConvertFault.TheVariants as faults
+use Rattle.vms_commands.specs.Fetching.{word_set}
+use Rattle.vms_commands.specs.Lines.{refused_line, section_text}
+use Rattle.vms_commands.specs.Outcomes.{Outcome, done, ended}
+use Rattle.vms_commands.specs.SetLines.{mismatch_line}
+use Rattle.vms_commands.specs.SetWords.{SetWord}
+use Rattle.vms_commands.specs.Steps.{Step, Gives, Ends, HasBy, next}
+use Rattle.vms_commands.specs.declared.ending.Ending.{Ending}
+use Rattle.vms_commands.specs.declared.ending.Ending.TheVariants as endings
+use Rattle.vms_board_commands.specs.Heard.{HearsBy}
+
+-- the set whose streams are read
+abbrev pub newest : Set
+newest = shipped_set NEWEST
+
+-- the newest set reads what this set writes, or the first rule that fails
+abbrev pub agreed : Set → Option Mismatch → Step Set
+agreed to None = Gives to
+agreed to (Some mismatch) = Ends 4 (mismatch_line mismatch)
+
+abbrev pub agrees : Set → Step Set
+agrees to = agreed to (first_mismatch to newest)
+
+-- the set is fetched and read, and then it is compared
+abbrev pub target : Option Held → SetWord → Step Set
+target held word = next (word_set held word) agrees
+
+-- what would be lost: a cell by its path, or a device without cells, or the machine
+abbrev pub lost_text : Set → (section cell : Option ℕ) → List ℕ
+lost_text set (Some k) (Some c) = cell_name set (device_at set k) c
+lost_text set (Some k) None = codes "-"
+lost_text set None cell = codes "machine"
+
+abbrev pub lost_line : Set → (section cell : Option ℕ) → List ℕ
+lost_line set section cell =
+    codes "would lose " ++ (section_text set section ++ (codes " " ++ (lost_text set section cell ++ 10 ∷ [])))
+
+-- the stream under the set of what the input takes as the newest set's, or what of that would be lost first; or where and why the
+-- input is refused, up to the end of the unit at fault; the shelf tells the same as before
+pub data Converts (to : Set) (input : List ℕ) (held : Option Held) : Outcome → Type 0 where
+  Rewrites : (taken : ℕ) (machine : Option (List ℕ)) (images : List Image) (bytes : List ℕ)
+      → Takes newest newest.machines input taken machine images → IsStreamFor to newest machine images bytes
+      → Converts to input held (done bytes held taken)
+  WouldLose : (taken : ℕ) (machine : Option (List ℕ)) (images : List Image) (section cell : Option ℕ)
+      → Takes newest newest.machines input taken machine images → LosesFirst to newest machine images section cell
+      → Converts to input held (ended 11 (lost_line newest section cell) taken)
+  Refuses : (place : ℕ) (section : Option ℕ) (reason : Reason) (size : ℕ) → Fault newest newest.machines input place section reason size
+      → Converts to input held (ended 1 (refused_line newest place section reason) (place + size))
+
+-- by the step that gives the set: the outcome under it, or the end of that step, before anything of the input is taken
+abbrev pub ConvertsBy : Step Set → Option (List ℕ) → Option Held → Outcome → Type 0
+ConvertsBy step input held o = HasBy (λ to x. IsSomeAnd input (λ bytes. Converts to bytes held x)) step o
+
+-- how many bytes the input gives at most: as a stream of the newest set may have, and none where there is no set
+abbrev pub ConvertGives : Step Set → Intake → Intake → Type 0
+ConvertGives (Ends status line) input input' = input' ≡ input
+ConvertGives step input input' = input'.given ≤ input.given + most_given newest
+
+-- the outcome under a set, which is well formed and whose streams the newest set reads
+abbrev pub ConvertsWell : Option Held → Set → List ℕ → Outcome → Type 0
+ConvertsWell held to bytes o = IsFit to × Compatible to newest × Converts to bytes held o
+
+-- what is heard of a stream, of what would be lost or of a refusal: the set that the step gave, and bytes that the outcome takes to
+-- the last
+abbrev pub ConvertHears : Step Set → Option Held → (before now : ℕ) (out out' : Outlet) → Ending → Type 0
+ConvertHears step held before now out out' ending = HearsBy Set step (ConvertsWell held) held before now out out' ending
+
+-- ---- how it ends, and why, told or not
+
+-- a device of the newest set, and a cell of it
+abbrev pub IsInNewest : (section cell : Option ℕ) → Type 0
+IsInNewest (Some k) (Some c) = (k < length newest.devices) × (c < length (device_cells newest (device_at newest k)))
+IsInNewest section cell = Unit {0}
+
+abbrev pub NamesCell : Result (Unit {0}) ConvertFault → Type 0
+NamesCell (Err (faults.WouldLose section cell)) = IsInNewest section cell
+NamesCell answer = Unit {0}
+
+-- a line of its own is to be made, or memory was wanting before
+abbrev pub MayLackMemory : ConvertFault → Type 0
+MayLackMemory faults.ReadFault = ⊥
+MayLackMemory faults.WriteFault = ⊥
+MayLackMemory fault = Unit {0}
+
+-- the ending of each answer of the call
+pub data EndsLike : Result (Unit {0}) ConvertFault → Ending → Type 0 where
+  IsDone : (u : Unit {0}) → EndsLike (Ok u) endings.Done
+  IsMismatch : (mismatch : Mismatch) (line : String Global) → string_bytes line ≡ mismatch_line mismatch
+      → EndsLike (Err (faults.NotCompatible mismatch)) (endings.NotCompatible line)
+  IsRefused : (r : Refusal) (line : ArrayVec ℕ) → line.items ≡ refused_line newest r.at r.section r.reason
+      → EndsLike (Err (faults.Refused r)) (endings.Refused line)
+  IsLost : (section cell : Option ℕ) (line : ArrayVec ℕ) → line.items ≡ lost_line newest section cell
+      → EndsLike (Err (faults.WouldLose section cell)) (endings.WouldLose line)
+  FailsReading : EndsLike (Err faults.ReadFault) endings.ReadFault
+  FailsWriting : EndsLike (Err faults.WriteFault) endings.WriteFault
+  LacksMemory : (fault : ConvertFault) → MayLackMemory fault → EndsLike (Err fault) endings.NoMemory

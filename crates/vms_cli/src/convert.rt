@@ -1,0 +1,188 @@
+// The command `convert`: the stream of the same state under another set, or what would be lost.
+ghost use Rattle.std.specs.Prelude.{◌≡◌, ◌≤◌, ◌<◌, ◌++◌, ◌∷◌, [], codes, false, length, IfOk, MatchResult, Option, Err};
+ghost use Rattle.vms_io.specs.Shelves.{Held};
+ghost use Rattle.vms_io.specs.Supplies.{store};
+ghost use Rattle.vms_io.specs.Told.{Stock, intake, outlet, stock};
+ghost use Rattle.vms_spec.specs.Layout.{device_cells};
+ghost use Rattle.vms_desc.specs.Described.{described, device_at};
+ghost use Rattle.vms_elements.specs.Parts.{cell_name};
+ghost use Rattle.vms_commands.specs.Asks.{set_asked};
+ghost use Rattle.vms_commands.specs.Endings.{EndsAs};
+ghost use Rattle.vms_commands.specs.Fetching.{is_on_shelf};
+ghost use Rattle.vms_commands.specs.Lines.{section_text};
+ghost use Rattle.vms_commands.specs.Outcomes.{Outcome};
+ghost use Rattle.vms_cli.specs.Causes.{ConvertCause, RewriteCause};
+ghost use Rattle.vms_cli.specs.Convert.{ConvertGives, ConvertHears, ConvertsBy, EndsLike, MayLackMemory, IsInNewest, NamesCell, agrees, lost_line, newest, target};
+
+use arrayvec::ArrayVec;
+use dev_base::NEWEST;
+use std::alloc::Global;
+use vms_commands::{
+    Ending, NoteLine, SetWord, append_section, fetch_set, mismatch_line, read_fetched, refused_line,
+};
+use vms_convert::ConvertFault;
+use vms_desc::DescSet;
+use vms_io::{MemSink, NoMemory, Shelf, Sink, Source};
+use vms_values::print_path;
+use vms_words::append;
+
+/// More than the longest path of a cell of the newest set has, in bytes.
+const PATH_ROOM: u32 = 64;
+
+pub(crate) fn convert<I: Source, O: Sink, H: Shelf>(
+    alloc: Global,
+    set: SetWord,
+    input: &mut I,
+    out: &mut O,
+    shelf: &mut H,
+) -> Ending
+    ensures content { (o : Outcome) → ConvertsBy (target (H.held shelf.old) (set_asked set.entry))
+        (I.left input.old) (H.held shelf.old) o
+        → EndsAs (intake I.Source input.old) (intake I.Source input.new)
+        (outlet O.Sink out.old) (outlet O.Sink out.new)
+        (stock H.Shelf shelf.old) (stock H.Shelf shelf.new) result o }
+    ensures cause { ConvertCause (is_on_shelf (set_asked set.entry))
+        (intake I.Source input.old) (intake I.Source input.new)
+        (outlet O.Sink out.old) (outlet O.Sink out.new)
+        (stock H.Shelf shelf.old) (stock H.Shelf shelf.new) result }
+    ensures given { ConvertGives (target (H.held shelf.old) (set_asked set.entry))
+        (intake I.Source input.old) (intake I.Source input.new) }
+    ensures heard { let held = H.held shelf.old in
+        ConvertHears (target held (set_asked set.entry)) held
+        (I.given input.old) (I.given input.new)
+        (outlet O.Sink out.old) (outlet O.Sink out.new) result }
+    ensures unasked { is_on_shelf (set_asked set.entry) ≡ false
+        → stock H.Shelf shelf.new ≡ stock H.Shelf shelf.old }
+    ensures held { H.held shelf.new ≡ H.held shelf.old }
+    ensures input_count { I.faults input.old ≤ I.faults input.new }
+    ensures out_count { O.faults out.old ≤ O.faults out.new }
+    ensures shelf_count { H.faults shelf.old ≤ H.faults shelf.new }
+    ensures input_promise { I.promise input.new ≡ I.promise input.old }
+    ensures out_promise { O.promise out.new ≡ O.promise out.old }
+    ensures shelf_promise { H.promise shelf.new ≡ H.promise shelf.old }
+{
+    let text = match fetch_set(alloc, set, shelf) {
+        Ok(text) => text,
+        Err(ending) => return ending,
+    };
+    match read_fetched(alloc, &text) {
+        Ok(set) => convert_to(alloc, &set, input, out),
+        Err(ending) => ending,
+    }
+}
+
+// Once the set is there.
+fn convert_to<I: Source, O: Sink>(
+    alloc: Global,
+    to: &DescSet,
+    input: &mut I,
+    out: &mut O,
+) -> Ending
+    ensures content { (shelf shelf' : Stock) (o : Outcome) → shelf'.held ≡ shelf.held
+        → ConvertsBy (agrees (described to.now)) (I.left input.old) shelf.held o
+        → EndsAs (intake I.Source input.old) (intake I.Source input.new)
+        (outlet O.Sink out.old) (outlet O.Sink out.new) shelf shelf' result o }
+    ensures cause { RewriteCause (intake I.Source input.old) (intake I.Source input.new)
+        (outlet O.Sink out.old) (outlet O.Sink out.new) result }
+    ensures given { ConvertGives (agrees (described to.now))
+        (intake I.Source input.old) (intake I.Source input.new) }
+    ensures heard { (held : Option Held) → ConvertHears (agrees (described to.now)) held
+        (I.given input.old) (I.given input.new)
+        (outlet O.Sink out.old) (outlet O.Sink out.new) result }
+    ensures input_count { I.faults input.old ≤ I.faults input.new }
+    ensures out_count { O.faults out.old ≤ O.faults out.new }
+    ensures input_promise { I.promise input.new ≡ I.promise input.old }
+    ensures out_promise { O.promise out.new ≡ O.promise out.old }
+{
+    ending_of(alloc, vms_convert::convert(alloc, input, to, out))
+}
+
+// How the command ends by what the call answered.
+fn ending_of(alloc: Global, converted: Result<(), ConvertFault>) -> Ending
+    requires { NamesCell converted }
+    ensures { EndsLike converted result }
+{
+    match converted {
+        Ok(()) => Ending::Done,
+        Err(fault) => match fault_ending(alloc, fault) {
+            Ok(ending) => ending,
+            Err(_) => Ending::NoMemory,
+        },
+    }
+}
+
+// How it ends by a fault, with the line of it.
+fn fault_ending(alloc: Global, fault: ConvertFault) -> Result<Ending, NoMemory>
+    requires { NamesCell (Err fault) }
+    ensures { MatchResult result (λ ending. EndsLike (Err fault) ending)
+        (λ _. MayLackMemory fault) }
+{
+    match fault {
+        ConvertFault::NotCompatible(mismatch) => {
+            let line = mismatch_line(alloc, mismatch)?;
+            Ok(Ending::NotCompatible(line))
+        }
+        ConvertFault::Refused(refusal) => {
+            let newest = DescSet::shipped(alloc, NEWEST)?;
+            Ok(Ending::Refused(refused_line(&newest, &refusal)))
+        }
+        ConvertFault::WouldLose { section, cell } => {
+            let line = lost_line(alloc, section, cell)?;
+            Ok(Ending::WouldLose(line))
+        }
+        ConvertFault::ReadFault => Ok(Ending::ReadFault),
+        ConvertFault::WriteFault => Ok(Ending::WriteFault),
+        ConvertFault::NoMemory => Err(NoMemory),
+    }
+}
+
+// The line of what would be lost: a cell of the newest set, a device that has none, or the machine.
+fn lost_line(
+    alloc: Global,
+    section: Option<u32>,
+    cell: Option<u32>,
+) -> Result<NoteLine, NoMemory>
+    requires { IsInNewest section cell }
+    ensures { IfOk result (λ line. line.items ≡ lost_line newest section cell) }
+{
+    let newest = DescSet::shipped(alloc, NEWEST)?;
+    match (section, cell) {
+        (Some(device), Some(cell)) => {
+            let path = path_of(alloc, &newest, device, cell)?;
+            Ok(line_of(&newest, section, path.bytes()))
+        }
+        (Some(_), None) => Ok(line_of(&newest, section, b"-")),
+        (None, _) => Ok(line_of(&newest, section, b"machine")),
+    }
+}
+
+// The path of a cell of the newest set, in memory.
+fn path_of(alloc: Global, set: &DescSet, device: u32, cell: u32) -> Result<MemSink, NoMemory>
+    requires newest { described set.now ≡ newest }
+    requires device { device < length newest.devices }
+    requires cell { cell < length (device_cells newest (device_at newest device)) }
+    ensures { let name = cell_name newest (device_at newest device) cell in
+        IfOk result (λ path. ((store path).bytes ≡ name) × (length name < 64)) }
+{
+    let mut path = MemSink::new(alloc, PATH_ROOM, Vec::new(alloc))?;
+    match print_path(set, device, cell, &mut path) {
+        Ok(()) => Ok(path),
+        // No call is to fail, and the room is never filled.
+        Err(_) => unreachable!(),
+    }
+}
+
+// The line that names what would be lost, in a section or in none.
+fn line_of(set: &DescSet, section: Option<u32>, what: &[u8]) -> NoteLine
+    requires { length what.now < 64 }
+    ensures { result.items ≡ codes "would lose "
+        ++ (section_text (described set.now) section ++ (codes " " ++ (what.now ++ 10 ∷ []))) }
+{
+    let mut line = ArrayVec::new();
+    append(&mut line, b"would lose ");
+    append_section(&mut line, set, section);
+    append(&mut line, b" ");
+    append(&mut line, what);
+    append(&mut line, b"\n");
+    line
+}
