@@ -1,5 +1,6 @@
 -- What is saved of a sound board is carried to the newest set as its devices' tables say, and comes back.
 use Rattle.std.proofs.Common.{◌≡◌, ℕ, zero, suc, ◌≤◌, List, ℤ, refl, sym, ap, subst, ◌∙◌, arith}
+use Rattle.dev_base.specs.declared.limits.TheConstants.{NEWEST}
 use Rattle.dev_board.proofs.SavedLaws.{saved_are_cells, saved_comes_back, saved_goes_on}
 use Rattle.dev_board.specs.Saved.{saved, carried as board_carried, MaySaveUnder, AreSavedCells, restored}
 use Rattle.dev_board.specs.SavedLaws.{ComesBack}
@@ -11,7 +12,6 @@ use Rattle.dev_pit.specs.Cells.{carried as pit_carried}
 use Rattle.dev_serial.specs.Cells.{carried as serial_carried}
 use Rattle.vms_check.specs.Carrying.{carried}
 use Rattle.vms_desc.specs.Formed.{shipped_set}
-use Rattle.vms_spec.specs.Shipped.{set_4}
 use Rattle.dev_images.specs.Images.{saved_images, cells_in}
 use Rattle.dev_images.specs.Laws.{SavedIsCarried, ImagesComeBack}
 use Rattle.dev_images.proofs.Carried.{timer_is_carried, chip_is_carried}
@@ -41,27 +41,27 @@ as-tables : (set : ℕ) (cells : BoardCells) → tables set cells ≡ board_carr
 unfolding board_carried
 as-tables set cells = refl
 
-set-1 : (m : State) → AreSavedCells 1 (saved 1 m) → cells_in (carried (shipped_set 1) set_4 (saved_images 1 m)) ≡ tables 1 (saved 1 m)
+set-1 : (m : State) → AreSavedCells 1 (saved 1 m) → cells_in (carried (shipped_set 1) (shipped_set NEWEST) (saved_images 1 m)) ≡ tables 1 (saved 1 m)
 unfolding carried
 set-1 m a =
     same-five _ _ _ _ _ _ _ _ _ _ (timer_is_carried.first _ a.timer) (chip_is_carried.first 0 _ a.master) (chip_is_carried.first 1 _ a.slave) (pit_is_carried.first _ a.pit) (serial_is_carried.first _ a.serial)
 
-set-2 : (m : State) → AreSavedCells 2 (saved 2 m) → cells_in (carried (shipped_set 2) set_4 (saved_images 2 m)) ≡ tables 2 (saved 2 m)
+set-2 : (m : State) → AreSavedCells 2 (saved 2 m) → cells_in (carried (shipped_set 2) (shipped_set NEWEST) (saved_images 2 m)) ≡ tables 2 (saved 2 m)
 unfolding carried
 set-2 m a =
     same-five _ _ _ _ _ _ _ _ _ _ (timer_is_carried.second _ a.timer) (chip_is_carried.second 0 _ a.master) (chip_is_carried.second 1 _ a.slave) (pit_is_carried.second _ a.pit) (serial_is_carried.second _ a.serial)
 
-set-3 : (m : State) → AreSavedCells 3 (saved 3 m) → cells_in (carried (shipped_set 3) set_4 (saved_images 3 m)) ≡ tables 3 (saved 3 m)
+set-3 : (m : State) → AreSavedCells 3 (saved 3 m) → cells_in (carried (shipped_set 3) (shipped_set NEWEST) (saved_images 3 m)) ≡ tables 3 (saved 3 m)
 unfolding carried
 set-3 m a =
     same-five _ _ _ _ _ _ _ _ _ _ (timer_is_carried.third _ a.timer) (chip_is_carried.third 0 _ a.master) (chip_is_carried.third 1 _ a.slave) (pit_is_carried.third _ a.pit) (serial_is_carried.third _ a.serial)
 
-set-4 : (m : State) → AreSavedCells 4 (saved 4 m) → cells_in (carried (shipped_set 4) set_4 (saved_images 4 m)) ≡ tables 4 (saved 4 m)
+set-4 : (m : State) → AreSavedCells 4 (saved 4 m) → cells_in (carried (shipped_set 4) (shipped_set NEWEST) (saved_images 4 m)) ≡ tables 4 (saved 4 m)
 unfolding carried
 set-4 m a =
     same-five _ _ _ _ _ _ _ _ _ _ (timer_is_carried.fourth _ a.timer) (chip_is_carried.fourth 0 _ a.master) (chip_is_carried.fourth 1 _ a.slave) (pit_is_carried.fourth _ a.pit) (serial_is_carried.fourth _ a.serial)
 
-each : (set : ℕ) (m : State) → AreSavedCells set (saved set m) → 1 ≤ set → set ≤ 4 → cells_in (carried (shipped_set set) set_4 (saved_images set m)) ≡ tables set (saved set m)
+each : (set : ℕ) (m : State) → AreSavedCells set (saved set m) → 1 ≤ set → set ≤ NEWEST → cells_in (carried (shipped_set set) (shipped_set NEWEST) (saved_images set m)) ≡ tables set (saved set m)
 each zero m a l h = absurd (omega (arith, l))
 each (suc zero) m a l h = set-1 m a
 each (suc (suc zero)) m a l h = set-2 m a
@@ -69,7 +69,7 @@ each (suc (suc (suc zero))) m a l h = set-3 m a
 each (suc (suc (suc (suc zero)))) m a l h = set-4 m a
 each (suc (suc (suc (suc (suc set))))) m a l h = absurd (omega (arith, h))
 
-cells-carried : (set : ℕ) (m : State) → IsSound m → MaySaveUnder m.level set → cells_in (carried (shipped_set set) set_4 (saved_images set m)) ≡ board_carried set (saved set m)
+cells-carried : (set : ℕ) (m : State) → IsSound m → MaySaveUnder m.level set → cells_in (carried (shipped_set set) (shipped_set NEWEST) (saved_images set m)) ≡ board_carried set (saved set m)
 cells-carried set m s may =
     let least = s.devices.level.first in
     let le = may.level_le_set in

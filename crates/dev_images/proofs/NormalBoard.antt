@@ -1,16 +1,18 @@
 -- Normal images of the newest set have the cells that a board may be restored from.
 use Rattle.std.proofs.Common.{◌≡◌, ℕ, List, [], ◌∷◌, length, Some, refl, arith}
 use Rattle.std.specs.List.{slice_get}
+use Rattle.dev_base.specs.declared.limits.TheConstants.{NEWEST}
 use Rattle.dev_board.specs.Saved.{AreBoardCells}
+use Rattle.vms_desc.specs.Formed.{shipped_set}
 use Rattle.vms_spec.specs.Images.{Image, IsNormal}
 use Rattle.vms_spec.specs.Sets.{Device}
-use Rattle.vms_spec.specs.Shipped.{set_4, timer, i8259_at_4, i8254_at_2}
+use Rattle.vms_spec.specs.Shipped.{timer, i8259_at_4, i8254_at_2}
 use Rattle.dev_images.specs.Images.{cells_in}
 use Rattle.dev_images.specs.Laws.{NormalMayBeRestored, serial_at_4}
 use Rattle.dev_images.proofs.NormalCells.{timer-of, chip-of, pit-of}
 use Rattle.dev_images.proofs.NormalSerial.{port-of}
 
-each : (images : List Image) → length images ≡ 5 → ((k : ℕ) (d : Device) (image : Image) → slice_get set_4.devices k ≡ Some d → slice_get images k ≡ Some image → IsNormal set_4 d image) → AreBoardCells (cells_in images)
+each : (images : List Image) → length images ≡ 5 → ((k : ℕ) (d : Device) (image : Image) → slice_get (shipped_set NEWEST).devices k ≡ Some d → slice_get images k ≡ Some image → IsNormal (shipped_set NEWEST) d image) → AreBoardCells (cells_in images)
 each [] l h = absurd (omega (arith, l))
 each (a ∷ []) l h = absurd (omega (arith, l))
 each (a ∷ b ∷ []) l h = absurd (omega (arith, l))

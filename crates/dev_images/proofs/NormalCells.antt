@@ -7,7 +7,9 @@ use Rattle.vms_kinds.specs.declared.Kind.{Kind}
 use Rattle.vms_kinds.specs.declared.Kind.TheVariants.{Bool as Truth}
 use Rattle.vms_spec.specs.Images.{Image, has_cell, image_slots, FitCells, IsNormal, AreVersionsOf}
 use Rattle.vms_spec.specs.Layout.{Cell, no_cell, first, device_cells, Slot, Number, Constant, Filler, Rule}
-use Rattle.vms_spec.specs.Shipped.{set_2, set_4, timer, i8259_at_4, i8254_at_2}
+use Rattle.dev_base.specs.declared.limits.TheConstants.{NEWEST}
+use Rattle.vms_desc.specs.Formed.{shipped_set}
+use Rattle.vms_spec.specs.Shipped.{set_2, timer, i8259_at_4, i8254_at_2}
 use Rattle.dev_base.specs.Cells.{AreOf, kind_at, nat_of}
 use Rattle.dev_board.specs.Saved.{timer_kinds}
 use Rattle.dev_pic.specs.Cells.{kinds as pic_kinds}
@@ -26,13 +28,13 @@ of-kinds cells numbers fit =
       in_range = λ place lt. subst (λ (kind : Kind). InRange kind (get_or numbers place (pos 0))) (sym (kind-of cells place)) (fit.fits place (omega (arith, count, lt))).0;
     }
 
-pub timer-of : (image : Image) → IsNormal set_4 timer image → AreOf timer_kinds image.numbers
+pub timer-of : (image : Image) → IsNormal (shipped_set NEWEST) timer image → AreOf timer_kinds image.numbers
 unfolding first
-timer-of image n = of-kinds (device_cells set_4 timer) image.numbers n.cells
+timer-of image n = of-kinds (device_cells (shipped_set NEWEST) timer) image.numbers n.cells
 
-pub chip-of : (instance : ℕ) (image : Image) → IsNormal set_4 (i8259_at_4 instance) image → AreOf (pic_kinds 4) image.numbers
+pub chip-of : (instance : ℕ) (image : Image) → IsNormal (shipped_set NEWEST) (i8259_at_4 instance) image → AreOf (pic_kinds NEWEST) image.numbers
 unfolding first
-chip-of instance image n = of-kinds (device_cells set_4 (i8259_at_4 instance)) image.numbers n.cells
+chip-of instance image n = of-kinds (device_cells (shipped_set NEWEST) (i8259_at_4 instance)) image.numbers n.cells
 
 -- ---- the timer chip
 
@@ -132,7 +134,7 @@ record HasSlots (numbers : List ℤ) (slots : List Slot) : Type 0 where
   same : slots ≡ chip_slots (slots_in set_2 numbers 0) (slots_in set_2 numbers 11) (slots_in set_2 numbers 22) rest
   none : has_none rest may_lack ≡ true
 
-slots-at : (v : ℕ) (came : List (Option ℕ)) (numbers : List ℤ) → 1 ≤ v → v ≤ 2 → AreVersionsOf [] came → HasSlots numbers (image_slots set_4 i8254_at_2 (record { version = v; came = came; numbers = numbers }))
+slots-at : (v : ℕ) (came : List (Option ℕ)) (numbers : List ℤ) → 1 ≤ v → v ≤ 2 → AreVersionsOf [] came → HasSlots numbers (image_slots (shipped_set NEWEST) i8254_at_2 (record { version = v; came = came; numbers = numbers }))
 unfolding first
 slots-at zero came numbers l h a = absurd (omega (arith, l))
 slots-at (suc zero) [] numbers l h a = record { rest = []; same = refl; none = refl }
@@ -140,22 +142,22 @@ slots-at (suc (suc zero)) [] numbers l h a = record { rest = status_slots; same 
 slots-at (suc (suc (suc v))) came numbers l h a = absurd (omega (arith, h))
 slots-at v (o ∷ came) numbers l h a = absurd a
 
-module _ (image : Image) (n : IsNormal set_4 i8254_at_2 image) where
+module _ (image : Image) (n : IsNormal (shipped_set NEWEST) i8254_at_2 image) where
   abbrev numbers : List ℤ
   numbers = image.numbers
 
-  kinds : AreOf (map (λ cell. cell.kind) (device_cells set_4 i8254_at_2)) numbers
-  kinds = of-kinds (device_cells set_4 i8254_at_2) numbers n.cells
+  kinds : AreOf (map (λ cell. cell.kind) (device_cells (shipped_set NEWEST) i8254_at_2)) numbers
+  kinds = of-kinds (device_cells (shipped_set NEWEST) i8254_at_2) numbers n.cells
 
-  slots : HasSlots numbers (image_slots set_4 i8254_at_2 image)
+  slots : HasSlots numbers (image_slots (shipped_set NEWEST) i8254_at_2 image)
   slots = slots-at image.version image.came numbers n.version.0 n.version.1 n.subs
 
-  truth : (place : ℕ) → place < 39 → kind_at (map (λ cell. cell.kind) (device_cells set_4 i8254_at_2)) place ≡ Truth → InRange Truth (get_or numbers place (pos 0))
+  truth : (place : ℕ) → place < 39 → kind_at (map (λ cell. cell.kind) (device_cells (shipped_set NEWEST) i8254_at_2)) place ≡ Truth → InRange Truth (get_or numbers place (pos 0))
   unfolding first
   truth place lt e = subst (λ (kind : Kind). InRange kind (get_or numbers place (pos 0))) e (kinds.in_range place (omega (arith, lt)))
 
   -- a cell that no slot has is at its default, 0
-  lacks : (c : ℕ) → c < 39 → (get_or (device_cells set_4 i8254_at_2) c no_cell).default ≡ pos 0 → has_cell (chip_slots (slots_in set_2 numbers 0) (slots_in set_2 numbers 11) (slots_in set_2 numbers 22) slots.rest) c ≡ false → nat_of (get_or numbers c (pos 0)) ≡ 0
+  lacks : (c : ℕ) → c < 39 → (get_or (device_cells (shipped_set NEWEST) i8254_at_2) c no_cell).default ≡ pos 0 → has_cell (chip_slots (slots_in set_2 numbers 0) (slots_in set_2 numbers 11) (slots_in set_2 numbers 22) slots.rest) c ≡ false → nat_of (get_or numbers c (pos 0)) ≡ 0
   unfolding first
   lacks c lt d e =
       let long = n.cells.long in
@@ -191,7 +193,7 @@ module _ (image : Image) (n : IsNormal set_4 i8254_at_2 image) where
   latch-of-2 e =
       lacks 32 (omega arith) refl (chip-none (slots_in set_2 numbers 0) (slots_in set_2 numbers 11) (slots_in set_2 numbers 22) slots.rest 32 (pick (slots_in set_2 numbers 0) (19 ∷ 21 ∷ 30 ∷ 32 ∷ []) 3 (omega arith) (others-0 numbers _ _ refl refl)) (pick (slots_in set_2 numbers 11) (8 ∷ 10 ∷ 30 ∷ 32 ∷ []) 3 (omega arith) (others-11 numbers _ _ refl refl)) (latch-22 numbers _ refl (flag-off _ (truth 31 (omega arith) refl) e)) (pick slots.rest may_lack 5 (omega arith) slots.none))
 
-  pub pit-of : AreCellsOf 4 numbers
+  pub pit-of : AreCellsOf NEWEST numbers
   unfolding first
   pit-of = record { of_kinds = kinds; wlow = wlow-all; latch = latch-all } where
     wlow-all : (k : ℕ) → k < 3 → (nat_of (get_or numbers (11 * k + 7) (pos 0)) == 1) ≡ false → nat_of (get_or numbers (11 * k + 8) (pos 0)) ≡ 0

@@ -14,7 +14,9 @@ use Rattle.vms_kinds.specs.declared.Kind.{Kind}
 use Rattle.vms_kinds.specs.declared.Kind.TheVariants.{U8}
 use Rattle.vms_spec.specs.Images.{Image, has_cell, image_slots, own_slots, sub_slots, came_slots, IsNormal, IsVersionOf, AreVersionsOf}
 use Rattle.vms_spec.specs.Layout.{Cell, no_cell, first, device_cells, times, Slot, Number, Constant, Filler, Rule}
-use Rattle.vms_spec.specs.Shipped.{set_4, thr_ipending, fifo, timeout, ring}
+use Rattle.dev_base.specs.declared.limits.TheConstants.{NEWEST}
+use Rattle.vms_desc.specs.Formed.{shipped_set}
+use Rattle.vms_spec.specs.Shipped.{thr_ipending, fifo, timeout, ring}
 use Rattle.vms_spec.proofs.NumberLaws.{same_number_is}
 use Rattle.dev_base.specs.Cells.{AreOf, kind_at, nat_of}
 use Rattle.dev_images.proofs.NormalCells.{of-kinds, has-none}
@@ -92,7 +94,7 @@ came-lack set d numbers c at (s ∷ subs) (None ∷ came) a h = came-lack set d 
 came-lack set d numbers c at (s ∷ subs) (Some v ∷ came) a h =
     has-none (sub_slots set s v numbers at) (came_slots set d numbers (at + length (sub_cells set s)) subs came) c (h.0 v a.0) (came-lack set d numbers c (at + length (sub_cells set s)) subs came a.1 h.1)
 
-own-within : (v : ℕ) (numbers : List ℤ) → 1 ≤ v → v ≤ 4 → all_within 0 12 (own_slots set_4 serial_at_4 v numbers) ≡ true
+own-within : (v : ℕ) (numbers : List ℤ) → 1 ≤ v → v ≤ NEWEST → all_within 0 12 (own_slots (shipped_set NEWEST) serial_at_4 v numbers) ≡ true
 unfolding first
 own-within zero numbers l h = absurd (omega (arith, l))
 own-within (suc zero) numbers l h = refl
@@ -116,14 +118,14 @@ default-in (cell ∷ cells) zero i (suc n) zero is lt e = sym (same_number_is (p
 default-in (cell ∷ cells) zero zero (suc n) (suc place) is lt e = absurd (omega (arith, is))
 default-in (cell ∷ cells) zero (suc i) (suc n) (suc place) is lt e = default-in cells zero i n place (omega (arith, is)) (omega (arith, lt)) (and_parts (same_number (pos 0) cell.default) (zero_defaults (take n cells)) e).1
 
-module _ (image : Image) (n : IsNormal set_4 serial_at_4 image) where
+module _ (image : Image) (n : IsNormal (shipped_set NEWEST) serial_at_4 image) where
   abbrev numbers : List ℤ
   numbers = image.numbers
 
-  are : AreOf (map (λ cell. cell.kind) (device_cells set_4 serial_at_4)) numbers
-  are = of-kinds (device_cells set_4 serial_at_4) numbers n.cells
+  are : AreOf (map (λ cell. cell.kind) (device_cells (shipped_set NEWEST) serial_at_4)) numbers
+  are = of-kinds (device_cells (shipped_set NEWEST) serial_at_4) numbers n.cells
 
-  byte-at : (place : ℕ) → place < 84 → kind_at (map (λ cell. cell.kind) (device_cells set_4 serial_at_4)) place ≡ U8 → InRange U8 (get_or numbers place (pos 0))
+  byte-at : (place : ℕ) → place < 84 → kind_at (map (λ cell. cell.kind) (device_cells (shipped_set NEWEST) serial_at_4)) place ≡ U8 → InRange U8 (get_or numbers place (pos 0))
   unfolding first
   byte-at place lt e = subst (λ (kind : Kind). InRange kind (get_or numbers place (pos 0))) e (are.in_range place (omega (arith, lt)))
 
@@ -154,18 +156,18 @@ module _ (image : Image) (n : IsNormal set_4 serial_at_4 image) where
   tx_elements = min (residue 1 (get_or numbers 30 (pos 0))) 16
 
   -- a cell outside of the fields and of the other subsections that the FIFOs' slots lack is in no slot
-  lack : (c : ℕ) → 13 ≤ c → c < 47 → has_cell (fifo_slots rx_elements tx_elements) c ≡ false → has_cell (image_slots set_4 serial_at_4 image) c ≡ false
+  lack : (c : ℕ) → 13 ≤ c → c < 47 → has_cell (fifo_slots rx_elements tx_elements) c ≡ false → has_cell (image_slots (shipped_set NEWEST) serial_at_4 image) c ≡ false
   unfolding first
   lack c low high e =
-      has-none (own_slots set_4 serial_at_4 image.version numbers) (came_slots set_4 serial_at_4 numbers 12 serial_at_4.subs image.came) c
-      (within-none 0 12 (own_slots set_4 serial_at_4 image.version numbers) c (own-within image.version numbers n.version.0 n.version.1) (omega (arith, low)))
-      (came-lack set_4 serial_at_4 numbers c 12 serial_at_4.subs image.came n.subs (
-        (λ v h. version-1 v (λ v. has_cell (sub_slots set_4 thr_ipending v numbers 12) c ≡ false) h.0 h.1 (within-none 12 13 (sub_slots set_4 thr_ipending 1 numbers 12) c refl low)),
+      has-none (own_slots (shipped_set NEWEST) serial_at_4 image.version numbers) (came_slots (shipped_set NEWEST) serial_at_4 numbers 12 serial_at_4.subs image.came) c
+      (within-none 0 12 (own_slots (shipped_set NEWEST) serial_at_4 image.version numbers) c (own-within image.version numbers n.version.0 n.version.1) (omega (arith, low)))
+      (came-lack (shipped_set NEWEST) serial_at_4 numbers c 12 serial_at_4.subs image.came n.subs (
+        (λ v h. version-1 v (λ v. has_cell (sub_slots (shipped_set NEWEST) thr_ipending v numbers 12) c ≡ false) h.0 h.1 (within-none 12 13 (sub_slots (shipped_set NEWEST) thr_ipending 1 numbers 12) c refl low)),
         (
-          (λ v h. version-1 v (λ v. has_cell (sub_slots set_4 fifo v numbers 13) c ≡ false) h.0 h.1 e),
+          (λ v h. version-1 v (λ v. has_cell (sub_slots (shipped_set NEWEST) fifo v numbers 13) c ≡ false) h.0 h.1 e),
           (
-            (λ v h. version-1 v (λ v. has_cell (sub_slots set_4 timeout v numbers 47) c ≡ false) h.0 h.1 (before-none 47 48 (sub_slots set_4 timeout 1 numbers 47) c refl high)),
-            ((λ v h. version-1 v (λ v. has_cell (sub_slots set_4 ring v numbers 48) c ≡ false) h.0 h.1 (before-none 48 84 (sub_slots set_4 ring 1 numbers 48) c refl (omega (arith, high)))), tt),
+            (λ v h. version-1 v (λ v. has_cell (sub_slots (shipped_set NEWEST) timeout v numbers 47) c ≡ false) h.0 h.1 (before-none 47 48 (sub_slots (shipped_set NEWEST) timeout 1 numbers 47) c refl high)),
+            ((λ v h. version-1 v (λ v. has_cell (sub_slots (shipped_set NEWEST) ring v numbers 48) c ≡ false) h.0 h.1 (before-none 48 84 (sub_slots (shipped_set NEWEST) ring 1 numbers 48) c refl (omega (arith, high)))), tt),
           ),
         ),
       ))
@@ -176,7 +178,7 @@ module _ (image : Image) (n : IsNormal set_4 serial_at_4 image) where
       let is = elements (get_or numbers 13 (pos 0)) rx-range rx-fits in
       let long = n.cells.long in
       n.absent (14 + i) (omega (arith, b, long)) (lack (14 + i) (omega arith) (omega (arith, b)) (rx-lack rx_elements tx_elements i (omega (arith, is, l)) b))
-      ∙ default-in (device_cells set_4 serial_at_4) 14 i 16 (14 + i) refl b refl
+      ∙ default-in (device_cells (shipped_set NEWEST) serial_at_4) 14 i 16 (14 + i) refl b refl
 
   tx-zeros : (i : ℕ) → nat_of (get_or numbers 30 (pos 0)) ≤ i → i < 16 → get_or numbers (31 + i) (pos 0) ≡ pos 0
   unfolding first
@@ -184,7 +186,7 @@ module _ (image : Image) (n : IsNormal set_4 serial_at_4 image) where
       let is = elements (get_or numbers 30 (pos 0)) tx-range tx-fits in
       let long = n.cells.long in
       n.absent (31 + i) (omega (arith, b, long)) (lack (31 + i) (omega arith) (omega (arith, b)) (tx-lack rx_elements tx_elements i (omega arith) (omega (arith, is, l)) b))
-      ∙ default-in (device_cells set_4 serial_at_4) 31 i 16 (31 + i) refl b refl
+      ∙ default-in (device_cells (shipped_set NEWEST) serial_at_4) 31 i 16 (31 + i) refl b refl
 
   pub port-of : IsPortCells numbers
   unfolding first

@@ -6,6 +6,8 @@ use Rattle.vms_kinds.specs.declared.Kind.TheVariants.{Bool as Truth}
 use Rattle.vms_check.specs.Carrying.{carriers, no_carrier}
 use Rattle.vms_spec.specs.Layout.{first, struct_cells}
 use Rattle.vms_spec.specs.Sets.{Set}
+use Rattle.dev_base.specs.declared.limits.TheConstants.{NEWEST}
+use Rattle.vms_desc.specs.Formed.{shipped_set}
 use Rattle.vms_spec.specs.Shipped.{set_1, set_2, set_3, set_4, i8254_at_1, i8254_at_2}
 use Rattle.dev_base.specs.Cells.{nat_of}
 use Rattle.dev_pit.specs.Cells.{AreCellsOf, carried as pit_carried}
@@ -15,7 +17,7 @@ use Rattle.dev_images.proofs.ChipReady.{needs, unneeded}
 -- a channel of the newest set from one of older sets
 abbrev channel_in : Set → List ℤ → ℕ → List ℤ
 channel_in old numbers at =
-    get_or (carriers (struct_cells old) (struct_cells set_4) old.structs set_4.structs 1) 0 no_carrier 0 numbers at
+    get_or (carriers (struct_cells old) (struct_cells (shipped_set NEWEST)) old.structs (shipped_set NEWEST).structs 1) 0 no_carrier 0 numbers at
 
 abbrev plain : List ℤ → ℕ → List ℤ
 plain numbers at =

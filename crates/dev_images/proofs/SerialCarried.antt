@@ -5,6 +5,8 @@ use Rattle.vms_kinds.specs.declared.Item.TheVariants.{Num}
 use Rattle.vms_kinds.specs.declared.Kind.TheVariants.{U8}
 use Rattle.vms_spec.specs.Layout.{first, struct_cells, Cell}
 use Rattle.vms_spec.specs.Sets.{Set, Device, Sub}
+use Rattle.dev_base.specs.declared.limits.TheConstants.{NEWEST}
+use Rattle.vms_desc.specs.Formed.{shipped_set}
 use Rattle.vms_spec.specs.Shipped.{set_1, set_2, set_3, set_4, never, thr_ipending, fifo, timeout, ring}
 use Rattle.dev_serial.specs.Cells.{carried as serial_carried}
 use Rattle.dev_serial.specs.Laws.{AreSaved}
@@ -59,7 +61,7 @@ module _ (structs : List Carrier) (x y : List (List Cell)) (numbers : List ℤ) 
 
 -- what each subsection of the newest set has of an image
 abbrev part : Set → Device → List ℤ → Sub → List ℤ
-part old d numbers t = carried_sub old set_4 d (image_of old d numbers) t
+part old d numbers t = carried_sub old (shipped_set NEWEST) d (image_of old d numbers) t
 
 thr-1 : (numbers : List ℤ) (needed : Bool) → needs_sign (get_or numbers 11 (pos 0)) ≡ needed → (needed ≡ false → get_or numbers 11 (pos 0) ≡ negsuc 0) → part set_1 serial_at_1 numbers thr_ipending ≡ (get_or numbers 11 (pos 0) ∷ [])
 unfolding first
@@ -84,19 +86,19 @@ thr-4 numbers false e off = rw (e, off refl) refl
 fifo-2 : (numbers : List ℤ) (h : HasFifo numbers) (needed : Bool) → needs_fifo numbers ≡ needed → (needed ≡ false → take 34 (drop 13 numbers) ≡ replicate 34 (pos 0)) → part set_2 serial_at_2 numbers fifo ≡ run numbers 13 34
 unfolding first
 fifo-2 numbers h true e off =
-    rw e (fifo-run (carriers (struct_cells set_2) (struct_cells set_4) set_2.structs set_4.structs 1) (struct_cells set_2) (struct_cells set_4) numbers (rx_elements numbers h) (tx_elements numbers h) (rx-zeros numbers h) (tx-zeros numbers h))
+    rw e (fifo-run (carriers (struct_cells set_2) (struct_cells (shipped_set NEWEST)) set_2.structs (shipped_set NEWEST).structs 1) (struct_cells set_2) (struct_cells (shipped_set NEWEST)) numbers (rx_elements numbers h) (tx_elements numbers h) (rx-zeros numbers h) (tx-zeros numbers h))
 fifo-2 numbers h false e off = rw e (zeros-run numbers 13 34 (off refl))
 
 fifo-3 : (numbers : List ℤ) (h : HasFifo numbers) (needed : Bool) → needs_fifo numbers ≡ needed → (needed ≡ false → take 34 (drop 13 numbers) ≡ replicate 34 (pos 0)) → part set_3 serial_at_3 numbers fifo ≡ run numbers 13 34
 unfolding first
 fifo-3 numbers h true e off =
-    rw e (fifo-run (carriers (struct_cells set_3) (struct_cells set_4) set_3.structs set_4.structs 1) (struct_cells set_3) (struct_cells set_4) numbers (rx_elements numbers h) (tx_elements numbers h) (rx-zeros numbers h) (tx-zeros numbers h))
+    rw e (fifo-run (carriers (struct_cells set_3) (struct_cells (shipped_set NEWEST)) set_3.structs (shipped_set NEWEST).structs 1) (struct_cells set_3) (struct_cells (shipped_set NEWEST)) numbers (rx_elements numbers h) (tx_elements numbers h) (rx-zeros numbers h) (tx-zeros numbers h))
 fifo-3 numbers h false e off = rw e (zeros-run numbers 13 34 (off refl))
 
 fifo-4 : (numbers : List ℤ) (h : HasFifo numbers) (needed : Bool) → needs_fifo numbers ≡ needed → (needed ≡ false → take 34 (drop 13 numbers) ≡ replicate 34 (pos 0)) → part set_4 serial_at_4 numbers fifo ≡ run numbers 13 34
 unfolding first
 fifo-4 numbers h true e off =
-    rw e (fifo-run (carriers (struct_cells set_4) (struct_cells set_4) set_4.structs set_4.structs 1) (struct_cells set_4) (struct_cells set_4) numbers (rx_elements numbers h) (tx_elements numbers h) (rx-zeros numbers h) (tx-zeros numbers h))
+    rw e (fifo-run (carriers (struct_cells set_4) (struct_cells (shipped_set NEWEST)) set_4.structs (shipped_set NEWEST).structs 1) (struct_cells set_4) (struct_cells (shipped_set NEWEST)) numbers (rx_elements numbers h) (tx_elements numbers h) (rx-zeros numbers h) (tx-zeros numbers h))
 fifo-4 numbers h false e off = rw e (zeros-run numbers 13 34 (off refl))
 
 timeout-3 : (numbers : List ℤ) (needed : Bool) → needs_timer (get_or numbers 47 (pos 0)) ≡ needed → (needed ≡ false → get_or numbers 47 (pos 0) ≡ pos never) → part set_3 serial_at_3 numbers timeout ≡ (get_or numbers 47 (pos 0) ∷ [])

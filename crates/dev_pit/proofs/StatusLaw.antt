@@ -8,28 +8,8 @@ use Rattle.dev_pit.specs.declared.counter.Counter.{Counter}
 use Rattle.dev_pit.specs.declared.mode.Mode.{Mode}
 use Rattle.dev_pit.specs.declared.mode.Mode.TheVariants.{TerminalCount, OneShot, RateGenerator, SquareWave, SoftwareStrobe, HardwareStrobe}
 use Rattle.dev_pit.specs.declared.mode.Access.{Access}
-use Rattle.dev_pit.specs.declared.mode.Access.TheVariants.{LowByte, HighByte, LowThenHigh}
-
-mode_small : (mode : Mode) → mode_number mode ≤ 5
-mode_small TerminalCount = omega arith
-mode_small OneShot = omega arith
-mode_small RateGenerator = omega arith
-mode_small SquareWave = omega arith
-mode_small SoftwareStrobe = omega arith
-mode_small HardwareStrobe = omega arith
-
-access_small : (access : Access) → access_number access ≤ 3
-access_small LowByte = omega arith
-access_small HighByte = omega arith
-access_small LowThenHigh = omega arith
-
-flag_small : (flag : Bool) → flag_number flag ≤ 1
-flag_small true = omega arith
-flag_small false = omega arith
-
-flag_back : (flag : Bool) → (flag_number flag == 1) ≡ flag
-flag_back true = refl
-flag_back false = refl
+use Rattle.dev_base.proofs.CellLaws.{flag-back}
+use Rattle.dev_pit.proofs.SoundSteps.{flag-small, mode-small, access-small}
 
 -- the parts of a byte that is put together of them
 module _ (out access mode bcd : ℕ) (o : out ≤ 1) (a : access ≤ 3) (m : mode ≤ 5) (b : bcd ≤ 1) where
@@ -58,16 +38,16 @@ tells counter now =
     let access = access_number counter.access in
     let mode = mode_number counter.mode in
     let bcd = flag_number counter.bcd in
-    let o = flag_small (out_of counter now) in
-    let a = access_small counter.access in
-    let m = mode_small counter.mode in
-    let b = flag_small counter.bcd in
+    let o = flag-small (out_of counter now) in
+    let a = access-small counter.access in
+    let m = mode-small counter.mode in
+    let b = flag-small counter.bcd in
     record {
-      out = ap (λ (n : ℕ). n == 1) (seventh out access mode bcd o a m b) ∙ flag_back (out_of counter now);
+      out = ap (λ (n : ℕ). n == 1) (seventh out access mode bcd o a m b) ∙ flag-back (out_of counter now);
       null = ap (λ (n : ℕ). n == 1) (sixth out access mode bcd o a m b);
       access = accessed out access mode bcd o a m b;
       mode = moded out access mode bcd o a m b;
-      bcd = ap (λ (n : ℕ). n == 1) (zeroth out access mode bcd o a m b) ∙ flag_back counter.bcd;
+      bcd = ap (λ (n : ℕ). n == 1) (zeroth out access mode bcd o a m b) ∙ flag-back counter.bcd;
     }
 
 pub status_tells : StatusTells

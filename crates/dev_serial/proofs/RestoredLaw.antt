@@ -15,7 +15,7 @@ use Rattle.dev_serial.specs.Sound.{IsSound, HasRegisters, IsReceiver, IsTransmit
 use Rattle.dev_serial.specs.declared.numbers.PortNumbers.{PortNumbers}
 use Rattle.dev_serial.proofs.RestoredParts.{is_on, level-on, short, are_bytes, timeout, shift, idle-empty, waiting-empty}
 use Rattle.dev_serial.proofs.RulesHold.{Hold, hold}
-use Rattle.dev_serial.proofs.StoredKinds.{in_arrays, in_rings}
+use Rattle.dev_serial.proofs.StoredKinds.{in_arrays, ring-bytes}
 use Rattle.dev_serial.proofs.StoredLaws.{stored-empty, stored-short, stored-bytes, firsts-bytes}
 
 -- numbers in their kinds' ranges
@@ -77,10 +77,6 @@ module _ (cells : List ℤ) (is : IsPortCells cells) where
   array-bytes place low high =
       firsts-bytes (λ i. number_at cells (place + i)) 0 16 (λ k l m. byte-lt (cell_at cells (place + k)) (in_arrays cells place 16 is.of_kinds (omega arith) high (place + k) (omega arith) (omega arith)))
 
-  ring-bytes : (place : ℕ) → 48 ≤ place → place + 16 ≤ 84 → AreBytes (bytes_at cells place)
-  ring-bytes place low high =
-      firsts-bytes (λ i. number_at cells (place + i)) 0 16 (λ k l m. byte-lt (cell_at cells (place + k)) (in_rings cells place 16 is.of_kinds low high (place + k) (omega arith) (omega arith)))
-
   ranges-of : HasRanges (numbers_of cells)
   unfolding numbers_of
   ranges-of = record {
@@ -90,8 +86,8 @@ module _ (cells : List ℤ) (is : IsPortCells cells) where
     rbr = byte-lt _ (is.of_kinds.in_range 7 (omega arith));
     thr = byte-lt _ (is.of_kinds.in_range 8 (omega arith));
     tsr = byte-lt _ (is.of_kinds.in_range 9 (omega arith));
-    rx = stored-bytes (array_at cells 13) (ring_at cells 48) (array-bytes 14 (omega arith) (omega arith)) (ring-bytes 48 (omega arith) (omega arith));
-    tx = stored-bytes (array_at cells 30) (ring_at cells 66) (array-bytes 31 (omega arith) (omega arith)) (ring-bytes 66 (omega arith) (omega arith));
+    rx = stored-bytes (array_at cells 13) (ring_at cells 48) (array-bytes 14 (omega arith) (omega arith)) (ring-bytes cells is.of_kinds 48 (omega arith) (omega arith));
+    tx = stored-bytes (array_at cells 30) (ring_at cells 66) (array-bytes 31 (omega arith) (omega arith)) (ring-bytes cells is.of_kinds 66 (omega arith) (omega arith));
   }
 
 own-level : (level : ℕ) (n : PortNumbers) → (port_of level n).level ≡ level

@@ -106,7 +106,7 @@ ring-of bytes s b =
     of_both (replicate 16 U8) (U8 ∷ U8 ∷ []) (map pos (padded bytes)) (pos 0 ∷ pos (length bytes) ∷ []) (run (byte_of bytes) 0 16 (λ i. byte_of-lt bytes i b))
     (of_more U8 (pos 0) _ _ (byte 0 zero-small) (of_more U8 (pos (length bytes)) _ _ (byte (length bytes) (small (length bytes) s)) of_none))
 
-one : (kind : Kind) (cell : ℤ) → InRange kind cell → AreOf (kind ∷ []) (cell ∷ [])
+pub one : (kind : Kind) (cell : ℤ) → InRange kind cell → AreOf (kind ∷ []) (cell ∷ [])
 one kind cell h = of_more kind cell [] [] h of_none
 
 module _ (set now : ℕ) (port : Port) (early : now ≤ LAST_MOMENT) (sound : IsSound now port) where

@@ -15,6 +15,7 @@ use Rattle.vms_elements.specs.Entries.{OfNumber, has_default, have_defaults, lin
 use Rattle.vms_elements.specs.Reading.{AreFine}
 use Rattle.vms_elements.proofs.Members.{Each}
 use Rattle.vms_values_laws.proofs.FineNumbers.{line_number, reason_fits}
+use Rattle.vms_values_laws.proofs.Rights.{fine_rest}
 use Rattle.vms_values_laws.proofs.Numbers.{AreShort, of_numbers}
 use Rattle.vms_elements.proofs.Counting.{IsCounted, AreCounted}
 use Rattle.vms_analyze.specs.Told.{Told}
@@ -151,12 +152,8 @@ said_as n short x (Rule holds) e counted fine = tt
 
 pub fine_said : (n : List ℤ) → AreShort n → (xs : List Element) → AreCounted xs → AreFine (of_numbers n (printed xs)) → Each (IsSaid true n) xs
 fine_said n short [] counted fine = tt
-fine_said n short (x ∷ xs) counted fine = (said_as n short x x.what refl counted.0 here, fine_said n short xs counted.1 (later (x.counted && is_number x.what) fine))
+fine_said n short (x ∷ xs) counted fine = (said_as n short x x.what refl counted.0 here, fine_said n short xs counted.1 (fine_rest n x xs (x.counted && is_number x.what) fine))
   where
-    later : (b : Bool) → AreFine (of_numbers n (if b then x ∷ printed xs else printed xs)) → AreFine (of_numbers n (printed xs))
-    later true f = f.1
-    later false f = f
-
     first : (b : Bool) → AreFine (of_numbers n (if b then x ∷ printed xs else printed xs)) → b ≡ true → line_reason (OfNumber x n) (number_line n x) ≡ None
     first true f e = f.0
     first false f e = cc

@@ -1,12 +1,10 @@
 -- What is read of an element is the element whose entry the value is, and of each good element's entry that element is read.
-use Rattle.std.proofs.Common.{◌≡◌, ℕ, Bool, true, false, ◌&&◌, ◌||◌, ◌==◌, nat_le, if◌then◌else◌, List, [], ◌∷◌, map, Option, Some, None, ℤ, codes, refl, sym, ap, ap₂, ◌∙◌, subst}
-use Rattle.std.specs.List.{list_all}
+use Rattle.std.proofs.Common.{◌≡◌, ℕ, Bool, true, false, ◌&&◌, ◌||◌, ◌==◌, nat_le, if◌then◌else◌, List, [], Option, Some, None, ℤ, codes, refl, sym, ap, ap₂, ◌∙◌}
 use Rattle.std.specs.Str.{bytes_eq}
 use Rattle.std.proofs.lemmas.Bool.{and_parts, eqb-true, and_from}
 use Rattle.std.proofs.lemmas.Slice.Eq.{bytes_eq-Decides}
 use Rattle.serde_json.specs.Data.{Data, number, string, object, no_members, member}
 use Rattle.serde_json.specs.Find.{of_integer}
-use Rattle.serde_json.specs.View.{items_of}
 use Rattle.vms_json.specs.Keys.{fits}
 use Rattle.vms_kinds.specs.declared.Kind.{Kind}
 use Rattle.vms_kinds.specs.Codes.{width}
@@ -16,9 +14,9 @@ use Rattle.vms_words.proofs.WordLaws.{word_named, tells_kind}
 use Rattle.vms_selfdesc.specs.Tree.{natural, entry_tree}
 use Rattle.vms_analyze.specs.Told.{Told, Sent, Kept, Fixed, Skipped, told_entry, is_path, is_good}
 use Rattle.vms_analyze.specs.Sorted.{IsSorted}
-use Rattle.vms_analyze.specs.Read.{next, only, text_at, path_at, natural_at, whole_at, sent_keys, kept_keys, unprinted, sent_as, sent_in, kept_as, kept_in, element_in}
+use Rattle.vms_analyze.specs.Read.{only, text_at, path_at, natural_at, whole_at, sent_keys, kept_keys, unprinted, sent_as, sent_in, kept_as, kept_in, element_in}
 use Rattle.vms_analyze.proofs.Ordered.{is_picked}
-use Rattle.vms_analyze.proofs.MembersRead.{After, after, first_then, Only, only_is, only_so, under, text_is, path_is, natural_is, whole_is, whole_back, Says}
+use Rattle.vms_analyze.proofs.MembersRead.{after, first_then, only_is, only_so, text_is, path_is, natural_is, whole_is, whole_back, Says}
 
 abbrev pub element_tree : Told → Data
 element_tree t = entry_tree (told_entry t)
@@ -41,9 +39,13 @@ word_of word kind e = (tells_kind word kind).0 e
 
 -- ---- what stands in the stream
 
-record IsUnprinted (path : List ℕ) (size : ℕ) (word : List ℕ) (t : Told) : Type 0 where
-  tree : three (string path) (natural size) (string word) ≡ element_tree t
+-- an element of a path is told, and its tree is this
+record IsToldBy (path : List ℕ) (tree_read : Data) (t : Told) : Type 0 where
+  tree : tree_read ≡ element_tree t
   good : is_path 300 path ≡ true → is_good t ≡ true
+
+abbrev IsUnprinted : List ℕ → ℕ → List ℕ → Told → Type 0
+IsUnprinted path size word t = IsToldBy path (three (string path) (natural size) (string word)) t
 
 abbrev is_fixed : ℕ → Bool
 is_fixed size = size == 1 || size == 2 || size == 4 || size == 8
@@ -94,9 +96,8 @@ sent_says d sorted h t e =
 
 -- ---- what doesn't
 
-record IsKept (path : List ℕ) (size : ℕ) (word : List ℕ) (value : ℤ) (t : Told) : Type 0 where
-  tree : four (string path) (natural size) (string word) (number (of_integer value)) ≡ element_tree t
-  good : is_path 300 path ≡ true → is_good t ≡ true
+abbrev IsKept : List ℕ → ℕ → List ℕ → ℤ → Told → Type 0
+IsKept path size word value t = IsToldBy path (four (string path) (natural size) (string word) (number (of_integer value))) t
 
 kept_is : (path : List ℕ) (size : ℕ) (word : List ℕ) (value : ℤ) (named : Option Kind) (t : Told) → kind_named word ≡ named → kept_as path size value named ≡ Some t → IsKept path size word value t
 kept_is path size word value None t f e = cc

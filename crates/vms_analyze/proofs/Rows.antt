@@ -64,19 +64,13 @@ refuses_another_version : found (wants says_timer) 0 0 (0x51 ∷ 0x45 ∷ 0x56 �
 unfolding digits code
 refuses_another_version = refl
 
-no_six : (input : List ℕ) → list_all (λ b. not (b == 6)) input ≡ true → (p : ℕ) → get_or input p 0 ≡ 6 → ⊥
-no_six input e p m = at input e p m
-  where
-    differ : (b : ℕ) → not (b == 6) ≡ true → b ≡ 6 → ⊥
-    differ b e is = absurd_of (ap not (eq-eqb b 6 is)) e
-      where
-        absurd_of : not (b == 6) ≡ false → not (b == 6) ≡ true → ⊥
-        absurd_of f e = cc
+not_six : (b : ℕ) → not (b == 6) ≡ true → b ≡ 6 → ⊥
+not_six b e is = let f : not (b == 6) ≡ false = ap not (eq-eqb b 6 is) in cc
 
-    at : (input : List ℕ) → list_all (λ b. not (b == 6)) input ≡ true → (p : ℕ) → get_or input p 0 ≡ 6 → ⊥
-    at [] e p m = absurd (omega (arith, m))
-    at (b ∷ input) e zero m = differ b (and_parts (not (b == 6)) (list_all (λ b. not (b == 6)) input) e).0 m
-    at (b ∷ input) e (suc p) m = at input (and_parts (not (b == 6)) (list_all (λ b. not (b == 6)) input) e).1 p m
+no_six : (input : List ℕ) → list_all (λ b. not (b == 6)) input ≡ true → (p : ℕ) → get_or input p 0 ≡ 6 → ⊥
+no_six [] e p m = absurd (omega (arith, m))
+no_six (b ∷ input) e zero m = not_six b (and_parts (not (b == 6)) (list_all (λ b. not (b == 6)) input) e).0 m
+no_six (b ∷ input) e (suc p) m = no_six input (and_parts (not (b == 6)) (list_all (λ b. not (b == 6)) input) e).1 p m
 
 finds_no_description : Lists (smallest 0x7e) (Refused 41 reasons.NoDescription)
 finds_no_description = HasNone (omega arith) (λ p h. no_six (smallest 0x7e) refl p h.mark)

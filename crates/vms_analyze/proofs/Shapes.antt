@@ -17,16 +17,17 @@ use Rattle.vms_spec.specs.declared.Part.TheVariants as parts
 use Rattle.vms_spec.specs.Names.{is_name}
 use Rattle.vms_spec.specs.Rules.{in_range, defaults_well, counts_well, is_small_item, is_small_optional}
 use Rattle.vms_spec.specs.Sets.{Field, Desc, Set}
-use Rattle.vms_spec.specs.Layout.{no_desc, no_field, counted, numbers_of, struct_cells}
+use Rattle.vms_spec.specs.Layout.{no_desc, no_field, counted}
 use Rattle.vms_spec.specs.WellFormed.{WellFormed, struct_items, struct_depths, items_in, deepest}
-use Rattle.vms_elements.specs.Elements.{What, Number, Constant, Filler, Rule, Element}
+use Rattle.vms_elements.specs.Elements.{What, Number, Constant, Filler, Rule, Element, shapes}
 use Rattle.vms_elements.specs.Parts.{elements_in}
 use Rattle.vms_elements.proofs.Members.{Each}
 use Rattle.vms_desc.specs.Parts.{HasPart, desc_at}
-use Rattle.vms_selfdesc.specs.Entries.{Entry, listers, part_entries}
+use Rattle.vms_selfdesc.specs.Entries.{Entry, part_entries}
 use Rattle.vms_selfdesc.specs.Tree.{natural, entry_tree}
 use Rattle.vms_selfdesc.proofs.EntryLong.{member_long}
-use Rattle.vms_selfdesc.proofs.Fits.{AreLong, longer, FitTables, tables_fit, entries_few, entries_long}
+use Rattle.vms_selfdesc.proofs.Fits.{AreLong, longer, entries_few, entries_long}
+use Rattle.vms_selfdesc.proofs.Lengths.{fit}
 use Rattle.vms_selfdesc.proofs.Sound.{field_sound}
 use Rattle.vms_selfdesc.proofs.Soundness.{part_sound, fields_flat}
 use Rattle.vms_analyze.specs.Told.{Told, Sent, Kept, Fixed, Skipped, told_entry, is_path_byte, is_path, is_good, is_kept}
@@ -176,14 +177,11 @@ module _ (set : Set) (well : WellFormed set) where
       by_place true e = part_fields (parts.Struct j) (ltb-true j (length set.structs) e)
       by_place false e = subst (λ (d : Desc). AreGoodFields d.fields) (sym (get_or-eq_default set.structs no_desc (ltb-false j (length set.structs) e))) tt
 
-  fit : FitTables (listers set) (struct_items set.structs) (struct_depths set.structs)
-  fit = tables_fit (struct_cells set) set.structs (length set.structs) (λ j lt. part_sound set formed (parts.Struct j) lt) (length set.structs) (omega arith)
-
   pub part_few : (part : Part) → HasPart set part → (sent : Bool) (n : List ℤ) (at : ℕ) → length (told_part set (desc_at set part) sent n at) ≤ items_in (struct_items set.structs) (desc_at set part).fields
   part_few part has sent n at =
       let d = desc_at set part in
-      let few = entries_few (struct_cells set) (listers set) (struct_items set.structs) (struct_depths set.structs) fit d.version (numbers_of (struct_cells set) d n at) sent [] n at d.fields in
-      omega (arith, few, ap length (part_same set well part has sent n at), length-map (told_part set d sent n at) told_entry)
+      let few = entries_few (shapes set) (struct_items set.structs) (struct_depths set.structs) (fit set formed) d d.version sent [] n at in
+      omega (arith, few, ap length (part_same set d sent n at), length-map (told_part set d sent n at) told_entry)
 
   part_long : (part : Part) → HasPart set part → items_in (struct_items set.structs) (desc_at set part).fields ≤ 16384 → (sent : Bool) (n : List ℤ) (at : ℕ) → AreLong 299 (part_entries set (desc_at set part) sent n at)
   part_long part has few sent n at =
@@ -191,11 +189,11 @@ module _ (set : Set) (well : WellFormed set) where
       let depths = struct_depths set.structs in
       let flat = fields_flat set formed d.fields in
       longer (0 + 40 * deepest depths d.fields + 107) 299 (part_entries set d sent n at) (omega arith)
-      (entries_long (struct_cells set) (listers set) (struct_items set.structs) depths fit d.version (numbers_of (struct_cells set) d n at) sent [] n at d.fields tt (part_sound set formed part has) few)
+      (entries_long (shapes set) (struct_items set.structs) depths (fit set formed) d d.version sent [] n at tt (part_sound set formed part has) few)
 
   pub part_good : (part : Part) → HasPart set part → items_in (struct_items set.structs) (desc_at set part).fields ≤ 16384 → (sent : Bool) (n : List ℤ) (at : ℕ) → list_all is_good (told_part set (desc_at set part) sent n at) ≡ true
   part_good part has few sent n at =
       let d = desc_at set part in
       all_good (told_part set d sent n at)
       (all_fine sent (elements_in set d d.version n at) (elements_good set struct_fields d (part_fields part has) d.version n at))
-      (subst (λ (es : List Entry). AreLong 299 es) (sym (part_same set well part has sent n at)) (part_long part has few sent n at))
+      (subst (λ (es : List Entry). AreLong 299 es) (sym (part_same set d sent n at)) (part_long part has few sent n at))

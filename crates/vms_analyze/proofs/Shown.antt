@@ -52,7 +52,7 @@ module _ (set : Set) (well : WellFormed set) (heads : FitsHeads set) (images : L
   -- it is read back, as what it tells
   pub text_read : read text ≡ Some (told_tree (told set images))
   text_read =
-      let same = tree_same set well images in
+      let same = tree_same set images in
       let sound : IsSound (described_tree set images) = subst IsSound same (tree_sound (told set images) (told_good set well heads images)) in
       let flat = (described_plain set images).flat in
       reads_whole (described_tree set images) text refl sound (omega arith) ∙ ap Some (sym same)
@@ -68,7 +68,7 @@ module _ (set : Set) (well : WellFormed set) (heads : FitsHeads set) (images : L
   -- and it is a text
   pub text_is : value_in text ≡ Some (told_tree (told set images))
   text_is =
-      let same = tree_same set well images in
+      let same = tree_same set images in
       let utf8 : is_utf8 text ≡ true = subst (λ (d : Data). is_utf8 (compact_text d) ≡ true) same (told_text (told set images) (told_good set well heads images)) in
       ap (λ (b : Bool). if b then read text else None) utf8 ∙ text_read
 
@@ -106,7 +106,7 @@ module _ (set : Set) (well : WellFormed set) (heads : FitsHeads set) (images : L
       (IsRead (length before) (told set images) (within machine named ready) (placed before) (tells before))
 
 pub read_back : ReadBackLaw
-read_back set well heads images = text_read set well heads images ∙ ap Some (tree_same set well images)
+read_back set well heads images = text_read set well heads images ∙ ap Some (tree_same set images)
 
 pub shown_holds : ShownLaw
 shown_holds set well heads machine named images ready = shown set well heads images machine named ready

@@ -20,7 +20,7 @@ use Rattle.vms_elements.specs.Reading.{IsMachineOf, AreFine}
 use Rattle.vms_values_laws.proofs.FineNumbers.{begins_itself}
 use Rattle.vms_values_laws.proofs.ReadyBack.{text_says}
 use Rattle.vms_values_laws.proofs.ReadyParts.{AreGood}
-use Rattle.vms_analyze.specs.Wanted.{Want, Bytes, Machine, device_wants, wants, Took, took, only_if, take_machine, is_machine, taken, Found, Lines, behind, found_after, found}
+use Rattle.vms_analyze.specs.Wanted.{Want, Bytes, Machine, device_wants, wants, took, take_machine, is_machine, taken, Found, Lines, behind, found_after, found}
 use Rattle.vms_analyze.specs.Telling.{told}
 use Rattle.vms_analyze.proofs.Following.{Takes, one_follows, both_follow, takes_bytes, if_so}
 use Rattle.vms_analyze.proofs.DevicesFollow.{last, devices_follow}

@@ -117,17 +117,16 @@ module _ {S : Type 0} (f : Family S) where
       heard_as (λ more. more ≡ []) before now (λ old left h. came-fault number new old left images taken (faults.Refused r) h) heard
   heard-fault number before now new images taken faults.ReadFault heard = tt
 
-  pub hears_fault : (own number before now : ℕ) (new : Standing S) (images : List Image) (taken : ℕ) (fault : RestoreFault) (r : Result (Unit {0}) RestoreFault) → number ≡ own → r ≡ Err fault
-      → HearsTakings f number before now images taken (Err fault) → HearsBoard f own before now new r
-  hears_fault own number before now new images taken fault r l e heard =
-      subst (λ (x : Result (Unit {0}) RestoreFault). HearsBoard f own before now new x) (sym e)
-      (subst (λ (k : ℕ). HearsBoard f k before now new (Err fault)) l (heard-fault number before now new images taken fault heard))
+  module _ (own number before now : ℕ) (new : Standing S) (images : List Image) (taken : ℕ) (fault : RestoreFault) (r : Result (Unit {0}) RestoreFault) (l : number ≡ own) (e : r ≡ Err fault) where
+    pub hears_fault : HearsTakings f number before now images taken (Err fault) → HearsBoard f own before now new r
+    hears_fault heard =
+        subst (λ (x : Result (Unit {0}) RestoreFault). HearsBoard f own before now new x) (sym e)
+        (subst (λ (k : ℕ). HearsBoard f k before now new (Err fault)) l (heard-fault number before now new images taken fault heard))
 
-  pub hears_unfit : (own number before now : ℕ) (new : Standing S) (images : List Image) (taken : ℕ) (fault : RestoreFault) (r : Result (Unit {0}) RestoreFault) → number ≡ own → r ≡ Err fault
-      → IsUnfit f number taken images fault → HearsTakings f number before now images taken (Ok tt) → HearsBoard f own before now new r
-  hears_unfit own number before now new images taken fault r l e u heard =
-      let refused : HearsBoard f number before now new (Err (faults.Refused (refusal_of taken u.misfit))) =
-      heard_as (λ more. more ≡ []) before now
-      (λ old left h. subst (λ (x : RestoreFault). IfSome old (λ input. ComesTo f number new input left (Err x))) u.fault_is (comes_unfit number new old left images taken fault u h)) heard in
-      subst (λ (x : Result (Unit {0}) RestoreFault). HearsBoard f own before now new x) (sym e)
-      (subst (λ (k : ℕ). HearsBoard f k before now new (Err fault)) l (subst (λ (x : RestoreFault). HearsBoard f number before now new (Err x)) (sym u.fault_is) refused))
+    pub hears_unfit : IsUnfit f number taken images fault → HearsTakings f number before now images taken (Ok tt) → HearsBoard f own before now new r
+    hears_unfit u heard =
+        let refused : HearsBoard f number before now new (Err (faults.Refused (refusal_of taken u.misfit))) =
+        heard_as (λ more. more ≡ []) before now
+        (λ old left h. subst (λ (x : RestoreFault). IfSome old (λ input. ComesTo f number new input left (Err x))) u.fault_is (comes_unfit number new old left images taken fault u h)) heard in
+        subst (λ (x : Result (Unit {0}) RestoreFault). HearsBoard f own before now new x) (sym e)
+        (subst (λ (k : ℕ). HearsBoard f k before now new (Err fault)) l (subst (λ (x : RestoreFault). HearsBoard f number before now new (Err x)) (sym u.fault_is) refused))

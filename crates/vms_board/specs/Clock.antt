@@ -1,5 +1,5 @@
 -- The family of the boards clk-1 and clk-2.
-use Rattle.std.specs.Prelude.{ℕ, ◌+◌, List, [], ◌∷◌, ◌++◌, codes, ℤ}
+use Rattle.std.specs.Prelude.{List, ℤ}
 use Rattle.dev_clock.specs.Saved.{saved, restored, AreClockCells}
 use Rattle.dev_clock.specs.State.{ClockState, power_on}
 use Rattle.dev_clock.specs.Step.{step}
@@ -7,10 +7,8 @@ use Rattle.dev_clock_images.specs.Images.{lists_of, cells_of}
 use Rattle.vms_desc.specs.Formed.{clock_set}
 use Rattle.vms_rtc.specs.declared.limits.TheConstants.{NEWEST_CLOCK}
 use Rattle.vms_board.specs.Family.{Family}
-
--- the machine that a board of a version is, clk-1 or clk-2
-abbrev pub clock_machine : ℕ → List ℕ
-clock_machine version = codes "clk-" ++ (48 + version) ∷ []
+-- the machine that a board of a version is
+pub use Rattle.vms_shipped.specs.ClockSets.{clock_machine}
 
 abbrev pub clock : Family ClockState
 clock = record {

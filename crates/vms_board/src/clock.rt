@@ -17,6 +17,7 @@ use vms_image::Image;
 use vms_io::NoMemory;
 use vms_kinds::DevCells;
 use vms_rtc::NEWEST_CLOCK;
+use vms_shipped::clock_machine;
 
 impl Machine for ClockDevices {
     type Cells = ClockCells;
@@ -93,10 +94,7 @@ pub fn clock_machine_name(version: u8) -> &'static str
     requires { IsUpTo newest version }
     ensures { result.now ≡ clock_machine version }
 {
-    match version {
-        1 => "clk-1",
-        _ => "clk-2",
-    }
+    clock_machine(version)
 }
 
 impl MachineBoard<ClockDevices> {

@@ -13,6 +13,7 @@ use vms_desc::DescSet;
 use vms_image::Image;
 use vms_io::NoMemory;
 use vms_kinds::DevCells;
+use vms_shipped::isa_machine;
 
 impl Machine for Devices {
     type Cells = BoardCells;
@@ -81,12 +82,7 @@ pub fn machine_name(level: u8) -> &'static str
     requires { IsLevel level }
     ensures { result.now ≡ machine_of level }
 {
-    match level {
-        1 => "isa-1",
-        2 => "isa-2",
-        3 => "isa-3",
-        _ => "isa-4",
-    }
+    isa_machine(level)
 }
 
 impl MachineBoard<Devices> {

@@ -6,14 +6,15 @@ use Rattle.dev_clock_images.proofs.ClockCarried.{images_come_back}
 use Rattle.dev_clock_images.proofs.ClockSets.{sets_are_compatible}
 use Rattle.dev_clock_images.specs.Images.{saved_images}
 use Rattle.vms_board.specs.Clock.{clock}
-use Rattle.vms_board_streams.proofs.ClockBytes.{text_short, streams_are_bytes, well}
+use Rattle.vms_selfdesc.proofs.Bounds.{clock_holds}
+use Rattle.vms_board_streams.proofs.ClockBytes.{streams_are_bytes, well}
 use Rattle.vms_board_streams.specs.Streams.{StreamsStand}
 
 pub clock_streams_stand : StreamsStand clock Alike IsSound
 clock_streams_stand = record {
   well = λ set last. well set;
   compatible = sets_are_compatible.newest;
-  described = λ set m last. let l = text_short set (saved_images set m) in omega (arith, l);
+  described = λ set m last. let l = clock_holds.clock set (saved_images set m) in omega (arith, l);
   back = λ set m s may.
       let back = images_come_back.back set m s may in
       record { back = back.back; restored = back.restored; alike = back.alike };

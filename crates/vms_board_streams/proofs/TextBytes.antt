@@ -1,5 +1,5 @@
 -- The text that describes the devices of a set is bytes: names are, and the rest is written in ASCII.
-use Rattle.std.proofs.Common.{◌≡◌, ℕ, zero, suc, ◌+◌, ◌*◌, ◌/◌, ◌%◌, ◌<◌, ◌==◌, ◌&&◌, ◌||◌, List, [], ◌∷◌, ◌++◌, length, map, get_or, ℤ, pos, negsuc, Bool, true, false, cond, nat_lt, refl, sym, subst, arith, Option, Some, None, is_some, decimal, codes}
+use Rattle.std.proofs.Common.{◌≡◌, ℕ, zero, suc, ◌+◌, ◌/◌, ◌%◌, ◌<◌, ◌==◌, ◌&&◌, ◌||◌, List, [], ◌∷◌, ◌++◌, length, map, get_or, ℤ, pos, negsuc, Bool, true, false, cond, nat_lt, refl, sym, subst, arith, Option, Some, None, is_some, decimal, codes}
 use Rattle.std.proofs.lemmas.Bool.{and_parts}
 use Rattle.std.proofs.lemmas.Option.{get_or_from_slice_get}
 use Rattle.std.specs.List.{slice_get, list_all}
@@ -12,22 +12,24 @@ use Rattle.serde_json.specs.Written.{compact_text, items_text, members_text, num
 use Rattle.vms_kinds.specs.declared.Kind.{Kind}
 use Rattle.vms_kinds.specs.declared.Kind.TheVariants as kinds
 use Rattle.vms_kinds.specs.declared.Item.{Item}
-use Rattle.vms_kinds.specs.declared.Item.TheVariants.{Num as Number, Equal, Unused, Struct}
+use Rattle.vms_kinds.specs.declared.Item.TheVariants.{Num, Equal, Unused, Struct}
 use Rattle.vms_kinds.specs.Codes.{width}
 use Rattle.vms_spec.specs.declared.Count.{Count}
 use Rattle.vms_spec.specs.declared.Count.TheVariants.{One, Fixed, Counted}
 use Rattle.vms_spec.specs.Images.{Image, own_cells}
 use Rattle.vms_spec.proofs.Tables.{one_more}
 use Rattle.vms_spec.proofs.WellFormedLaws.{Clean, get_none, struct_clean, device_parts, sub_clean}
-use Rattle.vms_spec.specs.Layout.{Cell, no_desc, no_parent, first, item_size, capacity_of, elements_of, numbers_of, desc_cells, struct_cells}
+use Rattle.vms_spec.specs.Layout.{no_desc, first, item_size, counted, capacity_of, field_cells, numbers_of, desc_cells, struct_cells, all_hold}
 use Rattle.vms_spec.specs.Names.{is_name}
 use Rattle.vms_spec.specs.Sets.{Field, Desc, Sub, Device, Set}
-use Rattle.vms_spec.specs.Tests.{is_there}
 use Rattle.vms_spec.specs.WellFormed.{WellFormed, struct_rules, device_rules, sub_rules}
 use Rattle.vms_stream.proofs.SetParts.{AllSubs, AllParts, EachPart, all_parts}
 use Rattle.vms_stream.proofs.WrittenBytes.{AreBytes, bytes_append, spelled, is_named, parts_named}
 use Rattle.vms_words.specs.Words.{kind_word}
-use Rattle.vms_selfdesc.specs.Entries.{Entry, Lister, no_lister, sent_entry, listed_if, item_entries, element_path, element_entries, array_entries, field_entries, entries_from, desc_entries, listers, part_entries}
+use Rattle.vms_elements.specs.Elements.{What, Number, Constant, Filler, Rule, Element, Shape, no_shape, shape, shapes, cells_in, dotted, behind, single, index_text, item_elements, Stand, stand_of, array_elements, field_elements, elements_from, desc_elements}
+use Rattle.vms_elements.specs.Parts.{elements_in}
+use Rattle.vms_elements.proofs.Members.{Each, each_append, each_map}
+use Rattle.vms_selfdesc.specs.Entries.{Entry, cell_entry, sent_entry, listed_if, entry_of, entries_of, part_entries}
 use Rattle.vms_selfdesc.specs.Tree.{entry_tree, sub_tree, sub_trees, device_tree, device_trees, described_tree, described_text}
 
 -- ---- lists of bytes
@@ -179,70 +181,80 @@ abbrev pub AreNamed : List Field → Type 0
 AreNamed [] = Unit {0}
 AreNamed (f ∷ fs) = AreBytes f.name × AreNamed fs
 
--- what a structure lists under a path of bytes
-pub record ListsBytes (l : Lister) : Type 0 where
-  pub each : (sent : Bool) (path : List ℕ) (n : List ℤ) (at : ℕ) → AreBytes path → AreEntries (l sent path n at)
+-- ---- elements
 
-pub none-lists : ListsBytes no_lister
-none-lists = record { each = λ sent path n at p. tt }
+-- a path of bytes
+abbrev IsSpelled : Element → Type 0
+IsSpelled x = AreBytes x.name
 
-listed-entries : (sent : Bool) (e : Entry) → IsEntry e → AreEntries (listed_if sent e)
+index-bytes : (count : Count) (e : ℕ) → AreBytes (index_text count e)
+index-bytes One e = tt
+index-bytes (Fixed m) e = (omega arith, bytes_append (decimal e) (codes "]") (decimal-bytes e) (spelled (codes "]") refl))
+index-bytes (Counted by m) e = (omega arith, bytes_append (decimal e) (codes "]") (decimal-bytes e) (spelled (codes "]") refl))
+
+module _ (ss : List Shape) (inside : (j : ℕ) (n : List ℤ) (at : ℕ) → Each IsSpelled ((get_or ss j no_shape).elements n at)) where
+  item-spelled : (x : Item) (caps : List ℕ) (z : ℤ) (n : List ℤ) (at : ℕ) → Each IsSpelled (item_elements ss x caps z n at)
+  item-spelled (Num kind) caps z n at = (tt, tt)
+  item-spelled (Equal kind y) caps z n at = (tt, tt)
+  item-spelled (Unused k) caps z n at = (tt, tt)
+  item-spelled (Struct j) caps z n at = each_map IsSpelled IsSpelled dotted (λ x p. (omega arith, p)) ((get_or ss j no_shape).elements n at) (inside j n at)
+
+  array-spelled : (f : Field) → AreBytes f.name → (stand : Stand) (part : ℕ → List Element) → ((at : ℕ) → Each IsSpelled (part at)) → (step e n at : ℕ) → Each IsSpelled (array_elements f stand part step e n at)
+  array-spelled f name stand part each step e zero at = tt
+  array-spelled f name stand part each step e (suc n) at =
+      let text = f.name ++ index_text f.count e in
+      let below = nat_lt e stand.count in
+      let step-in = behind (stand.number, e) text below (stand.there && below) in
+      each_append IsSpelled (map step-in (part at)) (array_elements f stand part step (suc e) n (at + step))
+      (each_map IsSpelled IsSpelled step-in (λ x p. bytes_append text x.name (bytes_append f.name (index_text f.count e) name (index-bytes f.count e)) p) (part at) (each at))
+      (array-spelled f name stand part each step (suc e) n (at + step))
+
+  fields-spelled : (fields : List Field) (v : ℕ) (own : ℕ → ℕ) (n : List ℤ) (i at : ℕ) (fs : List Field) → AreNamed fs → Each IsSpelled (elements_from ss fields v own n i at fs)
+  fields-spelled fields v own n i at [] named = tt
+  fields-spelled fields v own n i at (f ∷ fs) named =
+      let next = at + length (field_cells (cells_in ss) fields i f) in
+      each_append IsSpelled (field_elements ss fields v own n i at f) (elements_from ss fields v own n (suc i) next fs)
+      (array-spelled f named.0 (stand_of i f v own) (item_elements ss f.item (counted i fields) f.default n) (λ at. item-spelled f.item (counted i fields) f.default n at)
+      (item_size (cells_in ss) f.item) 0 (capacity_of f.count) at)
+      (fields-spelled fields v own n (suc i) next fs named.1)
+
+  desc-spelled : (d : Desc) (v : ℕ) (n : List ℤ) (at : ℕ) → AreNamed d.fields → Each IsSpelled (desc_elements ss d v n at)
+  desc-spelled d v n at named =
+      let own = numbers_of (cells_in ss) d n at in
+      each_append IsSpelled (elements_from ss d.fields v own n 0 at d.fields) (single (at + length (desc_cells (cells_in ss) d)) (Rule (all_hold d.validate v own)) ∷ [])
+      (fields-spelled d.fields v own n 0 at d.fields named) (tt, tt)
+
+shapes-spelled : (structs : List Desc) → ((j : ℕ) → AreNamed (get_or structs j no_desc).fields) → (k j : ℕ) (n : List ℤ) (at : ℕ) → Each IsSpelled ((get_or (first shape structs k) j no_shape).elements n at)
+unfolding first
+shapes-spelled structs named zero j n at = tt
+shapes-spelled structs named (suc k) j n at =
+    let ss = first shape structs k in
+    let d = get_or structs k no_desc in
+    one_more (λ (s : Shape). (n : List ℤ) (at : ℕ) → Each IsSpelled (s.elements n at)) no_shape (λ n at. tt) ss (shapes-spelled structs named k) (shape ss d)
+    (λ n at. desc-spelled ss (shapes-spelled structs named k) d d.version n at (named k)) j n at
+
+-- ---- what is listed of them
+
+listed-entries : (b : Bool) (e : Entry) → IsEntry e → AreEntries (listed_if b e)
 listed-entries true e p = (p, tt)
 listed-entries false e p = tt
 
-element-bytes : (path : List ℕ) (i : ℕ) → AreBytes path → AreBytes (element_path path i)
-element-bytes path i p =
-    bytes_append path (codes "[" ++ (decimal i ++ codes "]")) p
-    (omega arith, bytes_append (decimal i) (codes "]") (decimal-bytes i) (spelled (codes "]") refl))
+cell-listed : (present : Bool) (path : List ℕ) (kind : Kind) (z : ℤ) → AreBytes path → IsEntry (cell_entry present path kind z)
+cell-listed true path kind z p = record { path = p; type = word-bytes kind }
+cell-listed false path kind z p = record { path = p; type = word-bytes kind }
 
-elements-bytes : (one : List ℕ → ℕ → List Entry) → ((path : List ℕ) (at : ℕ) → AreBytes path → AreEntries (one path at)) → (path : List ℕ) (at step i n : ℕ) → AreBytes path
-    → AreEntries (element_entries one path at step i n)
-elements-bytes one each path at step i zero p = tt
-elements-bytes one each path at step i (suc n) p =
-    entries-append (one (element_path path i) at) (element_entries one path (at + step) step (suc i) n) (each (element_path path i) at (element-bytes path i p))
-    (elements-bytes one each path (at + step) step (suc i) n p)
+what-listed : (w : What) (counted present : Bool) (path : List ℕ) → AreBytes path → AreEntries (entry_of w counted present path)
+what-listed (Number cell) counted present path p = listed-entries counted (cell_entry present path cell.kind cell.default) (cell-listed present path cell.kind cell.default p)
+what-listed (Constant kind z) counted present path p =
+    listed-entries present (sent_entry path (width kind) (codes "equal")) (record { path = p; type = spelled (codes "equal") refl })
+what-listed (Filler n) counted present path p = listed-entries present (sent_entry path n (codes "unused")) (record { path = p; type = spelled (codes "unused") refl })
+what-listed (Rule holds) counted present path p = tt
 
-array-bytes : (one : List ℕ → ℕ → List Entry) → ((path : List ℕ) (at : ℕ) → AreBytes path → AreEntries (one path at)) → (count : Count) (n : ℕ) (path : List ℕ) (at step : ℕ) → AreBytes path
-    → AreEntries (array_entries one count n path at step)
-array-bytes one each One n path at step p = each path at p
-array-bytes one each (Fixed m) n path at step p = elements-bytes one each path at step 0 n p
-array-bytes one each (Counted by m) n path at step p = elements-bytes one each path at step 0 n p
-
-module _ (cells : List (List Cell)) (ls : List Lister) (lists : (j : ℕ) → ListsBytes (get_or ls j no_lister)) where
-  item-bytes : (x : Item) (z : ℤ) (sent : Bool) (path : List ℕ) (n : List ℤ) (at : ℕ) → AreBytes path → AreEntries (item_entries ls x z sent path n at)
-  item-bytes (Number kind) z true path n at p = (record { path = p; type = word-bytes kind }, tt)
-  item-bytes (Number kind) z false path n at p = (record { path = p; type = word-bytes kind }, tt)
-  item-bytes (Equal kind y) z sent path n at p =
-      listed-entries sent (sent_entry path (width kind) (codes "equal")) (record { path = p; type = spelled (codes "equal") refl })
-  item-bytes (Unused k) z sent path n at p =
-      listed-entries sent (sent_entry path k (codes "unused")) (record { path = p; type = spelled (codes "unused") refl })
-  item-bytes (Struct j) z sent path n at p =
-      (lists j).each sent (path ++ codes ".") n at (bytes_append path (codes ".") p (spelled (codes ".") refl))
-
-  fields-bytes : (v : ℕ) (own : ℕ → ℕ) (sent : Bool) (path : List ℕ) (n : List ℤ) (at : ℕ) (fs : List Field) → AreBytes path → AreNamed fs
-      → AreEntries (entries_from cells ls v own sent path n at fs)
-  fields-bytes v own sent path n at [] p named = tt
-  fields-bytes v own sent path n at (f ∷ fs) p named =
-      let there = sent && is_there f.test f.since v own no_parent in
-      let next = at + capacity_of f.count * item_size cells f.item in
-      entries-append (field_entries cells ls v own sent path n at f) (entries_from cells ls v own sent path n next fs)
-      (array-bytes (λ path at. item_entries ls f.item f.default there path n at) (λ path at q. item-bytes f.item f.default there path n at q) f.count (elements_of f.count own)
-      (path ++ f.name) at (item_size cells f.item) (bytes_append path f.name p named.0))
-      (fields-bytes v own sent path n next fs p named.1)
-
-  pub desc-bytes : (d : Desc) → AreNamed d.fields → ListsBytes (desc_entries cells ls d)
-  desc-bytes d named = record { each = λ sent path n at p. fields-bytes d.version (numbers_of cells d n at) sent path n at d.fields p named }
-
--- ---- structures
-
-lists_bytes : (cells : List (List Cell)) (structs : List Desc) → ((j : ℕ) → AreNamed (get_or structs j no_desc).fields) → (k j : ℕ) → ListsBytes (get_or (first (desc_entries cells) structs k) j no_lister)
-unfolding first
-lists_bytes cells structs named zero j = none-lists
-lists_bytes cells structs named (suc k) j =
-    let earlier = lists_bytes cells structs named k in
-    let ls = first (desc_entries cells) structs k in
-    let d = get_or structs k no_desc in
-    one_more ListsBytes no_lister none-lists ls earlier (desc_entries cells ls d) (desc-bytes cells ls earlier d (named k)) j
+elements-listed : (sent : Bool) (xs : List Element) → Each IsSpelled xs → AreEntries (entries_of sent [] xs)
+elements-listed sent [] p = tt
+elements-listed sent (x ∷ xs) p =
+    entries-append (entry_of x.what x.counted (sent && x.present) x.name) (entries_of sent [] xs)
+    (what-listed x.what x.counted (sent && x.present) x.name p.0) (elements-listed sent xs p.1)
 
 -- ---- sets
 
@@ -251,9 +263,9 @@ record IsTold (d : Desc) : Type 0 where
   name : AreBytes d.name
   fields : AreNamed d.fields
 
-module _ (set : Set) (lists : (j : ℕ) → ListsBytes (get_or (listers set) j no_lister)) where
+module _ (set : Set) (inside : (j : ℕ) (n : List ℤ) (at : ℕ) → Each IsSpelled ((get_or (shapes set) j no_shape).elements n at)) where
   part-bytes : (d : Desc) (sent : Bool) (n : List ℤ) (at : ℕ) → AreNamed d.fields → AreEntries (part_entries set d sent n at)
-  part-bytes d sent n at named = (desc-bytes (struct_cells set) (listers set) lists d named).each sent [] n at tt
+  part-bytes d sent n at named = elements-listed sent (elements_in set d d.version n at) (desc-spelled (shapes set) inside d d.version n at named)
 
   sub-bytes : (n : List ℤ) (at : ℕ) (s : Sub) (came : Option ℕ) → IsTold s.desc → HasBytes (sub_tree set n at s came)
   sub-bytes n at s came named =
@@ -334,5 +346,5 @@ module _ (set : Set) (well : WellFormed set) where
 
   pub text_is_bytes : (images : List Image) → AreBytes (described_text set images)
   text_is_bytes images =
-      let lists = lists_bytes (struct_cells set) set.structs (λ j. struct_named j (slice_get set.structs j) refl) (length set.structs) in
-      described-bytes set lists images (all_parts IsTold set.devices parts_told)
+      let inside = shapes-spelled set.structs (λ j. struct_named j (slice_get set.structs j) refl) (length set.structs) in
+      described-bytes set inside images (all_parts IsTold set.devices parts_told)

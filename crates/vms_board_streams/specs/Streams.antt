@@ -54,9 +54,9 @@ module _ {S : Type 0} (f : Family S) where
     pub only : (taken : ℕ) (trace : List ℕ) → GoesOn (f.number m) (stream_with set m text) events taken trace
         → (taken ≡ length (stream_with set m text)) × (trace ≡ trace_of (answers_to events m))
 
-  -- the stream that is written of a sound board under any set from its number on has less than so many bytes, and is bytes
-  pub record StreamsAreShort (IsSound : S → Type 0) (most : ℕ) : Type 0 where
-    pub short : (set : ℕ) (m : S) → IsSound m → MaySaveIn f m set → length (saved_stream f set m) < most
+  -- the stream that is written of a sound board under any set from its number on has less than 65,536 bytes, and is bytes
+  pub record StreamsAreShort (IsSound : S → Type 0) : Type 0 where
+    pub short : (set : ℕ) (m : S) → IsSound m → MaySaveIn f m set → length (saved_stream f set m) < 65536
 
   pub record StreamsAreBytes (IsSound : S → Type 0) : Type 0 where
     pub bytes : (set : ℕ) (m : S) → IsSound m → MaySaveIn f m set → IsBytes (saved_stream f set m)

@@ -15,7 +15,7 @@ pub fn stream_law()
 /// The stream that is written of a sound board has less than 65,536 bytes.
 #[tactic(auto, using(crate::proofs::IsaBytes::streams_are_short))]
 pub fn short_law()
-    ensures { StreamsAreShort isa IsSound 65536 }
+    ensures { StreamsAreShort isa IsSound }
 {}
 
 /// The stream that is written of a sound board is bytes: each number of it is below 256.
@@ -44,10 +44,10 @@ pub fn clock_stream_law()
     ensures { StreamsComeBack clock AlikeClocks IsSoundClock }
 {}
 
-/// The stream that is written of a sound clock board has less than 81,920 bytes.
+/// The stream that is written of a sound clock board has less than 65,536 bytes.
 #[tactic(auto, using(crate::proofs::ClockBytes::streams_are_short))]
 pub fn clock_short_law()
-    ensures { StreamsAreShort clock IsSoundClock 81920 }
+    ensures { StreamsAreShort clock IsSoundClock }
 {}
 
 /// The stream that is written of a sound clock board is bytes.

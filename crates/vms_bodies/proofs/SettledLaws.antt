@@ -21,7 +21,7 @@ pub record SameIn (low end : ℕ) (before now : List ℤ) : Type 0 where
 pub in_less : (low base cell end : ℕ) (n k : List ℤ) → low ≤ base → cell ≤ end → SameIn low end n k → SameIn base cell n k
 in_less low base cell end n k up le s = record { same = λ c h lt. s.same c (omega arith) (omega arith) }
 
-own_in : (cs : List (List Cell)) (d : Desc) (base i cell j : ℕ) (n m : List ℤ) → cell ≡ place_of cs d.fields 0 base d.fields i → SameIn base cell n m
+pub own_in : (cs : List (List Cell)) (d : Desc) (base i cell j : ℕ) (n m : List ℤ) → cell ≡ place_of cs d.fields 0 base d.fields i → SameIn base cell n m
     → IsEarlier d.fields i j → numbers_of cs d m base j ≡ numbers_of cs d n base j
 own_in cs d base i cell j n m e s x =
     ap (λ (z : ℤ). residue (width (kind_of (get_or d.fields j no_field).item)) z)

@@ -16,7 +16,8 @@ use Rattle.vms_check.specs.Sides.{fields_from}
 use Rattle.vms_check.specs.declared.mismatch.Mismatch.{Mismatch}
 use Rattle.vms_check.proofs.DescLaws.{desc_split}
 use Rattle.vms_spec.proofs.Faultless.{or_else_none}
-use Rattle.vms_check.proofs.ListLaws.{both_none, passes, pass, every_at, at_every}
+use Rattle.vms_spec.proofs.ListLaws.{both_none}
+use Rattle.vms_check.proofs.ListLaws.{passes, pass, every_at, at_every}
 use Rattle.vms_check.proofs.PairsFit.{paired_so, so_paired}
 use Rattle.vms_check.proofs.StructLaws.{AllBelow}
 

@@ -4,11 +4,9 @@ use Rattle.std.specs.Prelude.{◌&&◌}
 use Rattle.std.specs.List.{slice_get, list_all}
 use Rattle.std.proofs.lemmas.Bool.{and_parts}
 use Rattle.vms_spec.specs.declared.Place.{Place}
-use Rattle.vms_spec.specs.Lists.{or_else, first_answer}
+use Rattle.vms_spec.specs.Lists.{first_answer}
+use Rattle.vms_spec.proofs.ListLaws.{both_none}
 use Rattle.vms_check.specs.Comparing.{failing_pair}
-
-pub both_none : {X : Type 0} (x y : Option X) → x ≡ None → y ≡ None → or_else x y ≡ None
-both_none x y e f = ap (λ o. or_else o y) e ∙ f
 
 pub passes : (rule : ℕ) (b : Bool) (rules : List (ℕ × Bool)) (p q : Place) → failing_pair ((rule, b) ∷ rules) p q ≡ None → (b ≡ true) × (failing_pair rules p q ≡ None)
 passes rule true rules p q e = (refl, e)

@@ -13,6 +13,7 @@ use Rattle.vms_spec.specs.Layout.{no_field}
 use Rattle.vms_spec.specs.Rules.{has_no_test, is_num, is_one, is_steady, is_steady_in, names_well, nobody}
 use Rattle.vms_spec.specs.Sets.{Formula, AtLeast, Below, Cell, Not, And, Or, Field, Desc}
 use Rattle.vms_spec.proofs.NumberLaws.{same_number_itself}
+use Rattle.vms_spec.proofs.WellFormedLaws.{untested}
 use Rattle.vms_check.specs.Comparing.{holds_as_much, is_absent, is_nothing, kind_number, rel_number, same_constant, same_count, same_item, same_place, same_reduced, same_rest, same_test}
 use Rattle.vms_check.specs.Reducing.{Reduced, Known, Open, and_reduced, left_of, not_reduced, or_reduced, presence, reduced}
 use Rattle.vms_check.specs.Sides.{field_reduced, position_in}
@@ -30,10 +31,6 @@ HasPosition o k = (p : ℕ) × (o k ≡ Some p)
 same_here : (x : Option ℕ) (p : ℕ) → x ≡ Some p → same_place x x ≡ true
 same_here x p e = ap (λ (y : Option ℕ). same_place y y) e ∙ itself p
 
-no_test : (t : Option Formula) → has_no_test t ≡ true → t ≡ None
-no_test None e = refl
-no_test (Some t) e = absurd (cc)
-
 -- a steady field is there from the minimum on
 pub steady_there : (d : Desc) (v k : ℕ) → d.minimum ≤ v → is_steady_in d k ≡ true → HasPosition (position_in v d.fields) k
 steady_there d v k low e = by_field (slice_get d.fields k) refl e
@@ -45,7 +42,7 @@ steady_there d v k low e = by_field (slice_get d.fields k) refl e
         let b = and_parts (is_num f.item && is_one f.count) (has_no_test f.test) a.0 in
         let since : f.since ≤ d.minimum = leb-true f.since d.minimum a.1 in
         let there : is_absent v f ≡ false =
-        ap (λ (t : Option Formula). is_nothing (presence v t f.since)) (no_test f.test b.1) ∙ ap (λ (x : Bool). is_nothing (if x then Some None else None)) (le-leb f.since v (omega (arith, since, low))) in
+        ap (λ (t : Option Formula). is_nothing (presence v t f.since)) (untested f.test b.1) ∙ ap (λ (x : Bool). is_nothing (if x then Some None else None)) (le-leb f.since v (omega (arith, since, low))) in
         (_, there_is v d.fields k false (slice_get_within d.fields k f is) (ap (is_absent v) (get_or_from_slice_get d.fields k f no_field is) ∙ there))
 
 -- ---- tests

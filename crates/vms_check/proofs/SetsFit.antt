@@ -22,7 +22,8 @@ use Rattle.vms_check.specs.Pairs.{table}
 use Rattle.vms_check.specs.Wholes.{device_mismatch, lost_mismatch, machines_mismatch}
 use Rattle.vms_check.proofs.DescsFit.{all_uses, descs_so, so_descs}
 use Rattle.vms_spec.proofs.Faultless.{or_else_none, answers_none}
-use Rattle.vms_check.proofs.ListLaws.{both_none, passes, pass, every_at, at_every, none_answers}
+use Rattle.vms_spec.proofs.ListLaws.{both_none}
+use Rattle.vms_check.proofs.ListLaws.{passes, pass, every_at, at_every, none_answers}
 use Rattle.vms_check.proofs.StructLaws.{AllBelow, structs_are}
 use Rattle.vms_check.proofs.WholeLaws.{whole_is}
 

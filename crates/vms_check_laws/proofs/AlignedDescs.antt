@@ -36,14 +36,18 @@ use Rattle.vms_check_laws.proofs.Positioned.{same_some, Above, Upto, upto_next, 
 abbrev pub NamesEarlier : ℕ → Desc → Type 0
 NamesEarlier below b = (j : ℕ) (f : Field) → slice_get b.fields j ≡ Some f → NewGood below (is_earlier_in b j) f
 
--- two constants that have other bytes
-pub record Clash (e f : Entry) : Type 0 where
+-- two constants of one kind that have other bytes
+pub record Differ (i j : Item) : Type 0 where
   pub kind : Kind
   pub value : ℤ
   pub other : ℤ
-  pub item : e.field.item ≡ Equal kind value
-  pub item' : f.field.item ≡ Equal kind other
+  pub item : i ≡ Equal kind value
+  pub item' : j ≡ Equal kind other
   pub differ : code kind value ≡ code kind other → ⊥
+
+-- wherever their fields are
+pub record Clash (e f : Entry) : Type 0 where
+  pub constants : Differ e.field.item f.field.item
   pub rest : e.rest ≡ None
   pub rest' : f.rest ≡ None
 
@@ -171,17 +175,18 @@ module _ (ks : List Comparer) (cs : List Carrier) (ms ns : List Meaning) (a b : 
     clash_refuses : (e f : Entry) → Clash e f → IsKnown ms a.fields v numbers at e → IsKnown ns b.fields w numbers' at' f → IsSingle e.field.item e.field.count
         → (body r r' : List ℕ) → Spells numbers' (new_slots f) body → body ++ r' ≡ zeroed numbers (old_slots e) ++ r → ⊥
     clash_refuses e f clash known known' single body r r' spells h =
+        let differs = clash.constants in
         let t = is_there e.field.test e.field.since v own no_parent in
         let t' = is_there f.field.test f.field.since w own' no_parent in
         let there_is : t ≡ true = there_here v e.field.test e.field.since e.rest own no_parent known.left ∙ ap (λ (r : Option Formula). there (Some r) v own no_parent) clash.rest in
         let there_is' : t' ≡ true = there_here w f.field.test f.field.since f.rest own' no_parent known'.left ∙ ap (λ (r : Option Formula). there (Some r) w own' no_parent) clash.rest' in
-        let one : IsSingle (Equal clash.kind clash.value) e.field.count = subst (λ (i : Item). IsSingle i e.field.count) clash.item single in
-        let one' : IsSingle (Equal clash.kind clash.other) f.field.count = subst (λ (i : Item). IsSingle i f.field.count) clash.item' (good_at named f known').single in
+        let one : IsSingle (Equal differs.kind differs.value) e.field.count = subst (λ (i : Item). IsSingle i e.field.count) differs.item single in
+        let one' : IsSingle (Equal differs.kind differs.other) f.field.count = subst (λ (i : Item). IsSingle i f.field.count) differs.item' (good_at named f known').single in
         let caps = counted e.index a.fields in
         let caps' = counted f.index b.fields in
-        let spells' = subst (λ (i : Item). Spells numbers' (if t' then times (elements_of f.field.count own') (item_slots ns i caps' numbers') (at' + f.place) (item_size (cells_in ns) i) else []) body) clash.item' spells in
-        let h' = subst (λ (i : Item). body ++ r' ≡ zeroed numbers (if t then times (elements_of e.field.count own) (item_slots ms i caps numbers) (at + e.place) (item_size (cells_in ms) i) else []) ++ r) clash.item h in
-        clash.differ (constants_same clash.kind clash.value clash.other t t' e.field.count f.field.count caps caps' (at + e.place) (at' + f.place) 0 0 one one' there_is there_is' body r r' spells' h')
+        let spells' = subst (λ (i : Item). Spells numbers' (if t' then times (elements_of f.field.count own') (item_slots ns i caps' numbers') (at' + f.place) (item_size (cells_in ns) i) else []) body) differs.item' spells in
+        let h' = subst (λ (i : Item). body ++ r' ≡ zeroed numbers (if t then times (elements_of e.field.count own) (item_slots ms i caps numbers) (at + e.place) (item_size (cells_in ms) i) else []) ++ r) differs.item h in
+        differs.differ (constants_same differs.kind differs.value differs.other t t' e.field.count f.field.count caps caps' (at + e.place) (at' + f.place) 0 0 one one' there_is there_is' body r r' spells' h')
 
     pub entries_clash : (es fs : List Entry) (p i : ℕ) → Clashes ks a b v w part part' o n es fs → AreKnown ms a.fields v numbers at es → AreKnown ns b.fields w numbers' at' fs → OldGoods es
         → FitEntries ms a.fields v numbers at es → Upto o p es → Upto n p fs → Above i fs → Same p → (body r r' : List ℕ) → Spells numbers' (news fs) body → body ++ r' ≡ zeroed numbers (olds es) ++ r → ⊥

@@ -17,6 +17,7 @@ use Rattle.vms_spec.specs.Images.{FitsCell}
 use Rattle.vms_spec.specs.Rules.{is_num, is_one}
 use Rattle.vms_spec.proofs.Prefixes.{ItemBelow}
 use Rattle.vms_check_laws.specs.Segments.{FitsAt}
+use Rattle.vms_spec.proofs.ListLaws.{all_right}
 use Rattle.vms_check_laws.proofs.Segments.{fits_right}
 use Rattle.vms_check_laws.proofs.Describing.{Steady}
 use Rattle.vms_check_laws.proofs.Premises.{IsSingle, CountFits, OldFields}
@@ -29,10 +30,6 @@ field_number cs all fs i numbers at k = residue (width (kind_of (get_or fs k no_
 abbrev pub HasArray : ℕ → ℕ → List Field → Type 0
 HasArray by most [] = ⊥
 HasArray by most (f ∷ fs) = (f.count ≡ Counted by most) ⊎ HasArray by most fs
-
-all_right : (P : ℕ → Type 0) (xs ys : List ℕ) → AllByRecursion P (xs ++ ys) → AllByRecursion P ys
-all_right P [] ys h = h
-all_right P (x ∷ xs) ys h = all_right P xs ys h.1
 
 counted_head : (P : ℕ → Type 0) (by most : ℕ) (f : Field) (fs : List Field) → f.count ≡ Counted by most → AllByRecursion P (counted by (f ∷ fs)) → P most
 counted_head P by most f fs e h =

@@ -5,11 +5,11 @@ use Rattle.std.proofs.lemmas.List.{get_or_append_left, get_or-append-add}
 use Rattle.std.proofs.lemmas.Bool.{ltb-true, ltb-false, or_parts}
 use Rattle.vms_spec.specs.Lists.{at_option}
 use Rattle.vms_spec.specs.Sets.{Sub, Device, Set}
-use Rattle.vms_spec.specs.Layout.{Cell, no_cell, Slot, desc_cells, device_cells, struct_cells}
+use Rattle.vms_spec.specs.Layout.{Cell, no_cell, desc_cells, device_cells, struct_cells}
 use Rattle.vms_spec.specs.Images.{Image, has_cell, image_slots, own_slots, own_cells, came_slots, sub_slots, sub_place}
 use Rattle.vms_spec.specs.Lookup.{find_sub, index}
 use Rattle.vms_spec.specs.WellFormed.{WellFormed, device_rules, sub_rules}
-use Rattle.vms_bodies.proofs.Names.{names_append}
+use Rattle.vms_bodies.proofs.Names.{names_append, none_in_both}
 use Rattle.vms_bodies.proofs.AgreeLaws.{its_below, its_in}
 use Rattle.vms_bodies.proofs.PartLaws.{sub_size, sub_place_up, places_apart, parts_together, part_apart}
 use Rattle.vms_bodies.proofs.SectionLaws.{defaults_at, defaults_long}
@@ -125,14 +125,21 @@ has_part set d numbers from (s ∷ subs) (Some v ∷ came) c e =
         let h = more (sym (ap (λ (b : Bool). b || has_cell (came_slots set d numbers (from + length (desc_cells (struct_cells set) s.desc)) subs came) c) f) ∙ g) in
         record { j = suc h.j; sub = h.sub; version = h.version; there = h.there; is_come = h.is_come; has = h.has }
 
+-- two numbers of which neither is below the other are one
+pub one_number : (i j : ℕ) → (i < j → ⊥) → (j < i → ⊥) → i ≡ j
+one_number i j f g = go (nat_lt i j) refl (nat_lt j i) refl where
+  go : (x : Bool) → nat_lt i j ≡ x → (y : Bool) → nat_lt j i ≡ y → i ≡ j
+  go true e y h = absurd (f (ltb-true i j e))
+  go false e true h = absurd (g (ltb-true j i h))
+  go false e false h = let a : j ≤ i = ltb-false i j e in let b : i ≤ j = ltb-false j i h in omega arith
+
 -- two subsections that have one cell are one
 one_part : (set : Set) (from : ℕ) (subs : List Sub) (i j c : ℕ) (s t : Sub) → slice_get subs i ≡ Some s → slice_get subs j ≡ Some t → sub_place set from subs i ≤ c → c < sub_place set from subs i + sub_size set s
     → sub_place set from subs j ≤ c → c < sub_place set from subs j + sub_size set t → i ≡ j
-one_part set from subs i j c s t e f low high low' high' = by_order (nat_lt i j) refl (nat_lt j i) refl where
-  by_order : (x : Bool) → nat_lt i j ≡ x → (z : Bool) → nat_lt j i ≡ z → i ≡ j
-  by_order true x z h = absurd (let a = places_apart set from subs i j s e (ltb-true i j x) in omega (arith, a, high, low'))
-  by_order false x true h = absurd (let a = places_apart set from subs j i t f (ltb-true j i h) in omega (arith, a, high', low))
-  by_order false x false h = let a : j ≤ i = ltb-false i j x in let b : i ≤ j = ltb-false j i h in omega arith
+one_part set from subs i j c s t e f low high low' high' =
+    one_number i j
+    (λ lt. let a = places_apart set from subs i j s e lt in omega (arith, a, high, low'))
+    (λ lt. let a = places_apart set from subs j i t f lt in omega (arith, a, high', low))
 
 module _ (old new : Set) (good_old : WellFormed old) (good_new : WellFormed new) (i i' : ℕ) (d e : Device) (at_i : slice_get old.devices i ≡ Some d) (at_k : slice_get new.devices i' ≡ Some e)
     (image : Image) (versions : IsAtVersions d image) where
@@ -346,9 +353,6 @@ module _ (old new : Set) (good_old : WellFormed old) (good_new : WellFormed new)
         ap (λ (n : ℕ). (get_or (device_cells new e) n no_cell).default) z
         ∙ ap (λ (x : Cell). x.default) (get_or-append-add (desc_cells (struct_cells new) e.desc) (flat_map new_cells e.subs) (h.0 + r) no_cell ∙ h.3 r lt)
 
-    split : (c : ℕ) (xs ys : List Slot) → has_cell (xs ++ ys) c ≡ false → (has_cell xs c ≡ false) × (has_cell ys c ≡ false)
-    split c xs ys f = or_parts (has_cell xs c) (has_cell ys c) (sym (names_append xs ys c) ∙ f)
-
     other_come : (l : ℕ) (t : Sub) (r : ℕ) → slice_get e.subs l ≡ Some t → r < sub_size new t → NoneHas (place' l + r) → Comes t → get_or (carried_sub old new d image t) r (pos 0) ≡ (get_or (new_cells t) r no_cell).default
     other_come l t r at_l lt none h =
         let goes = sub_goes h.m l h.s t h.v h.at_m at_l (versions.subs h.m h.s h.v h.at_m h.is_come) in
@@ -364,7 +368,7 @@ module _ (old new : Set) (good_old : WellFormed old) (good_new : WellFormed new)
         let c_is : place h.m + c ≡ length ps + (part.0 + c) = omega (arith, q_is, long) in
         let came = (parts_none (length ps + (part.0 + c)) (none (length ps + (part.0 + c)) at_c)).1 in
         ap (has_cell (sub_slots old h.s h.v numbers (place h.m))) c_is
-        ∙ part_apart old d numbers (λ xs. has_cell xs (length ps + (part.0 + c)) ≡ false) (split (length ps + (part.0 + c))) (own_cells old d) d.subs image.came came h.m h.s h.v h.at_m h.is_come)
+        ∙ part_apart old d numbers (λ xs. has_cell xs (length ps + (part.0 + c)) ≡ false) (none_in_both (length ps + (part.0 + c))) (own_cells old d) d.subs image.came came h.m h.s h.v h.at_m h.is_come)
 
     other_sub : (l : ℕ) (t : Sub) (r : ℕ) → slice_get e.subs l ≡ Some t → r < sub_size new t → NoneHas (place' l + r) → get_or (own_segment ++ rest) (place' l + r) (pos 0) ≡ (get_or (device_cells new e) (place' l + r) no_cell).default
     other_sub l t r at_l lt none = rest_at l t r at_l lt ∙ go (comes t) ∙ sym (default_at l t r at_l lt) where

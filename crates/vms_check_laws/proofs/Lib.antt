@@ -26,6 +26,7 @@ pub mod PairLists
 pub mod PairStructs
 pub mod Pairing
 pub mod PartOf
+pub mod Partnered
 pub mod Parts
 pub mod PositionRead
 pub mod Positioned

@@ -1,9 +1,6 @@
 -- Whole streams: each device's section is one of the newer set's, and the order takes each device once.
-use Rattle.std.proofs.Common.{◌≡◌, inl, inr, ℕ, zero, suc, ◌+◌, ◌<◌, ◌≤◌, Bool, true, false, ◌&&◌, ◌==◌, List, ◌∷◌, length, map, get_or, Option, Some, None, refl, sym, ap, ◌∙◌, subst, arith, if◌then◌else◌, []}
+use Rattle.std.proofs.Common.{◌≡◌, inl, inr, ℕ, zero, suc, ◌+◌, ◌<◌, ◌≤◌, true, false, List, ◌∷◌, length, map, get_or, Option, Some, None, refl, sym, ap, ◌∙◌, subst, arith, []}
 use Rattle.std.specs.List.{slice_get, list_all}
-use Rattle.std.specs.Str.{bytes_eq}
-use Rattle.std.proofs.lemmas.Slice.Eq.{bytes_eq-Decides}
-use Rattle.std.proofs.lemmas.Bool.{and_parts, eqb-true}
 use Rattle.vms_spec.specs.declared.Part.TheVariants as parts
 use Rattle.vms_spec.specs.Lists.{first_answer}
 use Rattle.vms_spec.specs.Sets.{Device, Set}
@@ -13,48 +10,23 @@ use Rattle.vms_spec.specs.Streams.{IsReady, EachOnce, is_one_of, written_section
 use Rattle.vms_spec.specs.Lookup.{find_device, index}
 use Rattle.vms_spec.specs.Readiness.{is_version_of}
 use Rattle.vms_spec.specs.WellFormed.{WellFormed, here}
-use Rattle.vms_check.specs.declared.mismatch.Mismatch.{Mismatch}
-use Rattle.vms_check.specs.Comparing.{Compatible, failing_pair, first_mismatch, comparing, compare_device, compare_subs, paired_device, is_found, is_in}
+use Rattle.vms_check.specs.Comparing.{Compatible, failing_pair, first_mismatch, comparing, compare_device, compare_subs, is_found, is_in}
 use Rattle.vms_check.specs.Carrying.{carried, carried_device, carried_at, no_image}
 use Rattle.vms_check.proofs.ListLaws.{passes}
 use Rattle.vms_spec.proofs.WellFormedLaws.{device_found}
 use Rattle.vms_check_laws.specs.Laws.{ArePaired, DeviceLaw}
 use Rattle.vms_spec.proofs.Faultless.{or_else_none}
+use Rattle.vms_check_laws.proofs.Partnered.{found_device, found_some, compared, Pair, pair, back}
 use Rattle.vms_check_laws.proofs.Orders.{Among, NotIn, Apart, Wait, each_comes}
 use Rattle.vms_check_laws.proofs.SubFacts.{none_at, saved}
 use Rattle.vms_check_laws.proofs.Wholes.{section_whole, at_map}
 
 -- ---- devices by name and instance
 
-pub record FoundDevice (devices : List Device) (name : List ℕ) (instance j : ℕ) : Type 0 where
-  pub device : Device
-  pub stands : slice_get devices j ≡ Some device
-  pub name_is : device.desc.name ≡ name
-  pub instance_is : device.instance ≡ instance
-
-pub found_device : (k : ℕ) (devices : List Device) (name : List ℕ) (instance r : ℕ) → find_device k devices name instance ≡ Some r → (j : ℕ) × (r ≡ k + j) × FoundDevice devices name instance j
-found_device k [] name instance r h = absurd (cc)
-found_device k (d ∷ devices) name instance r h =
-    let choice : (c : Bool) → (bytes_eq d.desc.name name && d.instance == instance) ≡ c → (if c then Some k else find_device (suc k) devices name instance) ≡ Some r
-    → (j : ℕ) × (r ≡ k + j) × FoundDevice (d ∷ devices) name instance j = elim [
-      | true ↦ λ e g.
-          let same : k ≡ r = cc in
-          let p = and_parts (bytes_eq d.desc.name name) (d.instance == instance) e in
-          (0, omega (arith, same), record { device = d; stands = refl; name_is = (bytes_eq-Decides d.desc.name name).0 p.0; instance_is = eqb-true d.instance instance p.1 })
-      | false ↦ λ e g.
-          let f = found_device (suc k) devices name instance r g in
-          (suc f.0, omega (arith, f.1), record { device = f.2.device; stands = f.2.stands; name_is = f.2.name_is; instance_is = f.2.instance_is })
-    ] in
-    choice (bytes_eq d.desc.name name && d.instance == instance) refl h
-
 from_map : {A B : Type 0} (f : A → B) (xs : List A) (j : ℕ) (y : B) → slice_get (map f xs) j ≡ Some y → (x : A) × (slice_get xs j ≡ Some x)
 from_map f [] j y e = absurd (cc)
 from_map f (x ∷ xs) zero y e = (x, refl)
 from_map f (x ∷ xs) (suc j) y e = from_map f xs j y e
-
-pub found_some : (r : Option ℕ) → is_found r ≡ true → (k : ℕ) × (r ≡ Some k)
-found_some None h = absurd (cc)
-found_some (Some k) h = (k, refl)
 
 abbrev pub device_order : Set → List Device → List ℕ
 device_order new [] = []
@@ -69,15 +41,12 @@ device_stands old new good_old good_new i k d e paired image id saved lt =
     section_whole old new good_old good_new i k d e paired.in_old paired.in_new q.1 image saved (parts.Device i) (parts.Device k) q.0 version paired.names paired.instances id lt
 
 module _ (old new : Set) (good_old : WellFormed old) (good_new : WellFormed new) (none : Compatible old new) where
-  abbrev compared : ℕ → Device → Option Mismatch
-  compared i d = compare_device old new i d (paired_device old new d) (slice_get new.devices (index (paired_device old new d)))
-
   -- what the rules on sets give
   pub record Rules : Type 0 where
     pub machines : list_all (is_one_of new.machines) old.machines ≡ true
     pub olds : first_answer (λ i d. failing_pair ((2, is_in new d) ∷ []) (here (parts.Device i)) (here parts.Set)) 0 old.devices ≡ None
     pub news : first_answer (λ i d. failing_pair ((3, is_in old d) ∷ []) (here parts.Set) (here (parts.Device i))) 0 new.devices ≡ None
-    pub devices : first_answer (λ i d. compared i d) 0 old.devices ≡ None
+    pub devices : first_answer (λ i d. compared old new i d) 0 old.devices ≡ None
 
   pub rules : Rules
   unfolding first_mismatch
@@ -85,47 +54,18 @@ module _ (old new : Set) (good_old : WellFormed old) (good_new : WellFormed new)
       let p = or_else_none (failing_pair ((1, list_all (is_one_of new.machines) old.machines) ∷ []) (here parts.Set) (here parts.Set)) _ none in
       let q = or_else_none (first_answer (λ i d. failing_pair ((2, is_in new d) ∷ []) (here (parts.Device i)) (here parts.Set)) 0 old.devices) _ p.1 in
       let r = or_else_none (first_answer (λ i d. failing_pair ((3, is_in old d) ∷ []) (here parts.Set) (here (parts.Device i))) 0 new.devices)
-      (first_answer (λ i d. compared i d) 0 old.devices) q.1 in
+      (first_answer (λ i d. compared old new i d) 0 old.devices) q.1 in
       record { machines = (passes 1 (list_all (is_one_of new.machines) old.machines) [] (here parts.Set) (here parts.Set) p.0).0; olds = q.0; news = r.0; devices = r.1 }
 
-  -- the device of new that has the name and instance of old's device i
-  pub record Pair (i : ℕ) (d : Device) : Type 0 where
-    pub number : ℕ
-    pub found : find_device 0 new.devices d.desc.name d.instance ≡ Some number
-    pub device : Device
-    pub stands : slice_get new.devices number ≡ Some device
-    pub name_is : device.desc.name ≡ d.desc.name
-    pub instance_is : device.instance ≡ d.instance
-    pub same : compare_device old new i d (Some number) (Some device) ≡ None
+  -- each device of old is one of new
+  pub all_in : first_answer (λ i d. failing_pair ((2, is_in new d) ∷ []) (here (parts.Device i)) (here parts.Set)) 0 old.devices ≡ None
+  all_in = rules.olds
 
-  pub pair : (i : ℕ) (d : Device) → slice_get old.devices i ≡ Some d → Pair i d
-  pair i d e =
-      let z : 0 + i ≡ i = omega arith in
-      let h = none_at (λ i d. failing_pair ((2, is_in new d) ∷ []) (here (parts.Device i)) (here parts.Set)) 0 old.devices i d rules.olds e in
-      let is : is_found (find_device 0 new.devices d.desc.name d.instance) ≡ true = (passes 2 (is_in new d) [] (here (parts.Device (0 + i))) (here parts.Set) h).0 in
-      let some_k = found_some (find_device 0 new.devices d.desc.name d.instance) is in
-      let f = found_device 0 new.devices d.desc.name d.instance some_k.0 some_k.1 in
-      let k_is : f.0 ≡ some_k.0 = omega (arith, f.1) in
-      let stands : slice_get new.devices some_k.0 ≡ Some f.2.device = subst (λ (k : ℕ). slice_get new.devices k ≡ Some f.2.device) k_is f.2.stands in
-      let none_here = none_at (λ i d. compared i d) 0 old.devices i d rules.devices e in
-      let at_k : compare_device old new (0 + i) d (Some some_k.0) (slice_get new.devices some_k.0) ≡ None =
-      subst (λ (r : Option ℕ). compare_device old new (0 + i) d r (slice_get new.devices (index r)) ≡ None) some_k.1 none_here in
-      let at_e : compare_device old new (0 + i) d (Some some_k.0) (Some f.2.device) ≡ None =
-      subst (λ (r : Option Device). compare_device old new (0 + i) d (Some some_k.0) r ≡ None) stands at_k in
-      record {
-        number = some_k.0;
-        found = some_k.1;
-        device = f.2.device;
-        stands = stands;
-        name_is = f.2.name_is;
-        instance_is = f.2.instance_is;
-        same = subst (λ (n : ℕ). compare_device old new n d (Some some_k.0) (Some f.2.device) ≡ None) z at_e;
-      }
-
-  pub back : (i : ℕ) (d : Device) → slice_get old.devices i ≡ Some d → (p : Pair i d) → find_device 0 old.devices p.device.desc.name p.device.instance ≡ Some i
-  back i d e p =
-      ap (λ (n : List ℕ). find_device 0 old.devices n p.device.instance) p.name_is ∙ ap (λ (n : ℕ). find_device 0 old.devices d.desc.name n) p.instance_is
-      ∙ device_found old good_old i d e
+  -- and no rule fails of the two
+  compared_none : (i : ℕ) (d : Device) → slice_get old.devices i ≡ Some d → (p : Pair old new good_old all_in i d) → compare_device old new i d (Some p.number) (Some p.device) ≡ None
+  compared_none i d e p =
+      let z : i ≡ 0 + i = omega arith in
+      sym p.compared_is ∙ ap (λ (n : ℕ). compared old new n d) z ∙ none_at (λ i d. compared old new i d) 0 old.devices i d rules.devices e
 
   -- ---- each of new's devices has one section
 
@@ -154,7 +94,7 @@ module _ (old new : Set) (good_old : WellFormed old) (good_new : WellFormed new)
   order_waits i [] h = tt
   order_waits i (d ∷ ds) h =
       let z : i + 0 ≡ i = omega arith in
-      let p = pair i d (ap (λ (k : ℕ). slice_get old.devices k) (sym z) ∙ h 0) in (
+      let p = pair old new good_old all_in i d (ap (λ (k : ℕ). slice_get old.devices k) (sym z) ∙ h 0) in (
         subst (λ (k : ℕ). slice_get (map (λ (d : Device). false) new.devices) k ≡ Some false) (sym (ap index p.found)) (at_map (λ (d : Device). false) new.devices p.number p.device p.stands),
         order_waits (suc i) ds (λ j. let s : suc i + j ≡ i + suc j = omega arith in ap (λ (k : ℕ). slice_get old.devices k) s ∙ h (suc j)),
       )
@@ -162,12 +102,12 @@ module _ (old new : Set) (good_old : WellFormed old) (good_new : WellFormed new)
   two_apart : (i i' : ℕ) (d d' : Device) → i < i' → slice_get old.devices i ≡ Some d → slice_get old.devices i' ≡ Some d'
       → index (find_device 0 new.devices d.desc.name d.instance) ≡ index (find_device 0 new.devices d'.desc.name d'.instance) → ⊥
   two_apart i i' d d' lt e e' same =
-      let p = pair i d e in
-      let q = pair i' d' e' in
+      let p = pair old new good_old all_in i d e in
+      let q = pair old new good_old all_in i' d' e' in
       let numbers : p.number ≡ q.number = sym (ap index p.found) ∙ same ∙ ap index q.found in
       let some_same : Some p.device ≡ Some q.device = sym p.stands ∙ ap (λ (k : ℕ). slice_get new.devices k) numbers ∙ q.stands in
       let devices_same : p.device ≡ q.device = cc in
-      let founds : Some i ≡ Some i' = sym (back i d e p) ∙ ap (λ (u : Device). find_device 0 old.devices u.desc.name u.instance) devices_same ∙ back i' d' e' q in
+      let founds : Some i ≡ Some i' = sym (back old new good_old all_in i d e p) ∙ ap (λ (u : Device). find_device 0 old.devices u.desc.name u.instance) devices_same ∙ back old new good_old all_in i' d' e' q in
       let indices : i ≡ i' = cc in
       absurd (omega arith)
 
@@ -194,12 +134,12 @@ module _ (old new : Set) (good_old : WellFormed old) (good_new : WellFormed new)
 
   module _ (images : List Image) where
     -- the image of new's device is old's of this name, carried
-    image_at : (i : ℕ) (d : Device) → slice_get old.devices i ≡ Some d → (p : Pair i d)
+    image_at : (i : ℕ) (d : Device) → slice_get old.devices i ≡ Some d → (p : Pair old new good_old all_in i d)
         → slice_get (carried old new images) p.number ≡ Some (carried_device old new d p.device (get_or images i (no_image old new)))
     unfolding carried
     image_at i d e p =
         at_map (λ e. carried_at old new images e (find_device 0 old.devices e.desc.name e.instance) (slice_get old.devices (index (find_device 0 old.devices e.desc.name e.instance)))) new.devices p.number p.device p.stands
-        ∙ ap (λ (r : Option ℕ). Some (carried_at old new images p.device r (slice_get old.devices (index r)))) (back i d e p)
+        ∙ ap (λ (r : Option ℕ). Some (carried_at old new images p.device r (slice_get old.devices (index r)))) (back old new good_old all_in i d e p)
         ∙ ap (λ (r : Option Device). Some (carried_at old new images p.device (Some i) r)) e
 
     -- each section of old, in old's order
@@ -213,12 +153,12 @@ module _ (old new : Set) (good_old : WellFormed old) (good_new : WellFormed new)
         let z : i + 0 ≡ i = omega arith in
         let e : slice_get old.devices i ≡ Some d = ap (λ (k : ℕ). slice_get old.devices k) (sym z) ∙ devices_are 0 in
         let im_is : get_or images i (no_image old new) ≡ im = ap (λ (k : ℕ). get_or images k (no_image old new)) (sym z) ∙ images_are 0 in
-        let p = pair i d e in
+        let p = pair old new good_old all_in i d e in
         let front = written_section old d im i in
         let rest = written_sections old (suc i) ds ims in
         let image_is : slice_get (carried old new images) p.number ≡ Some (carried_device old new d p.device im) =
         image_at i d e p ∙ ap (λ (m : Image). Some (carried_device old new d p.device m)) im_is in
-        let paired : ArePaired old new i p.number d p.device = record { in_old = e; in_new = p.stands; names = sym p.name_is; instances = sym p.instance_is; rules = p.same } in
+        let paired : ArePaired old new i p.number d p.device = record { in_old = e; in_new = p.stands; names = sym p.name_is; instances = sym p.instance_is; rules = compared_none i d e p } in
         let one = device_stands old new good_old good_new i p.number d p.device paired im i (saved old d im (ready 0 d im refl refl)) (omega arith) in
         let at_number : HasSection new true p.number (slice_get new.devices p.number) (slice_get (carried old new images) p.number) front =
         subst (λ (r : Option Device). HasSection new true p.number r (slice_get (carried old new images) p.number) front) (sym p.stands)

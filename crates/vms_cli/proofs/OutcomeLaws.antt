@@ -4,7 +4,7 @@ use Rattle.std.proofs.lemmas.List.{length-take}
 use Rattle.std.specs.Io.KnownBytes.{Appends}
 use Rattle.std.proofs.lemmas.Option.{none-some}
 use Rattle.vms_io.specs.Causes.{Rose, AppendsPrefix, KeepsPromise}
-use Rattle.vms_io.specs.Shelves.{Held}
+use Rattle.vms_io.specs.Shelves.{Held, HoldsAll}
 use Rattle.vms_io.specs.Told.{Outlet}
 use Rattle.vms_kinds.specs.Bytes.{IsBytes}
 use Rattle.vms_spec.specs.Values.{values_text}
@@ -31,7 +31,6 @@ use Rattle.dev_base.specs.Levels.{IsLevel}
 use Rattle.vms_board_commands.proofs.PlayOutcome.{has_end, one_outcome}
 use Rattle.vms_board_commands.specs.Play.{PlaysBy}
 use Rattle.vms_board_commands.specs.Scripts.{scripted}
-use Rattle.vms_session.specs.Laws.{HoldsAll}
 use Rattle.vms_script.proofs.GrammarOnly.{reads_exactly}
 use Rattle.vms_script.specs.Grammar.{AreLines}
 use Rattle.vms_script.specs.Lines.{ScriptLine}
@@ -40,7 +39,8 @@ use Rattle.vms_cli.specs.Check.{checked, compared, compatible_text, verdict}
 use Rattle.vms_cli.specs.Commands.{Asked, IsaBoard, Show, Convert, Analyze, Pack, Check, Counter, Save, Load, Drill, Play, asked_of, ClockBoard}
 use Rattle.vms_counter_laws.specs.Computed.{computed}
 use Rattle.vms_cli.specs.Counter.{CountersBy, counted, counter_text}
-use Rattle.vms_cli.specs.Laws.{HasOneOutcome, OutcomeLaw, CanBePacked, CanBeDone, HasRoom, IsAmple, NoneRises, PromisesKept, CompleteLaw, AmpleLaw}
+use Rattle.vms_cli.proofs.WordLaws.{words_ask}
+use Rattle.vms_cli.specs.Laws.{CanBeAsked, HasOneOutcome, OutcomeLaw, CanBePacked, CanBeDone, HasRoom, IsAmple, NoneRises, PromisesKept, CompleteLaw, AmpleLaw}
 use Rattle.vms_cli.specs.Pack.{described_stream, packed_by, packs}
 use Rattle.vms_cli.specs.Show.{ShowsBy, Values as Printed, Refuses}
 use Rattle.vms_cli.proofs.AnalyzeLemmas.{has_listing, only_listing}
@@ -126,21 +126,24 @@ one_played level script input held is holds =
     let one = one_plays level step held are is holds (sound_script (Some level) (Some held) script) in
     record { outcome = one.outcome; is = one.is; only = one.only }
 
-pub outcome_holds : OutcomeLaw
-outcome_holds None input held ok by = record { outcome = ended 2 bad_words 0; is = refl; only = λ other e. e }
-outcome_holds (Some (Show word)) input held ok by = one_shown word input held ok
-outcome_holds (Some (Convert word)) input held ok by = one_converted word input held ok
-outcome_holds (Some Analyze) input held ok by =
+one_of_all : (asked : Option Asked) (input : List ℕ) (held : Held) → IsBytes input → CanBeAsked asked → HoldsAll held → HasOneOutcome asked input held
+one_of_all None input held ok can holds = record { outcome = ended 2 bad_words 0; is = refl; only = λ other e. e }
+one_of_all (Some (Show word)) input held ok can holds = one_shown word input held ok
+one_of_all (Some (Convert word)) input held ok can holds = one_converted word input held ok
+one_of_all (Some Analyze) input held ok can holds =
     let one = has_listing input (Some held) in
     record { outcome = one.0; is = one.1; only = λ other p. only_listing input (Some held) other one.0 p one.1 }
-outcome_holds (Some (Pack word name)) input held ok by = one_packed word name input held
-outcome_holds (Some (Check old new)) input held ok by = one_checked old new input held
-outcome_holds (Some (Counter old new)) input held ok by = one_counted old new input held
-outcome_holds (Some (Save board set script)) input held ok by = one_saved board set script input held
-outcome_holds (Some (Load board script)) input held ok by = one_loaded board script input held ok
-outcome_holds (Some (Play level script)) input held ok by = one_played level script input held by.0 by.1
-outcome_holds (Some (Drill level seed count)) input held ok by =
+one_of_all (Some (Pack word name)) input held ok can holds = one_packed word name input held
+one_of_all (Some (Check old new)) input held ok can holds = one_checked old new input held
+one_of_all (Some (Counter old new)) input held ok can holds = one_counted old new input held
+one_of_all (Some (Save board set script)) input held ok can holds = one_saved board set script input held
+one_of_all (Some (Load board script)) input held ok can holds = one_loaded board script input held ok
+one_of_all (Some (Play level script)) input held ok can holds = one_played level script input held can holds
+one_of_all (Some (Drill level seed count)) input held ok can holds =
     record { outcome = done (drill_line level seed count) (Some held) 0; is = refl; only = λ other e. e }
+
+pub outcome_holds : OutcomeLaw
+outcome_holds words input held ok holds = one_of_all (asked_of words) input held ok (words_ask words) holds
 
 -- ---- completeness
 
@@ -158,9 +161,9 @@ record IsDone (asked : Option Asked) (input : Option (List ℕ)) (held : Option 
   status : outcome.status ≡ 0
   note : outcome.note ≡ []
 
-can_be : (asked : Option Asked) (input : Option (List ℕ)) (held : Option Held) → CanBeDone asked input held → IsDone asked input held
-can_be None input held can = absurd can
-can_be (Some (Show word)) input held can = by input can.2
+can_be : (asked : Option Asked) (input : Option (List ℕ)) (held : Option Held) → CanBeAsked asked → CanBeDone asked input held → IsDone asked input held
+can_be None input held ask can = absurd can
+can_be (Some (Show word)) input held ask can = by input can.2
   where
     by : (left : Option (List ℕ)) → IsSomeAnd left (λ bytes. (taken : ℕ) × (machine : Option (List ℕ)) × (images : List Image) × Takes can.0 can.0.machines bytes taken machine images)
         → IsDone (Some (Show word)) left held
@@ -173,14 +176,14 @@ can_be (Some (Show word)) input held can = by input can.2
           status = refl;
           note = refl;
         }
-can_be (Some (Convert word)) input held can =
+can_be (Some (Convert word)) input held ask can =
     let one = converted_then word held input can in
     record { outcome = done one.0 held one.1; is = one.2; status = refl; note = refl }
-can_be (Some Analyze) None held can = absurd can
-can_be (Some Analyze) (Some bytes) held can =
+can_be (Some Analyze) None held ask can = absurd can
+can_be (Some Analyze) (Some bytes) held ask can =
     record { outcome = _; is = record { listing = Text can.0; lists = can.1; is = refl }; status = refl; note = refl }
-can_be (Some (Pack word name)) input None can = absurd can
-can_be (Some (Pack word name)) input (Some map) can =
+can_be (Some (Pack word name)) input None ask can = absurd can
+can_be (Some (Pack word name)) input (Some map) ask can =
     let stream = described_stream can.set can.machine can.images in
     let outcome = done stream (Some map) 0 in
     record {
@@ -189,24 +192,24 @@ can_be (Some (Pack word name)) input (Some map) can =
       status = refl;
       note = refl;
     }
-can_be (Some (Save board set script)) input None can = absurd can
-can_be (Some (Save (IsaBoard level) set script)) input (Some map) can =
+can_be (Some (Save board set script)) input None ask can = absurd can
+can_be (Some (Save (IsaBoard level) set script)) input (Some map) ask can =
     record { outcome = _; is = saved_then isa level script map can set; status = refl; note = refl }
-can_be (Some (Save (ClockBoard version) set script)) input (Some map) can =
+can_be (Some (Save (ClockBoard version) set script)) input (Some map) ask can =
     record { outcome = _; is = saved_then clock version script map can set; status = refl; note = refl }
-can_be (Some (Load (IsaBoard level) script)) input None can = absurd can.0
-can_be (Some (Load (IsaBoard level) script)) None (Some map) can = absurd can.1
-can_be (Some (Load (IsaBoard level) script)) (Some bytes) (Some map) can =
+can_be (Some (Load (IsaBoard level) script)) input None ask can = absurd can.0
+can_be (Some (Load (IsaBoard level) script)) None (Some map) ask can = absurd can.1
+can_be (Some (Load (IsaBoard level) script)) (Some bytes) (Some map) ask can =
     record { outcome = _; is = loaded_then isa level script map can.0 bytes can.1.0 can.1.1 can.1.2; status = refl; note = refl }
-can_be (Some (Load (ClockBoard version) script)) input None can = absurd can.0
-can_be (Some (Load (ClockBoard version) script)) None (Some map) can = absurd can.1
-can_be (Some (Load (ClockBoard version) script)) (Some bytes) (Some map) can =
+can_be (Some (Load (ClockBoard version) script)) input None ask can = absurd can.0
+can_be (Some (Load (ClockBoard version) script)) None (Some map) ask can = absurd can.1
+can_be (Some (Load (ClockBoard version) script)) (Some bytes) (Some map) ask can =
     record { outcome = _; is = loaded_then clock version script map can.0 bytes can.1.0 can.1.1 can.1.2; status = refl; note = refl }
-can_be (Some (Play level script)) input None can = absurd can
-can_be (Some (Play level script)) input (Some map) can =
+can_be (Some (Play level script)) input None ask can = absurd can
+can_be (Some (Play level script)) input (Some map) ask can =
     let read = can.1 in
     let are : AreLines (Some level) read.lines = (reads_exactly.only (Some level) read.text read.lines read.reads).0 in
-    let end = has_end level read.lines map can.0.0 are can.0.1 in
+    let end = has_end level read.lines map ask are can.0 in
     record {
       outcome = end.0;
       is = subst (λ (s : Step (List ScriptLine)). PlaysBy level s (Some map) end.0)
@@ -214,9 +217,9 @@ can_be (Some (Play level script)) input (Some map) can =
       status = ap (λ (o : Outcome). o.status) end.1.outcome;
       note = ap (λ (o : Outcome). o.note) end.1.outcome;
     }
-can_be (Some (Drill level seed count)) input held can =
+can_be (Some (Drill level seed count)) input held ask can =
     record { outcome = done (drill_line level seed count) held 0; is = refl; status = refl; note = refl }
-can_be (Some (Check old new)) input held can =
+can_be (Some (Check old new)) input held ask can =
     let outcome = done compatible_text held 0 in
     let agrees : HasText held (compared can.0) outcome = subst (λ (m : Option Mismatch). HasText held (verdict m) outcome) (sym can.2) refl in
     record {
@@ -225,7 +228,7 @@ can_be (Some (Check old new)) input held can =
       status = refl;
       note = refl;
     }
-can_be (Some (Counter old new)) input held can =
+can_be (Some (Counter old new)) input held ask can =
     let outcome = done (counter_text can.0.old can.0.new (computed can.0.old can.0.new)) held 0 in
     let fit : AreFit (Gives can.0) = subst AreFit can.1 (fit_sets held old new) in
     record {
@@ -319,7 +322,7 @@ module _ (status : ℕ) (old new : Outside) (o : Outcome) (none : o.note ≡ [])
 
 pub ample_holds : AmpleLaw
 ample_holds words status old new can ample kept a =
-    let d = can_be (asked_of words) old.input.left old.shelf.held can in
+    let d = can_be (asked_of words) old.input.left old.shelf.held (words_ask words) can in
     rises_never status old new d.outcome d.note (ample d.outcome d.is) kept a.promises (a.outcome d.outcome d.is)
 
 comes : (status : ℕ) (old new : Outside) (o : Outcome) → o.status ≡ 0 → NoneRises old new → DoesOrStops status old new o → (status ≡ 0) ⊎ (status ≡ 10)
@@ -335,5 +338,5 @@ comes status old new o done_so never (inr stops) = by stops.why
 
 pub complete_holds : CompleteLaw
 complete_holds words status old new can never a =
-    let d = can_be (asked_of words) old.input.left old.shelf.held can in
+    let d = can_be (asked_of words) old.input.left old.shelf.held (words_ask words) can in
     comes status old new d.outcome d.status never (a.outcome d.outcome d.is)

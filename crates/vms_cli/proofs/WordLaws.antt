@@ -8,9 +8,8 @@ use Rattle.vms_rtc.specs.declared.limits.TheConstants.{NEWEST_CLOCK}
 use Rattle.vms_io.specs.Shelves.{Held}
 use Rattle.vms_commands.specs.SetWords.{Isa, Clock, ShippedSet, SetWord, Shipped, OnShelf, named_in, set_word, shipped_word, shipped_words}
 use Rattle.vms_script.specs.Names.{is_shelf_name}
-use Rattle.vms_session.specs.Laws.{HoldsAll}
 use Rattle.vms_cli.specs.Commands.{Asked, BoardWord, IsaBoard, ClockBoard, Analyze, Pack, Play, asked_of, board_word, board_words, check_of, convert_of, counter_of, drill_of, few_events, isa_level, load_of, number_word, on_board, pack_of, pair_of, play_of, save_of, save_under, show_of, single_of, triple_of}
-use Rattle.vms_cli.specs.Laws.{AskedLaw, CanBeAsked, IsBoard, MaySaveOn, GoesBy, WordsLaw}
+use Rattle.vms_cli.specs.Laws.{AskedLaw, CanBeAsked, IsBoard, MaySaveOn}
 
 -- ---- boards
 
@@ -196,12 +195,3 @@ words_ask (name ∷ set ∷ []) = single-asked name set
 words_ask (name ∷ one ∷ other ∷ []) = pair-asked name one other
 words_ask (name ∷ one ∷ two ∷ three ∷ []) = triple-asked name one two three
 words_ask (name ∷ one ∷ two ∷ three ∷ four ∷ words) = tt
-
--- ---- what `play` goes by
-
-goes-by : (asked : Option Asked) (held : Held) → CanBeAsked asked → HoldsAll held → GoesBy asked held
-goes-by (Some (Play level script)) held can holds = (can, holds)
-goes-by asked held can holds = tt
-
-pub words_hold : WordsLaw
-words_hold words held holds = goes-by (asked_of words) held (words_ask words) holds

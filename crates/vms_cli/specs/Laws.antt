@@ -1,7 +1,7 @@
 -- What follows of all calls, and of packing and showing one after the other.
 use Rattle.std.specs.Prelude.{◌≡◌, ◌⊎◌, ℕ, ◌+◌, ◌<◌, ◌≤◌, true, List, length, Option, Some, None, Ok, IfSome, IsSomeAnd}
 use Rattle.vms_io.specs.Causes.{KeepsPromise, Rose}
-use Rattle.vms_io.specs.Shelves.{Held}
+use Rattle.vms_io.specs.Shelves.{Held, HoldsAll}
 use Rattle.vms_io.specs.Told.{Outlet}
 use Rattle.vms_spec.specs.Images.{Image}
 use Rattle.vms_kinds.specs.Bytes.{IsBytes}
@@ -28,7 +28,6 @@ use Rattle.vms_script.specs.Lines.{ScriptLine}
 use Rattle.vms_script.specs.Script.{script_read}
 use Rattle.dev_base.specs.Levels.{IsLevel, IsUpTo}
 use Rattle.vms_rtc.specs.declared.limits.TheConstants.{NEWEST_CLOCK}
-use Rattle.vms_session.specs.Laws.{HoldsAll}
 use Rattle.vms_board_commands.specs.Scripts.{longest_script}
 use Rattle.vms_cli.specs.Convert.{newest}
 use Rattle.vms_cli.specs.Pack.{described_stream}
@@ -64,19 +63,10 @@ CanBeAsked asked = Unit {0}
 abbrev pub AskedLaw : Type 0
 AskedLaw = (words : List (List ℕ)) → CanBeAsked (asked_of words)
 
--- what the outcome of `play` goes by: a level that there is, as any board that words name has, and a shelf of bytes
-abbrev pub GoesBy : Option Asked → Held → Type 0
-GoesBy (Some (Play level script)) held = IsLevel level × HoldsAll held
-GoesBy asked held = Unit {0}
-
--- whatever words, bytes and shelf there are
+-- whatever words, bytes and shelf of bytes there are, as the laws `octets` of an input and of a shelf have them
 abbrev pub OutcomeLaw : Type 0
-OutcomeLaw = (asked : Option Asked) (input : List ℕ) (held : Held) → IsBytes input → GoesBy asked held
-    → HasOneOutcome asked input held
-
--- whatever the words are, of a shelf of bytes
-abbrev pub WordsLaw : Type 0
-WordsLaw = (words : List (List ℕ)) (held : Held) → HoldsAll held → GoesBy (asked_of words) held
+OutcomeLaw = (words : List (List ℕ)) (input : List ℕ) (held : Held) → IsBytes input → HoldsAll held
+    → HasOneOutcome (asked_of words) input held
 
 -- ---- completeness
 
@@ -131,7 +121,7 @@ CanBeDone (Some (Load (ClockBoard version) script)) input held =
     IsSomeAnd held (λ map. CanBeRead None script map) × IsSomeAnd input (λ bytes. (board : ClockState) × (taken : ℕ)
     × Restores clock version bytes (Back board taken))
 CanBeDone (Some (Play level script)) input held =
-    IsSomeAnd held (λ map. GoesBy (Some (Play level script)) map × CanBeRead (Some level) script map)
+    IsSomeAnd held (λ map. HoldsAll map × CanBeRead (Some level) script map)
 CanBeDone (Some (Drill level seed count)) input held = Unit {0}
 
 -- the count of no object rises in the call

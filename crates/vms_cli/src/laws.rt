@@ -3,14 +3,13 @@ ghost use Rattle.vms_cli.specs.AnalyzeLaws.{PackThenAnalyzeLaw, SaveThenAnalyzeL
 ghost use Rattle.vms_cli.specs.ClockSets.{ClockSetsLaw};
 ghost use Rattle.vms_cli.specs.ConvertLaws.{ConvertAgainLaw, ConvertThenAnalyzeLaw};
 ghost use Rattle.vms_cli.specs.States.{AlwaysNamedLaw, StateLaw};
-ghost use Rattle.vms_cli.specs.Laws.{AskedLaw, CheckThenShowLaw, OutcomeLaw, CompleteLaw, AmpleLaw, PackThenShowLaw, ShowThenPackLaw, WordsLaw};
+ghost use Rattle.vms_cli.specs.Laws.{AskedLaw, CheckThenShowLaw, OutcomeLaw, CompleteLaw, AmpleLaw, PackThenShowLaw, ShowThenPackLaw};
 
-/// Whatever words, input of bytes and shelf there are, a call has an outcome, and no other; of `play` the shelf is one of
-/// bytes.
-#[tactic(auto, using(crate::proofs::OutcomeLaws::outcome_holds, crate::proofs::WordLaws::words_hold))]
+/// Whatever words, input of bytes and shelf of bytes there are, a call has an outcome, and no other. The laws `octets` of
+/// [`Source`](vms_io::Source) and of [`Shelf`](vms_io::Shelf) say that they hold bytes.
+#[tactic(auto, using(crate::proofs::OutcomeLaws::outcome_holds))]
 pub fn outcome_law()
-    ensures one { OutcomeLaw }
-    ensures words { WordsLaw }
+    ensures { OutcomeLaw }
 {}
 
 /// Words name boards that there are, and for `save` a set of the board's kind at or above it.

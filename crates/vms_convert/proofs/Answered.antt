@@ -17,7 +17,8 @@ use Rattle.vms_check.specs.Carrying.{carried, no_image}
 use Rattle.vms_check.specs.Comparing.{Compatible}
 use Rattle.vms_check.specs.Partners.{device_partners}
 use Rattle.vms_check_laws.specs.Pairing.{AreOfKinds}
-use Rattle.vms_check_laws.proofs.Streaming.{Pair, pair}
+use Rattle.vms_check_laws.proofs.Partnered.{Pair, pair}
+use Rattle.vms_check_laws.proofs.Streaming.{all_in}
 use Rattle.vms_convert.specs.Back.{IsBack}
 use Rattle.vms_convert.specs.Converted.{IsPairAt, recast_each}
 use Rattle.vms_convert.specs.Laws.{AnswerLaw, ComesBack}
@@ -127,8 +128,8 @@ module _ (to new : Set) (fit : IsFit to) (well : WellFormed new) (compatible : C
       there : slice_get to.devices n ≡ Some (device_at to n)
       there = slice_get-get_or to.devices n no_device lt
 
-      newer : Pair to new fit.well well compatible n (device_at to n)
-      newer = pair to new fit.well well compatible n (device_at to n) there
+      newer : Pair to new fit.well (all_in to new fit.well well compatible) n (device_at to n)
+      newer = pair to new fit.well (all_in to new fit.well well compatible) n (device_at to n) there
 
       one : ComesBack to (device_at to n) (device_partners to new (device_at to n) newer.device) (get_or wanted newer.number [])
       one = has_back to fit n (device_at to n) there (device_partners to new (device_at to n) newer.device) (get_or wanted newer.number [])

@@ -1,7 +1,7 @@
 -- What comes back is normal, whatever numbers of the right kinds it is made of, and has come as needed.
-use Rattle.std.proofs.Common.{◌≡◌, ◌⊎◌, inl, inr, ℕ, zero, suc, ◌+◌, ◌<◌, ◌≤◌, List, [], ◌∷◌, ◌++◌, length, get_or, map, Option, Some, None, ℤ, pos, refl, sym, ap, ◌∙◌, subst, arith, Bool, true, false, nat_lt, if◌then◌else◌, ◌||◌}
+use Rattle.std.proofs.Common.{◌≡◌, ◌⊎◌, inl, inr, ℕ, zero, suc, ◌+◌, ◌<◌, ◌≤◌, List, [], ◌∷◌, length, get_or, map, Option, Some, None, ℤ, pos, refl, sym, ap, ◌∙◌, subst, arith, Bool, true, false, nat_lt, if◌then◌else◌, ◌||◌}
 use Rattle.std.specs.List.{slice_get}
-use Rattle.std.proofs.lemmas.Bool.{ltb-true, ltb-false, leb-true, or_parts}
+use Rattle.std.proofs.lemmas.Bool.{ltb-true, ltb-false, leb-true}
 use Rattle.vms_spec.proofs.NumberLaws.{within_all}
 use Rattle.vms_kinds.specs.declared.Kind.{Kind}
 use Rattle.vms_kinds.specs.Codes.{InRange}
@@ -13,7 +13,7 @@ use Rattle.vms_spec.specs.Streams.{is_needed, ComeAsNeeded}
 use Rattle.vms_spec.specs.WellFormed.{WellFormed}
 use Rattle.vms_spec.specs.Heads.{FitsHeads}
 use Rattle.vms_spec.specs.Good.{IsGood}
-use Rattle.vms_bodies.proofs.Names.{names_append}
+use Rattle.vms_bodies.proofs.Names.{names_append, none_in_both}
 use Rattle.vms_bodies.proofs.AgreeLaws.{its_same, its_below, its_above}
 use Rattle.vms_bodies.proofs.SettledLaws.{SameIn}
 use Rattle.vms_bodies.proofs.PartLaws.{sub_size, sub_place_up, places_apart, parts_together, part_apart}
@@ -103,9 +103,6 @@ module _ (to : Set) (well : WellFormed to) (heads : FitsHeads to) (i : ℕ) (d :
     none_else c came h =
         parts_together to d now (λ xs. has_cell xs c ≡ false) refl (λ xs ys p q. names_append xs ys c ∙ ap (λ (b : Bool). b || has_cell ys c) p ∙ q) (own_cells to d) d.subs came h
 
-    split : (c : ℕ) (xs ys : List Slot) → has_cell (xs ++ ys) c ≡ false → (has_cell xs c ≡ false) × (has_cell ys c ≡ false)
-    split c xs ys e = or_parts (has_cell xs c) (has_cell ys c) (sym (names_append xs ys c) ∙ e)
-
     absent_own : (c : ℕ) → c < length cells → c < own_cells to d → has_cell (own_slots to d d.desc.version then_) c ≡ false → get_or then_ c (pos 0) ≡ default_at c
     absent_own c lt own none =
         back.settled.own c own
@@ -143,7 +140,7 @@ module _ (to : Set) (well : WellFormed to) (heads : FitsHeads to) (i : ℕ) (d :
         let still : is_needed to d (bare d then_) s j ≡ true = needed_same to well i d there j s e (whole d now) (bare d then_) same_own same ∙ n in
         let came = needed_comes to d (bare d then_) 0 j s d.subs e (ap (λ (k : ℕ). is_needed to d (bare d then_) s k) (sym z) ∙ still) in
         let here : has_cell (sub_slots to s s.desc.version then_ (part_place to d j)) c ≡ false =
-        part_apart to d then_ (λ xs. has_cell xs c ≡ false) (split c) (own_cells to d) d.subs (needed_from to d (bare d then_) 0 d.subs) none j s s.desc.version e came in
+        part_apart to d then_ (λ xs. has_cell xs c ≡ false) (none_in_both c) (own_cells to d) d.subs (needed_from to d (bare d then_) 0 d.subs) none j s s.desc.version e came in
         let before : has_cell (sub_slots to s s.desc.version now (part_place to d j)) c ≡ false =
         ap (λ (xs : List Slot). has_cell xs c) (sym (its_same to s.desc s.desc.version (part_place to d j) good.structs (good.subs i j d s there e) now then_ same)) ∙ here in
         same.same c low high
@@ -169,7 +166,7 @@ module _ (to : Set) (well : WellFormed to) (heads : FitsHeads to) (i : ℕ) (d :
     absent : (c : ℕ) → c < length cells → has_cell (image_slots to d (image_of to d then_)) c ≡ false → get_or then_ c (pos 0) ≡ default_at c
     absent c lt none = by_part (own_or_sub to d c lt) where
       parts : (has_cell (own_slots to d d.desc.version then_) c ≡ false) × (has_cell (came_slots to d then_ (own_cells to d) d.subs (needed_from to d (bare d then_) 0 d.subs)) c ≡ false)
-      parts = split c (own_slots to d d.desc.version then_) (came_slots to d then_ (own_cells to d) d.subs (needed_from to d (bare d then_) 0 d.subs)) none
+      parts = none_in_both c (own_slots to d d.desc.version then_) (came_slots to d then_ (own_cells to d) d.subs (needed_from to d (bare d then_) 0 d.subs)) none
 
       by_needed : (j : ℕ) (s : Sub) → IsCellOf to d j s c → (b : Bool) → is_needed to d (whole d now) s j ≡ b → get_or then_ c (pos 0) ≡ default_at c
       by_needed j s h true n = absent_needed c j s lt h n parts.1

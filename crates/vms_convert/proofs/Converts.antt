@@ -4,7 +4,7 @@ use Rattle.std.proofs.lemmas.Option.{slice_get_within}
 use Rattle.std.specs.List.{slice_get}
 use Rattle.vms_spec.specs.Sets.{Device, Set}
 use Rattle.vms_spec.specs.Images.{Image}
-use Rattle.vms_spec.specs.Streams.{AreReady, IsReady, longest_text, written}
+use Rattle.vms_spec.specs.Streams.{AreReady, longest_text, written}
 use Rattle.vms_spec.specs.WellFormed.{WellFormed}
 use Rattle.vms_spec.specs.Layout.{device_cells}
 use Rattle.vms_spec.specs.Good.{IsFit}
@@ -13,7 +13,8 @@ use Rattle.vms_spec.proofs.WellFormedLaws.{well_good}
 use Rattle.vms_check.specs.Comparing.{Compatible}
 use Rattle.vms_check.specs.Carrying.{carried}
 use Rattle.vms_stream.specs.StreamLaws.{IsWholeStream}
-use Rattle.vms_check_laws.proofs.Streaming.{pair, back}
+use Rattle.vms_check_laws.proofs.Partnered.{pair, back}
+use Rattle.vms_check_laws.proofs.Streaming.{all_in}
 use Rattle.vms_check_laws.proofs.Upgraded.{upgrade_stands}
 use Rattle.dev_serial.specs.Recast.{recast_cells}
 use Rattle.dev_serial.proofs.RecastLaws.{recast_twice}
@@ -77,7 +78,7 @@ module _ (to new : Set) (fit : IsFit to) (well : WellFormed new) (compatible : C
           let d = at_some to.devices i (omega (arith, a)) (slice_get to.devices i) refl a in
           let y = at_some ys i (omega (arith, b)) (slice_get ys i) refl b in
           let x = at_some xs i (omega (arith, c)) (slice_get xs i) refl c in
-          let newer = pair to new fit.well well compatible i d.0 d.1 in
+          let newer = pair to new fit.well (all_in to new fit.well well compatible) i d.0 d.1 in
           let is : IsPairAt to new i newer.number d.0 newer.device = record { in_old = d.1; found = newer.found; in_new = newer.stands } in
           let one = one_stands to fit i d.0 d.1 (device_partners to new d.0 newer.device) (get_or wanted newer.number []) x.0 y.0 (p.each i newer.number d.0 newer.device x.0 is x.1) (q.each i newer.number d.0 newer.device y.0 is y.1) in
           y.1 ∙ ap (λ (image : Image). Some image) one ∙ sym x.1
@@ -91,18 +92,19 @@ module _ (to new : Set) (fit : IsFit to) (well : WellFormed new) (compatible : C
     wanted = recast_each to new.devices (numbers_in images)
 
     pub ready : AreReady to backs
-    ready = record { one_each = converted.back.one_each; ready = λ i d image there e. one i d image there e } where
-      one : (i : ℕ) (d : Device) (image : Image) → slice_get to.devices i ≡ Some d → slice_get backs i ≡ Some image → IsReady to d image
-      one i d image there e =
-          let newer = pair to new fit.well well compatible i d there in
+    ready = record {
+      one_each = converted.back.one_each;
+      ready = λ i d image there e.
+          let newer = pair to new fit.well (all_in to new fit.well well compatible) i d there in
           let image_back = converted.back.each i newer.number d newer.device image (record { in_old = there; found = newer.found; in_new = newer.stands }) e in
           let may = back_stands to new fit well i d newer.device there (get_or wanted newer.number []) (kinds newer.number newer.device newer.stands) image image_back in
           record {
             normal = may.normal;
-            valid = converted.keeps.valid newer.number (slice_get_within new.devices newer.number newer.device newer.stands) i d newer.device image newer.stands (back to new fit.well well compatible i d there newer) there e;
+            valid = converted.keeps.valid newer.number (slice_get_within new.devices newer.number newer.device newer.stands) i d newer.device image newer.stands (back to new fit.well (all_in to new fit.well well compatible) i d there newer) there e;
             version = may.version;
             needed = may.needed;
-          }
+          };
+    }
 
     pub converts : Converts to new describe machine images bytes
     converts =

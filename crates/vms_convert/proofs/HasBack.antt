@@ -1,6 +1,5 @@
 -- Something comes back of any numbers.
-use Rattle.std.proofs.Common.{◌≡◌, ℕ, zero, suc, ◌+◌, ◌-◌, ◌<◌, ◌≤◌, Bool, true, false, nat_lt, List, length, length-append, length-set, get_or, map, slice_set, Option, Some, None, ℤ, pos, refl, sym, ap, ◌∙◌, subst, arith}
-use Rattle.std.proofs.lemmas.Bool.{ltb-true, ltb-false}
+use Rattle.std.proofs.Common.{◌≡◌, ℕ, zero, suc, ◌+◌, ◌-◌, ◌<◌, ◌≤◌, Bool, true, false, List, length, length-append, length-set, get_or, map, slice_set, Option, Some, None, ℤ, pos, refl, sym, ap, ◌∙◌, subst, arith}
 use Rattle.std.proofs.lemmas.List.{get_or-set_other, get_or-set_same, length-map}
 use Rattle.std.proofs.lemmas.Option.{slice_get-get_or}
 use Rattle.std.specs.List.{flat_map, slice_get}
@@ -20,14 +19,11 @@ use Rattle.dev_images.specs.Images.{bare, image_of}
 use Rattle.vms_convert.specs.Back.{AreSettled, AreTaken, taken, whole}
 use Rattle.vms_convert.specs.Laws.{ComesBackLaw}
 use Rattle.vms_convert.proofs.Known.{AllSound, image_known}
-use Rattle.vms_convert.proofs.SettledAll.{AreBare, SettledTo, all_settled, settled_bare, settled_needed, settled_none}
+use Rattle.vms_convert.proofs.SettledAll.{AreBare, SettledTo, all_settled, by_last, settled_bare, settled_needed, settled_none}
 
 -- one more index
 pub extend : (P : ℕ → Type 0) (n : ℕ) → ((i : ℕ) → i < n → P i) → P n → (i : ℕ) → i < suc n → P i
-extend P n f h i lt = go (nat_lt i n) refl where
-  go : (b : Bool) → nat_lt i n ≡ b → P i
-  go true e = f i (ltb-true i n e)
-  go false e = let le : n ≤ i = ltb-false i n e in let same : n ≡ i = omega arith in subst P same h
+extend P n f h i lt = by_last i n lt (f i) (λ same. subst P (sym same) h)
 
 -- ---- what is taken, cell by cell
 

@@ -2,7 +2,7 @@
 use Rattle.std.proofs.Common.{◌≡◌, ℕ, zero, suc, ◌<◌, Bool, true, false, ◌||◌, List, [], ◌∷◌, length, get_or, map, Option, Some, None, Result, Ok, Err, ℤ, refl, sym, ap, ◌∙◌, subst, arith}
 use Rattle.std.proofs.lemmas.Bool.{or_right}
 use Rattle.std.proofs.lemmas.List.{length-map}
-use Rattle.std.proofs.lemmas.Option.{get_or_from_slice_get, slice_get-get_or, slice_get_within}
+use Rattle.std.proofs.lemmas.Option.{slice_get-get_or, slice_get_within}
 use Rattle.std.proofs.lemmas.Slice.Eq.{bytes_eq-Decides}
 use Rattle.std.specs.List.{slice_get}
 use Rattle.std.specs.Bool.{OnFalse, OnTrue}
@@ -16,19 +16,21 @@ use Rattle.vms_spec.specs.Shipped.{set_4}
 use Rattle.vms_spec.specs.Streams.{AreReady, IsReady, is_one_of}
 use Rattle.vms_spec.specs.WellFormed.{WellFormed}
 use Rattle.vms_desc.specs.Described.{device_at}
+use Rattle.vms_desc.proofs.AskLaws.{device_is}
 use Rattle.vms_image.specs.Typed.{Typed, state_of}
 use Rattle.vms_bodies.proofs.Stated.{shipped_holds}
 use Rattle.vms_load.specs.Good.{AreKept}
 use Rattle.vms_load.specs.Staging.{name_of}
+use Rattle.vms_load.proofs.HeadLemmas.{device_below}
 use Rattle.vms_image.proofs.States.{image_at}
 use Rattle.vms_check.specs.Carrying.{carried}
 use Rattle.vms_check.specs.Comparing.{Compatible}
 use Rattle.vms_check.specs.Partners.{device_partners}
 use Rattle.vms_check_laws.specs.Pairing.{AreOfKinds}
-use Rattle.vms_check_laws.proofs.Streaming.{back, found_device, pair}
+use Rattle.vms_check_laws.proofs.Partnered.{back, pair}
+use Rattle.vms_check_laws.proofs.Streaming.{all_in}
 use Rattle.vms_convert.specs.Back.{IsBack}
 use Rattle.vms_convert.specs.Converted.{AreBack, IsPairAt, recast_each}
-use Rattle.vms_convert.specs.Laws.{MayBeWritten}
 use Rattle.vms_convert.specs.Losing.{AreWritable, FirstInvalid, IsNameAt, Judges, KeepsMachine, KeepsName, first_cell_at, first_of}
 use Rattle.vms_convert.specs.Lost.{IsValidAt, Loses, OfDevice, OfMachine, first_cell, numbers_in}
 use Rattle.vms_convert.specs.Returns.{AreReturned, AreReturnedTo, IsFirstLost}
@@ -42,9 +44,6 @@ use Rattle.vms_convert.proofs.RecastAt.{newest_kinds, recast_long}
 abbrev no_device : Device
 no_device = device_at (record { machines = []; structs = []; devices = [] }) 0
 
-device_is : (set : Set) (k : ℕ) (d : Device) → slice_get set.devices k ≡ Some d → device_at set k ≡ d
-device_is set k d at = get_or_from_slice_get set.devices k d no_device at
-
 module _ (to new : Set) (wanted : List (List ℤ)) (images : List Typed) (lost : Option LostCell) (returned : AreReturnedTo to new wanted (length to.devices) images lost) where
   abbrev backs : List Image
   backs = map state_of images
@@ -53,39 +52,48 @@ module _ (to new : Set) (wanted : List (List ℤ)) (images : List Typed) (lost :
   backs_long = length-map images state_of ∙ returned.count
 
   pub are_back : AreBack to new wanted backs
-  are_back = record { one_each = backs_long; each = λ i k d e image p at. one i k d e image p at } where
-    one : (i k : ℕ) (d e : Device) (image : Image) → IsPairAt to new i k d e → slice_get backs i ≡ Some image → IsBack to d (device_partners to new d e) (get_or wanted k []) image
-    one i k d e image p at =
+  are_back = record {
+    one_each = backs_long;
+    each = λ i k d e image p at.
         let d_is = device_is to i d p.in_old in
         let e_is = device_is new k e p.in_new in
         let p' = subst (λ (x : Device). IsPairAt to new i k x (device_at new k)) (sym d_is) (subst (λ (y : Device). IsPairAt to new i k d y) (sym e_is) p) in
         subst (λ (y : Device). IsBack to d (device_partners to new d y) (get_or wanted k []) image) e_is
-        (subst (λ (x : Device). IsBack to x (device_partners to new x (device_at new k)) (get_or wanted k []) image) d_is (returned.back i k image p' at))
+        (subst (λ (x : Device). IsBack to x (device_partners to new x (device_at new k)) (get_or wanted k []) image) d_is (returned.back i k image p' at));
+  }
 
   module _ (fit : IsFit to) (well : WellFormed new) (compatible : Compatible to new) (kinds : (k : ℕ) (e : Device) → slice_get new.devices k ≡ Some e → AreOfKinds (device_cells new e) (get_or wanted k [])) where
     pub writable : AreWritable to images
-    writable = record { count = returned.count; of = returned.of; may = λ i d image there at. one i d image there at } where
-      one : (i : ℕ) (d : Device) (image : Image) → slice_get to.devices i ≡ Some d → slice_get backs i ≡ Some image → MayBeWritten to d image
-      one i d image there at =
-          let newer = pair to new fit.well well compatible i d there in
+    writable = record {
+      count = returned.count;
+      of = returned.of;
+      may = λ i d image there at.
+          let newer = pair to new fit.well (all_in to new fit.well well compatible) i d there in
           back_stands to new fit well i d newer.device there (get_or wanted newer.number []) (kinds newer.number newer.device newer.stands) image
-          (are_back.each i newer.number d newer.device image (record { in_old = there; found = newer.found; in_new = newer.stands }) at)
+          (are_back.each i newer.number d newer.device image (record { in_old = there; found = newer.found; in_new = newer.stands }) at);
+    }
 
     -- images that are valid, each as the newer set's device of its name, are ready
     pub are_ready : ((k : ℕ) → k < length new.devices → IsValidAt to new backs k) → AreReady to backs
     are_ready valid = record { one_each = backs_long; ready = λ i d image there at. one i d image there at } where
       one : (i : ℕ) (d : Device) (image : Image) → slice_get to.devices i ≡ Some d → slice_get backs i ≡ Some image → IsReady to d image
       one i d image there at =
-          let newer = pair to new fit.well well compatible i d there in
+          let newer = pair to new fit.well (all_in to new fit.well well compatible) i d there in
           let may = writable.may i d image there at in
           record {
             normal = may.normal;
-            valid = valid newer.number (slice_get_within new.devices newer.number newer.device newer.stands) i d newer.device image newer.stands (back to new fit.well well compatible i d there newer) there at;
+            valid = valid newer.number (slice_get_within new.devices newer.number newer.device newer.stands) i d newer.device image newer.stands (back to new fit.well (all_in to new fit.well well compatible) i d there newer) there at;
             version = may.version;
             needed = may.needed;
           }
 
 -- ---- one device
+
+-- the search by a name and an instance that are those of a device
+pub searched_by : (devices : List Device) (d here : Device) (name : List ℕ) (found : Option ℕ) → here ≡ d → name ≡ here.desc.name → found ≡ find_device 0 devices name here.instance
+    → find_device 0 devices d.desc.name d.instance ≡ found
+searched_by devices d here name found same named is =
+    sym (is ∙ ap (λ (n : List ℕ). find_device 0 devices n here.instance) named ∙ ap (λ (x : Device). find_device 0 devices x.desc.name x.instance) same)
 
 module _ (to new : Set) (images : List Typed) (writable : AreWritable to images) (k : ℕ) where
   abbrev all : List Image
@@ -162,14 +170,9 @@ pub on_false : (b : Bool) (P Q : Type 0) → (P → Q) → OnFalse b P → OnFal
 on_false true P Q f h = h
 on_false false P Q f h = f h
 
-pub found_inside : (devices : List Device) (name : List ℕ) (instance k : ℕ) → find_device 0 devices name instance ≡ Some k → k < length devices
-found_inside devices name instance k found =
-    let f = found_device 0 devices name instance k found in
-    omega (arith, f.1, slice_get_within devices f.0 f.2.device f.2.stands)
-
 module _ (to : Set) (images : List Typed) (writable : AreWritable to images) (name : List ℕ) (instance own : ℕ) (found : find_device 0 to.devices name instance ≡ Some own) where
   pub own_bound : own < length images
-  own_bound = omega (arith, found_inside to.devices name instance own found, writable.count)
+  own_bound = omega (arith, device_below to.devices name instance own found, writable.count)
 
   pub own_image : (image : Typed) → image ≡ get_or images own image → slice_get images own ≡ Some image
   own_image image is = image_at images own image own_bound is

@@ -2,30 +2,23 @@
 use Rattle.std.proofs.Common.{◌≡◌, ℕ, zero, suc, ◌+◌, ◌<◌, ◌≤◌, List, [], ◌∷◌, ◌++◌, length, get_or, drop, Option, Some, None, ℤ, refl, sym, ap, ◌∙◌, arith, Bool, true, false, nat_lt, if◌then◌else◌, ◌||◌}
 use Rattle.std.specs.List.{slice_get}
 use Rattle.std.proofs.lemmas.Bool.{ltb-true, ltb-false}
-use Rattle.vms_kinds.specs.Codes.{width, residue}
 use Rattle.vms_kinds.specs.declared.Item.{Item}
 use Rattle.vms_kinds.specs.declared.Item.TheVariants.{Num, Equal, Unused, Struct}
 use Rattle.vms_spec.specs.Sets.{Field, Desc, Sub, Device, Set}
 use Rattle.vms_spec.specs.Tests.{is_there}
-use Rattle.vms_spec.specs.Layout.{Slot, Rule, Cell, Meaning, no_meaning, no_desc, item_slots, item_size, times, field_slots, slots_from, desc_slots, desc_cells, struct_cells, field_cells, place_of, numbers_of, no_field, kind_of, elements_of, counted, all_hold, no_parent, first, meaning, meanings}
+use Rattle.vms_spec.specs.Layout.{Slot, Rule, Meaning, no_meaning, no_desc, item_slots, item_size, times, field_slots, slots_from, desc_slots, desc_cells, struct_cells, field_cells, place_of, numbers_of, elements_of, counted, all_hold, no_parent, first, meaning, meanings}
 use Rattle.vms_spec.specs.Images.{has_cell, own_slots, own_cells, came_slots, image_slots, sub_slots}
 use Rattle.vms_spec.proofs.Tables.{one_more}
 use Rattle.vms_spec.specs.Sound.{IsSound, AreSound, IsSoundField, AreSoundFields, IsEarlier}
 use Rattle.vms_bodies.proofs.Names.{names_append}
-use Rattle.vms_bodies.proofs.Places.{SameBelow, there_same, elements_same, place_next, place_up, place_below}
+use Rattle.vms_bodies.proofs.Places.{SameBelow, there_same, elements_same, place_next}
 use Rattle.vms_bodies.proofs.AboveLaws.{MeanAbove, meanings_above, field_above}
-use Rattle.vms_bodies.proofs.SettledLaws.{SameIn, in_less, cells_in}
+use Rattle.vms_bodies.proofs.SettledLaws.{SameIn, in_less, own_in, cells_in}
 use Rattle.vms_bodies.proofs.WalkLaws.{drop_next, place_first, zero_plus}
 
 either_part : (xs ys us vs : List Slot) (c : ℕ) → has_cell xs c ≡ has_cell us c → has_cell ys c ≡ has_cell vs c → has_cell (xs ++ ys) c ≡ has_cell (us ++ vs) c
 either_part xs ys us vs c p q =
     names_append xs ys c ∙ ap (λ (b : Bool). b || has_cell ys c) p ∙ ap (λ (b : Bool). has_cell us c || b) q ∙ sym (names_append us vs c)
-
-own_in : (cs : List (List Cell)) (d : Desc) (base i cell j : ℕ) (n m : List ℤ) → cell ≡ place_of cs d.fields 0 base d.fields i → SameIn base cell n m
-    → IsEarlier d.fields i j → numbers_of cs d m base j ≡ numbers_of cs d n base j
-own_in cs d base i cell j n m e s x =
-    ap (λ (z : ℤ). residue (width (kind_of (get_or d.fields j no_field).item)) z)
-    (s.same (place_of cs d.fields 0 base d.fields j) (place_up cs d.fields 0 base d.fields j) (omega (arith, place_below cs d.fields 0 base d.fields j i x.earlier x.there x.number x.one)))
 
 -- ---- structures
 

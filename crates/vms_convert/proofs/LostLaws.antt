@@ -12,22 +12,19 @@ use Rattle.vms_spec.specs.Lookup.{find_device, index}
 use Rattle.vms_spec.specs.WellFormed.{WellFormed, here}
 use Rattle.vms_spec.proofs.WellFormedLaws.{device_found}
 use Rattle.vms_desc.specs.Described.{device_at}
+use Rattle.vms_desc.proofs.AskLaws.{device_is}
 use Rattle.vms_check.specs.Carrying.{carried, carried_at, carried_device, no_image}
 use Rattle.vms_check.specs.Comparing.{Compatible, failing_pair, is_found, is_in}
 use Rattle.vms_check.proofs.ListLaws.{passes}
-use Rattle.vms_check_laws.proofs.Streaming.{back, found_device, found_some, pair, rules}
+use Rattle.vms_check_laws.proofs.Partnered.{back, found_device, found_some, pair}
+use Rattle.vms_check_laws.proofs.Streaming.{rules, all_in}
 use Rattle.vms_check_laws.proofs.SubFacts.{none_at}
 use Rattle.vms_check_laws.proofs.Wholes.{at_map}
 use Rattle.vms_convert.specs.Lost.{DifferAt, Loses, OfCell, numbers_in}
 use Rattle.vms_convert.specs.Returning.{FirstDifference}
 use Rattle.vms_convert.specs.Returns.{ArePaired, IsEarlier, IsFirstLost, IsLostCell, carried_of}
 use Rattle.vms_convert.specs.declared.returns.LostCell.{LostCell}
-
-extend : (P : ℕ → Type 0) (n : ℕ) → ((i : ℕ) → i < n → P i) → P n → (i : ℕ) → i < n + 1 → P i
-extend P n f h i lt = go (nat_lt i n) refl where
-  go : (b : Bool) → nat_lt i n ≡ b → P i
-  go true e = f i (ltb-true i n e)
-  go false e = let le : n ≤ i = ltb-false i n e in let same : n ≡ i = omega arith in subst P same h
+use Rattle.vms_convert.proofs.HasBack.{extend}
 
 module _ (to new : Set) (wanted : List (List ℤ)) where
   same_partner : (i k l : ℕ) → ArePaired to new i k → ArePaired to new i l → k ≡ l
@@ -135,13 +132,10 @@ module _ (to new : Set) (well_to : WellFormed to) (well_new : WellFormed new) (c
   abbrev no_device : Device
   no_device = device_at (record { machines = []; structs = []; devices = [] }) 0
 
-  at_device : (set : Set) (k : ℕ) (e : Device) → slice_get set.devices k ≡ Some e → device_at set k ≡ e
-  at_device set k e at = get_or_from_slice_get set.devices k e no_device at
-
   pub older_pair : (k : ℕ) (e : Device) (at : slice_get new.devices k ≡ Some e) (o : Older k e) → ArePaired to new o.i k
   older_pair k e at o =
-      let d_is = at_device to o.i o.d o.stands in
-      let e_is = at_device new k e at in
+      let d_is = device_is to o.i o.d o.stands in
+      let e_is = device_is new k e at in
       record {
         in_old = o.stands ∙ ap (λ (d : Device). Some d) (sym d_is);
         found = ap (λ (d : Device). find_device 0 new.devices d.desc.name d.instance) d_is ∙ o.back;
@@ -161,8 +155,8 @@ module _ (to new : Set) (well_to : WellFormed to) (well_new : WellFormed new) (c
         get_or_from_slice_get there k image.numbers [] stands
         ∙ ap (λ (r : Option ℕ). (carried_at to new backs e r (slice_get to.devices (index r))).numbers) o.found
         ∙ ap (λ (r : Option Device). (carried_at to new backs e (Some o.i) r).numbers) o.stands
-        ∙ ap (λ (d : Device). (carried_device to new d e (get_or backs o.i (no_image to new))).numbers) (sym (at_device to o.i o.d o.stands))
-        ∙ ap (λ (e : Device). (carried_device to new (device_at to o.i) e (get_or backs o.i (no_image to new))).numbers) (sym (at_device new k e at))
+        ∙ ap (λ (d : Device). (carried_device to new d e (get_or backs o.i (no_image to new))).numbers) (sym (device_is to o.i o.d o.stands))
+        ∙ ap (λ (e : Device). (carried_device to new (device_at to o.i) e (get_or backs o.i (no_image to new))).numbers) (sym (device_is new k e at))
 
     older_inside : (k : ℕ) (e : Device) (o : Older k e) → o.i < length to.devices
     older_inside k e o = slice_get_within to.devices o.i o.d o.stands
@@ -205,12 +199,12 @@ module _ (to new : Set) (well_to : WellFormed to) (well_new : WellFormed new) (c
           where
             one_older : (o : Older l.device (device_at new l.device)) → o.i ≡ h.i
             one_older o =
-                let p = pair to new well_to well_new compatible h.i (device_at to h.i) h.pair.in_old in
+                let p = pair to new well_to (all_in to new well_to well_new compatible) h.i (device_at to h.i) h.pair.in_old in
                 let numbers : Some p.number ≡ Some l.device = sym p.found ∙ h.pair.found in
                 let number : p.number ≡ l.device = cc in
                 let devices : Some p.device ≡ Some (device_at new l.device) = sym p.stands ∙ ap (λ (k : ℕ). slice_get new.devices k) number ∙ h.pair.in_new in
                 let device : p.device ≡ device_at new l.device = cc in
                 let founds : Some o.i ≡ Some h.i =
                 sym o.found ∙ ap (λ (e : Device). find_device 0 to.devices e.desc.name e.instance) (sym device)
-                ∙ back to new well_to well_new compatible h.i (device_at to h.i) h.pair.in_old p in
+                ∙ back to new well_to (all_in to new well_to well_new compatible) h.i (device_at to h.i) h.pair.in_old p in
                 cc

@@ -6,6 +6,7 @@ use Rattle.std.specs.List.{slice_get}
 use Rattle.vms_spec.specs.Sets.{Sub, Device, Set}
 use Rattle.vms_spec.specs.Images.{Image}
 use Rattle.vms_spec.specs.Streams.{is_needed}
+use Rattle.vms_bodies.proofs.BodyLaws.{at_set}
 use Rattle.vms_bodies.proofs.ComeLaws.{same_lists}
 use Rattle.vms_bodies.proofs.PartLaws.{at_other}
 use Rattle.dev_images.specs.Images.{needed_from}
@@ -35,11 +36,6 @@ module _ (set : Set) (d : Device) (image : Image) where
 
   pub marked_none : (subs : List Sub) → MarkedTo subs 0 (map (λ s. None) subs)
   marked_none subs = record { long = none_long subs; done = λ i s lt e. absurd (omega arith); left = λ i s le e. none_at subs i s e }
-
-  set_here : {A : Type 0} (xs : List A) (i : ℕ) (x : A) → i < length xs → slice_get (slice_set xs i x) i ≡ Some x
-  set_here [] i x lt = absurd (omega arith)
-  set_here (y ∷ xs) zero x lt = refl
-  set_here (y ∷ xs) (suc i) x lt = set_here xs i x (omega arith)
 
   -- one more, which isn't needed, or is and is marked
   pub marked_skip : (subs : List Sub) (came : List (Option ℕ)) (j : ℕ) (s : Sub) → slice_get subs j ≡ Some s → MarkedTo subs j came → is_needed set d image s j ≡ false → MarkedTo subs (suc j) came
@@ -77,7 +73,7 @@ module _ (set : Set) (d : Device) (image : Image) where
         let needed : is_needed set d image t i ≡ true = ap (λ (u : Sub). is_needed set d image u i) sub ∙ ap (is_needed set d image s) same ∙ n in
         let long = h.long in
         ap (slice_get (slice_set came j (Some s.desc.version))) same
-        ∙ set_here came j (Some s.desc.version) (omega (arith, long, slice_get_within subs j s e))
+        ∙ at_set came j (Some s.desc.version) (omega (arith, long, slice_get_within subs j s e))
         ∙ ap (λ (u : Sub). Some (Some u.desc.version)) (sym sub)
         ∙ sym (ap (λ (b : Bool). Some (if b then Some t.desc.version else None)) needed)
 

@@ -1,27 +1,23 @@
 -- Whether a subsection is needed goes by its own cells and by those of its device.
-use Rattle.std.proofs.Common.{◌≡◌, ℕ, ◌+◌, List, length, get_or, Option, Some, None, ℤ, refl, sym, ap, ◌∙◌, subst, arith, Bool, true, not, ◌&&◌, ◌||◌, bit_and, nat_le}
+use Rattle.std.proofs.Common.{◌≡◌, ℕ, ◌+◌, List, length, get_or, Option, Some, None, ℤ, refl, ap, ◌∙◌, arith, Bool, true, not, ◌&&◌, ◌||◌, bit_and}
 use Rattle.std.specs.List.{slice_get}
 use Rattle.std.proofs.lemmas.Bool.{and_parts}
 use Rattle.vms_kinds.specs.Codes.{width, residue}
-use Rattle.vms_kinds.specs.declared.Item.{Item}
-use Rattle.vms_kinds.specs.declared.Item.TheVariants.{Num, Equal, Unused, Struct}
-use Rattle.vms_spec.specs.declared.Count.{Count}
-use Rattle.vms_spec.specs.declared.Count.TheVariants.{One, Fixed, Counted}
 use Rattle.vms_spec.specs.declared.Whose.TheVariants.{Own, Parent}
 use Rattle.vms_spec.specs.Sets.{Formula, AtLeast, Below, Cell, Not, And, Or, Field, Desc, Sub, Device, Set}
 use Rattle.vms_spec.specs.Tests.{truth, compares}
 use Rattle.vms_spec.specs.Layout.{Cell as OneCell, no_field, kind_of, place_of, numbers_of, desc_cells, struct_cells}
 use Rattle.vms_spec.specs.Images.{Image, own_cells}
 use Rattle.vms_spec.specs.Streams.{is_needed}
-use Rattle.vms_spec.specs.Rules.{is_num, is_one, has_no_test, is_steady, is_steady_in, names_well}
+use Rattle.vms_spec.specs.Rules.{is_steady, is_steady_in, names_well}
 use Rattle.vms_spec.specs.WellFormed.{WellFormed}
-use Rattle.vms_spec.specs.Sound.{IsNumber, IsOne, IsEarlier}
+use Rattle.vms_spec.specs.Sound.{IsEarlier}
 use Rattle.vms_bodies.proofs.Places.{place_up, place_below, place_end}
-use Rattle.std.proofs.lemmas.Option.{slice_get_within, get_or_from_slice_get}
+use Rattle.std.proofs.lemmas.Option.{slice_get_within}
 use Rattle.vms_bodies.proofs.PartLaws.{sub_size}
 use Rattle.vms_bodies.proofs.FineLaws.{part_place}
 use Rattle.vms_bodies.proofs.SettledLaws.{SameIn}
-use Rattle.vms_spec.proofs.WellFormedLaws.{sub_clean}
+use Rattle.vms_spec.proofs.WellFormedLaws.{earlier, sub_clean}
 
 -- a test that names fields of these numbers alone
 pub truth_alike : (ok okp : ℕ → Bool) (own own' parent parent' : ℕ → ℕ) → ((i : ℕ) → ok i ≡ true → own' i ≡ own i) → ((i : ℕ) → okp i ≡ true → parent' i ≡ parent i)
@@ -40,36 +36,13 @@ truth_alike ok okp own own' parent parent' h hp (Or s t) v e =
     ap (λ (b : Bool). b || truth t v own' parent') (truth_alike ok okp own own' parent parent' h hp s v p.0)
     ∙ ap (λ (b : Bool). truth s v own parent || b) (truth_alike ok okp own own' parent parent' h hp t v p.1)
 
--- ---- a field that tests may name (`earlier` of vms_bodies/proofs/WellFormedLaws, made public, says the same)
-
-is_number : (item : Item) → is_num item ≡ true → IsNumber item
-is_number (Num kind) e = tt
-is_number (Equal kind z) e = cc
-is_number (Unused n) e = cc
-is_number (Struct j) e = cc
-
-is_single : (c : Count) → is_one c ≡ true → IsOne c
-is_single One e = tt
-is_single (Fixed n) e = cc
-is_single (Counted by most) e = cc
+-- ---- a field that tests may name
 
 plain : (d : Desc) (j : ℕ) → is_steady_in d j ≡ true → IsEarlier d.fields (length d.fields) j
-plain d j e = go (slice_get d.fields j) refl e
-  where
-    go : (o : Option Field) → slice_get d.fields j ≡ o → is_steady d.minimum o ≡ true → IsEarlier d.fields (length d.fields) j
-    go None h e = cc
-    go (Some f) h e =
-        let a = and_parts (is_num f.item && is_one f.count && has_no_test f.test) (nat_le f.since d.minimum) e in
-        let b = and_parts (is_num f.item && is_one f.count) (has_no_test f.test) a.0 in
-        let c = and_parts (is_num f.item) (is_one f.count) b.0 in
-        let g : f ≡ get_or d.fields j no_field = sym (get_or_from_slice_get d.fields j f no_field h) in
-        let inside = slice_get_within d.fields j f h in
-        record {
-          earlier = inside;
-          there = inside;
-          number = subst (λ (f : Field). IsNumber f.item) g (is_number f.item c.0);
-          one = subst (λ (f : Field). IsOne f.count) g (is_single f.count c.1);
-        }
+plain d j e = go (slice_get d.fields j) refl e where
+  go : (o : Option Field) → slice_get d.fields j ≡ o → is_steady d.minimum o ≡ true → IsEarlier d.fields (length d.fields) j
+  go None h s = cc
+  go (Some f) h s = earlier d (length d.fields) j (slice_get_within d.fields j f h) e
 
 -- its number, where the description's cells are the same
 number_same : (cs : List (List OneCell)) (d : Desc) (base j : ℕ) (n m : List ℤ) → is_steady_in d j ≡ true → SameIn base (base + length (desc_cells cs d)) n m

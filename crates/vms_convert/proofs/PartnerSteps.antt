@@ -1,5 +1,5 @@
 -- Pairing step by step, as the code has it.
-use Rattle.std.proofs.Common.{◌≡◌, ℕ, ◌+◌, ◌-◌, ◌*◌, ◌<◌, ◌≤◌, List, [], ◌∷◌, ◌++◌, length, get_or, drop, replicate, true, false, Option, Some, None, is_none, refl, sym, ap, ◌∙◌, subst, arith}
+use Rattle.std.proofs.Common.{◌≡◌, ℕ, ◌+◌, ◌-◌, ◌*◌, ◌<◌, ◌≤◌, List, [], ◌∷◌, ◌++◌, length, get_or, drop, replicate, true, false, Option, Some, None, refl, sym, ap, ◌∙◌, subst, arith}
 use Rattle.std.proofs.lemmas.List.{append-nil, drop_all}
 use Rattle.vms_spec.specs.Layout.{Cell, no_desc, no_field, capacity_of, item_size, desc_cells, field_cells, cells_from, struct_cells}
 use Rattle.std.specs.Borrow.{Bor}
@@ -12,7 +12,6 @@ use Rattle.vms_spec.specs.declared.Part.TheVariants as parts
 use Rattle.vms_desc.specs.Asks.{first_cell}
 use Rattle.vms_desc.specs.declared.set.DescSet.{DescSet}
 use Rattle.vms_desc.proofs.AskLaws.{few_cells, own_inside_device, sub_inside}
-use Rattle.vms_spec.specs.WellFormed.{WellFormed, first_fault}
 use Rattle.vms_check_laws.proofs.PairStructs.{struct_is}
 use Rattle.vms_spec.specs.declared.TheConstants.{MOST_ITEMS}
 use Rattle.vms_spec.proofs.Sizes.{field_size}
@@ -20,6 +19,7 @@ use Rattle.vms_parts.specs.Sizes.{in_u32}
 use Rattle.vms_spec.specs.declared.Part.{Part}
 use Rattle.vms_spec.specs.Rules.{uses_below}
 use Rattle.vms_desc.specs.Described.{described, device_at}
+use Rattle.vms_load.proofs.SetFacts.{well_of}
 use Rattle.vms_desc.specs.Formed.{is_well_formed}
 use Rattle.vms_desc.specs.Parts.{HasPart, desc_at, sub_at}
 use Rattle.vms_desc.proofs.Clean.{reach, field_clean}
@@ -212,13 +212,6 @@ all_elements a i first at before after end e =
     sym (append-nil after) ∙ ap (λ (l : List (Option ℕ)). after ++ l) (sym none) ∙ e
 
 -- ---- parts of devices, and structures
-
-none_is : {A : Type 0} (o : Option A) → is_none o ≡ true → o ≡ None
-none_is None e = refl
-none_is (Some x) e = absurd (cc)
-
-well_of : (set : Set) → is_well_formed set ≡ true → WellFormed set
-well_of set well = none_is (first_fault set) well
 
 own_few : (set : Bor DescSet) (i : ℕ) → length (desc_cells (struct_cells (described set.now)) (device_at (described set.now) i).desc) ≤ MOST_ITEMS
 own_few set i = omega (arith, own_inside_device (described set.now) i, few_cells (described set.now) set.now.well_formed i)

@@ -1,12 +1,13 @@
 -- Recast numbers of normal images of the newest set are of its devices' kinds.
-use Rattle.std.proofs.Common.{◌≡◌, ℕ, zero, suc, Bool, true, false, List, [], ◌∷◌, ◌++◌, length, get_or, map, Some, ℤ, pos, refl, sym, ap, subst, arith, if◌then◌else◌}
+use Rattle.std.proofs.Common.{◌≡◌, zero, suc, Bool, true, false, List, [], ◌∷◌, ◌++◌, get_or, map, Some, ℤ, pos, refl, sym, subst, arith, if◌then◌else◌}
 use Rattle.vms_kinds.specs.declared.Kind.{Kind}
 use Rattle.vms_kinds.specs.Codes.{InRange}
 use Rattle.vms_spec.specs.Sets.{Device, Set}
-use Rattle.vms_spec.specs.Layout.{Cell, no_cell, first, device_cells}
+use Rattle.vms_spec.specs.Layout.{Cell, first, device_cells}
 use Rattle.vms_spec.specs.Images.{Image, IsNormal}
 use Rattle.vms_spec.specs.Shipped.{set_4, timer, i8259_at_4, i8254_at_2, serial, serial_fields, divisor, fcr, thr_ipending, fifo, timeout, ring}
-use Rattle.dev_base.specs.Cells.{AreOf, kind_at}
+use Rattle.dev_base.specs.Cells.{AreOf}
+use Rattle.dev_images.proofs.ReadyOf.{kind-of, count-of}
 use Rattle.dev_serial.specs.Cells.{kinds}
 use Rattle.dev_serial.specs.Recast.{recast_cells}
 use Rattle.dev_serial.proofs.RecastKinds.{recast_kinds}
@@ -17,30 +18,21 @@ use Rattle.vms_convert.specs.Recast.{recast, wants_arrays}
 abbrev serial_at_4 : Device
 serial_at_4 = serial 4 (divisor ∷ serial_fields ++ fcr ∷ []) (thr_ipending ∷ fifo ∷ timeout ∷ ring ∷ [])
 
-kind_of : (cells : List Cell) (c : ℕ) → kind_at (map (λ cell. cell.kind) cells) c ≡ (get_or cells c no_cell).kind
-kind_of [] c = refl
-kind_of (cell ∷ cells) zero = refl
-kind_of (cell ∷ cells) (suc c) = kind_of cells c
-
-count_of : (cells : List Cell) → length (map (λ cell. cell.kind) cells) ≡ length cells
-count_of [] = refl
-count_of (cell ∷ cells) = ap suc (count_of cells)
-
 -- the same, as the devices say it
 to_kinds : (cells : List Cell) (numbers : List ℤ) → AreOfKinds cells numbers → AreOf (map (λ cell. cell.kind) cells) numbers
 to_kinds cells numbers h =
     let long = h.long in
     record {
-      count = omega (arith, long, count_of cells);
-      in_range = λ c lt. subst (λ (k : Kind). InRange k (get_or numbers c (pos 0))) (sym (kind_of cells c)) (h.in_range c (omega (arith, lt, count_of cells)));
+      count = omega (arith, long, count-of cells);
+      in_range = λ c lt. subst (λ (k : Kind). InRange k (get_or numbers c (pos 0))) (sym (kind-of cells c)) (h.in_range c (omega (arith, lt, count-of cells)));
     }
 
 from_kinds : (cells : List Cell) (numbers : List ℤ) → AreOf (map (λ cell. cell.kind) cells) numbers → AreOfKinds cells numbers
 from_kinds cells numbers h =
     let count = h.count in
     record {
-      long = omega (arith, count, count_of cells);
-      in_range = λ c lt. subst (λ (k : Kind). InRange k (get_or numbers c (pos 0))) (kind_of cells c) (h.in_range c (omega (arith, lt, count_of cells)));
+      long = omega (arith, count, count-of cells);
+      in_range = λ c lt. subst (λ (k : Kind). InRange k (get_or numbers c (pos 0))) (kind-of cells c) (h.in_range c (omega (arith, lt, count-of cells)));
     }
 
 of_normal : (d : Device) (image : Image) → IsNormal set_4 d image → AreOfKinds (device_cells set_4 d) image.numbers

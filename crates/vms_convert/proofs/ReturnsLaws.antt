@@ -11,7 +11,8 @@ use Rattle.vms_desc.specs.Described.{device_at}
 use Rattle.vms_image.specs.Typed.{IsImageOf, Typed, state_of}
 use Rattle.vms_check.specs.Comparing.{Compatible}
 use Rattle.vms_check.specs.Partners.{device_partners}
-use Rattle.vms_check_laws.proofs.Streaming.{found_device, pair}
+use Rattle.vms_check_laws.proofs.Partnered.{found_device, pair}
+use Rattle.vms_check_laws.proofs.Streaming.{all_in}
 use Rattle.vms_convert.specs.Back.{IsBack}
 use Rattle.vms_convert.specs.Returning.{IsReturned}
 use Rattle.vms_convert.specs.Returns.{ArePaired, AreReturnedTo, IsEarlier, IsFirstLost}
@@ -77,6 +78,6 @@ pair_found to new i k lt found =
 
 pub always_found : (to new : Set) → WellFormed to → WellFormed new → Compatible to new → (i : ℕ) → i < length to.devices → find_device 0 new.devices (device_at to i).desc.name (device_at to i).instance ≡ None → ⊥
 always_found to new well_to well_new compatible i lt none =
-    let p = pair to new well_to well_new compatible i (device_at to i) (there to i lt) in
+    let p = pair to new well_to (all_in to new well_to well_new compatible) i (device_at to i) (there to i lt) in
     let clash : None ≡ Some p.number = sym none ∙ p.found in
     cc

@@ -15,6 +15,13 @@ use Rattle.vms_check_laws.specs.SubCells.{IsCellOf}
 use Rattle.vms_convert.specs.Back.{AreSettled, whole}
 use Rattle.vms_convert.proofs.NeededSame.{needed_same}
 
+-- an index below the next one is below this one, or is this one
+pub by_last : {P : Type 0} (i j : ℕ) → i < suc j → (i < j → P) → (i ≡ j → P) → P
+by_last {P = P} i j lt f g = go (nat_lt i j) refl where
+  go : (b : Bool) → nat_lt i j ≡ b → P
+  go true e = f (ltb-true i j e)
+  go false e = let ge : j ≤ i = ltb-false i j e in g (omega (arith, ge, lt))
+
 -- the first j subsections are settled, and all else is as it was
 pub record SettledTo (set : Set) (d : Device) (j : ℕ) (before now : List ℤ) : Type 0 where
   pub long : length now ≡ length before
@@ -45,20 +52,15 @@ module _ (set : Set) (well : WellFormed set) (k : ℕ) (d : Device) (there : sli
   settled_needed now j s e h n = record {
     long = h.long;
     own = h.own;
-    done = λ i t c lt x. go i t c lt x (nat_lt i j) refl;
-    left = λ i t c le x. h.left i t c (omega arith) x;
-  } where
-    go : (i : ℕ) (t : Sub) (c : ℕ) → i < suc j → IsCellOf set d i t c → (b : Bool) → nat_lt i j ≡ b
-        → get_or now c (pos 0) ≡ (if is_needed set d (whole d before) t i then get_or before c (pos 0) else (get_or (device_cells set d) c no_cell).default)
-    go i t c lt x true f = h.done i t c (ltb-true i j f) x
-    go i t c lt x false f =
-        let ge : j ≤ i = ltb-false i j f in
-        let same : i ≡ j = omega arith in
+    done = λ i t c lt x. by_last i j lt (λ less. h.done i t c less x) (λ same.
+        let ge : j ≤ i = omega (arith, same) in
         let one : Some t ≡ Some s = sym x.is ∙ ap (slice_get d.subs) same ∙ e in
         let sub : t ≡ s = cc in
         let needed : is_needed set d (whole d before) t i ≡ true =
         ap (λ (u : Sub). is_needed set d (whole d before) u i) sub ∙ ap (λ (m : ℕ). is_needed set d (whole d before) s m) same ∙ sym (still_needed now j s e h) ∙ n in
-        h.left i t c ge x ∙ sym (ap (λ (b : Bool). if b then get_or before c (pos 0) else (get_or (device_cells set d) c no_cell).default) needed)
+        h.left i t c ge x ∙ sym (ap (λ (b : Bool). if b then get_or before c (pos 0) else (get_or (device_cells set d) c no_cell).default) needed));
+    left = λ i t c le x. h.left i t c (omega arith) x;
+  }
 
   -- it isn't, and its cells are put to their defaults
   pub settled_bare : (now next : List ℤ) (j : ℕ) (s : Sub) → slice_get d.subs j ≡ Some s → SettledTo set d j before now → is_needed set d (bare d now) s j ≡ false → AreBare set d j s now next
@@ -66,20 +68,11 @@ module _ (set : Set) (well : WellFormed set) (k : ℕ) (d : Device) (there : sli
   settled_bare now next j s e h n p = record {
     long = p.long ∙ h.long;
     own = λ c lt. p.below c (omega (arith, lt, sub_place_up set (own_cells set d) d.subs j)) ∙ h.own c lt;
-    done = λ i t c lt x. go i t c lt x (nat_lt i j) refl;
-    left = λ i t c le x.
-        let low = x.low in
-        p.above c (omega (arith, low, places_apart set (own_cells set d) d.subs j i s e (omega arith))) ∙ h.left i t c (omega arith) x;
-  } where
-    go : (i : ℕ) (t : Sub) (c : ℕ) → i < suc j → IsCellOf set d i t c → (b : Bool) → nat_lt i j ≡ b
-        → get_or next c (pos 0) ≡ (if is_needed set d (whole d before) t i then get_or before c (pos 0) else (get_or (device_cells set d) c no_cell).default)
-    go i t c lt x true f =
-        let less : i < j = ltb-true i j f in
+    done = λ i t c lt x. by_last i j lt
+        (λ less.
         let high = x.high in
-        p.below c (omega (arith, high, places_apart set (own_cells set d) d.subs i j t x.is less)) ∙ h.done i t c less x
-    go i t c lt x false f =
-        let ge : j ≤ i = ltb-false i j f in
-        let same : i ≡ j = omega arith in
+        p.below c (omega (arith, high, places_apart set (own_cells set d) d.subs i j t x.is less)) ∙ h.done i t c less x)
+        (λ same.
         let one : Some t ≡ Some s = sym x.is ∙ ap (slice_get d.subs) same ∙ e in
         let sub : t ≡ s = cc in
         let low = x.low in
@@ -89,7 +82,11 @@ module _ (set : Set) (well : WellFormed set) (k : ℕ) (d : Device) (there : sli
         let not_needed : is_needed set d (whole d before) t i ≡ false =
         ap (λ (u : Sub). is_needed set d (whole d before) u i) sub ∙ ap (λ (m : ℕ). is_needed set d (whole d before) s m) same ∙ sym (still_needed now j s e h) ∙ n in
         p.inside c (record { is = e; low = omega (arith, low, place); high = omega (arith, high, place, size) })
-        ∙ sym (ap (λ (b : Bool). if b then get_or before c (pos 0) else (get_or (device_cells set d) c no_cell).default) not_needed)
+        ∙ sym (ap (λ (b : Bool). if b then get_or before c (pos 0) else (get_or (device_cells set d) c no_cell).default) not_needed));
+    left = λ i t c le x.
+        let low = x.low in
+        p.above c (omega (arith, low, places_apart set (own_cells set d) d.subs j i s e (omega arith))) ∙ h.left i t c (omega arith) x;
+  }
 
   pub all_settled : (now : List ℤ) (j : ℕ) → j ≡ length d.subs → SettledTo set d j before now → AreSettled set d before now
   all_settled now j end h = record {

@@ -1,5 +1,5 @@
 -- The room that no stream of a well-formed set fills.
-use Rattle.std.proofs.Common.{◌≡◌, ℕ, zero, suc, ◌+◌, ◌<◌, ◌≤◌, true, List, [], ◌∷◌, length, get_or, Option, Some, None, IfSome, subst, arith}
+use Rattle.std.proofs.Common.{◌≡◌, ℕ, ◌+◌, ◌≤◌, true, List, length, Option, Some, None, IfSome, subst, arith}
 use Rattle.std.specs.List.{slice_get}
 use Rattle.std.proofs.lemmas.Option.{get_or_from_slice_get, slice_get_within}
 use Rattle.vms_spec.specs.Sets.{Sub, Device, Set}
@@ -8,15 +8,13 @@ use Rattle.vms_spec.proofs.Faultless.{machine_short}
 use Rattle.vms_parts.specs.Devices.{device_at}
 use Rattle.vms_desc.specs.Formed.{is_well_formed}
 use Rattle.vms_desc.specs.Parts.{sub_at}
+use Rattle.vms_desc.proofs.AskLaws.{device_is}
 use Rattle.vms_load.specs.Staging.{devices_most}
 use Rattle.vms_load.proofs.SetFacts.{well_of}
 use Rattle.vms_write.proofs.Formed.{device_short, sub_short}
 use Rattle.vms_counter.specs.Found.{HasRoom}
 use Rattle.vms_stream.proofs.SetParts.{EachSub, EachPart, all_parts}
 use Rattle.vms_counter.proofs.Lengths.{IsShort, stream-short}
-
-get_same : (set : Set) (k : ℕ) (d : Device) → slice_get set.devices k ≡ Some d → device_at set k ≡ d
-get_same set k d e = get_or_from_slice_get set.devices k d _ e
 
 get_sub : (d : Device) (j : ℕ) (s : Sub) → slice_get d.subs j ≡ Some s → sub_at d j ≡ s
 get_sub d j s e = get_or_from_slice_get d.subs j s _ e
@@ -26,7 +24,7 @@ module _ (set : Set) (well : is_well_formed set ≡ true) where
   short k d e =
       let r = slice_get_within set.devices k d e in
       let own = device_short set well k r in
-      let same : device_at set k ≡ d = get_same set k d e in (
+      let same : device_at set k ≡ d = device_is set k d e in (
         subst (λ (u : Device). length u.desc.name ≤ 255) same (omega arith),
         subst (λ (u : Device). EachSub IsShort u.subs) same (λ j s f.
             let q = slice_get_within (device_at set k).subs j s f in

@@ -35,7 +35,8 @@ use Rattle.vms_counter_laws.specs.Candidates.{default_images, lacking, machine_f
 use Rattle.vms_counter_laws.specs.Counters.{stream_of, Shows}
 use Rattle.vms_counter_laws.specs.Laws.{IsPlain, AlwaysShown, OfMachine, OfVersion, OfConstant}
 use Rattle.vms_counter_laws.proofs.Inverted.{else_some, one_rule, struct_no_device, tables_within, IsDevice, OfDevice, of_device, Version as OfItsVersion, Own, Below, IsWithin, part_within, DeviceFails, device_fails, machine_fails}
-use Rattle.vms_counter_laws.proofs.Devices.{Pair, pair, compared, Comes, comes}
+use Rattle.vms_check_laws.proofs.Partnered.{Pair, pair, compared}
+use Rattle.vms_counter_laws.proofs.Devices.{Comes, comes}
 use Rattle.vms_counter_laws.proofs.Heads.{same_head}
 use Rattle.vms_counter_laws.proofs.Clashing.{present_fields, clashes}
 use Rattle.vms_counter_laws.proofs.Machines.{lacks, machine_untaken}
@@ -72,8 +73,8 @@ module _ (old new : Set) (good_old : WellFormed old) (good_new : WellFormed new)
     abbrev d : Device
     d = fails.answers.item
 
-    abbrev p : Pair old new good_old good_new heads fails.all_in i d
-    p = pair old new good_old good_new heads fails.all_in i d fails.answers.stands
+    abbrev p : Pair old new good_old fails.all_in i d
+    p = pair old new good_old fails.all_in i d fails.answers.stands
 
     abbrev image : Image
     image = default_image old d
@@ -82,7 +83,7 @@ module _ (old new : Set) (good_old : WellFormed old) (good_new : WellFormed new)
     image_ready = ready.ready i d image fails.answers.stands (at_map (default_image old) old.devices i d fails.answers.stands)
 
     abbrev compare_at : ℕ → Option Mismatch
-    compare_at k = compared old new good_old good_new heads fails.all_in k d
+    compare_at k = compared old new k d
 
     fails_here : compare_device old new i d (Some p.number) (Some p.device) ≡ Some m
     fails_here = let z : 0 + i ≡ i = omega arith in sym p.compared_is ∙ ap compare_at (sym z) ∙ fails.answers.answers

@@ -18,7 +18,7 @@ use Rattle.vms_check.specs.declared.mismatch.Mismatch.{Mismatch}
 use Rattle.vms_check.specs.Reducing.{presence}
 use Rattle.vms_check.specs.Comparing.{Entry, Comparer, absent_hold, bound, compare_fields, entry_of, failing_pair, holds_as_much, is_covered, names_match, pair_rules, pair_structs, present_from, same_constant, same_count, same_item, same_rest, uncovered_rules}
 use Rattle.vms_check_laws.proofs.Pairing.{kinds_same}
-use Rattle.vms_check_laws.proofs.AlignedDescs.{Clash, Clashes}
+use Rattle.vms_check_laws.proofs.AlignedDescs.{Clash, Clashes, Differ}
 use Rattle.vms_counter_laws.proofs.Inverted.{else_some, one_rule, IsStruct, StructsWithin}
 
 -- ---- what is known of present fields
@@ -44,15 +44,6 @@ pub constant_fits : (fs : List Field) (j : ℕ) (f : Field) → ConstantsFit fs 
 constant_fits [] j f h e = absurd (cc)
 constant_fits (g ∷ fs) zero f h e = let same : g ≡ f = cc in subst (λ (x : Field). ConstantFits x.item) same h.0
 constant_fits (g ∷ fs) (suc j) f h e = constant_fits fs j f h.1 e
-
--- two constants of one kind that are other numbers
-record Differ (i j : Item) : Type 0 where
-  kind : Kind
-  value : ℤ
-  other : ℤ
-  item : i ≡ Equal kind value
-  item' : j ≡ Equal kind other
-  differ : code kind value ≡ code kind other → ⊥
 
 other_code : (k : Kind) (z u : ℤ) → InRange k z → InRange k u → same_number z u ≡ false → code k z ≡ code k u → ⊥
 other_code k z u fits fits' h e =
@@ -139,7 +130,7 @@ module _ (ks : List Comparer) (a b : Desc) (v w : ℕ) (part part' : Part) (o n 
         let d = differ e.field.item f.field.item (constant_fits a.fields e.index e.field fits is) (constant_fits b.fields f.index f.field fits' is') c.item c.constant in
         let alone : Some e.rest ≡ Some None = sym there ∙ plain e.index e.field (ap (λ (p : Place). p.field) c.place) is in
         let rest : e.rest ≡ None = cc in
-        record { kind = d.kind; value = d.value; other = d.other; item = d.item; item' = d.item'; differ = d.differ; rest = rest; rest' = no_left o n e.rest f.rest rest c.rest }
+        record { constants = d; rest = rest; rest' = no_left o n e.rest f.rest rest c.rest }
 
     pub clashes : (es fs : List Entry) → AreFields a.fields v es → AreFields b.fields w fs → compare_fields ks a b v w part part' o n es fs ≡ Some m → Clashes ks a b v w part part' o n es fs
     clashes [] [] known known' h = absurd (cc)

@@ -1,5 +1,5 @@
 -- Devices of the older set beside those of the newer, and the sections before the one that a mismatch concerns.
-use Rattle.std.proofs.Common.{◌≡◌, ℕ, zero, suc, ◌+◌, ◌<◌, ◌≤◌, Bool, true, false, List, [], ◌∷◌, ◌++◌, length, slice_set, Option, Some, None, refl, sym, ap, ◌∙◌, subst, arith, append_assoc}
+use Rattle.std.proofs.Common.{◌≡◌, ℕ, zero, suc, ◌+◌, ◌<◌, ◌≤◌, Bool, true, false, List, [], ◌∷◌, ◌++◌, length, slice_set, Some, None, refl, sym, ap, ◌∙◌, subst, arith, append_assoc}
 use Rattle.std.specs.List.{slice_get}
 use Rattle.std.proofs.lemmas.List.{length-set}
 use Rattle.vms_spec.specs.declared.Part.TheVariants as parts
@@ -9,77 +9,38 @@ use Rattle.vms_spec.specs.Sets.{Device, Set}
 use Rattle.vms_spec.specs.Heads.{FitsHeads}
 use Rattle.vms_spec.specs.Images.{Image}
 use Rattle.vms_spec.specs.Streams.{IsReady, written_section, written_sections}
-use Rattle.vms_spec.specs.Lookup.{find_device, index}
+use Rattle.vms_spec.specs.Lookup.{find_device}
 use Rattle.vms_spec.specs.Readings.{Accepted}
 use Rattle.vms_spec.specs.WellFormed.{WellFormed, here}
 use Rattle.vms_bodies.specs.Whole.{reading_on}
 use Rattle.std.proofs.lemmas.Option.{slice_get_within}
 use Rattle.vms_bodies.proofs.PartLaws.{at_other}
 use Rattle.vms_kinds.proofs.ByteLemmas.{bytes_rest}
-use Rattle.vms_spec.proofs.WellFormedLaws.{device_found}
 use Rattle.vms_stream.specs.SoFar.{Tail, Footed, Bare}
 use Rattle.vms_stream.specs.Judge.{judge}
 use Rattle.vms_stream.specs.State.{State, between, by_state}
 use Rattle.vms_stream.specs.StreamLaws.{BeginsSection}
 use Rattle.vms_stream.proofs.Streams.AtFront.{section_read_holds, section_found_holds}
-use Rattle.vms_check.specs.declared.mismatch.Mismatch.{Mismatch}
-use Rattle.vms_check.specs.Comparing.{compare_device, failing_pair, is_found, is_in, paired_device}
+use Rattle.vms_check.specs.Comparing.{compare_device, failing_pair, is_in}
 use Rattle.vms_check.specs.Carrying.{carried_device}
 use Rattle.vms_check_laws.specs.Laws.{ArePaired}
-use Rattle.vms_check.proofs.ListLaws.{passes}
-use Rattle.vms_check_laws.proofs.Streaming.{found_device, found_some, device_stands}
-use Rattle.vms_check_laws.proofs.SubFacts.{none_at, saved}
+use Rattle.vms_check_laws.proofs.Partnered.{compared, Pair, pair, back}
+use Rattle.vms_check_laws.proofs.Streaming.{device_stands}
+use Rattle.vms_check_laws.proofs.SubFacts.{saved}
 
 module _ (old new : Set) (good_old : WellFormed old) (good_new : WellFormed new) (heads : FitsHeads new)
     (all_in : first_answer (λ i d. failing_pair ((2, is_in new d) ∷ []) (here (parts.Device i)) (here parts.Set)) 0 old.devices ≡ None) where
-  abbrev pub compared : ℕ → Device → Option Mismatch
-  compared i d = compare_device old new i d (paired_device old new d) (slice_get new.devices (index (paired_device old new d)))
-
-  -- the device of new that has the name and instance of old's device i
-  pub record Pair (i : ℕ) (d : Device) : Type 0 where
-    pub number : ℕ
-    pub found : find_device 0 new.devices d.desc.name d.instance ≡ Some number
-    pub device : Device
-    pub stands : slice_get new.devices number ≡ Some device
-    pub name_is : device.desc.name ≡ d.desc.name
-    pub instance_is : device.instance ≡ d.instance
-    pub compared_is : compared i d ≡ compare_device old new i d (Some number) (Some device)
-
-  pub pair : (i : ℕ) (d : Device) → slice_get old.devices i ≡ Some d → Pair i d
-  pair i d e =
-      let h = none_at (λ i d. failing_pair ((2, is_in new d) ∷ []) (here (parts.Device i)) (here parts.Set)) 0 old.devices i d all_in e in
-      let is : is_found (find_device 0 new.devices d.desc.name d.instance) ≡ true = (passes 2 (is_in new d) [] (here (parts.Device (0 + i))) (here parts.Set) h).0 in
-      let some_k = found_some (find_device 0 new.devices d.desc.name d.instance) is in
-      let f = found_device 0 new.devices d.desc.name d.instance some_k.0 some_k.1 in
-      let k_is : f.0 ≡ some_k.0 = omega (arith, f.1) in
-      let stands : slice_get new.devices some_k.0 ≡ Some f.2.device = subst (λ (k : ℕ). slice_get new.devices k ≡ Some f.2.device) k_is f.2.stands in
-      record {
-        number = some_k.0;
-        found = some_k.1;
-        device = f.2.device;
-        stands = stands;
-        name_is = f.2.name_is;
-        instance_is = f.2.instance_is;
-        compared_is = ap (λ (r : Option ℕ). compare_device old new i d r (slice_get new.devices (index r))) some_k.1
-            ∙ ap (λ (r : Option Device). compare_device old new i d (Some some_k.0) r) stands;
-      }
-
-  back : (i : ℕ) (d : Device) → slice_get old.devices i ≡ Some d → (p : Pair i d) → find_device 0 old.devices p.device.desc.name p.device.instance ≡ Some i
-  back i d e p =
-      ap (λ (n : List ℕ). find_device 0 old.devices n p.device.instance) p.name_is ∙ ap (λ (n : ℕ). find_device 0 old.devices d.desc.name n) p.instance_is
-      ∙ device_found old good_old i d e
-
-  two_apart : (i i' : ℕ) (d d' : Device) → i < i' → slice_get old.devices i ≡ Some d → slice_get old.devices i' ≡ Some d' → (p : Pair i d) → (q : Pair i' d') → p.number ≡ q.number → ⊥
+  two_apart : (i i' : ℕ) (d d' : Device) → i < i' → slice_get old.devices i ≡ Some d → slice_get old.devices i' ≡ Some d' → (p : Pair old new good_old all_in i d) → (q : Pair old new good_old all_in i' d') → p.number ≡ q.number → ⊥
   two_apart i i' d d' lt e e' p q numbers =
       let some_same : Some p.device ≡ Some q.device = sym p.stands ∙ ap (λ (k : ℕ). slice_get new.devices k) numbers ∙ q.stands in
       let devices_same : p.device ≡ q.device = cc in
-      let founds : Some i ≡ Some i' = sym (back i d e p) ∙ ap (λ (u : Device). find_device 0 old.devices u.desc.name u.instance) devices_same ∙ back i' d' e' q in
+      let founds : Some i ≡ Some i' = sym (back old new good_old all_in i d e p) ∙ ap (λ (u : Device). find_device 0 old.devices u.desc.name u.instance) devices_same ∙ back old new good_old all_in i' d' e' q in
       let indices : i ≡ i' = cc in
       absurd (omega arith)
 
   -- the devices of old from i on have not come
   abbrev pub Waits : List Bool → ℕ → Type 0
-  Waits came i = (j : ℕ) (d : Device) (p : Pair j d) → i ≤ j → slice_get old.devices j ≡ Some d → slice_get came p.number ≡ Some false
+  Waits came i = (j : ℕ) (d : Device) (p : Pair old new good_old all_in j d) → i ≤ j → slice_get old.devices j ≡ Some d → slice_get came p.number ≡ Some false
 
   -- an accepted reading comes to the section of a device, which is one of new
   pub record Comes (d : Device) (image : Image) (id : ℕ) : Type 0 where
@@ -88,13 +49,13 @@ module _ (old new : Set) (good_old : WellFormed old) (good_new : WellFormed new)
     pub begins : BeginsSection new came (written_section old d image id ++ rest)
 
   module _ (names : List (List ℕ)) (n : ℕ) (end : State) (last : List ℕ) where
-    waits_next : (came : List Bool) (i : ℕ) (d : Device) (p : Pair i d) → slice_get old.devices i ≡ Some d → Waits came i → Waits (slice_set came p.number true) (suc i)
+    waits_next : (came : List Bool) (i : ℕ) (d : Device) (p : Pair old new good_old all_in i d) → slice_get old.devices i ≡ Some d → Waits came i → Waits (slice_set came p.number true) (suc i)
     waits_next came i d p e waits j d' q le e' =
         at_other came p.number q.number true (λ same. two_apart i j d d' (omega arith) e e' p q (sym same)) ∙ waits j d' q (omega arith) e'
 
     pub comes : (c i : ℕ) (ds : List Device) (ims : List Image) → ((j : ℕ) → slice_get old.devices (i + j) ≡ slice_get ds j) → i + length ds ≤ 4294967296
         → ((j : ℕ) (d : Device) (image : Image) → slice_get ds j ≡ Some d → slice_get ims j ≡ Some image → IsReady old d image)
-        → ((j : ℕ) (d : Device) → j < c → slice_get ds j ≡ Some d → compared (i + j) d ≡ None)
+        → ((j : ℕ) (d : Device) → j < c → slice_get ds j ≡ Some d → compared old new (i + j) d ≡ None)
         → (d : Device) (image : Image) → slice_get ds c ≡ Some d → slice_get ims c ≡ Some image
         → (images : List Image) (came : List Bool) (tail : Tail) (first after : Bool) → length images ≡ length new.devices → length came ≡ length new.devices → Waits came i → (tail ≡ Bare → ⊥)
         → (place : ℕ) → IsBytes (written_sections old i ds ims ++ last)
@@ -123,8 +84,8 @@ module _ (old new : Set) (good_old : WellFormed old) (good_new : WellFormed new)
         let z : i + 0 ≡ i = omega arith in
         let s : suc i + c ≡ i + suc c = omega arith in
         let at_i : slice_get old.devices i ≡ Some x = ap (λ (k : ℕ). slice_get old.devices k) (sym z) ∙ devices_are 0 in
-        let p = pair i x at_i in
-        let none_here : compare_device old new i x (Some p.number) (Some p.device) ≡ None = sym p.compared_is ∙ ap (λ (k : ℕ). compared k x) (sym z) ∙ none 0 x (omega arith) refl in
+        let p = pair old new good_old all_in i x at_i in
+        let none_here : compare_device old new i x (Some p.number) (Some p.device) ≡ None = sym p.compared_is ∙ ap (λ (k : ℕ). compared old new k x) (sym z) ∙ none 0 x (omega arith) refl in
         let front = written_section old x im i in
         let rest = written_sections old (suc i) ds ims ++ last in
         let e : (front ++ written_sections old (suc i) ds ims) ++ last ≡ front ++ rest = append_assoc front (written_sections old (suc i) ds ims) last in
@@ -136,7 +97,7 @@ module _ (old new : Set) (good_old : WellFormed old) (good_new : WellFormed new)
         let r = comes c (suc i) ds ims
         (λ j. let t : suc i + j ≡ i + suc j = omega arith in ap (λ (k : ℕ). slice_get old.devices k) t ∙ devices_are (suc j)) (omega arith)
         (λ j. ready (suc j))
-        (λ j u lt f. let t : suc i + j ≡ i + suc j = omega arith in ap (λ (k : ℕ). compared k u) t ∙ none (suc j) u (omega arith) f)
+        (λ j u lt f. let t : suc i + j ≡ i + suc j = omega arith in ap (λ (k : ℕ). compared old new k u) t ∙ none (suc j) u (omega arith) f)
         d image at_c im_c (slice_set images p.number carried) (slice_set came p.number true) Footed false false
         (length-set images p.number carried ∙ images_long) (length-set came p.number true ∙ came_long) (waits_next came i x p at_i waits) (λ f. cc) (place + length front)
         (bytes_rest front rest (subst IsBytes e ok))

@@ -2,6 +2,7 @@
 use Rattle.std.proofs.Common.{◌≡◌, ℕ, zero, suc, ◌+◌, ◌<◌, ◌≤◌, List, [], ◌∷◌, length, length-append, get_or, map, Option, Some, None, refl, sym, ap, ◌∙◌, subst, arith, Bool, true, ◌&&◌, ℤ}
 use Rattle.std.specs.List.{flat_map, slice_get, list_all}
 use Rattle.std.proofs.lemmas.Bool.{and_parts}
+use Rattle.std.proofs.lemmas.Option.{get_or_from_slice_get}
 use Rattle.vms_spec.specs.declared.TheConstants.{MOST_ITEMS}
 use Rattle.vms_spec.specs.declared.Count.TheVariants.{Counted}
 use Rattle.vms_spec.specs.declared.Whose.TheVariants.{Own, Parent}
@@ -189,3 +190,7 @@ pub few_cells : (set : Set) → is_well_formed set ≡ true → (i : ℕ) → le
 few_cells set well i =
     let here : get_or (layout_of set) i [] ≡ map form_of (device_cells set (device_at set i)) = get_or-map (λ d. map form_of (device_cells set d)) set.devices i (record { instance = 0; desc = no_desc; subs = [] }) in
     omega (arith, small_layout set well i, ap length here, length-map (device_cells set (device_at set i)) form_of)
+
+-- a device that stands at an index is the one there
+pub device_is : (set : Set) (i : ℕ) (d : Device) → slice_get set.devices i ≡ Some d → device_at set i ≡ d
+device_is set i d there = get_or_from_slice_get set.devices i d _ there

@@ -2,7 +2,7 @@
 ghost use Rattle.vms_spec.specs.declared.TheConstants.{MOST_ITEMS};
 ghost use Rattle.std.specs.List.{list_all};
 ghost use Rattle.std.specs.Option.{option_copied};
-ghost use Rattle.std.specs.Prelude.{◌≡◌, ◌+◌, ◌≤◌, ◌<◌, ◌*◌, ◌^◌, true, length, get_or, map, pos};
+ghost use Rattle.std.specs.Prelude.{◌≡◌, ◌+◌, ◌≤◌, ◌<◌, true, length, get_or, map, pos};
 ghost use Rattle.vms_kinds.specs.Codes.{width, residue};
 ghost use Rattle.vms_spec.specs.Layout.{kind_of, all_hold};
 ghost use Rattle.vms_spec.specs.Rules.{names_well, nobody};
@@ -143,21 +143,15 @@ fn kind_of(item: Item) -> Kind
     }
 }
 
-// The number modulo 2^(8w).
+// The number modulo 2^(8w). Each modulus stands in an arm of its own, so that no division is needed.
 fn unsigned(kind: Kind, number: i128) -> u64
     ensures { result ≡ residue (width kind) number }
 {
-    number.rem_euclid(modulus(kind)) as u64
-}
-
-fn modulus(kind: Kind) -> i128
-    ensures { result ≡ pos (2 ^ (8 * width kind)) }
-{
     match kind {
-        Kind::U8 | Kind::I8 | Kind::Bool => 1 << 8,
-        Kind::U16 | Kind::I16 => 1 << 16,
-        Kind::U32 | Kind::I32 => 1 << 32,
-        Kind::U64 | Kind::I64 | Kind::Timer => 1 << 64,
+        Kind::U8 | Kind::I8 | Kind::Bool => number.rem_euclid(1 << 8) as u64,
+        Kind::U16 | Kind::I16 => number.rem_euclid(1 << 16) as u64,
+        Kind::U32 | Kind::I32 => number.rem_euclid(1 << 32) as u64,
+        Kind::U64 | Kind::I64 | Kind::Timer => number.rem_euclid(1 << 64) as u64,
     }
 }
 

@@ -85,33 +85,33 @@ whole_has d = record {
 abbrev whole_shown : Bool → Device → Whole
 whole_shown asks d = record { desc = desc_shown asks d.desc; subs = map (sub_shown asks) d.subs }
 
-whole_back : (asks : Bool) (n : ℕ) (d : Device) (rules : List Bool) (c : Clean n d.desc rules) → has_few d.desc ≡ true
-    → ((j : ℕ) (s : Sub) → slice_get d.subs j ≡ Some s → Clean n s.desc (sub_rules d j s)) → FitsWhole d → whole_of asks (whole_file d) ≡ good (whole_shown asks d)
-whole_back asks n d rules c few subs_clean fits =
-    let own = own_names d.desc.fields in
-    let o = object_of (whole_table d) in
-    let found = all_found asks n d.desc rules c few in
-    let subs = sub_file own in
-    let tabled : whole_file d ≡ o =
-    ap object (list_if (codes "subsections") subs d.subs (desc_members d.desc) ∙ ap (put_if (codes "subsections") (listed subs d.subs)) (desc_tabled d.desc)) in
-    ap (whole_of asks) tabled
-    ∙ judged_good (keys_fit desc_needs (codes "subsections" ∷ desc_allows) o) _ (good (whole_shown asks d))
-    (table_fits desc_needs (codes "subsections" ∷ desc_allows) (whole_table d) refl refl)
-    (ap (λ (names : Names). whole_in asks names o) (names_asked asks d.desc o (whole_has d))
-    ∙ next_good (head_of (asked asks own) o) (head_shown asks d.desc) _ _ (head_back asks n d.desc rules c found fits.desc o (whole_has d))
-    (next_good (at_or [] (list_of (sub_of asks (asked asks own))) (codes "subsections") o) (map (sub_shown asks) d.subs) _ _
-    (list_or_good (sub_of asks (asked asks own)) subs (sub_shown asks) (codes "subsections") o d.subs (got (codes "subsections") (whole_table d) _ (or_none _))
-    (λ j s there. sub_back asks n j d s found (subs_clean j s there) (fits.subs j s there)))
-    (ap (changed (λ desc. record { desc = desc; subs = map (sub_shown asks) d.subs })) (rest_back asks n d.desc rules c found fits.desc o (whole_has d)))))
+module _ (asks : Bool) (n : ℕ) (d : Device) (rules : List Bool) (c : Clean n d.desc rules) (few : has_few d.desc ≡ true)
+    (subs_clean : (j : ℕ) (s : Sub) → slice_get d.subs j ≡ Some s → Clean n s.desc (sub_rules d j s)) where
+  whole_back : FitsWhole d → whole_of asks (whole_file d) ≡ good (whole_shown asks d)
+  whole_back fits =
+      let own = own_names d.desc.fields in
+      let o = object_of (whole_table d) in
+      let found = all_found asks n d.desc rules c few in
+      let subs = sub_file own in
+      let tabled : whole_file d ≡ o =
+      ap object (list_if (codes "subsections") subs d.subs (desc_members d.desc) ∙ ap (put_if (codes "subsections") (listed subs d.subs)) (desc_tabled d.desc)) in
+      ap (whole_of asks) tabled
+      ∙ judged_good (keys_fit desc_needs (codes "subsections" ∷ desc_allows) o) _ (good (whole_shown asks d))
+      (table_fits desc_needs (codes "subsections" ∷ desc_allows) (whole_table d) refl refl)
+      (ap (λ (names : Names). whole_in asks names o) (names_asked asks d.desc o (whole_has d))
+      ∙ next_good (head_of (asked asks own) o) (head_shown asks d.desc) _ _ (head_back asks n d.desc rules c found fits.desc o (whole_has d))
+      (next_good (at_or [] (list_of (sub_of asks (asked asks own))) (codes "subsections") o) (map (sub_shown asks) d.subs) _ _
+      (list_or_good (sub_of asks (asked asks own)) subs (sub_shown asks) (codes "subsections") o d.subs (got (codes "subsections") (whole_table d) _ (or_none _))
+      (λ j s there. sub_back asks n j d s found (subs_clean j s there) (fits.subs j s there)))
+      (ap (changed (λ desc. record { desc = desc; subs = map (sub_shown asks) d.subs })) (rest_back asks n d.desc rules c found fits.desc o (whole_has d)))))
 
-device_back : (asks : Bool) (n : ℕ) (d : Device) (rules : List Bool) (c : Clean n d.desc rules) → has_few d.desc ≡ true
-    → ((j : ℕ) (s : Sub) → slice_get d.subs j ≡ Some s → Clean n s.desc (sub_rules d j s)) → FitsDevice d → device_of asks (device_file d) ≡ good (device_shown asks d)
-device_back asks n d rules c few subs_clean fits =
-    let o = device_file d in
-    next_good (at (whole_of asks) (codes "desc") o) (whole_shown asks d) _ _
-    (at_good (whole_of asks) (codes "desc") o (whole_file d) (whole_shown asks d) refl (whole_back asks n d rules c few subs_clean fits.whole))
-    (ap (changed (λ instance. record { instance = instance; desc = desc_shown asks d.desc; subs = map (sub_shown asks) d.subs }))
-    (at_good u32_of (codes "instance") o (natural_file d.instance) d.instance refl (natural_good 4294967295 d.instance fits.instance)))
+  device_back : FitsDevice d → device_of asks (device_file d) ≡ good (device_shown asks d)
+  device_back fits =
+      let o = device_file d in
+      next_good (at (whole_of asks) (codes "desc") o) (whole_shown asks d) _ _
+      (at_good (whole_of asks) (codes "desc") o (whole_file d) (whole_shown asks d) refl (whole_back fits.whole))
+      (ap (changed (λ instance. record { instance = instance; desc = desc_shown asks d.desc; subs = map (sub_shown asks) d.subs }))
+      (at_good u32_of (codes "instance") o (natural_file d.instance) d.instance refl (natural_good 4294967295 d.instance fits.instance)))
 
 -- ---- sets
 

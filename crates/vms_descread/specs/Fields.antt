@@ -1,7 +1,7 @@
 -- What the fields of a file say.
-use Rattle.std.specs.Prelude.{ℕ, Bool, true, ◌&&◌, not, if◌then◌else◌, List, [], ◌∷◌, Option, Some, None, option_map, option_and_then, ℤ, pos, codes}
+use Rattle.std.specs.Prelude.{◌≡◌, ℕ, Bool, true, ◌&&◌, not, if◌then◌else◌, List, [], ◌∷◌, Option, Some, None, option_map, option_and_then, ℤ, pos, codes}
 use Rattle.std.specs.Str.{bytes_eq}
-use Rattle.serde_json.specs.Data.{Data}
+use Rattle.serde_json.specs.Data.{Data, object, member, no_members}
 use Rattle.serde_json.specs.Find.{get, as_str}
 use Rattle.vms_kinds.specs.declared.Kind.{Kind}
 use Rattle.vms_kinds.specs.declared.Item.{Item}
@@ -136,3 +136,24 @@ field_in names d = next (front_of names d) (λ front. field_after names front d)
 
 abbrev pub field_of : Names → Data → Answer Field
 field_of names d = judged (field_fits d) (field_in names d)
+
+-- ---- fields that have a kind of number, a name and nothing else
+
+abbrev pub plain_field : Kind → List ℕ → Field
+plain_field kind name = record {
+  name = name;
+  former = [];
+  item = items.Num kind;
+  count = One;
+  since = 0;
+  test = None;
+  default = pos 0;
+}
+
+-- a value says such a field, whatever the names of its description
+abbrev pub IsPlain : Kind → List ℕ → Data → Type 0
+IsPlain kind name d = (names : Names) → field_of names d ≡ good (plain_field kind name)
+
+-- the object of a kind and a name
+abbrev pub kind_and_name : Data → Data → Data
+kind_and_name kind name = object (member (codes "kind") kind (member (codes "name") name no_members))

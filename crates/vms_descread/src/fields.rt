@@ -1,14 +1,15 @@
 // The fields of descriptions.
-ghost use Rattle.std.specs.Prelude.{◌≡◌, map, option_and_then, codes};
+ghost use Rattle.std.specs.Prelude.{◌≡◌, map, option_and_then, codes, Some, IfSome};
 ghost use Rattle.std.specs.Option.{option_map};
 ghost use Rattle.serde_json.specs.Find.{get, as_str};
 ghost use Rattle.vms_json.specs.Nodes.{view};
 ghost use Rattle.vms_spec.specs.Sets as sets;
 ghost use Rattle.vms_parts.specs.Views.{field_of as field_seen, formula};
 ghost use Rattle.vms_descread.specs.declared.sort.Sort.{Sort as TheSort};
-ghost use Rattle.vms_json.specs.Answers.{Answers};
+ghost use Rattle.vms_descread.specs.declared.sort.Sort.TheVariants.{Number};
+ghost use Rattle.vms_json.specs.Answers.{Answers, good};
 ghost use Rattle.vms_json.specs.Names.{names_seen};
-ghost use Rattle.vms_descread.specs.Fields.{sort_named, sort_of, counts_fit, values_fit, sort_fits, field_fits, count_as, count_of, item_as, front_seen, front_of, presence_of, field_after, field_in, field_of};
+ghost use Rattle.vms_descread.specs.Fields.{sort_named, sort_of, counts_fit, values_fit, sort_fits, field_fits, count_as, count_of, item_as, front_seen, front_of, presence_of, field_after, field_in, field_of, plain_field, kind_and_name, IsPlain};
 
 use crate::sort::Sort;
 use crate::tests::TestIn;
@@ -17,7 +18,7 @@ use vms_json::{
     Fault, Integer, ListOf, NameIn, Names, Node, Reads, Scope, TextOf, U16, U32, at, at_or, fits,
     has, maybe_at,
 };
-use vms_kinds::Item;
+use vms_kinds::{Item, Kind};
 use vms_parts::{Count, Field, Listed, Test, Text};
 use vms_words::kind_named;
 
@@ -227,6 +228,66 @@ fn read_field(alloc: Global, names: Names, value: &Node) -> Result<Field, Fault>
     read_after(alloc, names, front, value)
 }
 
+// A field that has a kind of number, a name and nothing else, as most have.
+#[derive(Clone, Copy)]
+struct Plain<'a> {
+    kind: Kind,
+    name: &'a str,
+}
+
+fn plain_in<'a>(value: &Node<'a>) -> Option<Plain<'a>>
+    ensures { IfSome result (λ p. IsPlain p.kind p.name.now (view value.now)) }
+{
+    let Some(members) = value.as_members() else {
+        return None;
+    };
+    let [first, second] = members.as_slice() else {
+        return None;
+    };
+    if first.0 == "kind" && second.0 == "name" {
+        plain_by(&first.1, &second.1)
+    } else if first.0 == "name" && second.0 == "kind" {
+        plain_by(&second.1, &first.1)
+    } else {
+        None
+    }
+}
+
+// By what stands under its two keys.
+fn plain_by<'a>(kind: &Node<'a>, name: &Node<'a>) -> Option<Plain<'a>>
+    ensures { IfSome result
+        (λ p. IsPlain p.kind p.name.now (kind_and_name (view kind.now) (view name.now))) }
+{
+    match (number_kind(kind), name.as_str()) {
+        (Some(kind), Some(name)) => Some(Plain { kind, name }),
+        _ => None,
+    }
+}
+
+fn number_kind(value: &Node) -> Option<Kind>
+    ensures { IfSome result (λ kind.
+        option_and_then sort_named (as_str (view value.now)) ≡ Some (Number kind)) }
+{
+    match value.as_str().and_then(sort_named) {
+        Some(Sort::Number(kind)) => Some(kind),
+        _ => None,
+    }
+}
+
+fn plain_field(alloc: Global, plain: Plain) -> Result<Field, Fault>
+    ensures { Answers field_seen (good (plain_field plain.entry.kind plain.entry.name.now)) result }
+{
+    Ok(Field {
+        name: Text::new(String::from_str(alloc, plain.name)?),
+        former: Listed::new(Vec::new(alloc)),
+        item: Item::Num(plain.kind),
+        count: Count::One,
+        since: 0,
+        test: None,
+        default: 0,
+    })
+}
+
 // A field, whose tests and count name fields.
 #[derive(Clone, Copy)]
 pub(crate) struct FieldIn<'a>(pub(crate) Names<'a>);
@@ -241,6 +302,9 @@ impl<'a> Reads for FieldIn<'a> {
     ghost says = { λ s. field_of (names_seen s.0) };
 
     fn read(&self, alloc: Global, value: &Node) -> Result<Field, Fault> {
+        if let Some(plain) = plain_in(value) {
+            return plain_field(alloc, plain);
+        }
         if field_fits(value) {
             read_field(alloc, self.0, value)
         } else {

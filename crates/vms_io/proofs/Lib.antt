@@ -2,5 +2,5 @@ pub mod Filling
 pub mod Gathering
 pub mod PutLemmas
 pub mod ReadingLemmas
+pub mod ShelvingLemmas
 pub mod WritingLemmas
-pub mod Owing

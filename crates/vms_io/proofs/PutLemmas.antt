@@ -1,10 +1,11 @@
 -- A shelf in memory after bytes were put under a name.
-use Rattle.std.proofs.Common.{◌≡◌, ℕ, Bool, true, false, cond, List, Option, Some, Result, Ok, Err, OnErr, ap, sym, ◌∙◌, refl}
+use Rattle.std.proofs.Common.{◌≡◌, ◌≢◌, ℕ, Bool, true, false, cond, List, Option, Some, Result, Ok, Err, OnErr, ap, sym, ◌∙◌, refl, subst}
 use Rattle.std.proofs.lemmas.Slice.Eq.{bytes_eq-Decides}
 use Rattle.std.specs.Option.{option_map}
 use Rattle.std.specs.Str.{bytes_eq}
 use Rattle.std.specs.Map.{update}
-use Rattle.vms_io.specs.Shelves.{Held, PutsUnder, KeepsOthers}
+use Rattle.vms_kinds.specs.Bytes.{IsBytes}
+use Rattle.vms_io.specs.Shelves.{Held, HoldsAll, HoldsBytes, PutsUnder, KeepsOthers}
 
 differ : (b : Bool) {X : Type 0} (x y : X) → (b ≡ true → ⊥) → cond b x y ≡ y
 differ true x y never = absurd (never refl)
@@ -23,3 +24,13 @@ update_puts f g v bytes_of name h = record {
 pub unchanged_others : {T E : Type 0} (result : Result T E) (old new : Held) (name : List ℕ) → OnErr result (new ≡ old) → OnErr result (KeepsOthers old new name)
 unchanged_others (Ok x) old new name same = tt
 unchanged_others (Err e) old new name same = λ other differs. ap (λ (held : Held). held other) same
+
+-- where bytes are put, all that is held stays bytes
+pub puts_bytes : (old new : Held) (name bytes : List ℕ) → PutsUnder old new name bytes → IsBytes bytes → HoldsAll old → HoldsAll new
+puts_bytes old new name bytes p ok holds = λ other. by other (bytes_eq other name) refl
+  where
+    by : (other : List ℕ) (t : Bool) → bytes_eq other name ≡ t → HoldsBytes (new other)
+    by other true e = subst HoldsBytes (sym (ap new ((bytes_eq-Decides other name).0 e) ∙ p.there)) ok
+    by other false e =
+        let ne : other ≢ name = λ same. let f = (bytes_eq-Decides other name).1 same in cc (sym e ∙ f) in
+        subst HoldsBytes (sym (p.others other ne)) (holds other)

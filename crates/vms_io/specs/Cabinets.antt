@@ -1,5 +1,5 @@
 -- What contracts see of a shelf in memory.
-use Rattle.std.specs.Prelude.{ℕ, List}
+use Rattle.std.specs.Prelude.{ℕ, List, Option, Some, None}
 use Rattle.std.specs.Option.{option_map}
 use Rattle.std.specs.Ordering.{nat_cmp}
 use Rattle.std.specs.Cmp.Lexicographic.{slice_cmp}
@@ -7,9 +7,9 @@ use Rattle.std.specs.String.{string_bytes}
 use Rattle.std.specs.BTreeMap.{is_at}
 use Rattle.std.specs.Map.{lookup}
 use Rattle.std.specs.declared.string.String.{String}
-use Rattle.std.specs.declared.vec.Vec.{Vec}
 use Rattle.std.specs.declared.alloc.Global.{Global}
-use Rattle.vms_io.specs.Shelves.{Held}
+use Rattle.vms_io.specs.Shelves.{Held, HoldsAll, HoldsBytes}
+use Rattle.vms_io.specs.declared.memory.shelf.Content.{Content}
 use Rattle.vms_io.specs.declared.memory.shelf.MemShelf.{MemShelf}
 
 -- a shelf in memory: what is held under each name, the numbers of the calls that fail, the calls so far and the faults
@@ -20,9 +20,9 @@ pub record Cabinet : Type 0 where
   pub faults : ℕ
 
 -- what the entries of a map hold under a name
-abbrev pub held_in : List (String Global × Vec ℕ Global) → Held
+abbrev pub held_in : List (String Global × Content) → Held
 held_in entries name =
-    option_map (λ bytes. bytes.items)
+    option_map (λ content. content.bytes.items)
     (lookup (is_at (λ k. slice_cmp nat_cmp name (string_bytes k))) entries)
 
 abbrev pub cabinet : MemShelf → Cabinet
@@ -32,3 +32,11 @@ cabinet s = record {
   calls = s.calls;
   faults = s.faults;
 }
+
+-- they are bytes, since each content is
+pub contents_hold : (entries : List (String Global × Content)) → HoldsAll (held_in entries)
+contents_hold entries name = by (lookup (is_at (λ k. slice_cmp nat_cmp name (string_bytes k))) entries)
+  where
+    by : (found : Option Content) → HoldsBytes (option_map (λ content. content.bytes.items) found)
+    by None = tt
+    by (Some content) = content.octets

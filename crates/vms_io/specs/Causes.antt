@@ -1,6 +1,6 @@
 -- Faults of the outside, and the bytes that a source has given.
 use Rattle.std.specs.Prelude.{◌≡◌, ℕ, ◌+◌, ◌-◌, ◌^◌, ◌<◌, ◌≤◌, min, List, length, take, Result, Option, Some, None, OnErr, MatchResult}
-use Rattle.std.specs.Io.KnownBytes.{Consumes, Appends}
+use Rattle.std.specs.Io.KnownBytes.{Appends}
 
 -- a number that stops at 2 ^ 64 - 1
 abbrev pub capped : ℕ → ℕ
@@ -22,10 +22,6 @@ CountsFailures before now result = MatchResult result (λ _. now ≡ before) (λ
 -- at `Ok(n)` the number of bytes given rises by n, and else it stays
 abbrev pub Gives : {E : Type 0} → ℕ → ℕ → Result ℕ E → Type 0
 Gives before now result = MatchResult result (λ n. now ≡ capped (before + n)) (λ _. now ≡ before)
-
--- some bytes were taken from the front
-abbrev pub Shrinks : Option (List ℕ) → Option (List ℕ) → Type 0
-Shrinks old new = (bytes : List ℕ) × Consumes old new bytes
 
 -- what a promise of a sink says: the bytes are told, and no fault has come while fewer than `room` bytes are written
 abbrev pub KeepsPromise : Option ℕ → Option (List ℕ) → ℕ → Type 0

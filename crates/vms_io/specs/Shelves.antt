@@ -1,5 +1,6 @@
 -- What a shelf does, where what it holds is told.
 use Rattle.std.specs.Prelude.{◌≡◌, ◌≢◌, ℕ, ◌+◌, ◌<◌, ◌≤◌, List, length, Result, Err, Option, Some, None}
+use Rattle.vms_kinds.specs.Bytes.{IsBytes}
 use Rattle.vms_io.specs.Causes.{Rose, capped}
 use Rattle.vms_io.specs.declared.shelf.FetchFault.{FetchFault}
 use Rattle.vms_io.specs.declared.shelf.FetchFault.TheVariants as fetch
@@ -9,6 +10,15 @@ use Rattle.vms_io.specs.declared.shelf.StoreFault.TheVariants as store
 -- what is held under each name
 abbrev pub Held : Type 0
 Held = List ℕ → Option (List ℕ)
+
+-- bytes are held under a name, or nothing
+abbrev pub HoldsBytes : Option (List ℕ) → Type 0
+HoldsBytes None = Unit {0}
+HoldsBytes (Some bytes) = IsBytes bytes
+
+-- and so under each name
+abbrev pub HoldsAll : Held → Type 0
+HoldsAll held = (name : List ℕ) → HoldsBytes (held name)
 
 -- a fetch is refused by what is held under the name: nothing, or more bytes than the limit
 abbrev pub FetchRefuses : Option (List ℕ) → ℕ → FetchFault → Type 0

@@ -61,6 +61,8 @@ impl<R: Files + Drop> Shelf for FileShelf<R> {
 
     ghost promised = { λ s h. Prim.cc };
 
+    ghost octets = { λ s. tt };
+
     /// A name without a file is `NotThere`; a folder by that name or a file that can't be read is a fault.
     fn fetch(&mut self, alloc: Global, name: &str, limit: u32) -> Result<Vec<u8>, FetchFault> {
         match self.read(alloc, name, limit) {

@@ -1,6 +1,6 @@
 // Files by name.
 ghost use Rattle.std.specs.Prelude.{◌≡◌, ◌≤◌, List, ℕ, Bool, Option, Some, length, IfOk, IfErr, IfSome, OnOk, OnErr, IsTrue};
-ghost use Rattle.vms_io.specs.Shelves.{FetchRefuses, PutsUnder, KeepsOthers, IfToldBoth, HasFetchCause, HasStoreCause};
+ghost use Rattle.vms_io.specs.Shelves.{FetchRefuses, HoldsAll, PutsUnder, KeepsOthers, IfToldBoth, HasFetchCause, HasStoreCause};
 
 use std::alloc::Global;
 
@@ -62,4 +62,6 @@ pub trait Shelf {
         ensures promise { promise self.new ≡ promise self.old };
 
     ghost promised: { (shelf : Self) → IsTrue (promise shelf) → faults shelf ≡ 0 };
+
+    ghost octets: { (shelf : Self) → IfSome (held shelf) HoldsAll };
 }

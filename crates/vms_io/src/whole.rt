@@ -1,7 +1,7 @@
 // Whole pieces, read and written.
-ghost use Rattle.std.specs.Prelude.{◌≡◌, ◌+◌, ◌<◌, ◌≤◌, length, take, IfOk, OnErr, OnOk};
-ghost use Rattle.std.specs.Io.KnownBytes.{Appends, Consumes, IsAtEnd};
-ghost use Rattle.vms_io.specs.Causes.{AppendsPrefix, HasCause, Shrinks, capped};
+ghost use Rattle.std.specs.Prelude.{◌≡◌, ◌<◌, ◌≤◌, length, take, IfOk, OnErr, OnOk};
+ghost use Rattle.std.specs.Io.KnownBytes.{Appends, IsAtEnd};
+ghost use Rattle.vms_io.specs.Causes.{AppendsPrefix, HasCause};
 ghost use Rattle.vms_io.specs.Told.{intake, outlet};
 ghost use Rattle.vms_io.specs.Reading.{Takes, Breaks};
 ghost use Rattle.vms_io.specs.Writing.{Wrote};
@@ -16,13 +16,6 @@ pub fn read_exact_of<S: Source>(source: &mut S, buf: &mut [u8]) -> Result<usize,
     ensures end { IfOk result (λ n. n < length buf.old → IsAtEnd (S.left source.new)) }
     ensures breaks { OnErr result
         (Breaks (intake S.Source source.old) (intake S.Source source.new) (length buf.old)) }
-    ensures bytes { IfOk result (λ n.
-        Consumes (S.left source.old) (S.left source.new) (take n buf.new)) }
-    ensures given { IfOk result (λ n. S.given source.new ≡ capped (S.given source.old + n)) }
-    ensures prefix { OnErr result (Shrinks (S.left source.old) (S.left source.new)) }
-    ensures given_err { OnErr result (S.given source.new ≤ S.given source.old + length buf.old) }
-    ensures cause { HasCause (S.faults source.old) (S.faults source.new) result }
-    ensures promise { S.promise source.new ≡ S.promise source.old }
 {
     let mut filled = 0;
     while filled < buf.len() {

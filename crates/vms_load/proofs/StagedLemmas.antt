@@ -84,9 +84,13 @@ module _ (set : Set) (images : List Typed) (long : length images ≡ length set.
         subst (λ (x : Typed). IsImageOf set k x) (sym (each k here)) (default_shaped set k (device_at set k).desc.version);
   }
 
+-- the first images are at their defaults
+abbrev pub AreDefaults : Set → List Typed → ℕ → Type 0
+AreDefaults set images done = (k : ℕ) → k < done → get_or images k no_image ≡ default_at set k
+
 pub record Reset (set : Set) (images first : List Typed) (done : ℕ) : Type 0 where
   pub long : length images ≡ length first
-  pub before : (k : ℕ) → k < done → get_or images k no_image ≡ default_at set k
+  pub before : AreDefaults set images done
   pub after : (k : ℕ) → done ≤ k → get_or images k no_image ≡ get_or first k no_image
 
 pub reset_on : (set : Set) (images first : List Typed) (done : ℕ) (image : Typed) → Reset set images first done → done < length images → image ≡ default_at set done
@@ -117,7 +121,7 @@ reset_shaped set images first done r s all = all_shaped set images (r.long ∙ s
 -- those of the first devices
 pub record Made (set : Set) (images : List Typed) (done : ℕ) : Type 0 where
   pub long : length images ≡ done
-  pub each : (k : ℕ) → k < done → get_or images k no_image ≡ default_at set k
+  pub each : AreDefaults set images done
 
 pub made_on : (set : Set) (images : List Typed) (done : ℕ) (image : Typed) → Made set images done → image ≡ default_at set done → Made set (images ++ image ∷ []) (done + 1)
 made_on set images done image m is = record {

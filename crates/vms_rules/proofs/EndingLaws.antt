@@ -14,6 +14,7 @@ use Rattle.std.proofs.lemmas.Slice.Eq.{bytes_eq-Decides}
 use Rattle.vms_spec.specs.Sets as sets
 use Rattle.vms_spec.specs.Names.{all_names, are_new}
 use Rattle.vms_spec.specs.Streams.{is_one_of}
+use Rattle.vms_spec.proofs.ListLaws.{all_right, either_of}
 use Rattle.vms_parts.specs.declared.types.Field.{Field}
 use Rattle.vms_parts.specs.Views.{field_of}
 use Rattle.vms_parts.proofs.Items.{drop_is}
@@ -32,25 +33,20 @@ distinct_before before rising moved up =
 
 -- ---- the names of one more field
 
-pub names_with : (fields : List Field) (i : ℕ) (f : Field) → i < length fields → f ≡ get_or fields i f
-    → all_names (map field_of (take (i + 1) fields)) ≡ all_names (map field_of (take i fields)) ++ (f.name ∷ f.former)
-names_with fields i f lt is =
-    let more : map field_of (take (i + 1) fields) ≡ map field_of (take i fields) ++ field_of f ∷ [] =
-    ap (map field_of) (take_more fields i f lt ∙ ap (λ (x : Field). take i fields ++ x ∷ []) (sym is)) ∙ map-append field_of (take i fields) (f ∷ []) in
-    ap all_names more ∙ names_of_both (map field_of (take i fields)) (field_of f ∷ [])
-    ∙ ap (λ (l : List (List ℕ)). all_names (map field_of (take i fields)) ++ f.name ∷ l) (append-nil f.former)
+module _ (fields : List Field) (i : ℕ) (f : Field) (lt : i < length fields) (is : f ≡ get_or fields i f) where
+  pub names_with : all_names (map field_of (take (i + 1) fields)) ≡ all_names (map field_of (take i fields)) ++ (f.name ∷ f.former)
+  names_with =
+      let more : map field_of (take (i + 1) fields) ≡ map field_of (take i fields) ++ field_of f ∷ [] =
+      ap (map field_of) (take_more fields i f lt ∙ ap (λ (x : Field). take i fields ++ x ∷ []) (sym is)) ∙ map-append field_of (take i fields) (f ∷ []) in
+      ap all_names more ∙ names_of_both (map field_of (take i fields)) (field_of f ∷ [])
+      ∙ ap (λ (l : List (List ℕ)). all_names (map field_of (take i fields)) ++ f.name ∷ l) (append-nil f.former)
 
-pub endings_with : (fields : List Field) (i : ℕ) (f : Field) → i < length fields → f ≡ get_or fields i f
-    → map ending (all_names (map field_of (take (i + 1) fields))) ≡ (map ending (all_names (map field_of (take i fields))) ++ ending f.name ∷ []) ++ map ending f.former
-endings_with fields i f lt is =
-    let before = all_names (map field_of (take i fields)) in
-    ap (map ending) (names_with fields i f lt is) ∙ map-append ending before (f.name ∷ f.former) ∙ sym (append_assoc (map ending before) (ending f.name ∷ []) (map ending f.former))
+  pub endings_with : map ending (all_names (map field_of (take (i + 1) fields))) ≡ (map ending (all_names (map field_of (take i fields))) ++ ending f.name ∷ []) ++ map ending f.former
+  endings_with =
+      let before = all_names (map field_of (take i fields)) in
+      ap (map ending) names_with ∙ map-append ending before (f.name ∷ f.former) ∙ sym (append_assoc (map ending before) (ending f.name ∷ []) (map ending f.former))
 
 -- ---- names with distinct endings
-
-all_right : (P : ℕ → Type 0) (xs ys : List ℕ) → AllByRecursion P (xs ++ ys) → AllByRecursion P ys
-all_right P [] ys h = h
-all_right P (x ∷ xs) ys h = all_right P xs ys h.1
 
 all_left : (P : ℕ → Type 0) (xs ys : List ℕ) → AllByRecursion P (xs ++ ys) → AllByRecursion P xs
 all_left P [] ys h = tt
@@ -69,10 +65,6 @@ distinct_right (x ∷ xs) ys h = distinct_right xs ys h.1
 -- no name of the list ends as this one
 abbrev pub EndsApart : List ℕ → List (List ℕ) → Type 0
 EndsApart n names = AllByRecursion (λ e. same (ending n) e ≡ false) (map ending names)
-
-either_of : {C : Type 0} (a b : Bool) → a || b ≡ true → (a ≡ true → C) → (b ≡ true → C) → C
-either_of true b e f g = f refl
-either_of false b e f g = g e
 
 is_same : (x n : List ℕ) → bytes_eq x n ≡ true → x ≡ n
 is_same x n e = (bytes_eq-Decides x n).0 e

@@ -1,5 +1,5 @@
 -- The eight rules hold exactly where the walk finds no fault.
-use Rattle.std.proofs.Common.{◌≡◌, ℕ, zero, suc, ◌+◌, ◌<◌, ◌≤◌, Bool, true, false, not, ◌&&◌, ◌==◌, nat_le, List, [], ◌∷◌, length, get_or, take, Option, Some, None, inl, inr, refl, subst, arith}
+use Rattle.std.proofs.Common.{◌≡◌, ℕ, zero, suc, ◌+◌, ◌<◌, ◌≤◌, Bool, true, false, not, ◌&&◌, ◌==◌, nat_le, List, [], ◌∷◌, length, get_or, take, Option, None, inl, inr, refl, subst, arith}
 use Rattle.std.specs.Bool.{Decides}
 use Rattle.std.specs.List.{list_any}
 use Rattle.std.specs.Str.{bytes_eq}
@@ -16,6 +16,7 @@ use Rattle.vms_spec.specs.Rules.{field_rules, is_small_test, is_steady_in, names
 use Rattle.vms_spec.specs.Sets.{Desc, Sub, Device, Set}
 use Rattle.vms_spec.specs.WellFormed.{SetFault, desc_fault, device_fault, device_rules, devices_items, failing, fields_fault, first_fault, has_few, here, in_field, is_same_device, set_rules, size_rules, struct_depths, struct_fault, struct_items, struct_rules, sub_fault, sub_rules, validations_fault, WellFormed}
 use Rattle.vms_spec.proofs.Faultless.{AllTrue, all_true, or_else_none}
+use Rattle.vms_spec.proofs.ListLaws.{both_none}
 use Rattle.vms_spec.proofs.WellFormedLaws.{Clean, device_parts, struct_clean, sub_clean}
 use Rattle.vms_rules_laws.specs.Eight.{At, IsDesc, IsDevice, IsName, IsSteady, IsStruct, IsSub, NamesOnly, ObeysRules}
 use Rattle.vms_rules_laws.specs.Laws.{EightLaw}
@@ -29,10 +30,6 @@ none_failing : (r : ℕ) (rules : List Bool) (p : Place) → AllTrue rules → f
 none_failing r [] p h = refl
 none_failing r (true ∷ rules) p h = none_failing (suc r) rules p h.1
 none_failing r (false ∷ rules) p h = absurd (never h.0)
-
-both_none : {X : Type 0} (x y : Option X) → x ≡ None → y ≡ None → or_else x y ≡ None
-both_none None y a b = b
-both_none (Some x) y a b = absurd (cc)
 
 none_answers : {X Y : Type 0} (f : ℕ → X → Option Y) (i : ℕ) (xs : List X) → ((j : ℕ) (x : X) → At xs j x → f (i + j) x ≡ None) → first_answer f i xs ≡ None
 none_answers f i [] h = refl

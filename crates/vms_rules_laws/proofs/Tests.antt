@@ -14,6 +14,7 @@ use Rattle.vms_spec.specs.declared.Whose.TheVariants.{Own, Parent}
 use Rattle.vms_spec.specs.Rules.{depth, has_no_test, is_earlier_in, is_num, is_one, is_small_test, is_steady, is_steady_in, names_well, nobody, nodes}
 use Rattle.vms_spec.specs.Sets.{Formula, AtLeast, Below, Cell, Not, And, Or, Field, Desc}
 use Rattle.vms_spec.specs.Streams.{is_one_of}
+use Rattle.vms_spec.proofs.WellFormedLaws.{untested}
 use Rattle.vms_rules_laws.specs.Eight.{At, IsEarlier, IsNew, IsSmall, IsSteady, NamesOnly, Nobody}
 
 pub le_decides : (a b : ℕ) → Decides (nat_le a b) (a ≤ b)
@@ -93,10 +94,6 @@ single (Counted by most) e = absurd (never e)
 
 pub one_decides : (c : Count) → Decides (is_one c) (c ≡ One)
 one_decides c = (single c, λ e. ap is_one e)
-
-untested : (t : Option Formula) → has_no_test t ≡ true → t ≡ None
-untested None e = refl
-untested (Some t) e = absurd (never e)
 
 pub steady_decides : (d : Desc) (k : ℕ) → Decides (is_steady_in d k) (IsSteady d k)
 steady_decides d k = (by (slice_get d.fields k) refl, back)

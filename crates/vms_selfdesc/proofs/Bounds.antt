@@ -1,5 +1,5 @@
 -- The text of every well-formed set is shorter than what a description section may have, and that of a shipped set is short.
-use Rattle.std.proofs.Common.{◌≡◌, ℕ, zero, suc, ◌+◌, ◌*◌, ◌<◌, ◌≤◌, List, ◌∷◌, length, get_or, ap, arith, true, is_none, []}
+use Rattle.std.proofs.Common.{◌≡◌, ℕ, zero, suc, ◌*◌, ◌<◌, ◌≤◌, List, ◌∷◌, length, get_or, ap, arith, true, is_none, []}
 use Rattle.std.proofs.lemmas.Option.{slice_get-get_or}
 use Rattle.vms_spec.specs.declared.Part.TheVariants as parts
 use Rattle.vms_spec.specs.Heads.{FitsHeads}
@@ -8,16 +8,18 @@ use Rattle.vms_spec.specs.Sets.{Sub, Device, Set, AtLeast}
 use Rattle.vms_spec.specs.Shipped.{set_0, set_1, set_2, set_3, set_4}
 use Rattle.vms_spec.specs.Streams.{longest_text}
 use Rattle.vms_spec.specs.Layout.{first, no_desc}
-use Rattle.vms_spec.specs.WellFormed.{struct_items, devices_items, device_rules, sub_rules}
+use Rattle.vms_spec.specs.WellFormed.{device_rules, sub_rules}
 use Rattle.vms_spec.proofs.ShippedSets.{shipped_stands}
 use Rattle.vms_desc.specs.Described.{device_at}
-use Rattle.vms_desc.specs.Formed.{is_well_formed, shipped_set}
+use Rattle.vms_desc.specs.Formed.{is_well_formed, shipped_set, clock_set}
 use Rattle.vms_desc.specs.Parts.{sub_at}
 use Rattle.vms_desc.proofs.Bounds.{few_items, few_devices}
 use Rattle.vms_desc.proofs.Clean.{few_subs}
-use Rattle.vms_selfdesc.specs.Laws.{ShortLaw, ShippedLaw}
+use Rattle.vms_desc.proofs.ClockHeads.{clock_heads}
+use Rattle.vms_desc.proofs.Formed.{clock_formed}
+use Rattle.vms_selfdesc.specs.Laws.{ShortLaw, ShippedLaw, ClockLaw}
 use Rattle.vms_selfdesc.specs.Tree.{described_text}
-use Rattle.vms_selfdesc.proofs.Lengths.{IsShortDesc, AreShortSubs, AreShortDevices, subs_of, text_long}
+use Rattle.vms_selfdesc.proofs.Lengths.{IsShortDesc, AreShortSubs, AreShortDevices, subs_of, set_room, text_long, room_less}
 use Rattle.vms_selfdesc.proofs.Plain.{name_short, sub_name_short}
 use Rattle.vms_selfdesc.proofs.Sound.{own_rules, device_whole, sub_whole}
 use Rattle.vms_selfdesc.proofs.Soundness.{part_sound}
@@ -73,46 +75,54 @@ module _ (set : Set) (well : is_well_formed set ≡ true) (heads : FitsHeads set
         few = few_subs set well i lt;
       }
 
-  pub set_long : (images : List Image) → length (described_text set images) ≤ 300 * (devices_items (struct_items set.structs) set.devices + subs_of set.devices + length set.devices) + 14
+  pub set_long : (images : List Image) → length (described_text set images) ≤ set_room set
   set_long images = text_long set well images (all_devices set.devices short_device) (few_items set well)
 
   set_short : (images : List Image) → length (described_text set images) < longest_text
-  set_short images = omega (arith, set_long images, few_items set well, few_of set.devices short_device, few_devices set well)
+  set_short images = omega (arith, set_long images, room_less set well, few_items set well, few_of set.devices short_device, few_devices set well)
 
 pub short_holds : ShortLaw
 short_holds = record { short = λ set well heads images. set_short set (ap is_none well) heads images }
 
 -- ---- shipped sets
 
-abbrev total : Set → ℕ
-total set = devices_items (struct_items set.structs) set.devices + subs_of set.devices + length set.devices
-
-few_0 : total set_0 ≤ 199
+room_0 : set_room set_0 < 60000
 unfolding first
-few_0 = omega arith
+room_0 = omega arith
 
-few_1 : total set_1 ≤ 199
+room_1 : set_room set_1 < 60000
 unfolding first
-few_1 = omega arith
+room_1 = omega arith
 
-few_2 : total set_2 ≤ 199
+room_2 : set_room set_2 < 60000
 unfolding first
-few_2 = omega arith
+room_2 = omega arith
 
-few_3 : total set_3 ≤ 199
+room_3 : set_room set_3 < 60000
 unfolding first
-few_3 = omega arith
+room_3 = omega arith
 
-few_4 : total set_4 ≤ 199
+room_4 : set_room set_4 < 60000
 unfolding first
-few_4 = omega arith
+room_4 = omega arith
 
 by_number : (s : ℕ) → s ≤ 4 → (images : List Image) → length (described_text (shipped_set s) images) < 60000
-by_number zero le images = let f = shipped_stands.0 in omega (arith, set_long set_0 (ap is_none f.well) f.heads images, few_0)
-by_number (suc zero) le images = let f = shipped_stands.1 in omega (arith, set_long set_1 (ap is_none f.well) f.heads images, few_1)
-by_number (suc (suc zero)) le images = let f = shipped_stands.2 in omega (arith, set_long set_2 (ap is_none f.well) f.heads images, few_2)
-by_number (suc (suc (suc zero))) le images = let f = shipped_stands.3 in omega (arith, set_long set_3 (ap is_none f.well) f.heads images, few_3)
-by_number (suc (suc (suc (suc s)))) le images = let f = shipped_stands.4 in omega (arith, set_long set_4 (ap is_none f.well) f.heads images, few_4)
+by_number zero le images = let f = shipped_stands.0 in omega (arith, set_long set_0 (ap is_none f.well) f.heads images, room_0)
+by_number (suc zero) le images = let f = shipped_stands.1 in omega (arith, set_long set_1 (ap is_none f.well) f.heads images, room_1)
+by_number (suc (suc zero)) le images = let f = shipped_stands.2 in omega (arith, set_long set_2 (ap is_none f.well) f.heads images, room_2)
+by_number (suc (suc (suc zero))) le images = let f = shipped_stands.3 in omega (arith, set_long set_3 (ap is_none f.well) f.heads images, room_3)
+by_number (suc (suc (suc (suc s)))) le images = let f = shipped_stands.4 in omega (arith, set_long set_4 (ap is_none f.well) f.heads images, room_4)
 
 pub shipped_holds : ShippedLaw
 shipped_holds = record { shipped = by_number }
+
+-- ---- sets of clock boards
+
+clock_room : (s : ℕ) → set_room (clock_set s) < 60000
+unfolding first
+clock_room zero = omega arith
+clock_room (suc zero) = omega arith
+clock_room (suc (suc s)) = omega arith
+
+pub clock_holds : ClockLaw
+clock_holds = record { clock = λ s images. let long = set_long (clock_set s) (clock_formed s) (clock_heads s) images in omega (arith, long, clock_room s) }

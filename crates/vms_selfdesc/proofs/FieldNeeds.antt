@@ -10,19 +10,21 @@ use Rattle.vms_spec.specs.declared.Part.{Part}
 use Rattle.vms_spec.specs.declared.Part.TheVariants as parts
 use Rattle.vms_spec.specs.Sets.{Set, Field}
 use Rattle.vms_spec.specs.Rules.{uses_below, defaults_well, counts_well}
-use Rattle.vms_spec.specs.Layout.{no_desc, item_size, struct_cells, capacity_of, counted, elements_of}
+use Rattle.vms_spec.specs.Layout.{Cell, no_desc, item_size, struct_cells, capacity_of, counted, elements_of}
 use Rattle.std.proofs.lemmas.Bool.{and_parts}
 use Rattle.vms_parts.specs.Sizes.{in_u32}
 use Rattle.vms_desc.specs.Asks.{field_at, own_numbers}
 use Rattle.vms_desc.specs.Formed.{is_well_formed}
 use Rattle.vms_desc.specs.Parts.{desc_at}
 use Rattle.vms_desc.proofs.Clean.{reach, field_clean, struct_clean}
-use Rattle.vms_selfdesc.specs.Entries.{Entry, listers, array_entries, element_entries, item_entries}
-use Rattle.vms_selfdesc.specs.Listing.{is_field_sent, item_list, field_list, part_list}
+use Rattle.vms_elements.specs.Elements.{Element, no_shape, shapes}
+use Rattle.vms_selfdesc.specs.Entries.{Entry, entries_of}
+use Rattle.vms_selfdesc.specs.Listing.{is_field_sent, array_entries, element_entries, item_entries, item_list, field_list, part_list}
 use Rattle.vms_selfdesc.specs.Needs.{HasPlace, HasElements}
 use Rattle.vms_desc.proofs.Ranks.{item_rank, part_rank, reach_whole, uses_more, rank_below}
 use Rattle.vms_selfdesc.proofs.Sound.{field_sound}
-use Rattle.vms_selfdesc.proofs.Structures.{struct_cells_are, struct_entries_are}
+use Rattle.vms_selfdesc.proofs.OfElements.{of_dotted, of_field}
+use Rattle.vms_selfdesc.proofs.Structures.{cells_are, struct_cells_are, struct_elements_are}
 use Rattle.vms_spec.proofs.Prefixes.{FieldsBelow, all_below}
 use Rattle.vms_spec.proofs.Sizes.{room_for_less, one_fits}
 
@@ -65,13 +67,17 @@ pub field_run : (set : Set) (part : Part) (base k : ℕ) (sent : Bool) (n : List
     → count ≡ elements_of (field_at set part k).count (own_numbers set part n base)
     → array_entries (item_list set f there n) f.count count whole cell (item_size (struct_cells set) f.item) ≡ field_list set part base k sent n path cell
 field_run set part base k sent n path cell f there whole count is is_there is_whole is_count =
+    let d = desc_at set part in
     let g = field_at set part k in
+    let own = own_numbers set part n base in
     let sent' = is_field_sent set part base k sent n in
     let run = λ (x : Field) (b : Bool) (p : List ℕ) (m : ℕ). array_entries (item_list set x b n) x.count m p cell (item_size (struct_cells set) x.item) in
     ap (λ (x : Bool). run f x whole count) is_there
     ∙ ap (λ (x : List ℕ). run f sent' x count) is_whole
     ∙ ap (λ (x : ℕ). run f sent' (path ++ f.name) x) is_count
-    ∙ ap (λ (x : Field). run x sent' (path ++ x.name) (elements_of g.count (own_numbers set part n base))) is
+    ∙ ap (λ (x : Field). run x sent' (path ++ x.name) (elements_of g.count own)) is
+    ∙ ap (λ (cs : List (List Cell)). array_entries (item_list set g sent' n) g.count (elements_of g.count own) (path ++ g.name) cell (item_size cs g.item)) (sym (cells_are set))
+    ∙ sym (of_field (shapes set) d.fields d.version own sent path n k cell g)
 
 -- ---- structures
 
@@ -94,11 +100,12 @@ module _ (set : Set) (well : is_well_formed set ≡ true) (item : Item) (j : ℕ
       omega (arith, rank)
 
   pub struct_list : (z : ℤ) (sent : Bool) (path whole : List ℕ) (n : List ℤ) (cell : ℕ) → whole ≡ path ++ 46 ∷ []
-      → part_list set (parts.Struct j) sent n whole cell ≡ item_entries (listers set) item z sent path n cell
+      → part_list set (parts.Struct j) sent n whole cell ≡ item_entries (shapes set) item z sent n path cell
   struct_list z sent path whole n cell e =
       ap (λ x. part_list set (parts.Struct j) sent n x cell) e
-      ∙ sym (struct_entries_are set j struct_there below sent (path ++ 46 ∷ []) n cell)
-      ∙ sym (ap (λ x. item_entries (listers set) x z sent path n cell) is)
+      ∙ ap (λ (xs : List Element). entries_of sent (path ++ 46 ∷ []) xs) (sym (struct_elements_are set j struct_there below n cell))
+      ∙ sym (of_dotted sent path ((get_or (shapes set) j no_shape).elements n cell))
+      ∙ sym (ap (λ x. item_entries (shapes set) x z sent n path cell) is)
 
 -- ---- widths as the code has them
 

@@ -1,12 +1,13 @@
 -- How long the entries of fields are, and how many: of a path that begins with so many bytes, by the depth of structures and the
 -- number of items.
-use Rattle.std.proofs.Common.{◌≡◌, ℕ, zero, suc, ◌+◌, ◌*◌, ◌<◌, ◌≤◌, List, ◌∷◌, ◌++◌, length, length-append, get_or, ℤ, Bool, true, false, ◌&&◌, refl, sym, arith, subst, nat_lt, codes, []}
+use Rattle.std.proofs.Common.{◌≡◌, ℕ, zero, suc, ◌+◌, ◌*◌, ◌<◌, ◌≤◌, List, ◌∷◌, ◌++◌, length, length-append, get_or, ℤ, Bool, true, false, ◌&&◌, refl, sym, ap, arith, subst, nat_lt, codes, []}
 use Rattle.std.proofs.lemmas.Bool.{ltb-true, ltb-false}
 use Rattle.std.proofs.Math.ListN.{get_or-eq_default}
 use Rattle.std.proofs.Math.Nat.{mul-le-mul_right}
 use Rattle.serde_json.specs.Written.{compact_text, number_text}
 use Rattle.serde_json.specs.Find.{of_integer}
 use Rattle.vms_kinds.specs.declared.Item.{Item}
+use Rattle.vms_kinds.specs.declared.Kind.{Kind}
 use Rattle.vms_kinds.specs.declared.Item.TheVariants.{Num, Equal, Unused, Struct}
 use Rattle.vms_kinds.specs.Codes.{width}
 use Rattle.vms_spec.specs.declared.TheConstants.{MOST_ITEMS}
@@ -14,16 +15,19 @@ use Rattle.vms_spec.specs.declared.Count.{Count}
 use Rattle.vms_spec.specs.declared.Count.TheVariants.{One, Fixed, Counted}
 use Rattle.vms_spec.specs.Sets.{Field, Desc}
 use Rattle.vms_spec.specs.Tests.{is_there}
-use Rattle.vms_spec.specs.Layout.{Cell, no_desc, no_parent, first, item_size, capacity_of, elements_of, numbers_of}
+use Rattle.vms_spec.specs.Layout.{no_desc, no_parent, first, item_size, field_cells, capacity_of, elements_of, numbers_of}
 use Rattle.vms_spec.specs.WellFormed.{item_count, items_in, item_depth, deepest}
 use Rattle.vms_spec.proofs.Sizes.{elements_fit}
 use Rattle.vms_spec.proofs.Tables.{first_at, first_long}
 use Rattle.vms_spec.proofs.KindLaws.{width_small}
 use Rattle.vms_words.specs.Words.{kind_word}
-use Rattle.vms_selfdesc.specs.Entries.{Entry, Lister, no_lister, sent_entry, listed_if, item_entries, element_path, element_entries, array_entries, field_entries, entries_from, desc_entries}
+use Rattle.vms_elements.specs.Elements.{Shape, no_shape, shape, cells_in, field_elements, elements_from, desc_elements}
+use Rattle.vms_selfdesc.specs.Entries.{Entry, cell_entry, sent_entry, listed_if, entries_of}
+use Rattle.vms_selfdesc.specs.Listing.{item_entries, element_path, element_entries, array_entries}
 use Rattle.vms_selfdesc.specs.Tree.{entry_tree}
 use Rattle.vms_selfdesc.specs.Drafts.{IsPlain}
 use Rattle.vms_selfdesc.proofs.Plain.{IsShort, plain_append, element_plain, element_long, dot_plain}
+use Rattle.vms_selfdesc.proofs.OfElements.{of_append, of_dotted, number_is, constant_is, filler_is, of_field, of_desc}
 use Rattle.vms_selfdesc.proofs.EntryLong.{sent_long, absent_long, word_short, equal_short, unused_short}
 
 -- the texts of these entries are no longer than this
@@ -63,12 +67,12 @@ AreSound (f ∷ fs) = IsSoundField f × AreSound fs
 -- ---- a structure
 
 -- its entries are no more than its items, and each is so long by the path and the depth
-pub record Fits (l : Lister) (items depth : ℕ) : Type 0 where
-  pub few : (sent : Bool) (path : List ℕ) (n : List ℤ) (at : ℕ) → length (l sent path n at) ≤ items
-  pub long : (sent : Bool) (path : List ℕ) (n : List ℤ) (at : ℕ) → IsPlain path → items ≤ MOST_ITEMS → AreLong (length path + 40 * depth + 67) (l sent path n at)
+pub record Fits (s : Shape) (items depth : ℕ) : Type 0 where
+  pub few : (sent : Bool) (path : List ℕ) (n : List ℤ) (at : ℕ) → length (entries_of sent path (s.elements n at)) ≤ items
+  pub long : (sent : Bool) (path : List ℕ) (n : List ℤ) (at : ℕ) → IsPlain path → items ≤ MOST_ITEMS → AreLong (length path + 40 * depth + 67) (entries_of sent path (s.elements n at))
 
-abbrev pub FitTables : List Lister → List ℕ → List ℕ → Type 0
-FitTables ls sizes depths = (j : ℕ) → Fits (get_or ls j no_lister) (get_or sizes j 0) (get_or depths j 0)
+abbrev pub FitTables : List Shape → List ℕ → List ℕ → Type 0
+FitTables ss sizes depths = (j : ℕ) → Fits (get_or ss j no_shape) (get_or sizes j 0) (get_or depths j 0)
 
 sent_few : (sent : Bool) (e : Entry) → length (listed_if sent e) ≤ 1
 sent_few true e = omega arith
@@ -78,24 +82,34 @@ listed_if_long : (most : ℕ) (sent : Bool) (e : Entry) → length (compact_text
 listed_if_long most true e le = (le, tt)
 listed_if_long most false e le = tt
 
-module _ (ls : List Lister) (sizes depths : List ℕ) (fit : FitTables ls sizes depths) where
+cell_long : (sent : Bool) (path : List ℕ) (kind : Kind) (z : ℤ) → IsPlain path → IsSmall (Num kind) z → length (compact_text (entry_tree (cell_entry sent path kind z))) ≤ length path + 68
+cell_long true path kind z p small = omega (arith, sent_long path (width kind) (kind_word kind) p (width_small kind) (word_short kind))
+cell_long false path kind z p small = omega (arith, absent_long path (kind_word kind) z p (word_short kind) small)
+
+module _ (ss : List Shape) (sizes depths : List ℕ) (fit : FitTables ss sizes depths) where
   -- ---- one element
 
-  item_few : (item : Item) (z : ℤ) (sent : Bool) (path : List ℕ) (n : List ℤ) (at : ℕ) → length (item_entries ls item z sent path n at) ≤ item_count sizes item
-  item_few (Num kind) z sent path n at = omega arith
-  item_few (Equal kind y) z sent path n at = sent_few sent (sent_entry path (width kind) _)
-  item_few (Unused k) z sent path n at = sent_few sent (sent_entry path k _)
-  item_few (Struct j) z sent path n at = (fit j).few sent (path ++ 46 ∷ []) n at
+  item_few : (item : Item) (z : ℤ) (sent : Bool) (n : List ℤ) (path : List ℕ) (at : ℕ) → length (item_entries ss item z sent n path at) ≤ item_count sizes item
+  item_few (Num kind) z sent n path at = omega (arith, ap length (number_is ss kind z sent n path at))
+  item_few (Equal kind y) z sent n path at = omega (arith, ap length (constant_is ss kind y z sent n path at), sent_few sent (sent_entry path (width kind) (codes "equal")))
+  item_few (Unused k) z sent n path at = omega (arith, ap length (filler_is ss k z sent n path at), sent_few sent (sent_entry path k (codes "unused")))
+  item_few (Struct j) z sent n path at = omega (arith, ap length (of_dotted sent path ((get_or ss j no_shape).elements n at)), (fit j).few sent (path ++ 46 ∷ []) n at)
 
-  item_long : (item : Item) (z : ℤ) (sent : Bool) (path : List ℕ) (n : List ℤ) (at : ℕ) → IsPlain path → IsSmall item z → item_count sizes item ≤ MOST_ITEMS
-      → AreLong (length path + 40 * item_depth depths item + 68) (item_entries ls item z sent path n at)
-  item_long (Num kind) z true path n at p small few = (omega (arith, sent_long path (width kind) (kind_word kind) p (width_small kind) (word_short kind)), tt)
-  item_long (Num kind) z false path n at p small few = (omega (arith, absent_long path (kind_word kind) z p (word_short kind) small), tt)
-  item_long (Equal kind y) z sent path n at p small few = listed_if_long _ sent _ (omega (arith, sent_long path (width kind) (codes "equal") p (width_small kind) equal_short))
-  item_long (Unused k) z sent path n at p small few = listed_if_long _ sent _ (omega (arith, sent_long path k (codes "unused") p small unused_short))
-  item_long (Struct j) z sent path n at p small few =
+  item_long : (item : Item) (z : ℤ) (sent : Bool) (n : List ℤ) (path : List ℕ) (at : ℕ) → IsPlain path → IsSmall item z → item_count sizes item ≤ MOST_ITEMS
+      → AreLong (length path + 40 * item_depth depths item + 68) (item_entries ss item z sent n path at)
+  item_long (Num kind) z sent n path at p small few =
+      let le = cell_long sent path kind z p small in
+      subst (AreLong (length path + 40 * item_depth depths (Num kind) + 68)) (sym (number_is ss kind z sent n path at)) (omega arith, tt)
+  item_long (Equal kind y) z sent n path at p small few =
+      subst (AreLong (length path + 40 * item_depth depths (Equal kind y) + 68)) (sym (constant_is ss kind y z sent n path at))
+      (listed_if_long _ sent _ (omega (arith, sent_long path (width kind) (codes "equal") p (width_small kind) equal_short)))
+  item_long (Unused k) z sent n path at p small few =
+      subst (AreLong (length path + 40 * item_depth depths (Unused k) + 68)) (sym (filler_is ss k z sent n path at))
+      (listed_if_long _ sent _ (omega (arith, sent_long path k (codes "unused") p small unused_short)))
+  item_long (Struct j) z sent n path at p small few =
       let e = (fit j).long sent (path ++ 46 ∷ []) n at (dot_plain path p) few in
-      longer _ _ _ (omega (arith, length-append path (46 ∷ []))) e
+      subst (AreLong (length path + 40 * item_depth depths (Struct j) + 68)) (sym (of_dotted sent path ((get_or ss j no_shape).elements n at)))
+      (longer _ _ _ (omega (arith, length-append path (46 ∷ []))) e)
 
 -- ---- elements one after the other
 
@@ -148,39 +162,69 @@ array_long one w c few long (Counted by m) n path at step p le items = many_long
 
 -- ---- fields
 
-module _ (cells : List (List Cell)) (ls : List Lister) (sizes depths : List ℕ) (fit : FitTables ls sizes depths) where
-  pub entries_few : (v : ℕ) (own : ℕ → ℕ) (sent : Bool) (path : List ℕ) (n : List ℤ) (at : ℕ) (fs : List Field) → length (entries_from cells ls v own sent path n at fs) ≤ items_in sizes fs
-  entries_few v own sent path n at [] = omega arith
-  entries_few v own sent path n at (f ∷ fs) =
-      let there = sent && is_there f.test f.since v own no_parent in
-      let next = at + capacity_of f.count * item_size cells f.item in
-      let here = array_few (λ path at. item_entries ls f.item f.default there path n at) (item_count sizes f.item) (λ path at. item_few ls sizes depths fit f.item f.default there path n at) f.count
-      (elements_of f.count own) (path ++ f.name) at (item_size cells f.item) (elements_fit f.count own) in
-      omega (arith, length-append (field_entries cells ls v own sent path n at f) (entries_from cells ls v own sent path n next fs), here, entries_few v own sent path n next fs)
+module _ (ss : List Shape) (sizes depths : List ℕ) (fit : FitTables ss sizes depths) where
+  module _ (fields : List Field) (v : ℕ) (own : ℕ → ℕ) (sent : Bool) (path : List ℕ) (n : List ℤ) where
+    field_few : (i at : ℕ) (f : Field) → length (entries_of sent path (field_elements ss fields v own n i at f)) ≤ capacity_of f.count * item_count sizes f.item
+    field_few i at f =
+        let there = sent && is_there f.test f.since v own no_parent in
+        let few = array_few (item_entries ss f.item f.default there n) (item_count sizes f.item) (λ path at. item_few ss sizes depths fit f.item f.default there n path at) f.count
+        (elements_of f.count own) (path ++ f.name) at (item_size (cells_in ss) f.item) (elements_fit f.count own) in
+        omega (arith, ap length (of_field ss fields v own sent path n i at f), few)
 
-  pub entries_long : (v : ℕ) (own : ℕ → ℕ) (sent : Bool) (path : List ℕ) (n : List ℤ) (at : ℕ) (fs : List Field) → IsPlain path → AreSound fs → items_in sizes fs ≤ MOST_ITEMS
-      → AreLong (length path + 40 * deepest depths fs + 107) (entries_from cells ls v own sent path n at fs)
-  entries_long v own sent path n at [] p sound items = tt
-  entries_long v own sent path n at (f ∷ fs) p sound items =
-      let there = sent && is_there f.test f.since v own no_parent in
-      let next = at + capacity_of f.count * item_size cells f.item in
-      let whole = length path + 40 * deepest depths (f ∷ fs) + 107 in
-      let w = 40 * item_depth depths f.item + 68 in
-      let fewer : capacity_of f.count * item_count sizes f.item ≤ MOST_ITEMS = omega arith in
-      let fewer' : items_in sizes fs ≤ MOST_ITEMS = omega arith in
-      let name = sound.0.name in
-      let field = array_long (λ path at. item_entries ls f.item f.default there path n at) w (item_count sizes f.item) (λ path at. item_few ls sizes depths fit f.item f.default there path n at)
-      (λ few path at p. longer _ _ _ (omega arith) (item_long ls sizes depths fit f.item f.default there path n at p sound.0.small few)) f.count
-      (elements_of f.count own) (path ++ f.name) at (item_size cells f.item) (plain_append path f.name p name.plain) (elements_fit f.count own) fewer in
-      append_long whole (field_entries cells ls v own sent path n at f) (entries_from cells ls v own sent path n next fs)
-      (longer (length (path ++ f.name) + 7 + w) whole (field_entries cells ls v own sent path n at f) (omega (arith, length-append path f.name, name.short)) field)
-      (longer (length path + 40 * deepest depths fs + 107) whole (entries_from cells ls v own sent path n next fs) (omega arith) (entries_long v own sent path n next fs p sound.1 fewer'))
+    fields_few : (i at : ℕ) (fs : List Field) → length (entries_of sent path (elements_from ss fields v own n i at fs)) ≤ items_in sizes fs
+    fields_few i at [] = omega arith
+    fields_few i at (f ∷ fs) =
+        let here = field_elements ss fields v own n i at f in
+        let next = at + length (field_cells (cells_in ss) fields i f) in
+        let rest = elements_from ss fields v own n (suc i) next fs in
+        omega (arith, ap length (of_append sent path here rest), length-append (entries_of sent path here) (entries_of sent path rest), field_few i at f, fields_few (suc i) next fs)
+
+    field_long : (i at : ℕ) (f : Field) → IsPlain path → IsSoundField f → capacity_of f.count * item_count sizes f.item ≤ MOST_ITEMS
+        → AreLong (length path + 40 * item_depth depths f.item + 107) (entries_of sent path (field_elements ss fields v own n i at f))
+    field_long i at f p sound fewer =
+        let there = sent && is_there f.test f.since v own no_parent in
+        let w = 40 * item_depth depths f.item + 68 in
+        let name = sound.name in
+        let one = item_entries ss f.item f.default there n in
+        let count = elements_of f.count own in
+        let step = item_size (cells_in ss) f.item in
+        let listed = array_long one w (item_count sizes f.item) (λ path at. item_few ss sizes depths fit f.item f.default there n path at)
+        (λ few path at p. longer _ _ _ (omega arith) (item_long ss sizes depths fit f.item f.default there n path at p sound.small few)) f.count
+        count (path ++ f.name) at step (plain_append path f.name p name.plain) (elements_fit f.count own) fewer in
+        subst (AreLong (length path + 40 * item_depth depths f.item + 107)) (sym (of_field ss fields v own sent path n i at f))
+        (longer (length (path ++ f.name) + 7 + w) (length path + 40 * item_depth depths f.item + 107) (array_entries one f.count count (path ++ f.name) at step) (omega (arith, length-append path f.name, name.short)) listed)
+
+    fields_long : (i at : ℕ) (fs : List Field) → IsPlain path → AreSound fs → items_in sizes fs ≤ MOST_ITEMS
+        → AreLong (length path + 40 * deepest depths fs + 107) (entries_of sent path (elements_from ss fields v own n i at fs))
+    fields_long i at [] p sound items = tt
+    fields_long i at (f ∷ fs) p sound items =
+        let here = field_elements ss fields v own n i at f in
+        let next = at + length (field_cells (cells_in ss) fields i f) in
+        let rest = elements_from ss fields v own n (suc i) next fs in
+        let whole = length path + 40 * deepest depths (f ∷ fs) + 107 in
+        let fewer : capacity_of f.count * item_count sizes f.item ≤ MOST_ITEMS = omega arith in
+        let fewer' : items_in sizes fs ≤ MOST_ITEMS = omega arith in
+        subst (AreLong whole) (sym (of_append sent path here rest))
+        (append_long whole (entries_of sent path here) (entries_of sent path rest)
+        (longer (length path + 40 * item_depth depths f.item + 107) whole (entries_of sent path here) (omega arith) (field_long i at f p sound.0 fewer))
+        (longer (length path + 40 * deepest depths fs + 107) whole (entries_of sent path rest) (omega arith) (fields_long (suc i) next fs p sound.1 fewer')))
+
+  -- ---- a description
+
+  pub entries_few : (d : Desc) (v : ℕ) (sent : Bool) (path : List ℕ) (n : List ℤ) (at : ℕ) → length (entries_of sent path (desc_elements ss d v n at)) ≤ items_in sizes d.fields
+  entries_few d v sent path n at = omega (arith, ap length (of_desc ss d v sent path n at), fields_few d.fields v (numbers_of (cells_in ss) d n at) sent path n 0 at d.fields)
+
+  pub entries_long : (d : Desc) (v : ℕ) (sent : Bool) (path : List ℕ) (n : List ℤ) (at : ℕ) → IsPlain path → AreSound d.fields → items_in sizes d.fields ≤ MOST_ITEMS
+      → AreLong (length path + 40 * deepest depths d.fields + 107) (entries_of sent path (desc_elements ss d v n at))
+  entries_long d v sent path n at p sound items =
+      subst (AreLong (length path + 40 * deepest depths d.fields + 107)) (sym (of_desc ss d v sent path n at))
+      (fields_long d.fields v (numbers_of (cells_in ss) d n at) sent path n 0 at d.fields p sound items)
 
   -- a structure made of these
-  pub desc_fits : (d : Desc) → AreSound d.fields → Fits (desc_entries cells ls d) (items_in sizes d.fields) (1 + deepest depths d.fields)
+  desc_fits : (d : Desc) → AreSound d.fields → Fits (shape ss d) (items_in sizes d.fields) (1 + deepest depths d.fields)
   desc_fits d sound = record {
-    few = λ sent path n at. entries_few d.version (numbers_of cells d n at) sent path n at d.fields;
-    long = λ sent path n at p items. longer _ _ _ (omega arith) (entries_long d.version (numbers_of cells d n at) sent path n at d.fields p sound items);
+    few = λ sent path n at. entries_few d d.version sent path n at;
+    long = λ sent path n at p items. longer _ _ _ (omega arith) (entries_long d d.version sent path n at p sound items);
   }
 
 -- ---- the tables of a set's structures
@@ -191,34 +235,34 @@ items_of_desc sizes d = items_in sizes d.fields
 abbrev depth_of_desc : List ℕ → Desc → ℕ
 depth_of_desc depths d = 1 + deepest depths d.fields
 
-none_fits : Fits no_lister 0 0
+none_fits : Fits no_shape 0 0
 none_fits = record { few = λ sent path n at. omega arith; long = λ sent path n at p items. tt }
 
-module _ (cells : List (List Cell)) (ds : List Desc) (most : ℕ) (sound : (j : ℕ) → j < most → AreSound (get_or ds j no_desc).fields) where
+module _ (ds : List Desc) (most : ℕ) (sound : (j : ℕ) → j < most → AreSound (get_or ds j no_desc).fields) where
   abbrev made : ℕ → Type 0
-  made j = Fits (desc_entries cells (first (desc_entries cells) ds j) (get_or ds j no_desc)) (items_of_desc (first items_of_desc ds j) (get_or ds j no_desc)) (depth_of_desc (first depth_of_desc ds j) (get_or ds j no_desc))
+  made j = Fits (shape (first shape ds j) (get_or ds j no_desc)) (items_of_desc (first items_of_desc ds j) (get_or ds j no_desc)) (depth_of_desc (first depth_of_desc ds j) (get_or ds j no_desc))
 
   -- what stands in the first k, where each of them fits
-  at_number : (k : ℕ) → ((j : ℕ) → j < k → made j) → FitTables (first (desc_entries cells) ds k) (first items_of_desc ds k) (first depth_of_desc ds k)
+  at_number : (k : ℕ) → ((j : ℕ) → j < k → made j) → FitTables (first shape ds k) (first items_of_desc ds k) (first depth_of_desc ds k)
   at_number k each j = by_place (nat_lt j k) refl
     where
-      by_place : (b : Bool) → nat_lt j k ≡ b → Fits (get_or (first (desc_entries cells) ds k) j no_lister) (get_or (first items_of_desc ds k) j 0) (get_or (first depth_of_desc ds k) j 0)
+      by_place : (b : Bool) → nat_lt j k ≡ b → Fits (get_or (first shape ds k) j no_shape) (get_or (first items_of_desc ds k) j 0) (get_or (first depth_of_desc ds k) j 0)
       by_place true e =
           let lt = ltb-true j k e in
-          subst (λ l. Fits l (get_or (first items_of_desc ds k) j 0) (get_or (first depth_of_desc ds k) j 0)) (sym (first_at (desc_entries cells) ds no_lister k j lt))
-          (subst (λ c. Fits (desc_entries cells (first (desc_entries cells) ds j) (get_or ds j no_desc)) c (get_or (first depth_of_desc ds k) j 0)) (sym (first_at items_of_desc ds 0 k j lt))
-          (subst (λ c. Fits (desc_entries cells (first (desc_entries cells) ds j) (get_or ds j no_desc)) (items_of_desc (first items_of_desc ds j) (get_or ds j no_desc)) c) (sym (first_at depth_of_desc ds 0 k j lt)) (each j lt)))
+          subst (λ l. Fits l (get_or (first items_of_desc ds k) j 0) (get_or (first depth_of_desc ds k) j 0)) (sym (first_at shape ds no_shape k j lt))
+          (subst (λ c. Fits (shape (first shape ds j) (get_or ds j no_desc)) c (get_or (first depth_of_desc ds k) j 0)) (sym (first_at items_of_desc ds 0 k j lt))
+          (subst (λ c. Fits (shape (first shape ds j) (get_or ds j no_desc)) (items_of_desc (first items_of_desc ds j) (get_or ds j no_desc)) c) (sym (first_at depth_of_desc ds 0 k j lt)) (each j lt)))
       by_place false e =
           let le = ltb-false j k e in
-          subst (λ l. Fits l (get_or (first items_of_desc ds k) j 0) (get_or (first depth_of_desc ds k) j 0)) (sym (get_or-eq_default (first (desc_entries cells) ds k) no_lister (omega (arith, le, first_long (desc_entries cells) ds k))))
-          (subst (λ c. Fits no_lister c (get_or (first depth_of_desc ds k) j 0)) (sym (get_or-eq_default (first items_of_desc ds k) 0 (omega (arith, le, first_long items_of_desc ds k))))
-          (subst (λ c. Fits no_lister 0 c) (sym (get_or-eq_default (first depth_of_desc ds k) 0 (omega (arith, le, first_long depth_of_desc ds k)))) none_fits))
+          subst (λ l. Fits l (get_or (first items_of_desc ds k) j 0) (get_or (first depth_of_desc ds k) j 0)) (sym (get_or-eq_default (first shape ds k) no_shape (omega (arith, le, first_long shape ds k))))
+          (subst (λ c. Fits no_shape c (get_or (first depth_of_desc ds k) j 0)) (sym (get_or-eq_default (first items_of_desc ds k) 0 (omega (arith, le, first_long items_of_desc ds k))))
+          (subst (λ c. Fits no_shape 0 c) (sym (get_or-eq_default (first depth_of_desc ds k) 0 (omega (arith, le, first_long depth_of_desc ds k)))) none_fits))
 
   each_made : (k j : ℕ) → k ≤ most → j < k → made j
   each_made zero j le lt = absurd (omega arith)
   each_made (suc k) j le lt =
-      desc_fits cells (first (desc_entries cells) ds j) (first items_of_desc ds j) (first depth_of_desc ds j)
+      desc_fits (first shape ds j) (first items_of_desc ds j) (first depth_of_desc ds j)
       (at_number j (λ i l. each_made k i (omega arith) (omega arith))) (get_or ds j no_desc) (sound j (omega arith))
 
-  pub tables_fit : (k : ℕ) → k ≤ most → FitTables (first (desc_entries cells) ds k) (first items_of_desc ds k) (first depth_of_desc ds k)
+  pub tables_fit : (k : ℕ) → k ≤ most → FitTables (first shape ds k) (first items_of_desc ds k) (first depth_of_desc ds k)
   tables_fit k le = at_number k (λ j lt. each_made k j le lt)

@@ -1,18 +1,20 @@
--- How long the text of the described tree is: at most 300 bytes for each item, subsection and device.
-use Rattle.std.proofs.Common.{◌≡◌, ℕ, suc, ◌+◌, ◌*◌, ◌<◌, ◌≤◌, List, [], ◌∷◌, length, length-append, map, ℤ, Bool, true, false, refl, arith, Option, is_some, codes}
-use Rattle.std.specs.List.{slice_get}
+-- How long the text of the described tree is, by the depth of structures and the number of items: at most 300 bytes for each item,
+-- subsection and device, and fewer for the items of a part without structures.
+use Rattle.std.proofs.Common.{◌≡◌, ℕ, suc, ◌+◌, ◌*◌, ◌<◌, ◌≤◌, List, [], ◌∷◌, length, length-append, map, ℤ, Bool, true, false, refl, ap, arith, Option, is_some, codes}
+use Rattle.std.proofs.Math.Nat.{mul-le-mul_left, mul-le-mul_right}
 use Rattle.json.specs.Print.{quoted, escape_byte}
 use Rattle.serde_json.specs.Data.{Data, no_members, member, object, array, string, boolean}
 use Rattle.serde_json.specs.View.{items_of}
 use Rattle.serde_json.specs.Written.{compact_text, items_text}
 use Rattle.vms_spec.specs.declared.TheConstants.{MOST_ITEMS}
 use Rattle.vms_spec.specs.declared.Part.TheVariants as parts
-use Rattle.vms_spec.specs.Sets.{Desc, Sub, Device, Set}
-use Rattle.vms_spec.specs.Layout.{desc_cells, struct_cells, numbers_of}
+use Rattle.vms_spec.specs.Sets.{Field, Desc, Sub, Device, Set}
+use Rattle.vms_spec.specs.Layout.{desc_cells, struct_cells}
 use Rattle.vms_spec.specs.Images.{Image, own_cells}
 use Rattle.vms_spec.specs.WellFormed.{items_in, struct_items, subs_items, devices_items, struct_depths, deepest}
 use Rattle.vms_desc.specs.Formed.{is_well_formed}
-use Rattle.vms_selfdesc.specs.Entries.{Entry, listers, part_entries}
+use Rattle.vms_elements.specs.Elements.{shapes}
+use Rattle.vms_selfdesc.specs.Entries.{Entry, part_entries}
 use Rattle.vms_selfdesc.specs.Tree.{natural, entry_tree, list_tree, sub_members, sub_trees, device_members, device_trees, described_text}
 use Rattle.vms_selfdesc.proofs.EntryLong.{member_long, number_short, key_name}
 use Rattle.vms_selfdesc.proofs.Fits.{AreLong, longer, AreSound, FitTables, tables_fit, entries_few, entries_long}
@@ -148,24 +150,41 @@ abbrev pub AreShortDevices : List Device → Type 0
 AreShortDevices [] = Unit {0}
 AreShortDevices (d ∷ devices) = IsShortDesc 100 d.desc × (d.instance < 4294967296) × AreShortSubs d.subs × AreShortDevices devices
 
+-- ---- how long a part may be
+
+-- entries, each with its comma
+abbrev pub fields_room : List ℕ → List ℕ → List Field → ℕ
+fields_room sizes depths fs = (40 * deepest depths fs + 108) * items_in sizes fs
+
+abbrev pub subs_room : List ℕ → List ℕ → List Sub → ℕ
+subs_room sizes depths [] = 0
+subs_room sizes depths (s ∷ subs) = fields_room sizes depths s.desc.fields + 300 + subs_room sizes depths subs
+
+abbrev pub devices_room : List ℕ → List ℕ → List Device → ℕ
+devices_room sizes depths [] = 0
+devices_room sizes depths (d ∷ devices) = fields_room sizes depths d.desc.fields + 300 + subs_room sizes depths d.subs + devices_room sizes depths devices
+
+abbrev pub set_room : Set → ℕ
+set_room set = devices_room (struct_items set.structs) (struct_depths set.structs) set.devices + 14
+
 module _ (set : Set) (well : is_well_formed set ≡ true) where
-  fit : FitTables (listers set) (struct_items set.structs) (struct_depths set.structs)
-  fit = tables_fit (struct_cells set) set.structs (length set.structs) (λ j lt. part_sound set well (parts.Struct j) lt) (length set.structs) (omega arith)
+  pub fit : FitTables (shapes set) (struct_items set.structs) (struct_depths set.structs)
+  fit = tables_fit set.structs (length set.structs) (λ j lt. part_sound set well (parts.Struct j) lt) (length set.structs) (omega arith)
 
   part_weight : (d : Desc) (sent : Bool) (n : List ℤ) (at : ℕ) → AreSound d.fields → items_in (struct_items set.structs) d.fields ≤ MOST_ITEMS
-      → weight (map entry_tree (part_entries set d sent n at)) ≤ 300 * items_in (struct_items set.structs) d.fields
+      → weight (map entry_tree (part_entries set d sent n at)) ≤ fields_room (struct_items set.structs) (struct_depths set.structs) d.fields
   part_weight d sent n at sound few =
       let sizes = struct_items set.structs in
       let depths = struct_depths set.structs in
       let es = part_entries set d sent n at in
-      let own = numbers_of (struct_cells set) d n at in
-      let count = entries_few (struct_cells set) (listers set) sizes depths fit d.version own sent [] n at d.fields in
-      let flat = fields_flat set well d.fields in
-      let long = longer (0 + 40 * deepest depths d.fields + 107) 299 es (omega arith) (entries_long (struct_cells set) (listers set) sizes depths fit d.version own sent [] n at d.fields tt sound few) in
-      omega (arith, entries_weight es 299 long, count)
+      let most = 40 * deepest depths d.fields + 107 in
+      let count = entries_few (shapes set) sizes depths fit d d.version sent [] n at in
+      let long = longer (0 + 40 * deepest depths d.fields + 107) most es (omega arith) (entries_long (shapes set) sizes depths fit d d.version sent [] n at tt sound few) in
+      let each : most + 1 ≡ 40 * deepest depths d.fields + 108 = omega arith in
+      omega (arith, entries_weight es most long, ap (λ k. k * length es) each, mul-le-mul_left {m = length es} {n = items_in sizes d.fields} (40 * deepest depths d.fields + 108) count)
 
   subs_weight : (n : List ℤ) (at : ℕ) (subs : List Sub) (came : List (Option ℕ)) → AreShortSubs subs → subs_items (struct_items set.structs) subs ≤ MOST_ITEMS
-      → weight (sub_trees set n at subs came) ≤ 300 * subs_items (struct_items set.structs) subs + 300 * length subs
+      → weight (sub_trees set n at subs came) ≤ subs_room (struct_items set.structs) (struct_depths set.structs) subs
   subs_weight n at [] came p few = omega arith
   subs_weight n at (s ∷ subs) [] p few = omega arith
   subs_weight n at (s ∷ subs) (c ∷ came) p few =
@@ -177,7 +196,7 @@ module _ (set : Set) (well : is_well_formed set ≡ true) where
       omega (arith, here, one, rest)
 
   devices_weight : (devices : List Device) (images : List Image) → AreShortDevices devices → devices_items (struct_items set.structs) devices ≤ MOST_ITEMS
-      → weight (device_trees set devices images) ≤ 300 * (devices_items (struct_items set.structs) devices + subs_of devices + length devices)
+      → weight (device_trees set devices images) ≤ devices_room (struct_items set.structs) (struct_depths set.structs) devices
   devices_weight [] images p few = omega arith
   devices_weight (d ∷ devices) [] p few = omega arith
   devices_weight (d ∷ devices) (image ∷ images) p few =
@@ -190,6 +209,25 @@ module _ (set : Set) (well : is_well_formed set ≡ true) where
       let rest = devices_weight devices images p.3 (omega arith) in
       omega (arith, here, subs, one, rest)
 
-  pub text_long : (images : List Image) → AreShortDevices set.devices → devices_items (struct_items set.structs) set.devices ≤ MOST_ITEMS
-      → length (described_text set images) ≤ 300 * (devices_items (struct_items set.structs) set.devices + subs_of set.devices + length set.devices) + 14
+  pub text_long : (images : List Image) → AreShortDevices set.devices → devices_items (struct_items set.structs) set.devices ≤ MOST_ITEMS → length (described_text set images) ≤ set_room set
   text_long images p few = omega (arith, whole_long (device_trees set set.devices images), devices_weight set.devices images p few)
+
+  -- ---- by the numbers of items, subsections and devices
+
+  fields_less : (fs : List Field) → fields_room (struct_items set.structs) (struct_depths set.structs) fs ≤ 300 * items_in (struct_items set.structs) fs
+  fields_less fs =
+      let depth = deepest (struct_depths set.structs) fs in
+      let flat = fields_flat set well fs in
+      mul-le-mul_right {m = 40 * depth + 108} {n = 300} (items_in (struct_items set.structs) fs) (omega arith)
+
+  subs_less : (subs : List Sub) → subs_room (struct_items set.structs) (struct_depths set.structs) subs ≤ 300 * subs_items (struct_items set.structs) subs + 300 * length subs
+  subs_less [] = omega arith
+  subs_less (s ∷ subs) = omega (arith, fields_less s.desc.fields, subs_less subs)
+
+  devices_less : (devices : List Device) → devices_room (struct_items set.structs) (struct_depths set.structs) devices
+      ≤ 300 * (devices_items (struct_items set.structs) devices + subs_of devices + length devices)
+  devices_less [] = omega arith
+  devices_less (d ∷ devices) = omega (arith, fields_less d.desc.fields, subs_less d.subs, devices_less devices)
+
+  pub room_less : set_room set ≤ 300 * (devices_items (struct_items set.structs) set.devices + subs_of set.devices + length set.devices) + 14
+  room_less = omega (arith, devices_less set.devices)

@@ -4,15 +4,27 @@ use Rattle.std.proofs.lemmas.List.{drop_more, drop_all, append-nil, map-append}
 use Rattle.std.specs.declared.alloc.Global.{Global}
 use Rattle.serde_json.specs.Data.{Data}
 use Rattle.serde_json.specs.Written.{compact_text, comma_if}
-use Rattle.vms_spec.specs.Sets.{Field}
-use Rattle.vms_spec.specs.Layout.{Cell, no_field, field_cells, cells_from, item_size, capacity_of}
+use Rattle.vms_spec.specs.declared.Part.{Part}
+use Rattle.vms_spec.specs.Sets.{Field, Set}
+use Rattle.vms_spec.specs.Layout.{Cell, no_field, field_cells, cells_from, item_size, struct_cells, capacity_of, numbers_of}
 use Rattle.vms_spec.proofs.Sizes.{field_size}
-use Rattle.vms_selfdesc.specs.Entries.{Entry, Lister, element_path, element_entries, field_entries, entries_from}
+use Rattle.vms_elements.specs.Elements.{shapes, cells_in, field_elements, elements_from}
+use Rattle.vms_desc.specs.Asks.{field_at, own_numbers}
+use Rattle.vms_desc.specs.Parts.{desc_at}
+use Rattle.vms_selfdesc.specs.Entries.{Entry, entries_of}
 use Rattle.vms_selfdesc.specs.Drafts.{texts, after, AreSound, Adds}
-use Rattle.vms_selfdesc.specs.Listing.{Lists}
+use Rattle.vms_selfdesc.specs.Listing.{Lists, element_path, element_entries, field_list, part_list}
 use Rattle.vms_selfdesc.specs.Tree.{entry_tree}
 use Rattle.vms_selfdesc.specs.declared.draft.Draft.{Draft}
 use Rattle.vms_selfdesc.proofs.Following.{further}
+use Rattle.vms_selfdesc.proofs.OfElements.{of_append, of_desc}
+use Rattle.vms_selfdesc.proofs.Structures.{cells_are}
+
+-- what is listed of the fields from k on of a part that begins at a place, the first of which begins at another
+abbrev pub fields_list : Set → Part → ℕ → ℕ → Bool → List ℤ → List ℕ → ℕ → List Entry
+fields_list set part base k sent n path at =
+    let d = desc_at set part in
+    entries_of sent path (elements_from (shapes set) d.fields d.version (own_numbers set part n base) n k at (drop k d.fields))
 
 -- of the whole that is to be listed, the entries `done` were, and these are left
 pub record Leaves (old now : Draft) (whole left : List Entry) : Type 0 where
@@ -75,6 +87,9 @@ leaves_none old now whole left e h =
 pub leaves_all : (old : Draft) (whole : List Entry) → Leaves old old whole whole
 leaves_all old whole = record { done = []; split = refl; lists = adds_none old }
 
+pub leaves_same : (old : Draft) (whole left : List Entry) → whole ≡ left → Leaves old old whole left
+leaves_same old whole left e = record { done = []; split = e; lists = adds_none old }
+
 -- ---- elements
 
 pub elements_next : (one : List ℕ → ℕ → List Entry) (path : List ℕ) (at step i n : ℕ) → i < n
@@ -105,15 +120,35 @@ next_element size first i cell e =
 
 -- ---- fields
 
-pub fields_next : (cs : List (List Cell)) (ls : List Lister) (v : ℕ) (own : ℕ → ℕ) (sent : Bool) (path : List ℕ) (n : List ℤ) (at k : ℕ) (fs : List Field) → k < length fs
-    → let f = get_or fs k no_field in
-    entries_from cs ls v own sent path n at (drop k fs)
-    ≡ field_entries cs ls v own sent path n at f ++ entries_from cs ls v own sent path n (at + capacity_of f.count * item_size cs f.item) (drop (k + 1) fs)
-fields_next cs ls v own sent path n at k fs lt = ap (entries_from cs ls v own sent path n at) (drop_more fs k no_field lt)
+-- field k of a description, and the fields after it
+module _ (set : Set) (part : Part) (base : ℕ) (sent : Bool) (path : List ℕ) (n : List ℤ) where
+  pub fields_next : (at k : ℕ) → k < length (desc_at set part).fields
+      → let f = field_at set part k in
+      fields_list set part base k sent n path at
+      ≡ field_list set part base k sent n path at ++ fields_list set part base (k + 1) sent n path (at + capacity_of f.count * item_size (struct_cells set) f.item)
+  fields_next at k lt =
+      let d = desc_at set part in
+      let f = field_at set part k in
+      let own = own_numbers set part n base in
+      let ss = shapes set in
+      let next : suc k ≡ k + 1 = omega arith in
+      let left = λ (i x : ℕ). entries_of sent path (elements_from ss d.fields d.version own n i x (drop (k + 1) d.fields)) in
+      let width = field_size (cells_in ss) d.fields k f ∙ ap (λ (cs : List (List Cell)). capacity_of f.count * item_size cs f.item) (cells_are set) in
+      ap (λ (fs : List Field). entries_of sent path (elements_from ss d.fields d.version own n k at fs)) (drop_more d.fields k no_field lt)
+      ∙ of_append sent path (field_elements ss d.fields d.version own n k at f) (elements_from ss d.fields d.version own n (suc k) (at + length (field_cells (cells_in ss) d.fields k f)) (drop (k + 1) d.fields))
+      ∙ ap (λ (i : ℕ). field_list set part base k sent n path at ++ left i (at + length (field_cells (cells_in ss) d.fields k f))) next
+      ∙ ap (λ (w : ℕ). field_list set part base k sent n path at ++ left (k + 1) (at + w)) width
 
-pub fields_end : (cs : List (List Cell)) (ls : List Lister) (v : ℕ) (own : ℕ → ℕ) (sent : Bool) (path : List ℕ) (n : List ℤ) (at k : ℕ) (fs : List Field) → length fs ≤ k
-    → entries_from cs ls v own sent path n at (drop k fs) ≡ []
-fields_end cs ls v own sent path n at k fs le = ap (entries_from cs ls v own sent path n at) (drop_all k fs le)
+  pub fields_end : (at k : ℕ) → length (desc_at set part).fields ≤ k → fields_list set part base k sent n path at ≡ []
+  fields_end at k le =
+      let d = desc_at set part in
+      ap (λ (fs : List Field). entries_of sent path (elements_from (shapes set) d.fields d.version (own_numbers set part n base) n k at fs)) (drop_all k d.fields le)
+
+  pub fields_whole : fields_list set part base 0 sent n path base ≡ part_list set part sent n path base
+  fields_whole =
+      let d = desc_at set part in
+      ap (λ (cs : List (List Cell)). entries_of sent path (elements_from (shapes set) d.fields d.version (numbers_of cs d n base) n 0 base d.fields)) (sym (cells_are set))
+      ∙ sym (of_desc (shapes set) d d.version sent path n base)
 
 -- there is room for field k of these, and for the fields after it
 pub record FieldRoom (cs : List (List Cell)) (fs : List Field) (k cell most : ℕ) : Type 0 where

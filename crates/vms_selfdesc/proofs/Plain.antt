@@ -9,8 +9,9 @@ use Rattle.std.specs.Str.{bytes_eq}
 use Rattle.json.specs.Print.{escape, escape_byte, quoted}
 use Rattle.vms_spec.specs.declared.TheConstants.{MOST_ITEMS}
 use Rattle.vms_spec.specs.Names.{is_name_byte, is_name, is_sub_name}
+use Rattle.vms_spec.proofs.ListLaws.{either_of}
 use Rattle.vms_selfdesc.specs.Drafts.{IsPlain}
-use Rattle.vms_selfdesc.specs.Entries.{element_path}
+use Rattle.vms_selfdesc.specs.Listing.{element_path}
 
 pub plain_append : (xs ys : List ℕ) → IsPlain xs → IsPlain ys → IsPlain (xs ++ ys)
 plain_append [] ys p q = q
@@ -38,10 +39,6 @@ plain_byte x le other =
     rw (a, b, c, d, e, f, g, h) refl
 
 -- ---- names
-
-either_of : {C : Type 0} (a b : Bool) → a || b ≡ true → (a ≡ true → C) → (b ≡ true → C) → C
-either_of true b e f g = f refl
-either_of false b e f g = g e
 
 name_byte : (x : ℕ) → is_name_byte x ≡ true → escape_byte x ≡ x ∷ []
 name_byte x e =

@@ -5,7 +5,7 @@ use Rattle.vms_spec.specs.Heads.{FitsHeads}
 use Rattle.vms_spec.specs.Images.{Image}
 use Rattle.vms_spec.specs.Streams.{longest_text}
 use Rattle.vms_spec.specs.WellFormed.{WellFormed}
-use Rattle.vms_desc.specs.Formed.{shipped_set}
+use Rattle.vms_desc.specs.Formed.{shipped_set, clock_set}
 use Rattle.vms_selfdesc.specs.Tree.{described_text}
 
 -- of a well-formed set whose instance ids and versions have four bytes: less than what a description section may have
@@ -16,3 +16,7 @@ pub record ShortLaw : Type 0 where
 -- of a shipped set
 pub record ShippedLaw : Type 0 where
   pub shipped : (s : ℕ) → s ≤ 4 → (images : List Image) → length (described_text (shipped_set s) images) < 60000
+
+-- of a set of the clock boards
+pub record ClockLaw : Type 0 where
+  pub clock : (s : ℕ) (images : List Image) → length (described_text (clock_set s) images) < 60000

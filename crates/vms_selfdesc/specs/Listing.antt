@@ -1,14 +1,19 @@
 -- What the calls that go over fields write, over the parts of a set.
-use Rattle.std.specs.Prelude.{ℕ, Bool, ◌&&◌, List, map, ℤ, string_bytes}
+use Rattle.std.specs.Prelude.{ℕ, zero, suc, ◌+◌, Bool, ◌&&◌, List, [], ◌++◌, map, ℤ, codes, decimal, string_bytes}
+use Rattle.vms_kinds.specs.declared.Item.{Item}
+use Rattle.vms_spec.specs.declared.Count.{Count}
+use Rattle.vms_spec.specs.declared.Count.TheVariants.{One}
 use Rattle.vms_spec.specs.declared.Part.{Part}
 use Rattle.vms_spec.specs.Sets.{Set, Field}
 use Rattle.vms_spec.specs.Tests.{is_there}
 use Rattle.vms_spec.specs.Layout.{no_parent, item_size, struct_cells}
+use Rattle.vms_elements.specs.Elements.{Shape, shapes, item_elements, field_elements}
+use Rattle.vms_elements.specs.Parts.{elements_in}
 use Rattle.vms_desc.specs.Asks.{field_at, own_numbers}
 use Rattle.vms_desc.specs.Described.{described}
 use Rattle.vms_desc.specs.Parts.{desc_at}
 use Rattle.vms_selfdesc.specs.Drafts.{Adds}
-use Rattle.vms_selfdesc.specs.Entries.{Entry, listers, item_entries, element_entries, array_entries, field_entries, desc_entries}
+use Rattle.vms_selfdesc.specs.Entries.{Entry, entries_of}
 use Rattle.vms_selfdesc.specs.Needs.{HasPlace, HasElements}
 use Rattle.vms_selfdesc.specs.Tree.{entry_tree}
 use Rattle.vms_selfdesc.specs.declared.draft.Draft.{Draft}
@@ -26,9 +31,26 @@ is_field_sent set part base k sent numbers =
     let f = field_at set part k in
     sent && is_there f.test f.since (desc_at set part).version (own_numbers set part numbers base) no_parent
 
+-- one element of an item with this default, which goes on into a structure
+abbrev pub item_entries : List Shape → Item → ℤ → Bool → List ℤ → List ℕ → ℕ → List Entry
+item_entries shapes item default sent numbers path at = entries_of sent path (item_elements shapes item [] default numbers at)
+
+abbrev pub element_path : List ℕ → ℕ → List ℕ
+element_path path i = path ++ (codes "[" ++ (decimal i ++ codes "]"))
+
+-- n elements, the first of which has the number i, each `step` cells after the one before
+abbrev pub element_entries : (List ℕ → ℕ → List Entry) → List ℕ → ℕ → ℕ → ℕ → ℕ → List Entry
+element_entries one path at step i zero = []
+element_entries one path at step i (suc n) = one (element_path path i) at ++ element_entries one path (at + step) step (suc i) n
+
+-- of an array as many elements as its length or its count says, whether or not it stands in the stream
+abbrev pub array_entries : (List ℕ → ℕ → List Entry) → Count → ℕ → List ℕ → ℕ → ℕ → List Entry
+array_entries one One n path at step = one path at
+array_entries one count n path at step = element_entries one path at step 0 n
+
 -- of one element of a field, of n of them one after the other, of field k of a part, and of all of them
 abbrev pub item_list : Set → Field → Bool → List ℤ → List ℕ → ℕ → List Entry
-item_list set f sent numbers path cell = item_entries (listers set) f.item f.default sent path numbers cell
+item_list set f sent numbers path cell = item_entries (shapes set) f.item f.default sent numbers path cell
 
 abbrev pub elements_list : Set → Field → Bool → List ℤ → List ℕ → ℕ → ℕ → List Entry
 elements_list set f sent numbers path cell n =
@@ -36,12 +58,13 @@ elements_list set f sent numbers path cell n =
 
 abbrev pub field_list : Set → Part → ℕ → ℕ → Bool → List ℤ → List ℕ → ℕ → List Entry
 field_list set part base k sent numbers path cell =
+    let d = desc_at set part in
     let own = own_numbers set part numbers base in
-    field_entries (struct_cells set) (listers set) (desc_at set part).version own sent path numbers cell (field_at set part k)
+    entries_of sent path (field_elements (shapes set) d.fields d.version own numbers k cell (field_at set part k))
 
 abbrev pub part_list : Set → Part → Bool → List ℤ → List ℕ → ℕ → List Entry
 part_list set part sent numbers path cell =
-    desc_entries (struct_cells set) (listers set) (desc_at set part) sent path numbers cell
+    entries_of sent path (elements_in set (desc_at set part) (desc_at set part).version numbers cell)
 
 -- ---- the same, as the code has them
 

@@ -6,8 +6,8 @@ ghost use Rattle.vms_parts.specs.Views.{field_of};
 ghost use Rattle.vms_desc.specs.Asks.{field_at};
 ghost use Rattle.vms_desc.specs.Parts.{desc_at};
 ghost use Rattle.vms_selfdesc.specs.Drafts.{IsPlain};
-ghost use Rattle.vms_selfdesc.specs.Entries.{element_path, listed_if, sent_entry};
-ghost use Rattle.vms_selfdesc.specs.Listing.{Lists, is_field_sent, set_in, numbers_in};
+ghost use Rattle.vms_selfdesc.specs.Entries.{listed_if, sent_entry};
+ghost use Rattle.vms_selfdesc.specs.Listing.{Lists, element_path, is_field_sent, set_in, numbers_in};
 ghost use Rattle.vms_selfdesc.specs.Listing.{IsPlace, AreElements};
 ghost use Rattle.vms_selfdesc.specs.Listing.{item_at, elements_at, run_at, field_within, part_at};
 

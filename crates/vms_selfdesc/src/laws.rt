@@ -1,5 +1,5 @@
 // Laws of self-descriptions.
-ghost use Rattle.vms_selfdesc.specs.Laws.{ShippedLaw, ShortLaw};
+ghost use Rattle.vms_selfdesc.specs.Laws.{ClockLaw, ShippedLaw, ShortLaw};
 ghost use Rattle.vms_selfdesc.specs.OfElements.{ElementsLaw};
 
 /// The entries of each part of a well-formed set are read off its elements, in order, as its slots and
@@ -21,4 +21,10 @@ pub fn short_law()
 #[tactic(auto, using(crate::proofs::Bounds::shipped_holds))]
 pub fn shipped_law()
     ensures { ShippedLaw }
+{}
+
+/// That of a set of the clock boards has less than 60,000 bytes.
+#[tactic(auto, using(crate::proofs::Bounds::clock_holds))]
+pub fn clock_law()
+    ensures { ClockLaw }
 {}

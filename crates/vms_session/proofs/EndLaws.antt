@@ -1,5 +1,5 @@
 -- Each session has a trace and an end.
-use Rattle.std.proofs.Common.{◌≡◌, ℕ, ◌<◌, ◌≤◌, ◌++◌, Bool, true, false, if◌then◌else◌, List, [], ◌∷◌, length, Option, Some, None, nat_lt, arith, refl, sym, subst, ◌∙◌}
+use Rattle.std.proofs.Common.{◌≡◌, ℕ, ◌<◌, ◌≤◌, Bool, true, false, if◌then◌else◌, List, [], ◌∷◌, length, Option, Some, None, nat_lt, arith, refl, sym, subst, ◌∙◌}
 use Rattle.std.specs.Str.{bytes_eq}
 use Rattle.std.proofs.lemmas.Slice.Eq.{bytes_eq-Decides}
 use Rattle.std.proofs.lemmas.Bool.Decides.{nat_tests}
@@ -12,14 +12,14 @@ use Rattle.vms_io.specs.Shelves.{Held, PutsUnder}
 use Rattle.vms_script.specs.Grammar.{IsLine, AreLines}
 use Rattle.vms_script.specs.Lines.{ScriptLine, Happens, Saves, Restores as Loads, is_set_of}
 use Rattle.vms_script.specs.Trace.{trace_line}
-use Rattle.vms_kinds.specs.Bytes.{IsBytes}
 use Rattle.vms_session.proofs.SessionLaws.{line_level}
 use Rattle.vms_session.proofs.SoundLaws.{sessions_stay_sound}
 use Rattle.vms_board_streams.proofs.IsaLaws.{streams_come_back, bytes_are_one}
 use Rattle.vms_board.specs.Restoring.{Restore, Back, Refused, Restores}
 use Rattle.vms_board.specs.Saving.{saved_stream}
 use Rattle.vms_session.specs.Parts.{part_of}
-use Rattle.vms_session.specs.Laws.{HoldsBytes, HasAnEnd, SessionsEnd}
+use Rattle.vms_io.specs.Shelves.{HoldsAll, HoldsBytes}
+use Rattle.vms_session.specs.Laws.{HasAnEnd, SessionsEnd}
 use Rattle.vms_session.specs.Lines.{saved_line, restored_line, missing_line, too_large_line, refused_line}
 use Rattle.vms_session.specs.Session.{Session, IsTooLarge, IsLoaded, LoadsHeld, Does}
 use Rattle.vms_commands.specs.Fetching.{longest_file}
@@ -32,9 +32,6 @@ use Rattle.vms_board.specs.Family.{MaySaveIn}
 abbrev pub Comes : ℕ → List ℕ → Type 0
 Comes level bytes = (restore : Restore State) × Restores isa level bytes restore
 
-pub bytes_come : (level : ℕ) (bytes : List ℕ) → IsBytes bytes → Comes level bytes
-bytes_come level bytes ok = bytes_are_one.some level bytes ok
-
 -- ---- what a shelf holds
 
 abbrev HeldComes : ℕ → Option (List ℕ) → Type 0
@@ -43,7 +40,7 @@ HeldComes level (Some bytes) = Comes level bytes
 
 held-comes : (level : ℕ) (held : Option (List ℕ)) → HoldsBytes held → HeldComes level held
 held-comes level None h = tt
-held-comes level (Some bytes) h = bytes_come level bytes h
+held-comes level (Some bytes) h = bytes_are_one.some level bytes h
 
 -- with bytes under a name
 abbrev put : Held → List ℕ → List ℕ → Held

@@ -13,7 +13,8 @@ use Rattle.vms_kinds.specs.Bytes.{IsBytes}
 use Rattle.vms_board_streams.proofs.IsaLaws.{bytes_are_one}
 use Rattle.vms_board.specs.Restoring.{Restore, Back, Refused}
 use Rattle.vms_board.specs.Saving.{saved_stream}
-use Rattle.vms_session.specs.Laws.{HoldsBytes, ReadsBytes, LinesAreOne, IsOneEnd}
+use Rattle.vms_io.specs.Shelves.{HoldsBytes}
+use Rattle.vms_session.specs.Laws.{ReadsBytes, LinesAreOne, IsOneEnd}
 use Rattle.vms_session.specs.Lines.{restored_line, missing_line, too_large_line, refused_line}
 use Rattle.vms_session.specs.Session.{Session, Leaves, ComesTo, IsTooLarge, IsLoaded, LoadsBytes, LoadsHeld, Does}
 use Rattle.vms_board.specs.Isa.{isa}

@@ -1,11 +1,10 @@
 -- A script of a session leaves one trace and one session, and what the shelf holds stays bytes.
-use Rattle.std.proofs.Common.{◌≡◌, ◌≢◌, ℕ, Bool, true, false, List, [], ◌∷◌, Option, Some, None, refl, sym, ap, ◌∙◌, subst}
-use Rattle.std.specs.Str.{bytes_eq}
-use Rattle.std.proofs.lemmas.Slice.Eq.{bytes_eq-Decides}
+use Rattle.std.proofs.Common.{◌≡◌, ℕ, List, [], ◌∷◌, Option, Some, None, refl, sym, ap, ◌∙◌, subst}
 use Rattle.dev_board.specs.Sound.{IsSound}
 use Rattle.vms_board.specs.Restoring.{Back, Refused}
 use Rattle.vms_board.specs.Saving.{saved_stream}
-use Rattle.vms_io.specs.Shelves.{Held, PutsUnder}
+use Rattle.vms_io.proofs.PutLemmas.{puts_bytes}
+use Rattle.vms_io.specs.Shelves.{Held, HoldsAll}
 use Rattle.vms_script.specs.Grammar.{AreLines, IsLine}
 use Rattle.vms_script.specs.Lines.{ScriptLine, Happens, Saves, Restores as Loads}
 use Rattle.vms_session.proofs.EndLaws.{may_save}
@@ -15,21 +14,12 @@ use Rattle.vms_session.proofs.SoundLaws.{sessions_stay_sound}
 use Rattle.vms_board_streams.proofs.IsaBytes.{streams_are_bytes}
 use Rattle.vms_commands.specs.Outcomes.{Part}
 use Rattle.vms_session.specs.Parts.{Plays, part_of}
-use Rattle.vms_session.specs.Laws.{HoldsAll, HoldsBytes, IsOneCourse, ReadsBytes, SessionsAreOne}
+use Rattle.vms_session.specs.Laws.{IsOneCourse, ReadsBytes, SessionsAreOne}
 use Rattle.vms_session.specs.Session.{Session, Does, IsLoaded, IsTooLarge, LoadsHeld}
 use Rattle.vms_kinds.specs.Bytes.{IsBytes}
 use Rattle.vms_board.specs.Isa.{isa}
 
 -- ---- what is held stays bytes
-
-puts-bytes : (old new : Held) (name bytes : List ℕ) → PutsUnder old new name bytes → IsBytes bytes → HoldsAll old → HoldsAll new
-puts-bytes old new name bytes p ok holds = λ other. by other (bytes_eq other name) refl
-  where
-    by : (other : List ℕ) (t : Bool) → bytes_eq other name ≡ t → HoldsBytes (new other)
-    by other true e = subst HoldsBytes (sym (ap new ((bytes_eq-Decides other name).0 e) ∙ p.there)) ok
-    by other false e =
-        let ne : other ≢ name = λ same. let f = (bytes_eq-Decides other name).1 same in cc (sym e ∙ f) in
-        subst HoldsBytes (sym (p.others other ne)) (holds other)
 
 abbrev held-of : Session → Held
 held-of s = s.held
@@ -49,7 +39,7 @@ pub line_holds : (line : ScriptLine) (old : Session) (text : List ℕ) (new : Se
     → HoldsAll old.held → HoldsAll new.held
 line_holds (Happens event) old text new good does s holds = subst HoldsAll (sym (ap held-of does.new_is)) holds
 line_holds (Saves set name) old text new good does s holds =
-    puts-bytes old.held new.held name (saved_stream isa set old.board) does.held (streams_are_bytes.bytes set old.board s (may_save old.board set good.0)) holds
+    puts_bytes old.held new.held name (saved_stream isa set old.board) does.held (streams_are_bytes.bytes set old.board s (may_save old.board set good.0)) holds
 line_holds (Loads name) old text new good does s holds = subst HoldsAll (sym (loads-same (old.held name) old text new does)) holds
 
 -- ---- scripts

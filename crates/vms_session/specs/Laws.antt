@@ -5,7 +5,7 @@ use Rattle.dev_board.specs.Sound.{IsSound}
 use Rattle.vms_board.specs.Isa.{isa}
 use Rattle.vms_board.specs.Restoring.{Refused, Restores}
 use Rattle.vms_desc.specs.Formed.{shipped_set}
-use Rattle.vms_io.specs.Shelves.{Held}
+use Rattle.vms_io.specs.Shelves.{Held, HoldsAll, HoldsBytes}
 use Rattle.vms_kinds.specs.Bytes.{IsBytes}
 use Rattle.vms_script.specs.Grammar.{IsLine, AreLines}
 use Rattle.vms_script.specs.Lines.{ScriptLine, Restores as Loads}
@@ -49,11 +49,6 @@ pub record SessionsStaySound : Type 0 where
   pub lines : (play : Option ℕ) (lines : List ScriptLine) (old : Session) (parts : List Part) (new : Session) → AreLines play lines
       → Plays lines old parts new → IsSound old.board → IsSound new.board
 
--- bytes are held under a name, or nothing
-abbrev pub HoldsBytes : Option (List ℕ) → Type 0
-HoldsBytes None = Unit {0}
-HoldsBytes (Some bytes) = IsBytes bytes
-
 -- lines do something, each its part, and leave a session
 pub record HasAnEnd (lines : List ScriptLine) (old : Session) : Type 0 where
   pub parts : List Part
@@ -63,7 +58,7 @@ pub record HasAnEnd (lines : List ScriptLine) (old : Session) : Type 0 where
 -- whatever the lines are, of a session of the board's level, where the board is sound and bytes are held
 pub record SessionsEnd : Type 0 where
   pub ends : (lines : List ScriptLine) (old : Session) → AreLines (Some old.board.level) lines → IsSound old.board
-      → ((name : List ℕ) → HoldsBytes (old.held name)) → HasAnEnd lines old
+      → HoldsAll old.held → HasAnEnd lines old
 
 -- what a line reads of the shelf are bytes
 abbrev pub ReadsBytes : ScriptLine → Session → Type 0
@@ -78,10 +73,6 @@ pub record IsOneEnd (text text' : List ℕ) (new new' : Session) : Type 0 where
 pub record LinesAreOne : Type 0 where
   pub line : (line : ScriptLine) (old : Session) (text text' : List ℕ) (new new' : Session) → ReadsBytes line old
       → Does line old text new → Does line old text' new' → IsOneEnd text text' new new'
-
--- bytes are held under each name
-abbrev pub HoldsAll : Held → Type 0
-HoldsAll held = (name : List ℕ) → HoldsBytes (held name)
 
 -- two courses of a script are one: the parts, and the sessions after them
 pub record IsOneCourse (parts parts' : List Part) (new new' : Session) : Type 0 where

@@ -1,5 +1,5 @@
 -- The clock sets 1 and 2: the devices of set 4 behind a clock chip. Set c describes the boards clk-1 to clk-c.
-use Rattle.std.specs.Prelude.{ℕ, zero, suc, List, [], ◌∷◌, ◌++◌, codes}
+use Rattle.std.specs.Prelude.{ℕ, zero, suc, ◌+◌, List, [], ◌∷◌, ◌++◌, codes}
 use Rattle.vms_kinds.specs.declared.Kind.TheVariants.{U8, Bool as Truth}
 use Rattle.vms_spec.specs.declared.Count.TheVariants.{Fixed}
 use Rattle.vms_spec.specs.declared.Rel.TheVariants.{Eq}
@@ -23,11 +23,15 @@ mc146818_at_1 = device 0 (desc (codes "mc146818") 1 mc146818_fields) (pending �
 abbrev pub mc146818_at_2 : Device
 mc146818_at_2 = device 0 (desc (codes "mc146818") 2 (mc146818_fields ++ nmi_mask ∷ [])) (pending ∷ [])
 
+-- the machine that a board of a version is, clk-1 or clk-2
+abbrev pub clock_machine : ℕ → List ℕ
+clock_machine version = codes "clk-" ++ (48 + version) ∷ []
+
 abbrev pub clock_1 : Set
-clock_1 = record { machines = codes "clk-1" ∷ []; structs = set_4.structs; devices = mc146818_at_1 ∷ set_4.devices }
+clock_1 = record { machines = clock_machine 1 ∷ []; structs = set_4.structs; devices = mc146818_at_1 ∷ set_4.devices }
 
 abbrev pub clock_2 : Set
-clock_2 = record { machines = codes "clk-1" ∷ codes "clk-2" ∷ []; structs = set_4.structs; devices = mc146818_at_2 ∷ set_4.devices }
+clock_2 = record { machines = clock_machine 1 ∷ clock_machine 2 ∷ []; structs = set_4.structs; devices = mc146818_at_2 ∷ set_4.devices }
 
 -- the clock set of a number, 1 or 2
 abbrev pub clock_set : ℕ → Set

@@ -4,9 +4,11 @@
 
 mod chips;
 mod clock;
+mod machines;
 mod made;
 mod rows;
 mod serial;
 mod sets;
 
+pub use machines::{CLK_1, CLK_2, ISA_0, ISA_1, ISA_2, ISA_3, ISA_4, clock_machine, isa_machine};
 pub use sets::{clock_parts, shipped_parts};

@@ -9,6 +9,7 @@ use crate::chips::{
     SECOND_AT_1, SECOND_AT_2, SECOND_AT_4, TIMER,
 };
 use crate::clock::{MC146818_AT_1, MC146818_AT_2};
+use crate::machines::{CLK_1, CLK_2, ISA_0, ISA_1, ISA_2, ISA_3, ISA_4};
 use crate::made::parts;
 use crate::rows::SetRow;
 use crate::serial::{SERIAL_AT_1, SERIAL_AT_2, SERIAL_AT_3, SERIAL_AT_4};
@@ -18,32 +19,32 @@ use vms_parts::Parts;
 
 // The machine isa-0 with a timer alone.
 const SET_0: SetRow = SetRow {
-    machines: &["isa-0"],
+    machines: &[ISA_0],
     structs: &[],
     devices: &[TIMER],
 };
 
 // The boards from isa-1 on.
 const SET_1: SetRow = SetRow {
-    machines: &["isa-1"],
+    machines: &[ISA_1],
     structs: &[CHANNEL_AT_1],
     devices: &[TIMER, FIRST_AT_1, SECOND_AT_1, I8254_AT_1, SERIAL_AT_1],
 };
 
 const SET_2: SetRow = SetRow {
-    machines: &["isa-1", "isa-2"],
+    machines: &[ISA_1, ISA_2],
     structs: &[CHANNEL_AT_2],
     devices: &[TIMER, FIRST_AT_2, SECOND_AT_2, I8254_AT_2, SERIAL_AT_2],
 };
 
 const SET_3: SetRow = SetRow {
-    machines: &["isa-1", "isa-2", "isa-3"],
+    machines: &[ISA_1, ISA_2, ISA_3],
     structs: &[CHANNEL_AT_2],
     devices: &[TIMER, FIRST_AT_2, SECOND_AT_2, I8254_AT_2, SERIAL_AT_3],
 };
 
 const SET_4: SetRow = SetRow {
-    machines: &["isa-1", "isa-2", "isa-3", "isa-4"],
+    machines: &[ISA_1, ISA_2, ISA_3, ISA_4],
     structs: &[CHANNEL_AT_2],
     devices: &[TIMER, FIRST_AT_4, SECOND_AT_4, I8254_AT_2, SERIAL_AT_4],
 };
@@ -64,7 +65,7 @@ pub fn shipped_parts(alloc: Global, s: u8) -> Result<Parts, NoMemory>
 
 // The boards with a clock chip, which stands in front of the devices of isa-4.
 const CLOCK_1: SetRow = SetRow {
-    machines: &["clk-1"],
+    machines: &[CLK_1],
     structs: &[CHANNEL_AT_2],
     devices: &[
         MC146818_AT_1,
@@ -77,7 +78,7 @@ const CLOCK_1: SetRow = SetRow {
 };
 
 const CLOCK_2: SetRow = SetRow {
-    machines: &["clk-1", "clk-2"],
+    machines: &[CLK_1, CLK_2],
     structs: &[CHANNEL_AT_2],
     devices: &[
         MC146818_AT_2,

@@ -1,12 +1,12 @@
 -- Lists, and tests of them.
 use Rattle.std.proofs.Common.{◌≡◌, ℕ, zero, suc, ◌+◌, ◌*◌, ◌-◌, ◌<◌, ◌≤◌, min, Bool, true, false, ◌&&◌, nat_le, if◌then◌else◌, List, ◌∷◌, ◌++◌, length, drop, Option, Some, None, refl, sym, ap, ◌∙◌, arith, ◌||◌, []}
-use Rattle.std.specs.List.{slice_get}
+use Rattle.std.specs.List.{AllByRecursion, slice_get}
 use Rattle.std.specs.Str.{bytes_eq}
 use Rattle.std.proofs.Math.Bool.{or_assoc, or_comm}
 use Rattle.std.proofs.Math.Seq.{drop-append_seam}
 use Rattle.std.proofs.lemmas.Bool.{and_from, and_parts, leb-true, le-leb}
 use Rattle.std.proofs.lemmas.List.{drop-drop}
-use Rattle.vms_spec.specs.Lists.{position}
+use Rattle.vms_spec.specs.Lists.{or_else, position}
 use Rattle.vms_spec.specs.Sets.{Sub}
 use Rattle.vms_spec.specs.Images.{AreVersionsOf}
 use Rattle.vms_spec.specs.Streams.{AllCame, is_one_of}
@@ -45,12 +45,23 @@ both_below n a b = same_tests (nat_le n (min a b)) (nat_le n a && nat_le n b) fo
         let m : n ≤ b = leb-true n b p.1 in
         le-leb n (min a b) (omega arith)
 
+pub either_of : {C : Type 0} (a b : Bool) → (a || b) ≡ true → (a ≡ true → C) → (b ≡ true → C) → C
+either_of true b e f g = f refl
+either_of false b e f g = g e
+
 -- ---- lists
 
 -- the first of a list, if it is taken
 pub pick_append : {B : Type 0} (b : Bool) (x : B) (xs ys zs : List B) → xs ≡ ys ++ zs → (if b then x ∷ xs else xs) ≡ (if b then x ∷ ys else ys) ++ zs
 pick_append true x xs ys zs e = ap (λ l. x ∷ l) e
 pick_append false x xs ys zs e = e
+
+pub all_right : (P : ℕ → Type 0) (xs ys : List ℕ) → AllByRecursion P (xs ++ ys) → AllByRecursion P ys
+all_right P [] ys h = h
+all_right P (x ∷ xs) ys h = all_right P xs ys h.1
+
+pub both_none : {X : Type 0} (x y : Option X) → x ≡ None → y ≡ None → or_else x y ≡ None
+both_none x y e f = ap (λ o. or_else o y) e ∙ f
 
 pub drop_on : {A : Type 0} (all : List A) (at : ℕ) (xs ys : List A) → drop at all ≡ xs ++ ys → drop (at + length xs) all ≡ ys
 drop_on all at xs ys e = sym (drop-drop (length xs) at all) ∙ ap (λ l. drop (length xs) l) e ∙ drop-append_seam xs ys

@@ -75,7 +75,11 @@ is_single One e = tt
 is_single (Fixed n) e = cc
 is_single (Counted by most) e = cc
 
-earlier : (d : Desc) (k j : ℕ) → j < k → is_steady_in d j ≡ true → IsEarlier d.fields k j
+pub untested : (t : Option Formula) → has_no_test t ≡ true → t ≡ None
+untested None e = refl
+untested (Some t) e = cc
+
+pub earlier : (d : Desc) (k j : ℕ) → j < k → is_steady_in d j ≡ true → IsEarlier d.fields k j
 earlier d k j lt e = go (slice_get d.fields j) refl e
   where
     go : (o : Option Field) → slice_get d.fields j ≡ o → is_steady d.minimum o ≡ true → IsEarlier d.fields k j

@@ -1,6 +1,6 @@
 -- The shipped sets 0 to 4. Set 0 has the timer alone; set s of the others describes the boards isa-1 to isa-s. Defaults
 -- and `since` are 0 where nothing else is said, and there are no validations.
-use Rattle.std.specs.Prelude.{ℕ, List, [], ◌∷◌, ◌++◌, Some, None, pos, negsuc, codes}
+use Rattle.std.specs.Prelude.{ℕ, ◌+◌, List, [], ◌∷◌, ◌++◌, Some, None, pos, negsuc, codes}
 use Rattle.vms_kinds.specs.declared.Kind.{Kind}
 use Rattle.vms_kinds.specs.declared.Kind.TheVariants.{U8, U16, U64, I8, Bool as Truth, Timer}
 use Rattle.vms_kinds.specs.declared.Item.{Item}
@@ -134,19 +134,23 @@ serial version fields subs = device 0 (desc (codes "serial") version fields) sub
 
 -- ---- the sets
 
+-- the machine that a board of a level is, isa-0 to isa-4
+abbrev pub isa_machine : ℕ → List ℕ
+isa_machine level = codes "isa-" ++ (48 + level) ∷ []
+
 abbrev pub set_0 : Set
-set_0 = record { machines = codes "isa-0" ∷ []; structs = []; devices = timer ∷ [] }
+set_0 = record { machines = isa_machine 0 ∷ []; structs = []; devices = timer ∷ [] }
 
 abbrev pub set_1 : Set
 set_1 = record {
-  machines = codes "isa-1" ∷ [];
+  machines = isa_machine 1 ∷ [];
   structs = pit_channel (Equal U8 (pos 1)) ∷ [];
   devices = timer ∷ i8259_at_1 0 ∷ i8259_at_1 1 ∷ i8254_at_1 ∷ serial 1 (divider ∷ serial_fields) (thr_ipending ∷ []) ∷ [];
 }
 
 abbrev pub set_2 : Set
 set_2 = record {
-  machines = codes "isa-1" ∷ codes "isa-2" ∷ [];
+  machines = isa_machine 1 ∷ isa_machine 2 ∷ [];
   structs = pit_channel (Unused 1) ∷ [];
   devices = timer ∷ i8259_at_2 0 ∷ i8259_at_2 1 ∷ i8254_at_2
       ∷ serial 2 (divider ∷ serial_fields ++ fcr ∷ []) (thr_ipending ∷ fifo ∷ []) ∷ [];
@@ -154,7 +158,7 @@ set_2 = record {
 
 abbrev pub set_3 : Set
 set_3 = record {
-  machines = codes "isa-1" ∷ codes "isa-2" ∷ codes "isa-3" ∷ [];
+  machines = isa_machine 1 ∷ isa_machine 2 ∷ isa_machine 3 ∷ [];
   structs = pit_channel (Unused 1) ∷ [];
   devices = timer ∷ i8259_at_2 0 ∷ i8259_at_2 1 ∷ i8254_at_2
       ∷ serial 3 (divisor ∷ serial_fields ++ fcr ∷ []) (thr_ipending ∷ fifo ∷ timeout ∷ []) ∷ [];
@@ -162,7 +166,7 @@ set_3 = record {
 
 abbrev pub set_4 : Set
 set_4 = record {
-  machines = codes "isa-1" ∷ codes "isa-2" ∷ codes "isa-3" ∷ codes "isa-4" ∷ [];
+  machines = isa_machine 1 ∷ isa_machine 2 ∷ isa_machine 3 ∷ isa_machine 4 ∷ [];
   structs = pit_channel (Unused 1) ∷ [];
   devices = timer ∷ i8259_at_4 0 ∷ i8259_at_4 1 ∷ i8254_at_2
       ∷ serial 4 (divisor ∷ serial_fields ++ fcr ∷ []) (thr_ipending ∷ fifo ∷ timeout ∷ ring ∷ []) ∷ [];

@@ -98,34 +98,33 @@ abbrev with_reason : ℕ → Option ValuesReason → Option BadLine → Option B
 with_reason line None next = next
 with_reason line (Some reason) next = Some (record { line = line; reason = reason })
 
-judged_next : (set : Set) (i : ℕ) (image : Image) (lines : List ℕ) (j line : ℕ) → j < length (device_at set i).subs → j < length image.came → j < length lines → line ≡ get_or lines j 0
-    → judged_from set i image lines j ≡ with_reason line (sub_judged set i j image) (judged_from set i image lines (j + 1))
-judged_next set i image lines j line lt lc ll is =
-    let d = device_at set i in
-    let none : Sub = record { desc = no_desc; needed = AtLeast 0 } in
-    let at = first_cell set (parts.Sub i j) in
-    let s = sub_at d j in
-    let o = get_or image.came j None in
-    ap (λ (l : List Sub). judge_subs set d image j at l (drop j image.came) (drop j lines)) (drop_more d.subs j none lt)
-    ∙ ap (λ (l : List (Option ℕ)). judge_subs set d image j at (s ∷ drop (j + 1) d.subs) l (drop j lines)) (drop_more image.came j None lc)
-    ∙ ap (λ (l : List ℕ). judge_subs set d image j at (s ∷ drop (j + 1) d.subs) (o ∷ drop (j + 1) image.came) l) (drop_more lines j 0 ll ∙ ap (λ (x : ℕ). x ∷ drop (j + 1) lines) (sym is))
-    ∙ by (sub_fails set s o image.numbers at) (is_said_well set d image j s o at) (judge_subs set d image (suc j) (at + length (desc_cells (struct_cells set) s.desc)) (drop (j + 1) d.subs) (drop (j + 1) image.came) (drop (j + 1) lines))
-    ∙ ap (λ (k : ℕ). with_reason line (sub_judged set i j image) (judge_subs set d image k (at + length (desc_cells (struct_cells set) s.desc)) (drop (j + 1) d.subs) (drop (j + 1) image.came) (drop (j + 1) lines))) (one j)
-    ∙ ap (λ (x : ℕ). with_reason line (sub_judged set i j image) (judge_subs set d image (j + 1) x (drop (j + 1) d.subs) (drop (j + 1) image.came) (drop (j + 1) lines))) (sym (sub_next set (own_cells set d) d.subs j none lt))
-  where
-    one : (j : ℕ) → suc j ≡ j + 1
-    one j = omega arith
+module _ (set : Set) (i : ℕ) (image : Image) (lines : List ℕ) (j line : ℕ) (lt : j < length (device_at set i).subs) (lc : j < length image.came) (ll : j < length lines) (is : line ≡ get_or lines j 0) where
+  judged_next : judged_from set i image lines j ≡ with_reason line (sub_judged set i j image) (judged_from set i image lines (j + 1))
+  judged_next =
+      let d = device_at set i in
+      let none : Sub = record { desc = no_desc; needed = AtLeast 0 } in
+      let at = first_cell set (parts.Sub i j) in
+      let s = sub_at d j in
+      let o = get_or image.came j None in
+      ap (λ (l : List Sub). judge_subs set d image j at l (drop j image.came) (drop j lines)) (drop_more d.subs j none lt)
+      ∙ ap (λ (l : List (Option ℕ)). judge_subs set d image j at (s ∷ drop (j + 1) d.subs) l (drop j lines)) (drop_more image.came j None lc)
+      ∙ ap (λ (l : List ℕ). judge_subs set d image j at (s ∷ drop (j + 1) d.subs) (o ∷ drop (j + 1) image.came) l) (drop_more lines j 0 ll ∙ ap (λ (x : ℕ). x ∷ drop (j + 1) lines) (sym is))
+      ∙ by (sub_fails set s o image.numbers at) (is_said_well set d image j s o at) (judge_subs set d image (suc j) (at + length (desc_cells (struct_cells set) s.desc)) (drop (j + 1) d.subs) (drop (j + 1) image.came) (drop (j + 1) lines))
+      ∙ ap (λ (k : ℕ). with_reason line (sub_judged set i j image) (judge_subs set d image k (at + length (desc_cells (struct_cells set) s.desc)) (drop (j + 1) d.subs) (drop (j + 1) image.came) (drop (j + 1) lines))) (one j)
+      ∙ ap (λ (x : ℕ). with_reason line (sub_judged set i j image) (judge_subs set d image (j + 1) x (drop (j + 1) d.subs) (drop (j + 1) image.came) (drop (j + 1) lines))) (sym (sub_next set (own_cells set d) d.subs j none lt))
+    where
+      one : (j : ℕ) → suc j ≡ j + 1
+      one j = omega arith
 
-    by : (fails well : Bool) (next : Option BadLine) → or_bad (if_bad fails line reasons.Invalid) (or_bad (if_bad (not well) line reasons.Needed) next)
-        ≡ with_reason line (if fails then Some reasons.Invalid else if not well then Some reasons.Needed else None) next
-    by true well next = refl
-    by false true next = refl
-    by false false next = refl
+      by : (fails well : Bool) (next : Option BadLine) → or_bad (if_bad fails line reasons.Invalid) (or_bad (if_bad (not well) line reasons.Needed) next)
+          ≡ with_reason line (if fails then Some reasons.Invalid else if not well then Some reasons.Needed else None) next
+      by true well next = refl
+      by false true next = refl
+      by false false next = refl
 
-pub judged_go : (set : Set) (i : ℕ) (image : Image) (lines : List ℕ) (j line : ℕ) → j < length (device_at set i).subs → j < length image.came → j < length lines → line ≡ get_or lines j 0
-    → sub_judged set i j image ≡ None → judged_from set i image lines (j + 1) ≡ judged_from set i image lines j
-judged_go set i image lines j line lt lc ll is e =
-    sym (judged_next set i image lines j line lt lc ll is ∙ ap (λ (o : Option ValuesReason). with_reason line o (judged_from set i image lines (j + 1))) e)
+  pub judged_go : sub_judged set i j image ≡ None → judged_from set i image lines (j + 1) ≡ judged_from set i image lines j
+  judged_go e =
+      sym (judged_next ∙ ap (λ (o : Option ValuesReason). with_reason line o (judged_from set i image lines (j + 1))) e)
 
 pub judged_stop : (set : Set) (i : ℕ) (image : Image) (lines : List ℕ) (j line : ℕ) (reason : ValuesReason) → j < length (device_at set i).subs → j < length image.came → j < length lines → line ≡ get_or lines j 0
     → sub_judged set i j image ≡ Some reason → judged_from set i image lines j ≡ Some (record { line = line; reason = reason })

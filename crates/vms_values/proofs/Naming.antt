@@ -217,14 +217,12 @@ module _ (set : Set) where
       let size = size_in set f.item in
       let e = cell / size in
       let rest = get_or (item_names set f.item) (cell % size) [] in
+      let joined : ((path ++ f.name) ++ codes "[" ++ decimal e ++ codes "]") ++ rest ≡ path ++ ((f.name ++ (codes "[" ++ (decimal e ++ codes "]"))) ++ rest) = simp append_assoc refl in
       ap (λ (l : List ℕ). ((path ++ l) ++ codes "[" ++ decimal (cell / step) ++ codes "]") ++ get_or (item_names set f.item) (cell % step) []) n
       ∙ ap (λ (k : ℕ). ((path ++ f.name) ++ codes "[" ++ decimal (cell / k) ++ codes "]") ++ get_or (item_names set f.item) (cell % k) []) s
-      ∙ brackets path f.name (codes "[") (decimal e) (codes "]") rest
+      ∙ joined
       ∙ ap (λ (l : List ℕ). path ++ ((f.name ++ l) ++ rest)) (sym (index_is f.count many e))
     where
-      brackets : (a b c d e f : List ℕ) → ((((a ++ b) ++ c) ++ d) ++ e) ++ f ≡ a ++ ((b ++ (c ++ (d ++ e))) ++ f)
-      brackets a b c d e f = simp append_assoc refl
-
       index_is : (c : Count) → (c ≡ One → ⊥) → (e : ℕ) → index_text c e ≡ codes "[" ++ (decimal e ++ codes "]")
       index_is One other e = absurd (other refl)
       index_is (Fixed n) other e = refl

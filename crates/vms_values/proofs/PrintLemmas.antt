@@ -35,16 +35,15 @@ of_long set [] (image ∷ images) a = absurd a
 of_long set (d ∷ devices) [] a = absurd a
 of_long set (d ∷ devices) (image ∷ images) a = ap (λ (n : ℕ). suc n) (of_long set devices images a.1)
 
--- the image of the next device
-pub of_next : (set : Set) (k : ℕ) (all : List Device) (images : List Image) (d : Device) (image : Image) → drop k all ≡ d ∷ drop (k + 1) all → drop k images ≡ image ∷ drop (k + 1) images
-    → AreOf set (drop k all) (drop k images) → IsOf set d image × AreOf set (drop (k + 1) all) (drop (k + 1) images)
-of_next set k all images d image e f a =
-    subst (λ (l : List Image). AreOf set (d ∷ drop (k + 1) all) l) f (subst (λ (l : List Device). AreOf set l (drop k images)) e a)
-
 pub of_room : (set : Set) (k : ℕ) (all : List Device) (images : List Image) → AreOf set (drop k all) (drop k images) → k < length all → k < length images
 of_room set k all images a lt = omega (arith, of_long set (drop k all) (drop k images) a, length-drop k all, length-drop k images)
 
-pub devices_next : (set : Set) (k : ℕ) (all : List Device) (images : List Image) (d : Device) (image : Image) → drop k all ≡ d ∷ drop (k + 1) all → drop k images ≡ image ∷ drop (k + 1) images
-    → devices_lines set (drop k all) (drop k images) ≡ device_lines set d image ++ devices_lines set (drop (k + 1) all) (drop (k + 1) images)
-devices_next set k all images d image e f =
-    ap (λ (l : List Device). devices_lines set l (drop k images)) e ∙ ap (λ (l : List Image). devices_lines set (d ∷ drop (k + 1) all) l) f
+-- the image of the next device, and its lines
+module _ (set : Set) (k : ℕ) (all : List Device) (images : List Image) (d : Device) (image : Image) (e : drop k all ≡ d ∷ drop (k + 1) all) (f : drop k images ≡ image ∷ drop (k + 1) images) where
+  pub of_next : AreOf set (drop k all) (drop k images) → IsOf set d image × AreOf set (drop (k + 1) all) (drop (k + 1) images)
+  of_next a =
+      subst (λ (l : List Image). AreOf set (d ∷ drop (k + 1) all) l) f (subst (λ (l : List Device). AreOf set l (drop k images)) e a)
+
+  pub devices_next : devices_lines set (drop k all) (drop k images) ≡ device_lines set d image ++ devices_lines set (drop (k + 1) all) (drop (k + 1) images)
+  devices_next =
+      ap (λ (l : List Device). devices_lines set l (drop k images)) e ∙ ap (λ (l : List Image). devices_lines set (d ∷ drop (k + 1) all) l) f

@@ -15,9 +15,6 @@ use Rattle.vms_desc.proofs.AskLaws.{sub_next, sub_inside, own_inside_device, few
 use Rattle.vms_walk.specs.Steps.{HasSpot}
 use Rattle.vms_values.specs.Printing.{IsOf, section_text, whole_sub}
 
-five : (a b c d e g h : List ℕ) → a ++ (b ++ (c ++ (d ++ (e ++ g)))) ++ h ≡ (a ++ (b ++ (c ++ (d ++ e)))) ++ g ++ h
-five a b c d e g h = simp append_assoc refl
-
 -- what is left of the subsections, at one of them
 pub subs_left : (set : Set) (i : ℕ) (n : List ℤ) (came : List (Option ℕ)) (j : ℕ) → j < length (device_at set i).subs → j < length came
     → sub_lines set n (first_cell set (parts.Sub i j)) (drop j (device_at set i).subs) (drop j came)
@@ -29,9 +26,12 @@ subs_left set i n came j lt lt' =
     let s = sub_at d j in
     let o = get_or came j None in
     let rest = λ (x : ℕ). sub_lines set n x (drop (j + 1) d.subs) (drop (j + 1) came) in
+    let own = desc_lines (printers set) s.desc [] n at in
+    let left = rest (at + length (desc_cells (struct_cells set) s.desc)) in
+    let joined : codes "sub " ++ (s.desc.name ++ (codes " " ++ (version_text o ++ (line_end ++ own)))) ++ left ≡ (codes "sub " ++ (s.desc.name ++ (codes " " ++ (version_text o ++ line_end)))) ++ own ++ left = simp append_assoc refl in
     ap (λ (xs : List Sub). sub_lines set n at xs (drop j came)) (drop_more d.subs j none lt)
     ∙ ap (λ (ys : List (Option ℕ)). sub_lines set n at (s ∷ drop (j + 1) d.subs) ys) (drop_more came j None lt')
-    ∙ five (codes "sub ") s.desc.name (codes " ") (version_text o) line_end (desc_lines (printers set) s.desc [] n at) (rest (at + length (desc_cells (struct_cells set) s.desc)))
+    ∙ joined
     ∙ ap (λ (x : ℕ). whole_sub set i j n o ++ rest x) (sym (sub_next set (own_cells set d) d.subs j none lt))
 
 pub no_subs : (set : Set) (n : List ℤ) (at j : ℕ) (subs : List Sub) (came : List (Option ℕ)) → j ≡ length subs → sub_lines set n at (drop j subs) came ≡ []

@@ -15,6 +15,7 @@ pub mod FirstPass
 pub mod GoodDevices
 pub mod Feeds
 pub mod Meeting
+pub mod FirstTaken
 pub mod CleanNames
 pub mod Back
 pub mod CleanSets

@@ -167,6 +167,10 @@ above_lines n at (x ∷ xs) up k le = go (view x xs) (λ next h le. above_lines 
 
 -- ---- elements whose lines are fine
 
+pub fine_rest : (n : List ℤ) (x : Element) (xs : List Element) (b : Bool) → AreFine (of_numbers n (if b then x ∷ printed xs else printed xs)) → AreFine (of_numbers n (printed xs))
+fine_rest n x xs true f = f.1
+fine_rest n x xs false f = f
+
 module _ (n : List ℤ) (short : AreShort n) where
   -- one line
   counted_right : (x : Element) (cell : Cell) (ss : List Slot) (k : ℕ) → x.what ≡ Number cell → x.cell ≡ k
@@ -209,16 +213,12 @@ module _ (n : List ℤ) (short : AreShort n) where
           let b : AreBare n at (cell ∷ cells_of xs) (λ k. has_line (of_numbers n (if x.counted then x ∷ printed xs else printed xs)) k) =
           subst (λ (l : List Element). AreBare n at (cell ∷ cells_of xs) (λ k. has_line (of_numbers n l) k)) v.lines (subst (λ (l : List Cell). AreBare n at l (λ k. has_line (of_numbers n (printed (x ∷ xs))) k)) v.cells bare) in
           let later : AreRight n (at + 1) (cells_of xs) (slots_of xs) =
-          more (at + 1) u.1 (rest x.counted f) (λ c lt. d (suc c) (omega arith))
+          more (at + 1) u.1 (fine_rest n x xs x.counted f) (λ c lt. d (suc c) (omega arith))
           (λ c k lt e bare. b (suc c) k (omega arith) (omega arith) (no_line n x (printed xs) k x.counted (λ s. omega (arith, u.0)) bare)) in
           subst (λ (l : List Cell). AreRight n at l (slots_of (x ∷ xs))) (sym v.cells)
           (subst (λ (ss : List Slot). AreRight n at (cell ∷ cells_of xs) ss) (sym v.bytes)
           (record { right = λ c k lt e. place c k lt e (first x.counted f b u.0 u.1 (d 0 (omega arith))) later }))
         where
-          rest : (t : Bool) → AreFine (of_numbers n (if t then x ∷ printed xs else printed xs)) → AreFine (of_numbers n (printed xs))
-          rest true f = f.1
-          rest false f = f
-
           first : (t : Bool) → AreFine (of_numbers n (if t then x ∷ printed xs else printed xs)) → AreBare n at (v.cell ∷ cells_of xs) (λ k. has_line (of_numbers n (if t then x ∷ printed xs else printed xs)) k)
               → x.cell ≡ at → CountsUp (at + 1) (numbers_in xs) → FitsCell v.cell v.cell.default
               → IsRight n (if x.present then slots.Number x.cell v.cell.kind v.cell.capacities ∷ slots_of xs else slots_of xs) at v.cell

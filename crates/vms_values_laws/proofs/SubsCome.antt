@@ -113,6 +113,11 @@ module _ (set : Set) (d : Device) where
   abbrev pub cells_long : List Sub → ℕ
   cells_long subs = length (flat_map (λ s. desc_cells (struct_cells set) s.desc) subs)
 
+  -- the entries of subsections follow on what was taken, whichever of them have come and whatever is behind them
+  abbrev pub FollowSubs : List Sub → ℕ → ℕ → List Taken → (List Entry → List Entry → Type 0) → Type 0
+  FollowSubs subs j at taken Then = (image : Image) (came : List (Option ℕ)) (more : List Entry) → length came ≡ length subs → AreShort image.numbers
+      → Follows taken (Then more) (subs_entries set d image j at subs came ++ more)
+
   pub record SubsRead (subs : List Sub) (j at : ℕ) (p : Standing) (r : ReadSubs) : Type 0 where
     pub said : List Said
     pub taken : List Taken
@@ -121,8 +126,7 @@ module _ (set : Set) (d : Device) where
     pub versions : AreAtVersions subs r.came
     pub heard : (image : Image) → Agrees said image.numbers → (c : ℕ) → has_line (subs_entries set d image j at subs r.came) c ≡ has_said said c
     pub lines : (image : Image) → Agrees said image.numbers → r.lines ≡ sub_numbers p.line (subs_entries set d image j at subs r.came)
-    pub follows : (image : Image) (came : List (Option ℕ)) (more : List Entry) → length came ≡ length subs → AreShort image.numbers
-        → Follows taken (λ es. es ≡ more) (subs_entries set d image j at subs came ++ more)
+    pub follows : FollowSubs subs j at taken (λ more es. es ≡ more)
     pub along : (image : Image) (more : List Entry) → Agrees said image.numbers → Along taken (λ es. es ≡ more) (subs_entries set d image j at subs r.came ++ more)
     pub moved : Moved p.line p.rest taken r.place.line r.place.rest
 
@@ -136,8 +140,7 @@ module _ (set : Set) (d : Device) where
     pub told : Told at p.numbers said numbers
     pub one_each : length came ≡ length subs
     pub versions : AreAtVersions subs came
-    pub follows : (image : Image) (came : List (Option ℕ)) (more : List Entry) → length came ≡ length subs → AreShort image.numbers
-        → Follows taken (λ es. Begins demand es) (subs_entries set d image j at subs came ++ more)
+    pub follows : FollowSubs subs j at taken (λ more es. Begins demand es)
     pub along : (image : Image) (more : List Entry) → Agrees said image.numbers → Along taken (λ es. Begins demand es) (subs_entries set d image j at subs came ++ more)
     pub moved : Moved p.line p.rest taken e.line rest
     pub wrong : reason_for demand (first_line rest) ≡ Some e.reason

@@ -10,13 +10,13 @@ use Rattle.vms_spec.specs.ValuesReading.{ValuesRead, machine_named}
 use Rattle.vms_spec.specs.WellFormed.{WellFormed}
 use Rattle.vms_elements.specs.Lines.{text_of, section_line}
 use Rattle.vms_elements.specs.Entries.{Entry, devices_entries, entries, entry_line}
-use Rattle.vms_elements.specs.Reading.{IsMachineOf, AreShaped, Says}
-use Rattle.vms_values_laws.specs.Taken.{Taken, lines_of, AreFineTaken, Follows}
+use Rattle.vms_elements.specs.Reading.{IsMachineOf, Says}
+use Rattle.vms_values_laws.specs.Taken.{Taken, Follows}
 use Rattle.vms_values_laws.proofs.SecondPass.{parts_from}
 use Rattle.vms_values_laws.proofs.Feeds.{NoFeed, line_first, section_feed}
 use Rattle.vms_values_laws.proofs.AllCome.{all_short, images_of}
-use Rattle.vms_values_laws.proofs.BadLines.{follows_ends}
 use Rattle.vms_values_laws.proofs.FirstPass.{FirstPass, NoneBad}
+use Rattle.vms_values_laws.proofs.FirstTaken.{TakenOf, taken_all, taken_before}
 use Rattle.vms_values_laws.proofs.Meeting.{AreClean, Ends, Same, meet}
 use Rattle.vms_values_laws.proofs.CleanNames.{AreCleanDevices, clean_entries}
 use Rattle.vms_values_laws.proofs.CleanSets.{clean_structs, clean_devices, clean_named}
@@ -65,15 +65,13 @@ module _ (set : Set) (well : WellFormed set) (text : List ℕ) (machine : Option
   its_machine = named_by set well text machine images says.named says.printed
 
   -- what was taken are the lines of the state
-  beside : (machine' : Option (List ℕ)) (taken : List Taken) (rest : List ℕ) (o : Option ValuesReason) → machine' ≡ machine_named set.machines (first_line text)
-      → ((images : List Image) → AreShaped set set.devices images → Follows taken (λ es. Ends o rest es) (entries set machine' images))
-      → AreFineTaken taken → text ≡ text_of (lines_of taken) ++ rest → Same taken (entries set machine images) o None
-  beside machine' taken rest o named follows fine texts =
+  beside : (machine' : Option (List ℕ)) (taken : List Taken) (rest : List ℕ) (o : Option ValuesReason) → TakenOf set text machine' taken rest o → Same taken (entries set machine images) o None
+  beside machine' taken rest o t =
       let es = entries set machine images in
       let whole : es ≡ es ++ [] = sym (append-nil es) in
-      let f : Follows taken (λ es. Ends o rest es) es = subst (λ (m : Option (List ℕ)). Follows taken (λ es. Ends o rest es) (entries set m images)) (named ∙ its_machine) (follows images says.shaped) in
+      let f : Follows taken (λ es. Ends o rest es) es = subst (λ (m : Option (List ℕ)). Follows taken (λ es. Ends o rest es) (entries set m images)) (t.named ∙ its_machine) (t.follows images says.shaped) in
       meet taken es [] rest [] o None (subst (λ (l : List Entry). Follows taken (λ es. Ends o rest es) l) whole f) (subst (λ (l : List Entry). AreClean l) whole (clean_says set well machine images says.named))
-      fine says.fine (sym texts ∙ says.printed ∙ sym (append-nil (text_of (map entry_line es)))) (refl, refl)
+      t.fine says.fine (sym t.texts ∙ says.printed ∙ sym (append-nil (text_of (map entry_line es)))) (refl, refl)
 
   same_devices : (machine : Option (List ℕ)) (i j : List Image) → Match (entries set machine i) (entries set machine j) → Match (devices_entries set set.devices i) (devices_entries set set.devices j)
   same_devices None i j m = m
@@ -87,9 +85,7 @@ module _ (set : Set) (well : WellFormed set) (text : List ℕ) (machine : Option
     same_images =
         let f = n.first in
         let read = images_of n.all.devices in
-        let same = beside n.machine f.taken n.all.rest None f.named
-        (λ images shaped. follows_ends f.taken (λ es. es ≡ []) (λ es. Ends None n.all.rest es) (entries set n.machine images) (f.follows images shaped (all_short set set.devices images shaped)) (λ es e. (e, n.ends)))
-        f.moved.fine f.moved.texts in
+        let same = beside n.machine f.taken n.all.rest None (taken_all set text v n) in
         let m : Match (entries set n.machine read) (entries set n.machine images) =
         matched f.taken (entries set n.machine read) (entries set n.machine images) (f.follows read f.shaped f.short) f.along (f.follows images says.shaped (all_short set set.devices images says.shaped))
         (same.lines ∙ ap (λ (m : Option (List ℕ)). map entry_line (entries set m images)) (sym same_machine)) in
@@ -98,7 +94,7 @@ module _ (set : Set) (well : WellFormed set) (text : List ℕ) (machine : Option
   pub says_answers : (v : ValuesRead) → FirstPass set text v → v ≡ answer_by machine images (parts_from set 1 (entries set machine images))
   says_answers v (inl b) =
       let f = b.first in
-      let same = beside f.machine f.taken f.rest (Some b.reason) f.named (λ images shaped. f.follows images shaped (all_short set set.devices images shaped)) f.moved.fine f.moved.texts in
+      let same = beside f.machine f.taken f.rest (Some b.reason) (taken_before set text v b) in
       no same.reason
     where
       no : Some b.reason ≡ None → v ≡ answer_by machine images (parts_from set 1 (entries set machine images))

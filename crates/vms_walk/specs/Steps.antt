@@ -1,13 +1,13 @@
 -- The steps of a part, and what the walk needs.
-use Rattle.std.specs.Prelude.{◌≡◌, ℕ, ◌≤◌, List, [], ◌∷◌, ◌++◌, length, map, ℤ, Option, Some, None, if◌then◌else◌}
+use Rattle.std.specs.Prelude.{◌≡◌, ℕ, ◌≤◌, Bool, List, [], ◌∷◌, ◌++◌, length, map, ℤ, Option, Some, None, if◌then◌else◌}
 use Rattle.vms_kinds.specs.declared.Item.{Item}
 use Rattle.vms_parts.specs.Capacities.{least_of}
 use Rattle.vms_spec.specs.declared.TheConstants.{MOST_ITEMS}
 use Rattle.vms_spec.specs.Sets.{Set, Field}
 use Rattle.vms_spec.specs.Tests.{is_there}
-use Rattle.vms_spec.specs.Layout.{Cell, Meaning, meanings, Slot, numbers_of, no_parent, elements_of, item_slots, item_size, times, field_slots, desc_slots, place_of}
+use Rattle.vms_spec.specs.Layout.{Cell, Meaning, meanings, Slot, numbers_of, no_parent, elements_of, all_hold, item_slots, item_size, times, field_slots, desc_slots, place_of}
 use Rattle.vms_spec.specs.Layout as slots
-use Rattle.vms_desc.specs.Asks.{field_at, HasCells}
+use Rattle.vms_desc.specs.Asks.{field_at, own_numbers, HasCells}
 use Rattle.vms_desc.specs.Parts.{HasPart, desc_at}
 use Rattle.vms_walk.specs.declared.step.WalkStep.{WalkStep}
 use Rattle.vms_walk.specs.declared.step.WalkStep.TheVariants as steps
@@ -39,6 +39,10 @@ pub record HasSpot (set : Set) (spot : PartAt) (numbers : List ℤ) : Type 0 whe
 -- the numbers of its fields
 abbrev pub spot_numbers : Set → PartAt → List ℤ → ℕ → ℕ
 spot_numbers set spot numbers = numbers_of (cells_in (table set)) (desc_at set spot.part) numbers spot.base
+
+-- whether its validations hold
+abbrev pub holds_at : Set → PartAt → List ℤ → Bool
+holds_at set spot numbers = all_hold (desc_at set spot.part).validate spot.version (own_numbers set spot.part numbers spot.base)
 
 -- its slots, and those of its field k, whose first cell is given
 abbrev pub spot_slots : Set → PartAt → List ℤ → List Slot

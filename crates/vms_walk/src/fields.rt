@@ -188,6 +188,5 @@ pub fn walk<W: Walker>(set: &DescSet, spot: PartAt, walker: &mut W) -> Result<()
         walk_field(set, spot, field, cell, walker)?;
         cell += set.field_cells(spot.part, field);
     }
-    let holds = set.holds_rules(spot.part, spot.base, spot.version, walker);
-    walker.step(WalkStep::Rule { holds })
+    walker.rules(set, spot)
 }

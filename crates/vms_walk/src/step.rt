@@ -1,7 +1,8 @@
 // What a walk comes to, and what is done there.
 ghost use Rattle.std.specs.Prelude.{OnOk, IfErr};
 
-use vms_desc::Cells;
+use crate::PartAt;
+use vms_desc::{Cells, DescSet};
 use vms_kinds::Kind;
 
 /// One thing that stands in the bytes of a description, or the end of its fields.
@@ -31,8 +32,11 @@ pub enum WalkStep {
 /// What is done at each step. It may change numbers, but of the cells alone at which it is called.
 pub trait Walker: Cells {
     ghost use Rattle.std.specs.Prelude.{List, [], ◌∷◌, ◌++◌};
+    ghost use Rattle.vms_desc.specs.Described.{described};
     ghost use Rattle.vms_walk.specs.declared.step.WalkStep.{WalkStep as OneStep};
+    ghost use Rattle.vms_walk.specs.declared.step.WalkStep.TheVariants.{Rule};
     ghost use Rattle.vms_walk.specs.Inside.{IsInside, Keeps};
+    ghost use Rattle.vms_walk.specs.Steps.{HasSpot, holds_at};
 
     /// Why it stops.
     type Fault: Drop;
@@ -52,6 +56,22 @@ pub trait Walker: Cells {
         requires may { may self.old step }
         ensures ok { OnOk result (goes (step ∷ []) self.old self.new) }
         ensures err { IfErr result (λ fault. stops (step ∷ []) self.old fault self.new) };
+
+    /// Comes to the end of a part, or of one element of a structure, and takes the step that says whether its
+    /// validations hold. Who does the same either way need not ask them.
+    #[inline(always)]
+    fn rules(&mut self, set: &DescSet, spot: PartAt) -> Result<(), Self::Fault>
+        requires spot { HasSpot (described set.now) spot (Self.numbers self.old) }
+        requires may { let holds = holds_at (described set.now) spot (Self.numbers self.old) in
+            may self.old (Rule holds) }
+        ensures ok { let holds = holds_at (described set.now) spot (Self.numbers self.old) in
+            OnOk result (goes (Rule holds ∷ []) self.old self.new) }
+        ensures err { let holds = holds_at (described set.now) spot (Self.numbers self.old) in
+            IfErr result (λ fault. stops (Rule holds ∷ []) self.old fault self.new) }
+    {
+        let holds = set.holds_rules(spot.part, spot.base, spot.version, self);
+        self.step(WalkStep::Rule { holds })
+    }
 
     /// Only the cells of the steps change.
     ghost keeps: { (xs : List OneStep) (a b : Self)

@@ -95,6 +95,12 @@ impl<K: Sink> Walker for Writer<'_, K> {
     fn step(&mut self, step: WalkStep) -> Result<(), WriteFault> {
         write_step(self.image, step, self.sink)
     }
+
+    // What is written doesn't depend on them.
+    #[inline(always)]
+    fn rules(&mut self, _: &DescSet, _: PartAt) -> Result<(), WriteFault> {
+        Ok(())
+    }
 }
 
 #[inline(always)]

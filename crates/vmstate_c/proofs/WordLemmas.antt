@@ -1,15 +1,12 @@
 -- Whether all words so far pass a test, and which words are UTF-8.
 use Rattle.std.proofs.Common.{◌≡◌, ◌∙◌, refl, ap, ℕ, zero, suc, ◌+◌, ◌<◌, Bool, true, false, ◌&&◌, List, [], ◌∷◌, ◌++◌, length, map, take, get_or, add-one, arith}
 use Rattle.std.specs.List.{list_all}
+use Rattle.std.proofs.Math.Bool.{and-false}
 use Rattle.std.proofs.Math.Seq.{take-suc}
 use Rattle.std.specs.Str.{IsUtf8, is_utf8}
 use Rattle.std.proofs.lemmas.List.{map-append}
 use Rattle.std.proofs.lemmas.List.Folds.{list_all-append}
 use Rattle.std.proofs.lemmas.Str.{IsUtf8-from_is_utf8}
-
-and_false : (b : Bool) → (b && false) ≡ false
-and_false true = refl
-and_false false = refl
 
 -- the first i + 1 items are the first i and one more
 take-more : {A : Type 0} (xs : List A) (i : ℕ) (d : A) → i < length xs → take (i + 1) xs ≡ take i xs ++ get_or xs i d ∷ []
@@ -26,7 +23,7 @@ map-more {A} {B} f xs i d lt = ap (map f) (take-more xs i d lt) ∙ map-append f
 pub all-fails : {A : Type 0} (p : A → Bool) (xs : List A) (i : ℕ) (d : A) → i < length xs → p (get_or xs i d) ≡ false → list_all p xs ≡ false
 all-fails {A} p [] i d lt e = absurd (omega (arith, lt))
 all-fails {A} p (x ∷ xs) zero d lt e = ap (λ (b : Bool). b && list_all p xs) e
-all-fails {A} p (x ∷ xs) (suc i) d lt e = ap (λ (b : Bool). p x && b) (all-fails p xs i d (omega (arith, lt)) e) ∙ and_false (p x)
+all-fails {A} p (x ∷ xs) (suc i) d lt e = ap (λ (b : Bool). p x && b) (all-fails p xs i d (omega (arith, lt)) e) ∙ and-false (p x)
 
 pub not_utf8 : (bytes : List ℕ) → ¬ (IsUtf8 bytes) → is_utf8 bytes ≡ false
 not_utf8 bytes bad = by (is_utf8 bytes) refl

@@ -1,5 +1,6 @@
 // A shelf in memory.
 ghost use Rattle.std.specs.Prelude.{◌≡◌, ◌+◌, ◌≤◌, ◌↔◌, [], None, List, ℕ, length, IfOk, IfErr, OnOk, OnErr, Some, Contains};
+ghost use Rattle.vms_kinds.specs.Bytes.{IsBytes};
 ghost use Rattle.vms_io.specs.Causes.{capped};
 ghost use Rattle.vms_io.specs.Memory.{is_empty, empty_is};
 ghost use Rattle.vms_io.specs.Shelves.{FetchRefuses, PutsUnder, KeepsOthers, HasFetchCause, HasStoreCause, CountsFetches, CountsStores};
@@ -9,11 +10,18 @@ use crate::{FetchFault, NoMemory, Shelf, StoreFault};
 use std::alloc::Global;
 use std::collections::BTreeMap;
 
+// What stands under a name.
+#[derive(Drop)]
+struct Content {
+    bytes: Vec<u8>,
+    ghost octets: { IsBytes bytes.items },
+}
+
 /// Bytes under names, where the calls of some numbers fail.
 #[derive(Drop)]
 pub struct MemShelf {
     alloc: Global,
-    entries: BTreeMap<String, Vec<u8>>,
+    entries: BTreeMap<String, Content>,
     failing: Vec<u32>,
     calls: u64,
     faults: u64,
@@ -50,13 +58,13 @@ impl MemShelf {
         ensures faults { (cabinet self.new).faults ≡ (cabinet self.old).faults }
     {
         let name = String::from_str(self.alloc, name)?;
-        self.entries.insert(name, bytes)?;
+        self.entries.insert(name, Content { bytes })?;
         Ok(())
     }
 }
 
 impl Shelf for MemShelf {
-    ghost use Rattle.vms_io.specs.Cabinets.{cabinet};
+    ghost use Rattle.vms_io.specs.Cabinets.{cabinet, contents_hold};
 
     ghost held = { λ s. Some (cabinet s).held };
 
@@ -65,6 +73,8 @@ impl Shelf for MemShelf {
     ghost promise = { λ s. is_empty (cabinet s).failing };
 
     ghost promised = { λ s h. s.quiet (empty_is s.failing.items h) };
+
+    ghost octets = { λ s. contents_hold s.entries.entries };
 
     fn fetch(&mut self, alloc: Global, name: &str, limit: u32) -> Result<Vec<u8>, FetchFault>
         ensures fits { IfOk result (λ bytes. length bytes.items ≤ limit) }
@@ -86,13 +96,14 @@ impl Shelf for MemShelf {
             self.faults = self.faults.saturating_add(1);
             return Err(FetchFault::Failed);
         }
-        let Some(bytes) = self.entries.get(name) else {
+        let Some(content) = self.entries.get(name) else {
             return Err(FetchFault::NotThere);
         };
-        if bytes.len() > limit as usize {
+        if content.bytes.len() > limit as usize {
             return Err(FetchFault::TooLarge);
         }
-        bytes
+        content
+            .bytes
             .as_slice()
             .to_vec(alloc)
             .map_err(|_| FetchFault::NoMemory)

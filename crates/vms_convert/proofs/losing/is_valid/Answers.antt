@@ -1,12 +1,11 @@
-use Rattle.std.proofs.Common.{◌≡◌, ℕ, List, Some, map, sym, ap, ◌∙◌}
-use Rattle.vms_spec.specs.Lookup.{find_device}
-use Rattle.vms_spec.specs.Sets.{Device}
+use Rattle.std.proofs.Common.{map, ◌∙◌}
 use Rattle.vms_spec.specs.Streams.{IsReady}
 use Rattle.vms_desc.specs.Described.{described, device_at}
 use Rattle.vms_image.specs.Typed.{state_of}
 use Rattle.vms_image.proofs.States.{at_state}
 use Rattle.vms_convert.specs.Lost.{IsValidAt}
-use Rattle.vms_convert.proofs.JudgeLaws.{found_inside, invalid_of, on_false, on_true, own_bound, own_image, valid_none, valid_of}
+use Rattle.vms_load.proofs.HeadLemmas.{device_below}
+use Rattle.vms_convert.proofs.JudgeLaws.{invalid_of, on_false, on_true, own_bound, own_image, searched_by, valid_none, valid_of}
 use Rattle.vms_convert.proofs.losing.is_valid.Goals as goal
 
 pub bounds-images-own : goal.bounds-images-own
@@ -14,12 +13,9 @@ bounds-images-own c =
     let to = described c.args.to.now in
     let new = described c.args.newest.now in
     let d = device_at new c.args.device in
-    let name : c.as_bytes.result.now ≡ d.desc.name = c.as_bytes.ensures ∙ ap (λ (x : Device). x.desc.name) c.device-described.ensures in
-    let instance : c.device-described.result.now.instance ≡ d.instance = ap (λ (x : Device). x.instance) c.device-described.ensures in
-    let searched : find_device 0 to.devices d.desc.name d.instance ≡ c.find.result =
-    ap (λ (n : List ℕ). find_device 0 to.devices n d.instance) (sym name) ∙ ap (λ (m : ℕ). find_device 0 to.devices c.as_bytes.result.now m) (sym instance) ∙ sym c.find.ensures in
+    let searched = searched_by to.devices d _ c.as_bytes.result.now c.find.result c.device-described.ensures c.as_bytes.ensures c.find.ensures in
     let own = c.in-Some.own in
-    let found : find_device 0 to.devices d.desc.name d.instance ≡ Some own = searched ∙ c.in-Some.is in
+    let found = searched ∙ c.in-Some.is in
     own_bound to c.args.images.now c.requires.writable d.desc.name d.instance own found
 
 pub ready-requires-clause-is_device : goal.ready-requires-clause-is_device
@@ -27,25 +23,19 @@ ready-requires-clause-is_device c =
     let to = described c.args.to.now in
     let new = described c.args.newest.now in
     let d = device_at new c.args.device in
-    let name : c.as_bytes.result.now ≡ d.desc.name = c.as_bytes.ensures ∙ ap (λ (x : Device). x.desc.name) c.device-described.ensures in
-    let instance : c.device-described.result.now.instance ≡ d.instance = ap (λ (x : Device). x.instance) c.device-described.ensures in
-    let searched : find_device 0 to.devices d.desc.name d.instance ≡ c.find.result =
-    ap (λ (n : List ℕ). find_device 0 to.devices n d.instance) (sym name) ∙ ap (λ (m : ℕ). find_device 0 to.devices c.as_bytes.result.now m) (sym instance) ∙ sym c.find.ensures in
+    let searched = searched_by to.devices d _ c.as_bytes.result.now c.find.result c.device-described.ensures c.as_bytes.ensures c.find.ensures in
     let own = c.in-Some.own in
-    let found : find_device 0 to.devices d.desc.name d.instance ≡ Some own = searched ∙ c.in-Some.is in
-    found_inside to.devices d.desc.name d.instance own found
+    let found = searched ∙ c.in-Some.is in
+    device_below to.devices d.desc.name d.instance own found
 
 pub ready-requires-clause-subs : goal.ready-requires-clause-subs
 ready-requires-clause-subs c =
     let to = described c.args.to.now in
     let new = described c.args.newest.now in
     let d = device_at new c.args.device in
-    let name : c.as_bytes.result.now ≡ d.desc.name = c.as_bytes.ensures ∙ ap (λ (x : Device). x.desc.name) c.device-described.ensures in
-    let instance : c.device-described.result.now.instance ≡ d.instance = ap (λ (x : Device). x.instance) c.device-described.ensures in
-    let searched : find_device 0 to.devices d.desc.name d.instance ≡ c.find.result =
-    ap (λ (n : List ℕ). find_device 0 to.devices n d.instance) (sym name) ∙ ap (λ (m : ℕ). find_device 0 to.devices c.as_bytes.result.now m) (sym instance) ∙ sym c.find.ensures in
+    let searched = searched_by to.devices d _ c.as_bytes.result.now c.find.result c.device-described.ensures c.as_bytes.ensures c.find.ensures in
     let own = c.in-Some.own in
-    let found : find_device 0 to.devices d.desc.name d.instance ≡ Some own = searched ∙ c.in-Some.is in
+    let found = searched ∙ c.in-Some.is in
     let image = c.index-images-own.result in
     let at = own_image to c.args.images.now c.requires.writable d.desc.name d.instance own found image c.index-images-own.is in
     (c.requires.writable.of own image at).subs
@@ -55,12 +45,9 @@ ready-requires-clause-cells c =
     let to = described c.args.to.now in
     let new = described c.args.newest.now in
     let d = device_at new c.args.device in
-    let name : c.as_bytes.result.now ≡ d.desc.name = c.as_bytes.ensures ∙ ap (λ (x : Device). x.desc.name) c.device-described.ensures in
-    let instance : c.device-described.result.now.instance ≡ d.instance = ap (λ (x : Device). x.instance) c.device-described.ensures in
-    let searched : find_device 0 to.devices d.desc.name d.instance ≡ c.find.result =
-    ap (λ (n : List ℕ). find_device 0 to.devices n d.instance) (sym name) ∙ ap (λ (m : ℕ). find_device 0 to.devices c.as_bytes.result.now m) (sym instance) ∙ sym c.find.ensures in
+    let searched = searched_by to.devices d _ c.as_bytes.result.now c.find.result c.device-described.ensures c.as_bytes.ensures c.find.ensures in
     let own = c.in-Some.own in
-    let found : find_device 0 to.devices d.desc.name d.instance ≡ Some own = searched ∙ c.in-Some.is in
+    let found = searched ∙ c.in-Some.is in
     let image = c.index-images-own.result in
     let at = own_image to c.args.images.now c.requires.writable d.desc.name d.instance own found image c.index-images-own.is in
     (c.requires.writable.of own image at).cells
@@ -70,12 +57,9 @@ returns-in-Some-clause-valid c =
     let to = described c.args.to.now in
     let new = described c.args.newest.now in
     let d = device_at new c.args.device in
-    let name : c.as_bytes.result.now ≡ d.desc.name = c.as_bytes.ensures ∙ ap (λ (x : Device). x.desc.name) c.device-described.ensures in
-    let instance : c.device-described.result.now.instance ≡ d.instance = ap (λ (x : Device). x.instance) c.device-described.ensures in
-    let searched : find_device 0 to.devices d.desc.name d.instance ≡ c.find.result =
-    ap (λ (n : List ℕ). find_device 0 to.devices n d.instance) (sym name) ∙ ap (λ (m : ℕ). find_device 0 to.devices c.as_bytes.result.now m) (sym instance) ∙ sym c.find.ensures in
+    let searched = searched_by to.devices d _ c.as_bytes.result.now c.find.result c.device-described.ensures c.as_bytes.ensures c.find.ensures in
     let own = c.in-Some.own in
-    let found : find_device 0 to.devices d.desc.name d.instance ≡ Some own = searched ∙ c.in-Some.is in
+    let found = searched ∙ c.in-Some.is in
     let image = c.index-images-own.result in
     let at = own_image to c.args.images.now c.requires.writable d.desc.name d.instance own found image c.index-images-own.is in
     on_true c.ready.result (IsReady to (device_at to own) (state_of image)) (IsValidAt to new (map state_of c.args.images.now) c.args.device)
@@ -86,16 +70,13 @@ returns-in-Some-clause-other c =
     let to = described c.args.to.now in
     let new = described c.args.newest.now in
     let d = device_at new c.args.device in
-    let name : c.as_bytes.result.now ≡ d.desc.name = c.as_bytes.ensures ∙ ap (λ (x : Device). x.desc.name) c.device-described.ensures in
-    let instance : c.device-described.result.now.instance ≡ d.instance = ap (λ (x : Device). x.instance) c.device-described.ensures in
-    let searched : find_device 0 to.devices d.desc.name d.instance ≡ c.find.result =
-    ap (λ (n : List ℕ). find_device 0 to.devices n d.instance) (sym name) ∙ ap (λ (m : ℕ). find_device 0 to.devices c.as_bytes.result.now m) (sym instance) ∙ sym c.find.ensures in
+    let searched = searched_by to.devices d _ c.as_bytes.result.now c.find.result c.device-described.ensures c.as_bytes.ensures c.find.ensures in
     let own = c.in-Some.own in
-    let found : find_device 0 to.devices d.desc.name d.instance ≡ Some own = searched ∙ c.in-Some.is in
+    let found = searched ∙ c.in-Some.is in
     let image = c.index-images-own.result in
     let at = own_image to c.args.images.now c.requires.writable d.desc.name d.instance own found image c.index-images-own.is in
     on_false c.ready.result (IsReady to (device_at to own) (state_of image) → ⊥) (IsValidAt to new (map state_of c.args.images.now) c.args.device → ⊥)
-    (invalid_of to new c.args.images.now c.requires.writable c.args.device own image c.requires.device found (found_inside to.devices d.desc.name d.instance own found)
+    (invalid_of to new c.args.images.now c.requires.writable c.args.device own image c.requires.device found (device_below to.devices d.desc.name d.instance own found)
     (at_state c.args.images.now own image at)) c.ready.ensures.other
 
 pub returns-in-None-clause-valid : goal.returns-in-None-clause-valid
@@ -103,8 +84,5 @@ returns-in-None-clause-valid c =
     let to = described c.args.to.now in
     let new = described c.args.newest.now in
     let d = device_at new c.args.device in
-    let name : c.as_bytes.result.now ≡ d.desc.name = c.as_bytes.ensures ∙ ap (λ (x : Device). x.desc.name) c.device-described.ensures in
-    let instance : c.device-described.result.now.instance ≡ d.instance = ap (λ (x : Device). x.instance) c.device-described.ensures in
-    let searched : find_device 0 to.devices d.desc.name d.instance ≡ c.find.result =
-    ap (λ (n : List ℕ). find_device 0 to.devices n d.instance) (sym name) ∙ ap (λ (m : ℕ). find_device 0 to.devices c.as_bytes.result.now m) (sym instance) ∙ sym c.find.ensures in
+    let searched = searched_by to.devices d _ c.as_bytes.result.now c.find.result c.device-described.ensures c.as_bytes.ensures c.find.ensures in
     valid_none to new c.args.images.now c.requires.writable c.args.device (searched ∙ c.in-None.is)

@@ -8,7 +8,7 @@ use Rattle.vms_parts.specs.Views.{field_of}
 use Rattle.vms_desc.specs.Described.{described}
 use Rattle.vms_desc.proofs.AskLaws.{found_field}
 use Rattle.vms_desc.proofs.Clean.{reach}
-use Rattle.vms_walk.proofs.Results.{ok_then}
+use Rattle.std.proofs.lemmas.Result.{on_ok_weaker}
 use Rattle.vms_check.specs.Comparing.{is_absent}
 use Rattle.vms_check.specs.Sides.{IsSide, desc_on, own_side}
 use Rattle.vms_check.specs.declared.side.Side.{Side}
@@ -139,4 +139,4 @@ pair_structs-returns t c =
     ap (λ (x : Side). partners_on x c.at_own_version-2.result at) c.at_own_version.ensures
     ∙ ap (λ (x : Side). partners_on (own_side old (parts.Struct c.args.in_old)) x at) c.at_own_version-2.ensures
     ∙ sym (structs_paired (described old.now) (described new.now) old.now.well_formed c.args.in_old c.args.in_new _ _ at c.requires.old refl refl) in
-    ok_then c.pair_descs.result (λ e. e ∙ ap (λ (l : List (Option ℕ)). before ++ l) pairs) c.pair_descs.ensures
+    on_ok_weaker c.pair_descs.result (λ e. e ∙ ap (λ (l : List (Option ℕ)). before ++ l) pairs) c.pair_descs.ensures

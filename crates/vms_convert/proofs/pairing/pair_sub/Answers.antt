@@ -6,7 +6,7 @@ use Rattle.vms_parts.specs.declared.types.Sub.{Sub as CodeSub}
 use Rattle.vms_parts.specs.Views.{sub_of}
 use Rattle.vms_desc.specs.Described.{described, device_at}
 use Rattle.vms_desc.proofs.Clean.{few_subs}
-use Rattle.vms_walk.proofs.Results.{ok_then}
+use Rattle.std.proofs.lemmas.Result.{on_ok_weaker}
 use Rattle.vms_check.proofs.WholeLaws.{sub_in}
 use Rattle.vms_check.specs.Sides.{desc_on}
 use Rattle.vms_convert.proofs.PartnerSteps.{room_sub, sub_pairs}
@@ -52,4 +52,4 @@ returns-in-Some c =
     let is : find_sub 0 (device_at new c.args.in_new).subs (desc_on c.args.older).name ≡ Some c.in-Some.found =
     ap (λ (n : List ℕ). find_sub 0 (device_at new c.args.in_new).subs n) (sym named) ∙ sym (c.find_sub.ensures ∙ ap (λ (l : List Sub). find_sub 0 l name) subs) ∙ c.in-Some.is in
     let pairs = sub_pairs c.args.older c.args.new c.args.in_new c.in-Some.found c.first_cell.result c.requires.version lt is c.first_cell.ensures in
-    ok_then c.pair_descs.result (λ e. e ∙ ap (λ (l : List (Option ℕ)). before ++ l) pairs) c.pair_descs.ensures
+    on_ok_weaker c.pair_descs.result (λ e. e ∙ ap (λ (l : List (Option ℕ)). before ++ l) pairs) c.pair_descs.ensures

@@ -1,4 +1,4 @@
-use Rattle.std.proofs.Common.{rules, arith, sym, ap, ◌∙◌, subst, ◌≡◌, ℕ, ◌+◌, ◌*◌, ◌-◌, ◌<◌, ◌^◌, List, ◌++◌, length, map, drop, codes, OnOk, string_bytes, decimal}
+use Rattle.std.proofs.Common.{rules, arith, sym, ap, ◌∙◌, subst, ◌≡◌, ℕ, ◌+◌, ◌*◌, ◌-◌, ◌<◌, ◌^◌, List, ◌++◌, length, map, codes, OnOk, string_bytes, decimal}
 use Rattle.vms_spec.specs.declared.Count.{Count}
 use Rattle.vms_spec.specs.Sets.{Desc, Field}
 use Rattle.vms_spec.specs.Layout.{item_size, struct_cells, capacity_of}
@@ -8,9 +8,9 @@ use Rattle.vms_desc.specs.Asks.{field_at, own_numbers}
 use Rattle.vms_desc.specs.Described.{described}
 use Rattle.vms_desc.specs.Parts.{desc_at}
 use Rattle.vms_desc.proofs.AskLaws.{found_field}
-use Rattle.vms_selfdesc.specs.Entries.{Entry, listers, element_path, element_entries, array_entries, entries_from}
-use Rattle.vms_selfdesc.specs.Listing.{Lists, item_list, elements_list, field_list, part_list}
-use Rattle.vms_selfdesc.proofs.Listed.{leaves_rest, leave_path, element_room, elements_next, next_element, fields_next, field_room}
+use Rattle.vms_selfdesc.specs.Entries.{Entry}
+use Rattle.vms_selfdesc.specs.Listing.{Lists, element_path, element_entries, array_entries, item_list, elements_list, field_list, part_list}
+use Rattle.vms_selfdesc.proofs.Listed.{fields_list, fields_whole, leaves_same, leaves_rest, leave_path, element_room, elements_next, next_element, fields_next, field_room}
 use Rattle.vms_selfdesc.proofs.FieldNeeds.{field_needs, some_elements, array_many, field_run, struct_place, struct_lower, struct_list, width_code}
 use Rattle.vms_selfdesc.specs.declared.draft.Draft.{Draft}
 use Rattle.vms_selfdesc.specs.Drafts.{IsPlain}
@@ -204,6 +204,18 @@ list_part-overflow_add-cell t c =
     let width = width_code c.field_cells-cell.result w c.loop-field.cell (length n) c.field_cells-cell.ensures room.here c.requires.place.few in
     omega (arith, width, room.here, c.requires.place.few)
 
+pub list_part-loop-field-init : goal.list_part-loop-field-init
+list_part-loop-field-init t c =
+    let set = described c.args.lister.now.set.now in
+    let part = c.args.part in
+    let place = c.args.place in
+    let n = c.args.lister.now.image.now.numbers in
+    let path = string_bytes c.args.draft.now.path in
+    record {
+      lists = leaves_same c.args.draft.now (part_list set part place.sent n path place.cell) (fields_list set part place.cell 0 place.sent n path place.cell) (sym (fields_whole set part place.cell place.sent path n));
+      room = c.requires.place.room;
+    }
+
 pub list_part-loop-field-preserved : goal.list_part-loop-field-preserved
 list_part-loop-field-preserved t c =
     let set = described c.args.lister.now.set.now in
@@ -216,19 +228,18 @@ list_part-loop-field-preserved t c =
     let lt : k < length d.fields = omega (arith, c.field_count-field-end.ensures) in
     let f = field_at set part k in
     let w = capacity_of f.count * item_size (struct_cells set) f.item in
-    let own = own_numbers set part n c.args.place.cell in
     let inv = c.loop-field.invariant in
     let room = field_room (struct_cells set) d.fields k cell (length n) lt inv.room in
     let width = width_code c.field_cells-cell.result w cell (length n) c.field_cells-cell.ensures room.here c.requires.place.few in
     let moved : cell + c.field_cells-cell.result ≡ cell + w = omega (arith, width) in
-    let left = λ (x : ℕ). entries_from (struct_cells set) (listers set) d.version own c.args.place.sent path n x (drop (k + 1) d.fields) in
+    let left = λ (x : ℕ). fields_list set part c.args.place.cell (k + 1) c.args.place.sent n path x in
     record {
       lists = leaves_rest c.args.draft.now c.loop-field.draft c.list_field.new.draft
           (part_list set part c.args.place.sent n path c.args.place.cell)
-          (entries_from (struct_cells set) (listers set) d.version own c.args.place.sent path n cell (drop k d.fields))
+          (fields_list set part c.args.place.cell k c.args.place.sent n path cell)
           (field_list set part c.args.place.cell k c.args.place.sent n path cell)
           (left (cell + c.field_cells-cell.result))
-          (fields_next (struct_cells set) (listers set) d.version own c.args.place.sent path n cell k d.fields lt
+          (fields_next set part c.args.place.cell c.args.place.sent path n cell k lt
           ∙ ap (λ (x : ℕ). field_list set part c.args.place.cell k c.args.place.sent n path cell ++ left x) (sym moved))
           inv.lists
           (subst (λ (p : List ℕ). Lists c.loop-field.draft c.list_field.new.draft (field_list set part c.args.place.cell k c.args.place.sent n p cell)) inv.lists.lists.path c.in_ok-list_field.ensures);

@@ -1,12 +1,10 @@
 use Rattle.std.proofs.Common.{◌≡◌, ◌≤◌, ◌+◌, ◌-◌, ◌*◌, length, drop, string_bytes}
 use Rattle.vms_spec.specs.Layout.{item_size, cells_from, struct_cells}
 use Rattle.vms_parts.specs.Views.{field_of}
-use Rattle.vms_desc.specs.Asks.{own_numbers}
 use Rattle.vms_desc.specs.Described.{described}
 use Rattle.vms_desc.specs.Parts.{desc_at}
-use Rattle.vms_selfdesc.specs.Entries.{element_entries, entries_from, listers}
-use Rattle.vms_selfdesc.specs.Listing.{item_list, elements_list, part_list}
-use Rattle.vms_selfdesc.proofs.Listed.{Leaves}
+use Rattle.vms_selfdesc.specs.Listing.{element_entries, item_list, elements_list, part_list}
+use Rattle.vms_selfdesc.proofs.Listed.{fields_list, Leaves}
 use Rattle.vms_desc.proofs.Ranks.{item_rank, part_rank}
 use Rattle.vms_selfdesc.proofs.fields.+list.Given as goal
 
@@ -46,6 +44,6 @@ invariant-list_part-loop-field l =
     let d = desc_at set l.part in
     record {
       lists : Leaves l.initial.draft l.draft (part_list set l.part l.place.sent n path l.place.cell)
-          (entries_from (struct_cells set) (listers set) d.version (own_numbers set l.part n l.place.cell) l.place.sent path n l.cell (drop l.field d.fields));
+          (fields_list set l.part l.place.cell l.field l.place.sent n path l.cell);
       room : l.cell + length (cells_from (struct_cells set) d.fields l.field (drop l.field d.fields)) ≤ length n;
     }

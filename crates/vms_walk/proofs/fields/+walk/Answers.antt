@@ -20,8 +20,9 @@ use Rattle.vms_desc.proofs.AskLaws.{found_field}
 use Rattle.vms_desc.proofs.Bounds.{good_of}
 use Rattle.vms_walk.specs.declared.step.WalkStep.{WalkStep}
 use Rattle.vms_walk.specs.declared.step.WalkStep.TheVariants as steps
-use Rattle.vms_walk.specs.Steps.{steps_of, table, cells_in, spot_numbers, spot_slots, slots_at, size_in, capacities_of, elements_slots, HasSpot, MayCome}
-use Rattle.vms_walk.proofs.Results.{ok_then, err_is}
+use Rattle.vms_walk.specs.Steps.{steps_of, table, cells_in, spot_numbers, holds_at, spot_slots, slots_at, size_in, capacities_of, elements_slots, HasSpot, MayCome}
+use Rattle.std.proofs.lemmas.Result.{on_ok_weaker}
+use Rattle.vms_walk.proofs.Results.{err_is}
 use Rattle.vms_walk.proofs.Walking.{room_at, least_again}
 use Rattle.vms_walk.proofs.Spots.{next_field, field_needs, size_code, width_code, spot_room, struct_spot, struct_size, own_is}
 use Rattle.vms_walk.proofs.Local.{keeps_below, keeps_first, next_place, set_settled, part_sound}
@@ -141,7 +142,7 @@ walk_field-returns-clause-ok g t c =
     let are = λ (m : List ℤ) (long : length m ≡ length n) (s : SameBelow cell n m). field_slots_are _ _ _ g.W.Walker.may laws set (good_of set c.args.set.now.well_formed c.args.set.now.heads) spot c.requires.spot.part k cell c.requires.here c.args.set.now.well_formed n m long c.requires.spot count f.item most c.requires.field item c.present-count.ensures c.most-most.ensures c.requires.room s in
     let a = c.args.walker.now in
     let b = c.walk_items.new.walker in
-    ok_then c.walk_items.result
+    on_ok_weaker c.walk_items.result
     (λ h.
     let kept = laws.keeps _ a b h in
     subst (λ (l : List WalkStep). g.W.Walker.goes l a b) (sym (are (N b) kept.long (keeps_below cell (elements_slots set f.item most (N b) count cell) n (N b) (items_above (table set) (meanings_above set.structs (length set.structs)) f.item (capacities_of most) (N b) count cell (size_in set f.item)) kept))) h)
@@ -265,8 +266,8 @@ walk-overflow_add-cell g t c =
     let next = next_field set c.args.set.now.well_formed spot (N b) has i c.loop-field.cell lt inv.room in
     omega (arith, width_code set (field_at set spot.part i) c.field_cells-cell.result c.field_cells-cell.ensures (omega (arith, next.room, has.few)), next.room, has.few)
 
-pub walk-step-requires-clause-may : goal.walk-step-requires-clause-may
-walk-step-requires-clause-may g t c =
+pub walk-rules-requires-clause-may : goal.walk-rules-requires-clause-may
+walk-rules-requires-clause-may g t c =
     let N = g.W.Cells.numbers in
     let set = described c.args.set.now in
     let spot = c.args.spot in
@@ -277,7 +278,7 @@ walk-step-requires-clause-may g t c =
     let le : i ≤ length all = omega (arith, c.field_count-field-end.ensures) in
     let end : i ≡ length all = omega (arith, c.field_count-field-end.ensures) in
     let d = desc_at set spot.part in
-    let holds : c.holds_rules-holds.result ≡ all_hold d.validate spot.version (spot_numbers set spot (N b)) = c.holds_rules-holds.ensures ∙ ap (all_hold d.validate spot.version) (own_is set spot (N b)) in
+    let holds : holds_at set spot (N b) ≡ all_hold d.validate spot.version (spot_numbers set spot (N b)) = ap (all_hold d.validate spot.version) (own_is set spot (N b)) in
     subst (λ (x : Bool). g.W.Walker.may b (steps.Rule x)) (sym holds) (rule_may _ _ _ g.W.Walker.may (laws_of g) set (good_of set c.args.set.now.well_formed c.args.set.now.heads) spot c.requires.spot.part i c.loop-field.cell inv.here c.args.walker.now b le inv.way end c.requires.may)
 
 pub walk-returns-clause-ok : goal.walk-returns-clause-ok
@@ -293,9 +294,9 @@ walk-returns-clause-ok g t c =
     let le : i ≤ length all = omega (arith, c.field_count-field-end.ensures) in
     let end : i ≡ length all = omega (arith, c.field_count-field-end.ensures) in
     let d = desc_at set spot.part in
-    let holds : c.holds_rules-holds.result ≡ all_hold d.validate spot.version (spot_numbers set spot (N b)) = c.holds_rules-holds.ensures ∙ ap (all_hold d.validate spot.version) (own_is set spot (N b)) in
-    let e = c.step.new.self in
-    ok_then c.step.result (λ h. rule_next _ _ _ g.W.Walker.may laws set (good_of set c.args.set.now.well_formed c.args.set.now.heads) spot c.requires.spot.part i c.loop-field.cell inv.here c.args.walker.now b le inv.way end e (same_rule _ (N b) (N e) (laws.keeps _ b e h)) (subst (λ (x : Bool). g.W.Walker.goes (steps.Rule x ∷ []) b e) holds h)) c.step.ensures.ok
+    let holds : holds_at set spot (N b) ≡ all_hold d.validate spot.version (spot_numbers set spot (N b)) = ap (all_hold d.validate spot.version) (own_is set spot (N b)) in
+    let e = c.rules.new.self in
+    on_ok_weaker c.rules.result (λ h. rule_next _ _ _ g.W.Walker.may laws set (good_of set c.args.set.now.well_formed c.args.set.now.heads) spot c.requires.spot.part i c.loop-field.cell inv.here c.args.walker.now b le inv.way end e (same_rule _ (N b) (N e) (laws.keeps _ b e h)) (subst (λ (x : Bool). g.W.Walker.goes (steps.Rule x ∷ []) b e) holds h)) c.rules.ensures.ok
 
 pub walk-returns-clause-err : goal.walk-returns-clause-err
 walk-returns-clause-err g t c =
@@ -311,10 +312,10 @@ walk-returns-clause-err g t c =
     let le : i ≤ length all = omega (arith, c.field_count-field-end.ensures) in
     let end : i ≡ length all = omega (arith, c.field_count-field-end.ensures) in
     let d = desc_at set spot.part in
-    let holds : c.holds_rules-holds.result ≡ all_hold d.validate spot.version (spot_numbers set spot (N b)) = c.holds_rules-holds.ensures ∙ ap (all_hold d.validate spot.version) (own_is set spot (N b)) in
-    let e = c.step.new.self in
-    IfErr-weaker c.step.result (λ fault. g.W.Walker.stops (steps.Rule c.holds_rules-holds.result ∷ []) b fault e) (λ fault. g.W.Walker.stops (steps_of (spot_slots set spot (N e))) a fault e)
-    (λ fault h. rule_stop _ _ _ g.W.Walker.may laws set (good_of set c.args.set.now.well_formed c.args.set.now.heads) spot c.requires.spot.part i c.loop-field.cell inv.here a b le inv.way end e fault (same_rule _ (N b) (N e) (laws.stopped _ b e fault h)) (subst (λ (x : Bool). g.W.Walker.stops (steps.Rule x ∷ []) b fault e) holds h)) c.step.ensures.err
+    let holds : holds_at set spot (N b) ≡ all_hold d.validate spot.version (spot_numbers set spot (N b)) = ap (all_hold d.validate spot.version) (own_is set spot (N b)) in
+    let e = c.rules.new.self in
+    IfErr-weaker c.rules.result (λ fault. g.W.Walker.stops (steps.Rule (holds_at set spot (N b)) ∷ []) b fault e) (λ fault. g.W.Walker.stops (steps_of (spot_slots set spot (N e))) a fault e)
+    (λ fault h. rule_stop _ _ _ g.W.Walker.may laws set (good_of set c.args.set.now.well_formed c.args.set.now.heads) spot c.requires.spot.part i c.loop-field.cell inv.here a b le inv.way end e fault (same_rule _ (N b) (N e) (laws.stopped _ b e fault h)) (subst (λ (x : Bool). g.W.Walker.stops (steps.Rule x ∷ []) b fault e) holds h)) c.rules.ensures.err
 
 -- ---- one element
 

@@ -5,7 +5,8 @@ use Rattle.vms_analyze.specs.Typed.{sub_of, device_of, element_wants, subs_wants
 use Rattle.vms_analyze.specs.Walking.{Goes, WhyStopped}
 use Rattle.vms_analyze.specs.declared.told.Element.{Element}
 use Rattle.vms_analyze.specs.declared.told.Sub.{Sub}
-use Rattle.vms_analyze.proofs.WalkEach.{on_ok, if_err}
+use Rattle.std.proofs.lemmas.Result.{on_ok_weaker}
+use Rattle.vms_analyze.proofs.WalkEach.{if_err}
 use Rattle.vms_analyze.proofs.WalkParts.{device_short, device_subs, device_goes, head_stops, elements_stop, subs_stop, foot_stops}
 use Rattle.vms_analyze.proofs.walk.Walk.device.Goals as goal
 
@@ -32,7 +33,7 @@ returns-in-Err-subs-clause-err c =
 
 pub returns-clause-ok : goal.returns-clause-ok
 returns-clause-ok c =
-    on_ok c.foot.result
+    on_ok_weaker c.foot.result
     (device_goes c.args.device.now c.args.self.now c.head.new.self c.elements.new.self c.subs.new.self c.foot.new.self c.in_default.ensures.ok
     (subst (λ (l : List Element). Goes (element_wants l) c.head.new.self c.elements.new.self) c.deref.ensures.value c.in_default-elements.ensures.ok)
     (subst (λ (l : List Sub). Goes (subs_wants l) c.elements.new.self c.subs.new.self) c.deref-2.ensures.value c.in_default-subs.ensures.ok))

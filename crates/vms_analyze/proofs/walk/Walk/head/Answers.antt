@@ -3,7 +3,7 @@ use Rattle.vms_spec.specs.Spelling.{begins_with}
 use Rattle.vms_spec.specs.Streams.{section_head}
 use Rattle.vms_analyze.specs.Walking.{left}
 use Rattle.vms_analyze.specs.declared.walk.Walk.{Walk}
-use Rattle.vms_analyze.proofs.WalkEach.{on_ok}
+use Rattle.std.proofs.lemmas.Result.{on_ok_weaker}
 use Rattle.vms_analyze.proofs.WalkHeads.{head_goes}
 use Rattle.vms_analyze.proofs.walk.Walk.head.Goals as goal
 
@@ -19,7 +19,7 @@ returns-clause-ok c =
     let begins : begins_with head (left walk) ≡ true =
     ap (λ (l : List ℕ). begins_with l (left walk)) (sym (c.as_slice.ensures.value ∙ items)) ∙ sym c.if-not-begins_with.ensures in
     let small : id < 2 ^ 32 = search rules in
-    on_ok c.print_section.result
+    on_ok_weaker c.print_section.result
     (head_goes walk mid c.print_section.new.self name c.args.instance c.args.version begins small c.requires.inside
     (ap (λ (k : ℕ). walk.place + k) (c.len.ensures.value ∙ ap length items)) refl refl)
     c.print_section.ensures.ok

@@ -3,7 +3,7 @@ use Rattle.vms_spec.specs.Spelling.{begins_with}
 use Rattle.vms_spec.specs.Streams.{configuration}
 use Rattle.vms_analyze.specs.Walking.{left}
 use Rattle.vms_analyze.specs.declared.walk.Walk.{Walk}
-use Rattle.vms_analyze.proofs.WalkEach.{on_ok}
+use Rattle.std.proofs.lemmas.Result.{on_ok_weaker}
 use Rattle.vms_analyze.proofs.WalkHeads.{machine_goes, machine_passes}
 use Rattle.vms_analyze.proofs.walk.Walk.machine.Goals as goal
 
@@ -18,6 +18,6 @@ returns-clause-ok c =
     let items : c.configuration-spelled.result.items ≡ configuration name = c.configuration-spelled.ensures in
     let begins : begins_with (configuration name) (left walk) ≡ true =
     ap (λ (l : List ℕ). begins_with l (left walk)) (sym (c.as_slice.ensures.value ∙ items)) ∙ sym c.if-not-begins_with.ensures in
-    on_ok c.print_machine.result
+    on_ok_weaker c.print_machine.result
     (machine_goes walk mid c.print_machine.new.self name c.in-Some.ensures.good begins refl c.requires (ap (λ (k : ℕ). walk.place + k) (c.len.ensures.value ∙ ap length items)) refl refl)
     c.print_machine.ensures.ok

@@ -1,4 +1,5 @@
-use Rattle.vms_analyze.proofs.WalkEach.{on_ok, if_err}
+use Rattle.std.proofs.lemmas.Result.{on_ok_weaker}
+use Rattle.vms_analyze.proofs.WalkEach.{if_err}
 use Rattle.vms_analyze.proofs.WalkParts.{start_goes, magic_stops, version_stops, machine_stops}
 use Rattle.vms_analyze.proofs.walk.Walk.start.Goals as goal
 
@@ -11,7 +12,7 @@ returns-in-Err-bytes-clause-err c =
 
 pub returns-clause-ok : goal.returns-clause-ok
 returns-clause-ok c =
-    on_ok c.machine.result (start_goes c.args.self.now c.bytes.new.self c.bytes-2.new.self c.machine.new.self c.in_default.ensures.ok c.in_default-bytes.ensures.ok) c.machine.ensures.ok
+    on_ok_weaker c.machine.result (start_goes c.args.self.now c.bytes.new.self c.bytes-2.new.self c.machine.new.self c.in_default.ensures.ok c.in_default-bytes.ensures.ok) c.machine.ensures.ok
 
 pub returns-clause-err : goal.returns-clause-err
 returns-clause-err c =

@@ -1,7 +1,8 @@
 use Rattle.std.proofs.Common.{ℕ, [], ◌∷◌, subst}
 use Rattle.vms_analyze.specs.Wanted.{Bytes}
 use Rattle.vms_analyze.specs.Walking.{Goes, WhyStopped}
-use Rattle.vms_analyze.proofs.WalkEach.{on_ok, if_err}
+use Rattle.std.proofs.lemmas.Result.{on_ok_weaker}
+use Rattle.vms_analyze.proofs.WalkEach.{if_err}
 use Rattle.vms_analyze.proofs.WalkParts.{stream_goes, start_stops, devices_stop, end_stops}
 use Rattle.vms_analyze.proofs.walk.Walk.stream.Goals as goal
 
@@ -14,7 +15,7 @@ returns-in-Err-devices-clause-err c =
 
 pub returns-clause-ok : goal.returns-clause-ok
 returns-clause-ok c =
-    on_ok c.bytes.result
+    on_ok_weaker c.bytes.result
     (λ went. stream_goes c.args.devices.now c.args.self.now c.start.new.self c.devices.new.self c.bytes.new.self c.in_default.ensures.ok c.in_default-devices.ensures.ok
     (subst (λ (b : ℕ). Goes (Bytes (b ∷ []) ∷ []) c.devices.new.self c.bytes.new.self) c.byte.ensures went))
     c.bytes.ensures.ok

@@ -2,13 +2,14 @@ use Rattle.std.proofs.Common.{List, subst}
 use Rattle.vms_analyze.specs.Typed.{element_wants}
 use Rattle.vms_analyze.specs.Walking.{Goes, WhyStopped}
 use Rattle.vms_analyze.specs.declared.told.Element.{Element}
-use Rattle.vms_analyze.proofs.WalkEach.{on_ok, if_err}
+use Rattle.std.proofs.lemmas.Result.{on_ok_weaker}
+use Rattle.vms_analyze.proofs.WalkEach.{if_err}
 use Rattle.vms_analyze.proofs.WalkParts.{sub_goes, sub_elements_stop}
 use Rattle.vms_analyze.proofs.walk.Walk.sub.Goals as goal
 
 pub returns-clause-ok : goal.returns-clause-ok
 returns-clause-ok c =
-    on_ok c.elements.result
+    on_ok_weaker c.elements.result
     (λ went. sub_goes c.args.sub.now c.args.self.now c.sub_head.new.self c.elements.new.self c.in_default.ensures.ok
     (subst (λ (l : List Element). Goes (element_wants l) c.sub_head.new.self c.elements.new.self) c.deref.ensures.value went))
     c.elements.ensures.ok

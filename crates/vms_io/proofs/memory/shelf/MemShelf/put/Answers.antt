@@ -10,5 +10,5 @@ pub returns-clause-ok : goal.returns-clause-ok
 returns-clause-ok c =
     subst (λ (name : List ℕ). PutsUnder (held_in c.args.self.now.entries.entries) (held_in c.insert.new.self.entries) name c.args.bytes.items)
     c.in_ok-name.ensures.ok
-    (update_puts _ _ c.args.bytes (λ bytes. bytes.items) (string_bytes c.in_ok-name.name)
+    (update_puts _ _ _ (λ content. content.bytes.items) (string_bytes c.in_ok-name.name)
     (btree_map_updates_text (string_bytes c.in_ok-name.name) c.args.self.now.entries c.insert.new.self _ c.in_ok-insert.ensures.updates))

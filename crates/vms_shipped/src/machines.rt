@@ -1,0 +1,45 @@
+// The names of the machines.
+ghost use Rattle.std.specs.Prelude.{◌≡◌, ◌≤◌};
+ghost use Rattle.vms_shipped.specs.ClockSets.{clock_machine};
+ghost use Rattle.vms_spec.specs.Shipped.{isa_machine};
+
+/// The machine of set 0, which has a timer alone.
+pub const ISA_0: &str = "isa-0";
+/// The machine of a board of level 1.
+pub const ISA_1: &str = "isa-1";
+/// The machine of a board of level 2.
+pub const ISA_2: &str = "isa-2";
+/// The machine of a board of level 3.
+pub const ISA_3: &str = "isa-3";
+/// The machine of a board of level 4.
+pub const ISA_4: &str = "isa-4";
+/// The machine of a board with version 1 of the clock chip.
+pub const CLK_1: &str = "clk-1";
+/// The machine of a board with version 2 of the clock chip.
+pub const CLK_2: &str = "clk-2";
+
+/// The machine of a level, `isa-0` to `isa-4`.
+pub fn isa_machine(level: u8) -> &'static str
+    requires { level ≤ 4 }
+    ensures { result.now ≡ isa_machine level }
+{
+    match level {
+        0 => ISA_0,
+        1 => ISA_1,
+        2 => ISA_2,
+        3 => ISA_3,
+        _ => ISA_4,
+    }
+}
+
+/// The machine of a version of the clock chip, `clk-1` or `clk-2`.
+pub fn clock_machine(version: u8) -> &'static str
+    requires first { 1 ≤ version }
+    requires last { version ≤ 2 }
+    ensures { result.now ≡ clock_machine version }
+{
+    match version {
+        1 => CLK_1,
+        _ => CLK_2,
+    }
+}
