@@ -1,9 +1,9 @@
 -- What is written of a board.
-use Rattle.std.proofs.Common.{◌≡◌, ℕ, ◌-◌, ◌<◌, ◌≤◌, ℤ, length, arith, List, Option, Some, Result, Ok, Err, sym, ap, ◌∙◌, subst}
+use Rattle.std.proofs.Common.{◌≡◌, ℕ, ◌-◌, ◌<◌, ◌≤◌, ℤ, length, arith, List, Option, Some, Result, Err, sym, ap, ◌∙◌, subst}
 use Rattle.std.specs.List.{slice_get}
-use Rattle.std.specs.Io.KnownBytes.{Appends}
-use Rattle.vms_io.specs.Causes.{AppendsPrefix, Rose}
+use Rattle.vms_io.proofs.WritingLemmas.{stops_as}
 use Rattle.vms_io.specs.Told.{Outlet}
+use Rattle.vms_io.specs.Writing.{Stops}
 use Rattle.vms_selfdesc.specs.Tree.{described_text}
 use Rattle.vms_spec.specs.Images.{Image}
 use Rattle.vms_spec.specs.Sets.{Set}
@@ -45,10 +45,7 @@ module _ {S : Type 0} (f : Family S) where
   ready_are s m set images r e i =
       subst (λ (x : Set). AreReady x images) (sym e) (subst (λ (l : List Image). AreReady (f.set s) l) (sym i) r)
 
-pub saves_all : (bytes found : List ℕ) (old new : Outlet) → found ≡ bytes → Appends old.written new.written found → Saves bytes old new (Ok tt)
-saves_all bytes found old new e h = subst (λ (l : List ℕ). Appends old.written new.written l) e h
-
-pub saves_some : (bytes found : List ℕ) (old new : Outlet) (r : Result (Unit {0}) SaveFault) → found ≡ bytes → r ≡ Err faults.WriteFault
-    → AppendsPrefix old.written new.written found → Rose old.faults new.faults → Saves bytes old new r
-saves_some bytes found old new r e f h rose =
-    subst (λ (x : Result (Unit {0}) SaveFault). Saves bytes old new x) (sym f) (subst (λ (l : List ℕ). AppendsPrefix old.written new.written l) e h, rose)
+pub saves_some : {bytes found : List ℕ} {old new : Outlet} (r : Result (Unit {0}) SaveFault) → found ≡ bytes → r ≡ Err faults.WriteFault
+    → Stops old new found → Saves bytes old new r
+saves_some {bytes} {found} {old} {new} r e f h =
+    subst (λ (x : Result (Unit {0}) SaveFault). Saves bytes old new x) (sym f) (stops_as e h)

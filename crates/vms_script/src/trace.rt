@@ -1,7 +1,5 @@
 // The trace that answers leave.
-ghost use Rattle.std.specs.Prelude.{◌≡◌, ◌+◌, ◌*◌, ◌++◌, ◌≤◌, [], length, OnOk, OnErr};
-ghost use Rattle.std.specs.Io.KnownBytes.{Appends};
-ghost use Rattle.vms_io.specs.Causes.{AppendsPrefix, HasCause};
+ghost use Rattle.std.specs.Prelude.{◌≡◌, ◌+◌, ◌*◌, ◌++◌, ◌≤◌, [], length};
 ghost use Rattle.vms_io.specs.Told.{outlet};
 ghost use Rattle.vms_io.specs.Writing.{Wrote};
 ghost use Rattle.vms_script.specs.Trace.{trace_line, value_text, sent_text, bytes_text};
@@ -17,13 +15,8 @@ use vms_words::append;
 /// of it was appended.
 #[inline(always)]
 pub fn print_answer<K: Sink>(answer: &Answer, sink: &mut K) -> Result<(), WriteFault>
-    ensures wrote { Wrote (outlet K.Sink sink.old) (outlet K.Sink sink.new) (trace_line answer.now) result }
-    ensures ok { let line = trace_line answer.now in
-        OnOk result (Appends (K.written sink.old) (K.written sink.new) line) }
-    ensures err { let line = trace_line answer.now in
-        OnErr result (AppendsPrefix (K.written sink.old) (K.written sink.new) line) }
-    ensures cause { HasCause (K.faults sink.old) (K.faults sink.new) result }
-    ensures promise { K.promise sink.new ≡ K.promise sink.old }
+    ensures { let line = trace_line answer.now in
+        Wrote (outlet K.Sink sink.old) (outlet K.Sink sink.new) line result }
 {
     let written = if answer.sent.is_empty() {
         write_all_of(sink, &short_line(answer))

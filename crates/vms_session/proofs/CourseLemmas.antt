@@ -6,7 +6,11 @@ use Rattle.std.specs.Io.KnownBytes.{Appends}
 use Rattle.dev_board.specs.State.{State}
 use Rattle.vms_io.specs.Causes.{Rose}
 use Rattle.vms_io.specs.Shelves.{Held}
+use Rattle.vms_io.specs.Shelving.{Reaches}
 use Rattle.vms_io.specs.Told.{Outlet, Stock}
+use Rattle.vms_io.specs.Writing.{Serves}
+use Rattle.vms_io.proofs.ShelvingLemmas.{reaches_both}
+use Rattle.vms_io.proofs.WritingLemmas.{serves_both}
 use Rattle.vms_commands.specs.Outcomes.{Part, text_of, held_after, stored_next, HoldsBut, ComesTo, ComesToFault}
 use Rattle.vms_script.specs.Grammar.{IsLine, AreLines}
 use Rattle.vms_script.specs.Lines.{ScriptLine}
@@ -15,7 +19,7 @@ use Rattle.vms_script.specs.declared.line.Line.{Line}
 use Rattle.vms_session.specs.Session.{Session, Does}
 use Rattle.vms_session.proofs.PartLemmas.{text_next, held_next, rest_next, begun_next, begun_whole, text_all, held_all}
 use Rattle.vms_session.specs.Parts.{stored_by, part_of, Plays}
-use Rattle.vms_session.specs.Playing.{session_of, IsAsBefore, LineEnds, LinesEnd, HasPlayCause}
+use Rattle.vms_session.specs.Playing.{session_of, Goes, IsAsBefore, LineEnds, LinesEnd, HasPlayCause}
 use Rattle.vms_session.specs.declared.line.PlayFault.{PlayFault}
 use Rattle.vms_session.specs.declared.line.PlayFault.TheVariants.{WriteFault, ShelfFault, NoMemory}
 
@@ -39,12 +43,21 @@ are_lines play said left line e h = let are : AreLines play (line ∷ left) = su
 pub rose_since : (a b c : ℕ) → a ≤ b → Rose b c → Rose a c
 rose_since a b c le rose = omega (arith, le, rose)
 
-pub cause_since : (out out' out'' : Outlet) (shelf shelf' shelf'' : Stock) (result : Result Unit PlayFault) → out.faults ≤ out'.faults → shelf.faults ≤ shelf'.faults
+cause_since : (out out' out'' : Outlet) (shelf shelf' shelf'' : Stock) (result : Result Unit PlayFault) → out.faults ≤ out'.faults → shelf.faults ≤ shelf'.faults
     → HasPlayCause out' out'' shelf' shelf'' result → HasPlayCause out out'' shelf shelf'' result
 cause_since out out' out'' shelf shelf' shelf'' (Ok u) p q h = h
 cause_since out out' out'' shelf shelf' shelf'' (Err WriteFault) p q h = rose_since out.faults out'.faults out''.faults p h
 cause_since out out' out'' shelf shelf' shelf'' (Err ShelfFault) p q h = rose_since shelf.faults shelf'.faults shelf''.faults q h
 cause_since out out' out'' shelf shelf' shelf'' (Err NoMemory) p q h = h
+
+-- what calls before it did
+pub goes_since : {out out' out'' : Outlet} {shelf shelf' shelf'' : Stock} {result : Result Unit PlayFault} → Serves out out' → Reaches shelf shelf'
+    → Goes out' out'' shelf' shelf'' result → Goes out out'' shelf shelf'' result
+goes_since {out} {out'} {out''} {shelf} {shelf'} {shelf''} {result} p q g = record {
+  serves = serves_both p g.serves;
+  reaches = reaches_both q g.reaches;
+  cause = cause_since out out' out'' shelf shelf' shelf'' result p.later q.later g.cause;
+}
 
 -- ---- a session in its course
 

@@ -7,7 +7,6 @@ use Rattle.dev_board.specs.declared.event.Event.{Event}
 use Rattle.dev_board.specs.declared.event.Event.TheVariants.{Read}
 use Rattle.vms_board.specs.Family.{Family}
 use Rattle.vms_board_streams.specs.Streams.{after_events}
-use Rattle.vms_io.proofs.Owing.{Owes}
 use Rattle.vms_script.specs.Grammar.{AreLines}
 use Rattle.vms_script.specs.Lines.{ScriptLine, Happens, Saves, Restores}
 use Rattle.vms_script.specs.Trace.{trace_line}
@@ -80,8 +79,3 @@ module _ {S : Type 0} (f : Family S) where
 
     pub number_next : (event : Event) (m m' : S) → m' ≡ (f.step event m).1 → f.number m' ≡ f.number m
     number_next event m m' done = ap f.number done ∙ stays event m
-
--- ---- what was written
-
-pub owes_same : (old new : Option (List ℕ)) (whole left rest : List ℕ) → Owes old new whole left → left ≡ rest → Owes old new whole rest
-owes_same old new whole left rest o e = subst (Owes old new whole) e o

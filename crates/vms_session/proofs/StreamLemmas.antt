@@ -7,6 +7,7 @@ use Rattle.vms_board.specs.Restoring.{Restore, Back, Refused, Restores}
 use Rattle.vms_desc.specs.Formed.{shipped_set}
 use Rattle.vms_io.specs.Causes.{AppendsPrefix}
 use Rattle.vms_io.specs.Told.{Outlet, Stock}
+use Rattle.vms_io.proofs.WritingLemmas.{stops_prefix}
 use Rattle.vms_board.specs.Isa.{isa}
 use Rattle.vms_board_streams.proofs.IsaLaws.{bytes_are_one}
 use Rattle.vms_session.specs.Lines.{restored_line, refused_line}
@@ -43,7 +44,7 @@ module _ (bytes : List ℕ) (old : Session) (text : List ℕ) (new : Session) (o
 -- a line's text is written once the line is done
 pub line_ends : (line : ScriptLine) (text mark : List ℕ) (new : Session) (o o' : Outlet) (s s' : Stock) (m : State) (r : Result Unit PlayFault) → mark ≡ text → WritesText mark o o' r
     → s'.held ≡ Some new.held → m ≡ new.board → LineEnds line text new o o' s s' m r
-line_ends line text mark new o o' s s' m (Ok u) e h held board = (subst (Appends o.written o'.written) e h, board, held)
-line_ends line text mark new o o' s s' m (Err WriteFault) e h held board = (subst (AppendsPrefix o.written o'.written) e h.0, held)
+line_ends line text mark new o o' s s' m (Ok u) e h held board = (subst (Appends o.written o'.written) e h.told, board, held)
+line_ends line text mark new o o' s s' m (Err WriteFault) e h held board = (subst (AppendsPrefix o.written o'.written) e (stops_prefix h), held)
 line_ends line text mark new o o' s s' m (Err ShelfFault) e h held board = absurd h
 line_ends line text mark new o o' s s' m (Err NoMemory) e h held board = absurd h

@@ -4,7 +4,9 @@ use Rattle.std.specs.Io.KnownBytes.{Appends}
 use Rattle.dev_board.specs.State.{State}
 use Rattle.vms_io.specs.Causes.{AppendsPrefix, Rose}
 use Rattle.vms_io.specs.Shelves.{Held}
+use Rattle.vms_io.specs.Shelving.{Reaches}
 use Rattle.vms_io.specs.Told.{Outlet, Stock}
+use Rattle.vms_io.specs.Writing.{Puts, Serves, Stops}
 use Rattle.vms_commands.specs.Outcomes.{Part, text_of, held_after, HoldsBut, ComesTo, ComesToFault}
 use Rattle.vms_script.specs.Lines.{ScriptLine}
 use Rattle.vms_session.specs.Parts.{stored_by}
@@ -49,9 +51,15 @@ HasPlayCause out out' shelf shelf' (Err faults.WriteFault) = Rose out.faults out
 HasPlayCause out out' shelf shelf' (Err faults.ShelfFault) = Rose shelf.faults shelf'.faults
 HasPlayCause out out' shelf shelf' (Err faults.NoMemory) = Unit {0}
 
+-- what lines do to a sink and a shelf, however they end: no fault is forgotten, the promises stay, and each fault has its cause
+pub record Goes (out out' : Outlet) (shelf shelf' : Stock) (result : Result Unit PlayFault) : Type 0 where
+  pub serves : Serves out out'
+  pub reaches : Reaches shelf shelf'
+  pub cause : HasPlayCause out out' shelf shelf' result
+
 -- a text is written, or some first bytes of it before a write fault
 abbrev pub WritesText : List ℕ → Outlet → Outlet → Result Unit PlayFault → Type 0
-WritesText text out out' (Ok u) = Appends out.written out'.written text
-WritesText text out out' (Err faults.WriteFault) = AppendsPrefix out.written out'.written text × Rose out.faults out'.faults
+WritesText text out out' (Ok u) = Puts out out' text
+WritesText text out out' (Err faults.WriteFault) = Stops out out' text
 WritesText text out out' (Err faults.ShelfFault) = ⊥
 WritesText text out out' (Err faults.NoMemory) = ⊥

@@ -1,12 +1,12 @@
 // One line of a session.
-ghost use Rattle.std.specs.Prelude.{◌≡◌, ◌≤◌, List, ℕ, Some};
+ghost use Rattle.std.specs.Prelude.{◌≡◌, List, ℕ, Some};
 ghost use Rattle.vms_io.specs.Shelves.{Held};
 ghost use Rattle.vms_io.specs.Told.{outlet, stock};
 ghost use Rattle.vms_script.specs.Grammar.{IsLine};
 ghost use Rattle.vms_script.specs.Trace.{trace_line};
 ghost use Rattle.vms_script.specs.Views.{line_view};
 ghost use Rattle.vms_session.specs.Session.{Does, Session};
-ghost use Rattle.vms_session.specs.Playing.{HasPlayCause, LineEnds, WritesText, session_of};
+ghost use Rattle.vms_session.specs.Playing.{Goes, LineEnds, WritesText, session_of};
 
 use crate::mark::saved_mark;
 use crate::shelf::{restore, save};
@@ -41,13 +41,9 @@ pub(crate) fn play_line<K: Sink, H: Shelf>(
         → Does (line_view line.now) (session_of board.old.state held) text new
         → LineEnds (line_view line.now) text new (outlet K.Sink out.old) (outlet K.Sink out.new)
         (stock H.Shelf shelf.old) (stock H.Shelf shelf.new) board.new.state result }
-    ensures cause { HasPlayCause (outlet K.Sink out.old) (outlet K.Sink out.new)
+    ensures goes { Goes (outlet K.Sink out.old) (outlet K.Sink out.new)
         (stock H.Shelf shelf.old) (stock H.Shelf shelf.new) result }
     ensures level { board.new.state.level ≡ board.old.state.level }
-    ensures out_count { K.faults out.old ≤ K.faults out.new }
-    ensures shelf_count { H.faults shelf.old ≤ H.faults shelf.new }
-    ensures out_promise { K.promise out.new ≡ K.promise out.old }
-    ensures shelf_promise { H.promise shelf.new ≡ H.promise shelf.old }
 {
     match line {
         Line::Event(event) => write_answer(&board.event(*event), out),
@@ -63,10 +59,8 @@ pub(crate) fn play_line<K: Sink, H: Shelf>(
 }
 
 fn write_answer<K: Sink>(answer: &Answer, out: &mut K) -> Result<(), PlayFault>
-    ensures written { WritesText (trace_line answer.now) (outlet K.Sink out.old)
-        (outlet K.Sink out.new) result }
-    ensures count { K.faults out.old ≤ K.faults out.new }
-    ensures promise { K.promise out.new ≡ K.promise out.old }
+    ensures { WritesText (trace_line answer.now) (outlet K.Sink out.old) (outlet K.Sink out.new)
+        result }
 {
     match print_answer(answer, out) {
         Ok(()) => Ok(()),
@@ -75,9 +69,7 @@ fn write_answer<K: Sink>(answer: &Answer, out: &mut K) -> Result<(), PlayFault>
 }
 
 fn write<K: Sink>(text: &[u8], out: &mut K) -> Result<(), PlayFault>
-    ensures written { WritesText text.now (outlet K.Sink out.old) (outlet K.Sink out.new) result }
-    ensures count { K.faults out.old ≤ K.faults out.new }
-    ensures promise { K.promise out.new ≡ K.promise out.old }
+    ensures { WritesText text.now (outlet K.Sink out.old) (outlet K.Sink out.new) result }
 {
     match write_all_of(out, text) {
         Ok(()) => Ok(()),

@@ -1,5 +1,5 @@
 // Lines of a session, one after the other.
-ghost use Rattle.std.specs.Prelude.{◌≡◌, ◌≤◌, List, Some};
+ghost use Rattle.std.specs.Prelude.{◌≡◌, List, Some};
 ghost use Rattle.dev_board.specs.Sound.{IsSound};
 ghost use Rattle.vms_io.specs.Shelves.{Held};
 ghost use Rattle.vms_io.specs.Told.{outlet, stock};
@@ -8,7 +8,7 @@ ghost use Rattle.vms_script.specs.Grammar.{AreLines};
 ghost use Rattle.vms_script.specs.Views.{lines_view};
 ghost use Rattle.vms_session.specs.Session.{Session};
 ghost use Rattle.vms_session.specs.Parts.{Plays};
-ghost use Rattle.vms_session.specs.Playing.{HasPlayCause, LinesEnd, session_of};
+ghost use Rattle.vms_session.specs.Playing.{Goes, LinesEnd, session_of};
 
 use crate::line::{PlayFault, play_line};
 use std::alloc::Global;
@@ -33,14 +33,10 @@ pub fn play<K: Sink, H: Shelf>(
         → Plays (lines_view lines.now) (session_of board.old.state held) parts new
         → LinesEnd parts new (outlet K.Sink out.old) (outlet K.Sink out.new)
         (stock H.Shelf shelf.old) (stock H.Shelf shelf.new) board.new.state result }
-    ensures cause { HasPlayCause (outlet K.Sink out.old) (outlet K.Sink out.new)
+    ensures goes { Goes (outlet K.Sink out.old) (outlet K.Sink out.new)
         (stock H.Shelf shelf.old) (stock H.Shelf shelf.new) result }
     ensures sound { IsSound board.new.state }
     ensures level { board.new.state.level ≡ board.old.state.level }
-    ensures out_count { K.faults out.old ≤ K.faults out.new }
-    ensures shelf_count { H.faults shelf.old ≤ H.faults shelf.new }
-    ensures out_promise { K.promise out.new ≡ K.promise out.old }
-    ensures shelf_promise { H.promise shelf.new ≡ H.promise shelf.old }
 {
     for line in lines {
         match play_line(alloc, line, board, out, shelf) {

@@ -1,9 +1,9 @@
 // Events, on a board.
-ghost use Rattle.std.specs.Prelude.{◌≡◌, OnErr, OnOk};
-ghost use Rattle.std.specs.Io.KnownBytes.{Appends};
+ghost use Rattle.std.specs.Prelude.{◌≡◌, OnOk};
 ghost use Rattle.dev_board.specs.Laws.{AreEvents, IsEvent};
 ghost use Rattle.vms_board_streams.specs.Streams.{after_events};
-ghost use Rattle.vms_io.specs.Causes.{AppendsPrefix, HasCause};
+ghost use Rattle.vms_io.specs.Told.{outlet};
+ghost use Rattle.vms_io.specs.Writing.{Wrote};
 ghost use Rattle.vms_script.specs.Trace.{trace_line};
 ghost use Rattle.vms_session.specs.Events.{trace_from};
 
@@ -32,16 +32,12 @@ pub fn trace<M: Machine, K: Sink>(
     out: &mut K,
 ) -> Result<(), WriteFault>
     requires { AreEvents events.now }
-    ensures ok { let text = trace_from M.family events.now board.old.state in
-        OnOk result (Appends (K.written out.old) (K.written out.new) text) }
-    ensures err { let text = trace_from M.family events.now board.old.state in
-        OnErr result (AppendsPrefix (K.written out.old) (K.written out.new) text) }
+    ensures wrote { let text = trace_from M.family events.now board.old.state in
+        Wrote (outlet K.Sink out.old) (outlet K.Sink out.new) text result }
     ensures state { let after = after_events M.family events.now board.old.state in
         OnOk result (board.new.state ≡ after) }
     ensures number { M.family.number board.new.state ≡ M.family.number board.old.state }
     ensures taken { board.new.taken ≡ board.old.taken }
-    ensures cause { HasCause (K.faults out.old) (K.faults out.new) result }
-    ensures promise { K.promise out.new ≡ K.promise out.old }
 {
     for event in events {
         trace_event(board, *event, out)?;
@@ -57,14 +53,10 @@ fn trace_event<M: Machine, K: Sink>(
     out: &mut K,
 ) -> Result<(), WriteFault>
     requires { IsEvent event }
-    ensures ok { let text = trace_line (M.family.step event board.old.state).0 in
-        OnOk result (Appends (K.written out.old) (K.written out.new) text) }
-    ensures err { let text = trace_line (M.family.step event board.old.state).0 in
-        OnErr result (AppendsPrefix (K.written out.old) (K.written out.new) text) }
+    ensures wrote { let text = trace_line (M.family.step event board.old.state).0 in
+        Wrote (outlet K.Sink out.old) (outlet K.Sink out.new) text result }
     ensures state { board.new.state ≡ (M.family.step event board.old.state).1 }
     ensures taken { board.new.taken ≡ board.old.taken }
-    ensures cause { HasCause (K.faults out.old) (K.faults out.new) result }
-    ensures promise { K.promise out.new ≡ K.promise out.old }
 {
     print_answer(&board.event(event), out)
 }

@@ -8,7 +8,7 @@ ghost use Rattle.vms_io.specs.Told.{stock};
 ghost use Rattle.vms_commands.specs.Fetching.{longest_file};
 ghost use Rattle.vms_session.specs.Session.{LoadsBytes, LoadsHeld, Session};
 ghost use Rattle.vms_session.specs.Playing.{session_of};
-ghost use Rattle.vms_session.specs.Streams.{LoadsAs, ShelfCause, StoresAs};
+ghost use Rattle.vms_session.specs.Streams.{LoadsAs, LooksUp, SavesUnder};
 
 use crate::line::PlayFault;
 use crate::mark::{mark, refused_mark, restored_mark};
@@ -27,12 +27,8 @@ pub(crate) fn save<H: Shelf>(
     shelf: &mut H,
 ) -> Result<u64, PlayFault>
     requires { MaySaveUnder board.now.state.level set }
-    ensures stored { (held : Held) → H.held shelf.old ≡ Some held
-        → StoresAs held name.now (saved_stream isa set board.now.state) (stock H.Shelf shelf.old)
+    ensures { SavesUnder name.now (saved_stream isa set board.now.state) (stock H.Shelf shelf.old)
         (stock H.Shelf shelf.new) result }
-    ensures cause { ShelfCause (stock H.Shelf shelf.old) (stock H.Shelf shelf.new) result }
-    ensures count { H.faults shelf.old ≤ H.faults shelf.new }
-    ensures promise { H.promise shelf.new ≡ H.promise shelf.old }
 {
     board.is_sound();
     let Ok(stream) = stream_of(alloc, board, set) else {
@@ -55,11 +51,8 @@ pub(crate) fn restore<H: Shelf>(
     ensures loaded { (held : Held) (text : List ℕ) (new : Session) → H.held shelf.old ≡ Some held
         → LoadsHeld (held name.now) (session_of board.old.state held) text new
         → LoadsAs text new board.new.state result }
-    ensures held { H.held shelf.new ≡ H.held shelf.old }
-    ensures cause { ShelfCause (stock H.Shelf shelf.old) (stock H.Shelf shelf.new) result }
+    ensures looks { LooksUp (stock H.Shelf shelf.old) (stock H.Shelf shelf.new) result }
     ensures level { board.new.state.level ≡ board.old.state.level }
-    ensures count { H.faults shelf.old ≤ H.faults shelf.new }
-    ensures promise { H.promise shelf.new ≡ H.promise shelf.old }
 {
     match shelf.fetch(alloc, name, LONGEST_FILE) {
         Ok(stream) => Ok(load(alloc, board, stream)),

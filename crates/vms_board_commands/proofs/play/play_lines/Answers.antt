@@ -33,4 +33,4 @@ pub returns-clause-cause : goal.returns-clause-cause
 returns-clause-cause g c =
     subst (λ (e : Ending). LinesCause (outlet g.O.Sink c.args.out.now) (outlet g.O.Sink c.play.new.out) (stock g.H.Shelf c.args.shelf.now) (stock g.H.Shelf c.play.new.shelf) e)
     (sym c.ending_of.ensures)
-    (stopped_cause (outlet g.O.Sink c.args.out.now) (outlet g.O.Sink c.play.new.out) (stock g.H.Shelf c.args.shelf.now) (stock g.H.Shelf c.play.new.shelf) c.in-Err.fault c.in-Err.ensures.cause)
+    (stopped_cause (outlet g.O.Sink c.args.out.now) (outlet g.O.Sink c.play.new.out) (stock g.H.Shelf c.args.shelf.now) (stock g.H.Shelf c.play.new.shelf) c.in-Err.fault c.in-Err.ensures.goes.cause)

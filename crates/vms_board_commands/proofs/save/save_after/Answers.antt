@@ -6,7 +6,7 @@ use Rattle.vms_io.specs.Told.{outlet}
 use Rattle.vms_commands.specs.StepEndings.{TextEnds}
 use Rattle.vms_commands.specs.Steps.{Gives}
 use Rattle.vms_commands.specs.declared.ending.Ending.{Ending}
-use Rattle.vms_board_commands.proofs.SaveLemmas.{saved_ends, saved_cause}
+use Rattle.vms_board_commands.proofs.SaveLemmas.{saved_ends, saved_cause, saved_serves}
 use Rattle.vms_board_commands.specs.Causes.{WriteCause}
 use Rattle.vms_board_commands.proofs.save.save_after.Goals as goal
 
@@ -25,9 +25,15 @@ returns-clause-ends g c =
     let board : c.run_events.new.board.state ≡ after = c.run_events.ensures.state ∙ ap (after_events f events) c.in-Ok.ensures.state in
     subst (λ (e : Ending). TextEnds (Gives (saved_stream f c.args.set after)) (outlet g.O.Sink c.args.out.now) (outlet g.O.Sink c.save.new.sink) e) (sym c.ending_of.ensures)
     (saved_ends (saved_stream f c.args.set c.run_events.new.board.state) (saved_stream f c.args.set after)
-    (outlet g.O.Sink c.args.out.now) (outlet g.O.Sink c.save.new.sink) c.save.result (ap (saved_stream f c.args.set) board) c.save.ensures.content)
+    (outlet g.O.Sink c.args.out.now) (outlet g.O.Sink c.save.new.sink) c.save.result (ap (saved_stream f c.args.set) board) c.save.ensures)
 
 pub returns-clause-cause : goal.returns-clause-cause
 returns-clause-cause g c =
     subst (λ (e : Ending). WriteCause (outlet g.O.Sink c.args.out.now) (outlet g.O.Sink c.save.new.sink) e) (sym c.ending_of.ensures)
-    (saved_cause (saved_stream g.M.Machine.family c.args.set c.run_events.new.board.state) (outlet g.O.Sink c.args.out.now) (outlet g.O.Sink c.save.new.sink) c.save.result c.save.ensures.content)
+    (saved_cause (saved_stream g.M.Machine.family c.args.set c.run_events.new.board.state) (outlet g.O.Sink c.args.out.now) (outlet g.O.Sink c.save.new.sink) c.save.result c.save.ensures)
+
+pub returns-clause-count : goal.returns-clause-count
+returns-clause-count g c = (saved_serves c.save.result c.save.ensures).later
+
+pub returns-clause-promise : goal.returns-clause-promise
+returns-clause-promise g c = (saved_serves c.save.result c.save.ensures).promise

@@ -7,6 +7,7 @@ use Rattle.vms_board.specs.Isa.{isa}
 use Rattle.vms_board.specs.Saving.{saved_stream}
 use Rattle.vms_io.specs.Shelves.{Held, PutsUnder}
 use Rattle.vms_io.specs.Told.{outlet, stock}
+use Rattle.vms_io.proofs.ShelvingLemmas.{stores_told}
 use Rattle.vms_script.specs.Grammar.{IsLine}
 use Rattle.vms_script.specs.Views.{line_view}
 use Rattle.vms_script.specs.declared.line.Line.{Line}
@@ -33,12 +34,13 @@ returns-in_ok-count-in-Save-clause-content g c = λ held text new told does.
     let board = c.args.board.now.state in
     let stream = saved_stream isa c.in-Save.set board in
     let done = subst (λ (l : Line). Does (line_view l) (session_of board held) text new) c.in-Save.is does in
-    let stored = c.in_ok-count-in-Save.ensures.stored held told in
-    let under = subst (λ name. PutsUnder held stored.1.0 name stream) c.as_str.ensures.value stored.1.2 in
-    let same = one_map held stored.1.0 new.held c.in-Save.name.bytes stream under done.held in
+    let saved = c.in_ok-count-in-Save.ensures in
+    let stored = stores_told held told saved.1 in
+    let under = subst (λ name. PutsUnder held stored.after name stream) c.as_str.ensures.value stored.puts in
+    let same = one_map held stored.after new.held c.in-Save.name.bytes stream under done.held in
     line_ends (line_view c.args.line.now) text c.deref.result.now new (outlet g.K.Sink c.args.out.now) (outlet g.K.Sink c.write.new.out) (stock g.H.Shelf c.args.shelf.now) (stock g.H.Shelf c.save.new.shelf)
     board c.write.result
-    (c.deref.ensures.0 ∙ c.saved_mark.ensures ∙ ap saved_line stored.0 ∙ sym done.text_is)
-    c.write.ensures.written
-    (stored.1.1 ∙ ap (λ (h : Held). Some h) same)
+    (c.deref.ensures.0 ∙ c.saved_mark.ensures ∙ ap saved_line saved.0 ∙ sym done.text_is)
+    c.write.ensures
+    (stored.told ∙ ap (λ (h : Held). Some h) same)
     (sym done.board)

@@ -1,8 +1,10 @@
-use Rattle.std.proofs.Common.{ℕ, Some, Err, ◌+◌, ◌<◌, ◌≤◌, length, drop, refl, sym, subst, ◌∙◌, arith}
+use Rattle.std.proofs.Common.{ℕ, Some, ◌+◌, ◌<◌, ◌≤◌, length, drop, refl, sym, subst, ◌∙◌, arith}
 use Rattle.vms_io.specs.Told.{outlet, stock}
+use Rattle.vms_io.proofs.ShelvingLemmas.{reaches_both, reaches_none}
+use Rattle.vms_io.proofs.WritingLemmas.{serves_both, serves_none}
 use Rattle.vms_script.specs.Grammar.{IsLine}
 use Rattle.vms_script.specs.Views.{line_view, lines_view}
-use Rattle.vms_session.proofs.CourseLemmas.{lines_next, no_lines, is_line, are_lines, in_course, next_course, stop_course, end_course, cause_since}
+use Rattle.vms_session.proofs.CourseLemmas.{lines_next, no_lines, is_line, are_lines, in_course, next_course, stop_course, end_course, goes_since}
 use Rattle.vms_session.proofs.lines.play.Goals as goal
 
 pub loop-line-init : goal.loop-line-init
@@ -11,10 +13,8 @@ loop-line-init g c = record {
   lines = c.requires;
   course = λ held parts new told plays.
       in_course (lines_view c.args.lines.now) parts new c.args.board.now.state held (outlet g.K.Sink c.args.out.now) (stock g.H.Shelf c.args.shelf.now) told plays;
-  out_count = omega arith;
-  shelf_count = omega arith;
-  out_promise = refl;
-  shelf_promise = refl;
+  serves = serves_none (outlet g.K.Sink c.args.out.now);
+  reaches = reaches_none (stock g.H.Shelf c.args.shelf.now);
 }
 
 pub play_line-requires : goal.play_line-requires
@@ -42,10 +42,8 @@ loop-line-preserved g c =
           (outlet g.K.Sink c.args.out.now) (outlet g.K.Sink c.loop-line.out) (outlet g.K.Sink c.play_line.new.out)
           (stock g.H.Shelf c.args.shelf.now) (stock g.H.Shelf c.loop-line.shelf) (stock g.H.Shelf c.play_line.new.shelf)
           (c.loop-line.invariant.course held parts new told plays) c.in-Ok.ensures.content;
-      out_count = omega (arith, c.loop-line.invariant.out_count, c.in-Ok.ensures.out_count);
-      shelf_count = omega (arith, c.loop-line.invariant.shelf_count, c.in-Ok.ensures.shelf_count);
-      out_promise = c.in-Ok.ensures.out_promise ∙ c.loop-line.invariant.out_promise;
-      shelf_promise = c.in-Ok.ensures.shelf_promise ∙ c.loop-line.invariant.shelf_promise;
+      serves = serves_both c.loop-line.invariant.serves c.in-Ok.ensures.goes.serves;
+      reaches = reaches_both c.loop-line.invariant.reaches c.in-Ok.ensures.goes.reaches;
     }
 
 pub returns-in-Err-clause-content : goal.returns-in-Err-clause-content
@@ -57,13 +55,10 @@ returns-in-Err-clause-content g c = λ held parts new told plays.
     parts new c.loop-line.board.state c.play_line.new.board.state
     (outlet g.K.Sink c.args.out.now) (outlet g.K.Sink c.loop-line.out) (outlet g.K.Sink c.play_line.new.out)
     (stock g.H.Shelf c.args.shelf.now) (stock g.H.Shelf c.loop-line.shelf) (stock g.H.Shelf c.play_line.new.shelf)
-    (c.loop-line.invariant.course held parts new told plays) c.in-Err.fault c.loop-line.invariant.shelf_count c.in-Err.ensures.content
+    (c.loop-line.invariant.course held parts new told plays) c.in-Err.fault c.loop-line.invariant.reaches.later c.in-Err.ensures.content
 
-pub returns-in-Err-clause-cause : goal.returns-in-Err-clause-cause
-returns-in-Err-clause-cause g c =
-    cause_since (outlet g.K.Sink c.args.out.now) (outlet g.K.Sink c.loop-line.out) (outlet g.K.Sink c.play_line.new.out)
-    (stock g.H.Shelf c.args.shelf.now) (stock g.H.Shelf c.loop-line.shelf) (stock g.H.Shelf c.play_line.new.shelf) (Err c.in-Err.fault)
-    c.loop-line.invariant.out_count c.loop-line.invariant.shelf_count c.in-Err.ensures.cause
+pub returns-in-Err-clause-goes : goal.returns-in-Err-clause-goes
+returns-in-Err-clause-goes g c = goes_since c.loop-line.invariant.serves c.loop-line.invariant.reaches c.in-Err.ensures.goes
 
 pub returns-clause-content : goal.returns-clause-content
 returns-clause-content g c = λ held parts new told plays.

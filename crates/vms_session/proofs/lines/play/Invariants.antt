@@ -1,6 +1,8 @@
-use Rattle.std.proofs.Common.{◌≡◌, ◌≤◌, List, Some, drop}
+use Rattle.std.proofs.Common.{◌≡◌, List, Some, drop}
 use Rattle.vms_io.specs.Shelves.{Held}
+use Rattle.vms_io.specs.Shelving.{Reaches}
 use Rattle.vms_io.specs.Told.{outlet, stock}
+use Rattle.vms_io.specs.Writing.{Serves}
 use Rattle.vms_commands.specs.Outcomes.{Part}
 use Rattle.vms_script.specs.Grammar.{AreLines}
 use Rattle.vms_script.specs.Views.{lines_view}
@@ -18,8 +20,6 @@ invariant-loop-line g l = record {
       → Plays (lines_view l.lines) (session_of l.fn.board.state held) parts new
       → InCourse l.line-index (lines_view (drop l.line-index l.lines)) parts new l.board.state (outlet g.K.Sink l.fn.out) (outlet g.K.Sink l.out)
       (stock g.H.Shelf l.fn.shelf) (stock g.H.Shelf l.shelf);
-  out_count : g.K.Sink.faults l.fn.out ≤ g.K.Sink.faults l.out;
-  shelf_count : g.H.Shelf.faults l.fn.shelf ≤ g.H.Shelf.faults l.shelf;
-  out_promise : g.K.Sink.promise l.out ≡ g.K.Sink.promise l.fn.out;
-  shelf_promise : g.H.Shelf.promise l.shelf ≡ g.H.Shelf.promise l.fn.shelf;
+  serves : Serves (outlet g.K.Sink l.fn.out) (outlet g.K.Sink l.out);
+  reaches : Reaches (stock g.H.Shelf l.fn.shelf) (stock g.H.Shelf l.shelf);
 }
