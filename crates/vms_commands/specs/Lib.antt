@@ -1,4 +1,5 @@
 pub mod Asks
+pub mod Courses
 pub mod Endings
 pub mod Fetching
 pub mod Lines
