@@ -1,7 +1,8 @@
-/* Loads a snapshot, refuses a damaged one with its place, and asks again where a room was too small.
+/* Loads a snapshot, refuses a damaged one with its place, asks again where a room was too small, and writes the state of a
+ * board for an older program.
  *
- *     embed SET STREAM          a description file and a stream of it
- *     embed SET STREAM CALLS    makes so many calls and tells the time of one and how far memory grew
+ *     embed SET STREAM SAVED          a description file, a stream of it, and what a board saved
+ *     embed SET STREAM SAVED CALLS    makes so many calls and tells the time of one and how far memory grew
  */
 #include <stdio.h>
 #include <stdlib.h>
@@ -66,6 +67,28 @@ static void tell(const char *what, struct vmstate_bytes set, struct vmstate_byte
     free(out);
 }
 
+/* What the command `convert TARGET` writes for the stream of a board. */
+static struct vmstate_answer convert(const char *target, struct vmstate_bytes saved, uint8_t *out, size_t room,
+                                     uint8_t *notes)
+{
+    const struct vmstate_bytes words[] = {BYTES("convert"), {(const uint8_t *)target, strlen(target)}};
+    const struct vmstate_request request = {words, 2, saved, NULL, 0};
+    return vmstate_call(&request, out, room, notes, NOTES_ROOM);
+}
+
+/* Writes it under an older set, in just the room that it wants, or says what would be lost. */
+static void rewrite(const char *target, struct vmstate_bytes saved)
+{
+    uint8_t notes[NOTES_ROOM], *out = NULL;
+    struct vmstate_answer answer = convert(target, saved, out, 0, notes);
+    if (answer.status == VMSTATE_TOO_SMALL) {
+        out = malloc(answer.out);
+        answer = convert(target, saved, out, answer.out, notes);
+    }
+    printf("under %s: status %u, %zu bytes\n%.*s", target, answer.status, answer.out, (int)answer.notes, (char *)notes);
+    free(out);
+}
+
 static long most_memory(void)
 {
     struct rusage usage;
@@ -98,18 +121,21 @@ static void repeat(struct vmstate_bytes set, struct vmstate_bytes stream, long c
 
 int main(int count, char **words)
 {
-    if (count < 3) {
-        fprintf(stderr, "usage: embed SET STREAM [CALLS]\n");
+    if (count < 4) {
+        fprintf(stderr, "usage: embed SET STREAM SAVED [CALLS]\n");
         return 2;
     }
-    struct vmstate_bytes set = read_file(words[1]), stream = read_file(words[2]);
-    if (count > 3) {
-        repeat(set, stream, atol(words[3]));
+    struct vmstate_bytes set = read_file(words[1]), stream = read_file(words[2]), saved = read_file(words[3]);
+    if (count > 4) {
+        repeat(set, stream, atol(words[4]));
     } else {
         tell("whole", set, stream);
         tell("damaged", set, damaged(stream));
+        rewrite("@3", saved);
+        rewrite("@1", saved);
     }
     free((void *)set.at);
     free((void *)stream.at);
+    free((void *)saved.at);
     return 0;
 }

@@ -17,6 +17,7 @@ else
 fi
 set_file=$top/examples/box.json
 stream=$top/examples/box.stream
+saved=$top/examples/isa-2-line.stream
 
 gcc -Wall -Wextra -O2 -o "$work/embed" "$here/embed.c" "$library/libvmstate_c.a" "$kit/c/liblibc_c.a"
 gcc -Wall -Wextra -O2 -o "$work/border" "$here/border.c" "$library/libvmstate_c.a" "$kit/c/liblibc_c.a"
@@ -26,18 +27,18 @@ clean() {
     valgrind -q --leak-check=full --error-exitcode=9 "$@"
 }
 echo "-- C"
-clean "$work/embed" "$set_file" "$stream" >"$work/c.out"
+clean "$work/embed" "$set_file" "$stream" "$saved" >"$work/c.out"
 cat "$work/c.out"
 echo "-- Rust"
-clean "$work/target/release/embed" "$set_file" "$stream" >"$work/rust.out"
+clean "$work/target/release/embed" "$set_file" "$stream" "$saved" >"$work/rust.out"
 grep -v 'too few' "$work/c.out" >"$work/wanted.out"
 cmp "$work/wanted.out" "$work/rust.out"
 echo "as C"
 echo "-- at the border"
 clean "$work/border"
 echo "-- a call beside a start of the program"
-clean "$work/embed" "$set_file" "$stream" 1000 >"$work/loop.out"
-"$work/embed" "$set_file" "$stream" 100000
+clean "$work/embed" "$set_file" "$stream" "$saved" 1000 >"$work/loop.out"
+"$work/embed" "$set_file" "$stream" "$saved" 100000
 if command -v vmstate >/dev/null; then
     cd "$top/examples"
     begin=$(date +%s%N)

@@ -120,7 +120,7 @@ pub fn modem_law()
 {}
 
 /// The cells of the newest set, where FIFOs that stood in rings alone are in counted arrays, are so already, and
-/// are of its kinds. Where none stood in its ring alone, the cells stay.
+/// are of its kinds. Where none stood in its ring alone, the cells stay. A port is restored of them as of the cells.
 #[tactic(auto, using(crate::proofs::RecastKinds::recast_once))]
 pub fn recast_law()
     ensures { RecastOnce }

@@ -1,5 +1,5 @@
 -- The outcome of `convert`: there is one, and what can be converted is.
-use Rattle.std.proofs.Common.{◌≡◌, ◌⊎◌, ℕ, ◌+◌, List, Option, Some, None, IsSomeAnd, inl, inr, refl, sym, ap, ◌∙◌, subst, arith}
+use Rattle.std.proofs.Common.{◌≡◌, ◌⊎◌, ℕ, ◌+◌, List, Option, Some, None, inl, inr, refl, sym, ap, ◌∙◌, subst, arith}
 use Rattle.std.proofs.lemmas.Option.{none-some}
 use Rattle.vms_io.specs.Shelves.{Held}
 use Rattle.vms_kinds.specs.Bytes.{IsBytes}
@@ -97,9 +97,6 @@ one_converted word input held ok =
 pub target_gives : (held : Option Held) (word : SetWord) (to : Set) → word_set held word ≡ Gives to → Compatible to newest → target held word ≡ Gives to
 target_gives held word to there compatible = ap (λ (s : Step Set). next s agrees) there ∙ agreed_gives to compatible
 
-fit_so : (s : Step Set) (to : Set) → s ≡ Gives to → FitStep s → IsFit to
-fit_so s to e h = subst FitStep e h
-
 module _ (word : SetWord) (held : Option Held) where
   pub converted_then : (input : Option (List ℕ)) → CanBeConverted word input held
       → (stream : List ℕ) × (taken : ℕ) × ConvertsBy (target held word) input held (done stream held taken)
@@ -107,7 +104,7 @@ module _ (word : SetWord) (held : Option Held) where
   converted_then (Some bytes) can =
       let to = can.0 in
       let c = can.3 in
-      let fit = fit_so (word_set held word) to can.1 (fit_word held word) in
+      let fit : IsFit to = subst FitStep can.1 (fit_word held word) in
       by (is_answered to fit can.2 c.1 c.2 (taken_kept newest newest.machines bytes c.0 c.1 c.2 c.3))
     where
       by : ((stream : List ℕ) × IsStreamFor can.0 newest can.3.1 can.3.2 stream)

@@ -59,9 +59,9 @@ lists_all input text held lists = record {
   is = ap (λ (n : ℕ). done text held n) (omega (arith, lists_few input text (Text text) lists refl));
 }
 
-pub shown_listed : (set : Set) → IsFit set → (machine : Option (List ℕ)) (images : List Image) → IsMachineOf set machine → AreReady set images
-    → Lists (described_stream set machine images) (Text (values_text set machine images))
-shown_listed set fit machine images named ready = shown_listing set fit.well fit.heads machine named images ready
+module _ (set : Set) (fit : IsFit set) (machine : Option (List ℕ)) (images : List Image) (named : IsMachineOf set machine) (ready : AreReady set images) where
+  pub shown_listed : Lists (described_stream set machine images) (Text (values_text set machine images))
+  shown_listed = shown_listing set fit.well fit.heads machine named images ready
 
 -- a description is short enough for a stream
 pub fits_text : (set : Set) → IsFit set → (images : List Image) → length (described_text set images) ≤ 16777216
@@ -128,20 +128,37 @@ pub machine_of_set : (set : Set) (machine : Option (List ℕ)) → IfSome machin
 machine_of_set set None h = tt
 machine_of_set set (Some name) h = h
 
--- the text that is shown of a stream that was written is the one that it lists
-listed_too : (set : Set) → IsFit set → (machine : Option (List ℕ)) (images : List Image) → IsMachineOf set machine → AreReady set images
-    → (text : List ℕ) (held : Option Held) (n : ℕ) (x : Outcome) → x ≡ done text held n → Shows set (described_stream set machine images) held x
-    → IsListing held (described_stream set machine images) x
-listed_too set fit machine images named ready text held n x same (Printed taken other others whole) =
-    let described : Option (List ℕ) = Some (described_text set images) in
-    let bytes = described_stream set machine images in
-    let all = (written_only set machine described images fit named (fits_text set fit images) ready).only taken other others whole in
-    let printed : values_text set machine images ≡ values_text set other others =
-    ap (λ (o : Option (List ℕ)). values_text set o images) (sym all.1) ∙ ap (values_text set other) (sym all.2) in
-    subst (λ (k : ℕ). IsListing held bytes (done (values_text set other others) held k)) (sym all.0)
-    (lists_all bytes (values_text set other others) held (subst (λ (t : List ℕ). Lists bytes (Text t)) printed (shown_listed set fit machine images named ready)))
-listed_too set fit machine images named ready text held n x same (Refuses place section reason size fault) =
-    absurd (done_apart 1 _ text held _ n (sym same))
+module _ (set : Set) (fit : IsFit set) (machine : Option (List ℕ)) (images : List Image) (named : IsMachineOf set machine) (ready : AreReady set images)
+    (text : List ℕ) (held : Option Held) (n : ℕ) where
+  -- the text that is shown of a stream that was written is the one that it lists
+  listed_too : (x : Outcome) → x ≡ done text held n → Shows set (described_stream set machine images) held x → IsListing held (described_stream set machine images) x
+  listed_too x same (Printed taken other others whole) =
+      let described : Option (List ℕ) = Some (described_text set images) in
+      let bytes = described_stream set machine images in
+      let all = (written_only set machine described images fit named (fits_text set fit images) ready).only taken other others whole in
+      let printed : values_text set machine images ≡ values_text set other others =
+      ap (λ (o : Option (List ℕ)). values_text set o images) (sym all.1) ∙ ap (values_text set other) (sym all.2) in
+      subst (λ (k : ℕ). IsListing held bytes (done (values_text set other others) held k)) (sym all.0)
+      (lists_all bytes (values_text set other others) held (subst (λ (t : List ℕ). Lists bytes (Text t)) printed (shown_listed set fit machine images named ready)))
+  listed_too x same (Refuses place section reason size fault) =
+      absurd (done_apart 1 _ text held _ n (sym same))
+
+  -- the text that is shown of a stream that was written is read as what was written
+  reads_back : (x : Outcome) → x ≡ done text held n → Shows set (described_stream set machine images) held x → values_read set text ≡ Values machine images
+  reads_back x same (Printed taken other others whole) =
+      let described : Option (List ℕ) = Some (described_text set images) in
+      let bytes = described_stream set machine images in
+      let fits = fits_text set fit images in
+      let all = (written_only set machine described images fit named fits ready).only taken other others whole in
+      let said : ShowsAs set bytes text = record {
+        machine = other;
+        images = others;
+        whole = subst (λ (k : ℕ). Takes set set.machines bytes k other others) all.0 whole;
+        printed = same_text _ _ same;
+      } in
+      shown_holds set machine described images fit named fits ready text said
+  reads_back x same (Refuses place section reason size fault) =
+      absurd (done_apart 1 _ text held _ n (sym same))
 
 pub show_then_analyze : ShowThenAnalyzeLaw
 show_then_analyze word set machine images text held there ready named n shows =
@@ -152,25 +169,6 @@ show_then_analyze word set machine images text held there ready named n shows =
     listed_too set fit machine images (machine_of_set set machine named) ready text held n outcome refl shown
 
 -- ---- showing and then packing
-
--- the text that is shown of a stream that was written is read as what was written
-reads_back : (set : Set) → IsFit set → (machine : Option (List ℕ)) (images : List Image) → IsMachineOf set machine → AreReady set images
-    → (text : List ℕ) (held : Option Held) (n : ℕ) (x : Outcome) → x ≡ done text held n → Shows set (described_stream set machine images) held x
-    → values_read set text ≡ Values machine images
-reads_back set fit machine images named ready text held n x same (Printed taken other others whole) =
-    let described : Option (List ℕ) = Some (described_text set images) in
-    let bytes = described_stream set machine images in
-    let fits = fits_text set fit images in
-    let all = (written_only set machine described images fit named fits ready).only taken other others whole in
-    let said : ShowsAs set bytes text = record {
-      machine = other;
-      images = others;
-      whole = subst (λ (k : ℕ). Takes set set.machines bytes k other others) all.0 whole;
-      printed = same_text _ _ same;
-    } in
-    shown_holds set machine described images fit named fits ready text said
-reads_back set fit machine images named ready text held n x same (Refuses place section reason size fault) =
-    absurd (done_apart 1 _ text held _ n (sym same))
 
 pub show_then_pack : ShowThenPackLaw
 show_then_pack word set machine images name text input map there ready named under short n shows =

@@ -6,6 +6,7 @@ ghost use Rattle.vms_cli.specs.Commands.{board_word, few_events, isa_level, numb
 
 use crate::boards::{BoardWord, ClockBoard, IsaBoard};
 use vms_script::number_of;
+use vms_shipped::{CLK_1, CLK_2, ISA_1, ISA_2, ISA_3, ISA_4};
 
 /// The greatest number of events of a drill.
 const MOST_EVENTS: u64 = 1_000_000;
@@ -15,12 +16,12 @@ pub(crate) fn board_word(word: &str) -> Option<BoardWord>
     ensures { option_map board_asked result ≡ board_word word.now }
 {
     match word {
-        "isa-1" => Some(BoardWord::Isa(IsaBoard { level: 1 })),
-        "isa-2" => Some(BoardWord::Isa(IsaBoard { level: 2 })),
-        "isa-3" => Some(BoardWord::Isa(IsaBoard { level: 3 })),
-        "isa-4" => Some(BoardWord::Isa(IsaBoard { level: 4 })),
-        "clk-1" => Some(BoardWord::Clock(ClockBoard { version: 1 })),
-        "clk-2" => Some(BoardWord::Clock(ClockBoard { version: 2 })),
+        ISA_1 => Some(BoardWord::Isa(IsaBoard { level: 1 })),
+        ISA_2 => Some(BoardWord::Isa(IsaBoard { level: 2 })),
+        ISA_3 => Some(BoardWord::Isa(IsaBoard { level: 3 })),
+        ISA_4 => Some(BoardWord::Isa(IsaBoard { level: 4 })),
+        CLK_1 => Some(BoardWord::Clock(ClockBoard { version: 1 })),
+        CLK_2 => Some(BoardWord::Clock(ClockBoard { version: 2 })),
         _ => None,
     }
 }

@@ -64,7 +64,7 @@ module _ (to new : Set) (wanted : List (List ℤ)) where
           pair = h.pair;
           differs = subst (λ (m : List ℤ). DifferAt (get_or wanted l.device []) m l.cell) (sym (at_front h.i l.device inside)) h.differs;
           before = λ i j lt less.
-              extend (λ (i : ℕ). ArePaired to new i j → Gives i j) n (λ i lt p. front_gives i j lt (h.before i j lt less p)) (end j less) i lt;
+              extend (λ (i : ℕ). ArePaired to new i j → Gives i j) n (λ i lt p. front_gives i j lt (h.before i j lt less p)) (end j less) i (omega (arith, lt));
         }
 
     lost_here : (c : ℕ) → DifferAt (get_or wanted k []) (carried_device to new (device_at to n) (device_at new k) x).numbers c
@@ -76,12 +76,12 @@ module _ (to new : Set) (wanted : List (List ℤ)) where
       differs = subst (λ (m : List ℤ). DifferAt (get_or wanted k []) m c) (sym (at_end k)) differs;
       before = λ i j lt less.
           extend (λ (i : ℕ). ArePaired to new i j → Gives i j) n (λ i lt p. front_gives i j lt (before i j lt less p))
-          (λ p. (let same = same_partner n k j pair p in absurd (omega (arith, same, less)))) i lt;
+          (λ p. (let same = same_partner n k j pair p in absurd (omega (arith, same, less)))) i (omega (arith, lt));
     }
 
     all_given : (known : Option LostCell) → IsFirstLost to new wanted n backs known → get_or wanted k [] ≡ (carried_device to new (device_at to n) (device_at new k) x).numbers
         → IsFirstLost to new wanted (n + 1) more known
-    all_given None h e = λ i l lt. extend (λ (i : ℕ). ArePaired to new i l → Gives i l) n (λ i lt p. front_gives i l lt (h i l lt p)) (end_gives e l) i lt
+    all_given None h e = λ i l lt. extend (λ (i : ℕ). ArePaired to new i l → Gives i l) n (λ i lt p. front_gives i l lt (h i l lt p)) (end_gives e l) i (omega (arith, lt))
     all_given (Some l) h e = still l h (λ j less p. end_gives e j p)
 
     earlier_of : (l : LostCell) (c : ℕ) → IsLostCell to new wanted n backs l → DifferAt (get_or wanted k []) (carried_device to new (device_at to n) (device_at new k) x).numbers c

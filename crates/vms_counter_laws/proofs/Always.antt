@@ -153,12 +153,11 @@ module _ (old new : Set) (good_old : WellFormed old) (good_new : WellFormed new)
     -- ---- its version
 
     version_fails : Meets → m.rule ≡ 4 → ⊥
-    version_fails w four = by (of_device old new i p.number d p.device m fails_here)
-      where
-        by : OfDevice old new i p.number d p.device m → ⊥
-        by (OfItsVersion r f) = let t : true ≡ false = sym (is_version p.device.desc d.desc.version w.version) ∙ f in cc
-        by (Own lt c) = omega (arith, lt, four)
-        by (Below lt n) = omega (arith, lt, four)
+    version_fails w four = elim (of_device old new i p.number d p.device m fails_here) [
+      | OfItsVersion r f ↦ let t : true ≡ false = sym (is_version p.device.desc d.desc.version w.version) ∙ f in cc
+      | Own lt c ↦ omega (arith, lt, four)
+      | Below lt n ↦ omega (arith, lt, four)
+    ]
 
     -- ---- a constant
 

@@ -1,6 +1,5 @@
 -- A drill and its streams, beside its course alone.
 use Rattle.std.proofs.Common.{◌≡◌, ℕ, zero, suc, ◌+◌, ◌*◌, ◌-◌, ◌<◌, ◌≤◌, Bool, true, false, if◌then◌else◌, arith, refl, sym, ap, subst, ◌∙◌}
-use Rattle.dev_base.specs.Levels.{IsLevel}
 use Rattle.dev_board.proofs.SoundLaws.{sound_stays_on}
 use Rattle.dev_board.specs.Sound.{IsSound, Alike}
 use Rattle.dev_board.specs.State.{State, power_on}
@@ -11,26 +10,25 @@ use Rattle.vms_drill.specs.Events.{next_number, event_of, events_after}
 use Rattle.vms_drill.specs.Fold.{Course, drilled, is_save_due, saves_of}
 use Rattle.vms_board_streams.proofs.IsaBytes.{streams_are_short}
 use Rattle.vms_drill.specs.Drill.{Drill, drill_begun, bytes_after, stream_long, with_drill_event, drilled_on}
-use Rattle.vms_drill.specs.Laws.{IsAsUnsaved, CoursesAreSame, SizesAreSmall}
+use Rattle.vms_drill.specs.Laws.{CoursesAreSame, SizesAreSmall}
 
 course-same : (count : ℕ) (drill : Drill) → (drilled_on count drill).course ≡ drilled count drill.course
 course-same zero drill = refl
 course-same (suc count) drill = course-same count (with_drill_event drill)
 
-same : (level seed count : ℕ) → IsLevel level → IsAsUnsaved level seed count
-same level seed count l =
-    let course = course-same count (drill_begun level seed) in
-    let all = saves_leave_counts.same level seed count l in
-    record {
-      course = course;
-      counts = ap (λ (c : Course). c.counts) course ∙ all.counts;
-      events = ap (λ (c : Course). c.events) course ∙ all.events;
-      alike = subst (λ (c : Course). Alike (after_all (events_after seed count) (power_on level)) c.board) (sym course) all.alike;
-      sound = subst (λ (c : Course). IsSound c.board) (sym course) all.sound;
-    }
-
 pub courses_are_same : CoursesAreSame
-courses_are_same = record { same = same }
+courses_are_same = record {
+  same = λ level seed count l.
+      let course = course-same count (drill_begun level seed) in
+      let all = saves_leave_counts.same level seed count l in
+      record {
+        course = course;
+        counts = ap (λ (c : Course). c.counts) course ∙ all.counts;
+        events = ap (λ (c : Course). c.events) course ∙ all.events;
+        alike = subst (λ (c : Course). Alike (after_all (events_after seed count) (power_on level)) c.board) (sym course) all.alike;
+        sound = subst (λ (c : Course). IsSound c.board) (sym course) all.sound;
+      };
+}
 
 -- ---- sizes
 

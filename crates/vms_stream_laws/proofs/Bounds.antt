@@ -1,0 +1,109 @@
+-- A part has no more slots than a number says, whatever its numbers are.
+use Rattle.std.proofs.Common.{◌≡◌, ℕ, zero, suc, ◌+◌, ◌*◌, ◌≤◌, Bool, true, false, if◌then◌else◌, List, [], ◌∷◌, length, length-append, map, get_or, Option, Some, None, ℤ, arith}
+use Rattle.std.specs.List.{slice_get}
+use Rattle.std.proofs.Math.Nat.{mul-le-mul_right}
+use Rattle.vms_kinds.specs.declared.Item.{Item}
+use Rattle.vms_kinds.specs.declared.Item.TheVariants.{Num, Equal, Unused, Struct}
+use Rattle.vms_spec.specs.Images.{Image, own_cells, sub_place}
+use Rattle.vms_spec.specs.Layout.{Slot, Rule, Meaning, no_meaning, no_desc, all_hold, capacity_of, counted, desc_slots, elements_of, field_cells, field_slots, first, item_size, item_slots, meaning, meanings, no_parent, numbers_of, slots_from, times}
+use Rattle.vms_spec.specs.Sets.{Desc, Device, Field, Set, Sub}
+use Rattle.vms_spec.specs.SoFar.{part_slots, slots_of_sub}
+use Rattle.vms_spec.specs.Tests.{is_there}
+use Rattle.vms_spec.proofs.Sizes.{elements_fit}
+use Rattle.vms_spec.proofs.Tables.{one_more}
+
+-- a structure has at most so many
+abbrev IsWithin : ℕ → Meaning → Type 0
+IsWithin b m = (numbers : List ℤ) (at : ℕ) → length (m.slots numbers at) ≤ b
+
+abbrev AreWithin : ℕ → List Meaning → Type 0
+AreWithin b ms = (j : ℕ) → IsWithin b (get_or ms j no_meaning)
+
+times_within : (n b : ℕ) (part : ℕ → List Slot) → ((at : ℕ) → length (part at) ≤ b) → (at step : ℕ) → length (times n part at step) ≤ n * b
+times_within zero b part h at step = omega arith
+times_within (suc n) b part h at step =
+    let once : length (part at) ≤ b = h at in
+    let others : length (times n part (at + step) step) ≤ n * b = times_within n b part h (at + step) step in
+    let more : suc n * b ≡ b + n * b = grind arith in
+    omega (arith, once, others, more, length-append (part at) (times n part (at + step) step))
+
+module _ (ms : List Meaning) (b : ℕ) (within : AreWithin b ms) where
+  item_within : (item : Item) (caps : List ℕ) (numbers : List ℤ) (at : ℕ) → length (item_slots ms item caps numbers at) ≤ suc b
+  item_within (Num kind) caps numbers at = omega arith
+  item_within (Equal kind z) caps numbers at = omega arith
+  item_within (Unused n) caps numbers at = omega arith
+  item_within (Struct j) caps numbers at = let h : length ((get_or ms j no_meaning).slots numbers at) ≤ b = within j numbers at in omega (arith, h)
+
+  if_within : (there : Bool) (xs : List Slot) (n : ℕ) → length xs ≤ n → length (if there then xs else []) ≤ n
+  if_within true xs n h = h
+  if_within false xs n h = omega arith
+
+  field_within : (fields : List Field) (v : ℕ) (own : ℕ → ℕ) (numbers : List ℤ) (i at : ℕ) (f : Field)
+      → length (field_slots ms fields v own numbers i at f) ≤ capacity_of f.count * suc b
+  field_within fields v own numbers i at f =
+      let part : ℕ → List Slot = item_slots ms f.item (counted i fields) numbers in
+      let step = item_size (map (λ (m : Meaning). m.cells) ms) f.item in
+      let n = elements_of f.count own in
+      let all : length (times n part at step) ≤ n * suc b = times_within n (suc b) part (item_within f.item (counted i fields) numbers) at step in
+      let few : n * suc b ≤ capacity_of f.count * suc b = mul-le-mul_right {m = n} {n = capacity_of f.count} (suc b) (elements_fit f.count own) in
+      if_within (is_there f.test f.since v own no_parent) (times n part at step) (capacity_of f.count * suc b) (omega (arith, all, few))
+
+  abbrev most_of : List Field → ℕ
+  most_of [] = 0
+  most_of (f ∷ fs) = capacity_of f.count * suc b + most_of fs
+
+  fields_within : (fields : List Field) (v : ℕ) (own : ℕ → ℕ) (numbers : List ℤ) (i at : ℕ) (fs : List Field) → length (slots_from ms fields v own numbers i at fs) ≤ most_of fs
+  fields_within fields v own numbers i at [] = omega arith
+  fields_within fields v own numbers i at (f ∷ fs) =
+      let next = at + length (field_cells (map (λ (m : Meaning). m.cells) ms) fields i f) in
+      let one = field_within fields v own numbers i at f in
+      let others = fields_within fields v own numbers (suc i) next fs in
+      omega (arith, one, others, length-append (field_slots ms fields v own numbers i at f) (slots_from ms fields v own numbers (suc i) next fs))
+
+  desc_within : (d : Desc) (v : ℕ) (numbers : List ℤ) (at : ℕ) → length (desc_slots ms d v numbers at) ≤ most_of d.fields + 1
+  desc_within d v numbers at =
+      let own = numbers_of (map (λ (m : Meaning). m.cells) ms) d numbers at in
+      let all = fields_within d.fields v own numbers 0 at d.fields in
+      omega (arith, all, length-append (slots_from ms d.fields v own numbers 0 at d.fields) (Rule (all_hold d.validate v own) ∷ []))
+
+structs_within : (ds : List Desc) (k : ℕ) → (b : ℕ) × AreWithin b (meanings ds k)
+unfolding first
+structs_within ds zero = (0, λ j numbers at. omega arith)
+structs_within ds (suc k) =
+    let r = structs_within ds k in
+    let d = get_or ds k no_desc in
+    let ms = meanings ds k in
+    let last = most_of ms r.0 r.1 d.fields + 1 in
+    let most = r.0 + last in (
+      most,
+      one_more (IsWithin most) no_meaning (λ numbers at. omega arith) ms (λ j numbers at. let h = r.1 j numbers at in omega (arith, h)) (meaning ms d)
+          (λ numbers at. let h = desc_within ms r.0 r.1 d d.version numbers at in omega (arith, h)),
+    )
+
+-- so many slots the part has at most
+pub record Bounded (set : Set) (o : Option Device) (p : Option ℕ) : Type 0 where
+  pub most : ℕ
+  pub fits : (i : Image) → length (part_slots set o i p) ≤ most
+
+sub_bounded : (set : Set) (d : Device) (j : ℕ) (o : Option Sub) → (most : ℕ) × ((i : Image) (c : Option (Option ℕ)) → length (slots_of_sub set d i j o c) ≤ most)
+sub_bounded set d j None = (0, λ i c. omega arith)
+sub_bounded set d j (Some s) =
+    let ds = set.structs in
+    let r = structs_within ds (length ds) in
+    (most_of (meanings ds (length ds)) r.0 r.1 s.desc.fields + 1, λ i c. by r.0 r.1 i c)
+  where
+    by : (b : ℕ) (within : AreWithin b (meanings set.structs (length set.structs))) (i : Image) (c : Option (Option ℕ))
+        → length (slots_of_sub set d i j (Some s) c) ≤ most_of (meanings set.structs (length set.structs)) b within s.desc.fields + 1
+    by b within i None = omega arith
+    by b within i (Some None) = omega arith
+    by b within i (Some (Some v)) = desc_within (meanings set.structs (length set.structs)) b within s.desc v i.numbers (sub_place set (own_cells set d) d.subs j)
+
+pub bounded : (set : Set) (o : Option Device) (p : Option ℕ) → Bounded set o p
+bounded set None p = record { most = 0; fits = λ i. omega arith }
+bounded set (Some d) None =
+    let ds = set.structs in
+    let r = structs_within ds (length ds) in
+    record { most = _; fits = λ i. desc_within (meanings ds (length ds)) r.0 r.1 d.desc i.version i.numbers 0 }
+bounded set (Some d) (Some j) =
+    let r = sub_bounded set d j (slice_get d.subs j) in
+    record { most = r.0; fits = λ i. r.1 i (slice_get i.came j) }

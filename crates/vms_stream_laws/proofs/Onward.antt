@@ -1,0 +1,286 @@
+-- Units without a fault go on to an end, where every validation holds: the open section's fields come with the number 0, its
+-- constants and unused bytes, then its footer, then a section of each device that has not come, and the end mark.
+use Rattle.std.proofs.Common.{◌≡◌, ℕ, zero, suc, ◌+◌, ◌<◌, ◌≤◌, Bool, true, false, List, [], ◌∷◌, ◌++◌, append_assoc, length, length-drop, length-set, drop, slice_set, ℤ, pos, Option, Some, None, refl, sym, ap, ◌∙◌, subst, arith}
+use Rattle.std.specs.Prelude.{replicate}
+use Rattle.std.specs.List.{slice_get}
+use Rattle.std.proofs.lemmas.Bool.{leb-true}
+use Rattle.std.proofs.lemmas.List.{length-map, length-replicate}
+use Rattle.std.proofs.lemmas.Option.{slice_get_within}
+use Rattle.vms_kinds.specs.Bytes.{IsBytes}
+use Rattle.vms_kinds.specs.declared.Kind.{Kind}
+use Rattle.vms_kinds.proofs.ByteLemmas.{bytes_both, bytes_more, no_bytes}
+use Rattle.vms_spec.specs.Good.{IsGood}
+use Rattle.vms_spec.specs.Heads.{FitsHeads}
+use Rattle.vms_spec.specs.Images.{Image, own_cells, sub_place}
+use Rattle.vms_spec.specs.Layout.{Slot}
+use Rattle.vms_spec.specs.Lists.{at_option}
+use Rattle.vms_spec.specs.Sets.{Device, Set, Sub}
+use Rattle.vms_spec.specs.SoFar.{come, device, device_named, id_of, image, mark_come, opened, part, part_slots, slots, slots_of_sub}
+use Rattle.vms_spec.specs.Streams.{AllCame, magic}
+use Rattle.vms_spec.specs.Units.{Piece, Magic, Version, Configuration, Head, Number, Constant, Filler, Foot, End, spell, spelled}
+use Rattle.vms_spec.specs.WellFormed.{WellFormed}
+use Rattle.vms_spec.proofs.WellFormedLaws.{beyond as is_beyond, device_parts, well_good}
+use Rattle.vms_bodies.proofs.ComeLaws.{none_missing}
+use Rattle.vms_bodies.proofs.ConstantLaws.{own_constants, part_constants}
+use Rattle.vms_bodies.proofs.SectionLaws.{AreConstants}
+use Rattle.vms_stream.specs.Dues.{Due, AVersion, Between, AfterFields, May, AtMagic, AtVersion, AtConfiguration, AtLongName, AtStart, AtHead, AtEnd, AtMark, AtNumber, AtConstant, AtFiller, AtSubHead, AtFoot, AtOther, AtNext, AtDescription, AtLongText, AtTrailing, due, due_field, fits_four, holds, is_foot}
+use Rattle.vms_stream.specs.Faults.{Front}
+use Rattle.vms_stream.specs.Judge.{owes}
+use Rattle.vms_stream.specs.SoFar.{Tail, Unknown, Footed, Bare, known, passed, skipped, tail}
+use Rattle.vms_stream.specs.Table.{first_of, reason_of}
+use Rattle.vms_stream.proofs.Streams.UnitRows.{end_passes, foot_passes, head_passes}
+use Rattle.vms_stream.proofs.WrittenBytes.{bytes_at, parts_named, spelled as spelled_bytes}
+use Rattle.vms_stream_laws.proofs.Bounds.{bounded}
+use Rattle.vms_stream_laws.proofs.Units.{AllPassed, ANumber, AConstant, AFiller, Next, NoneWaits, OneWaits, Waits, be32_bytes, code_bytes, constant_passes, constants_left, foot_bytes, head_bytes, next_of, number_passes, raw_in, waiting, waits, zero_in, zeros_bytes}
+
+-- ---- units go on
+
+-- with these behind them they are units without a fault after which none must come
+pub record Ending (set : Set) (names : List (List ℕ)) (u : List Piece) : Type 0 where
+  pub more : List Piece
+  pub front : Front set names (more ++ u)
+  pub over : owes (due set (more ++ u)) [] ≡ false
+  pub octets : IsBytes (spelled u) → IsBytes (spelled (more ++ u))
+
+module _ (set : Set) (names : List (List ℕ)) (well : WellFormed set) (heads : FitsHeads set) (holding : (u : List Piece) → holds set u ≡ true) where
+  good : IsGood set
+  good = well_good set well heads
+
+  abbrev Goes : List Piece → Type 0
+  Goes u = Ending set names u
+
+  abbrev Fine : List Piece → Type 0
+  Fine u = Front set names u
+
+  over_here : (u : List Piece) → Fine u → owes (due set u) [] ≡ false → Goes u
+  over_here u front over = record { more = []; front = front; over = over; octets = λ ok. ok }
+
+  -- by one more unit
+  on : (u : List Piece) (x : Piece) → Fine u → May (due set u) x → reason_of set names u x ≡ None → IsBytes (spell x) → (Fine (x ∷ u) → Goes (x ∷ u)) → Goes u
+  on u x front may none ok next =
+      let e = next (front, holding u, may, none) in
+      let is : e.more ++ (x ∷ u) ≡ (e.more ++ x ∷ []) ++ u = sym (append_assoc e.more (x ∷ []) u) in
+      record {
+        more = e.more ++ x ∷ [];
+        front = subst (Front set names) is e.front;
+        over = subst (λ (w : List Piece). owes (due set w) [] ≡ false) is e.over;
+        octets = λ h. subst (λ (w : List Piece). IsBytes (spelled w)) is (e.octets (bytes_both (spelled u) (spell x) h ok));
+      }
+
+  -- ---- the fields of the open part
+
+  constants_of : (o : Option ℕ) (i : Image) (p : Option ℕ) → AreConstants (part_slots set (at_option set.devices o) i p)
+  constants_of None i p = tt
+  constants_of (Some k) i p = by (slice_get set.devices k) refl p
+    where
+      of_sub : (d : Device) → slice_get set.devices k ≡ Some d → (j : ℕ) (s : Option Sub) → slice_get d.subs j ≡ s → (c : Option (Option ℕ)) → AreConstants (slots_of_sub set d i j s c)
+      of_sub d e j None f c = tt
+      of_sub d e j (Some s) f None = tt
+      of_sub d e j (Some s) f (Some None) = tt
+      of_sub d e j (Some s) f (Some (Some v)) = part_constants set (well_good set well heads) k j d s e f v (sub_place set (own_cells set d) d.subs j) i.numbers
+
+      by : (o : Option Device) → slice_get set.devices k ≡ o → (p : Option ℕ) → AreConstants (part_slots set o i p)
+      by None e p = tt
+      by (Some d) e None = own_constants set (well_good set well heads) k d e i.version 0 i.numbers
+      by (Some d) e (Some j) = of_sub d e j (slice_get d.subs j) refl (slice_get i.came j)
+
+  abbrev left : List Piece → List Slot
+  left u = drop (passed set u) (slots set u)
+
+  -- the due unit of the open part, or what comes behind its fields
+  one_field : (u : List Piece) (k : ℕ) → Fine u → due set u ≡ due_field (tail set u) (Some k) (left u) → Next (tail set u) k (left u)
+      → ((c : ℕ) (kind : Kind) → skipped (left u) < length (left u) → Fine (Number c kind (pos 0) ∷ u) → Goes (Number c kind (pos 0) ∷ u))
+      → ((kind : Kind) (z : ℤ) → skipped (left u) < length (left u) → Fine (Constant kind z ∷ u) → Goes (Constant kind z ∷ u))
+      → ((n : ℕ) → skipped (left u) < length (left u) → Fine (Filler (replicate n 0) ∷ u) → Goes (Filler (replicate n 0) ∷ u))
+      → (due set u ≡ AfterFields k (tail set u) → Goes u) → Goes u
+  one_field u k front is (AllPassed e) number constant filler behind = behind (is ∙ e)
+  one_field u k front is (ANumber c kind capacities e lt) number constant filler behind =
+      let x = Number c kind (pos 0) in
+      on u x front (subst (λ (d : Due). May d x) (sym (is ∙ e)) (AtNumber k c kind capacities (pos 0) (zero_in kind)))
+      (ap (λ (d : Due). first_of set names d (known set u) x) (is ∙ e) ∙ number_passes set names (known set u) k c kind capacities)
+      (code_bytes kind (pos 0)) (number c kind lt)
+  one_field u k front is (AConstant kind z r e lt) number constant filler behind =
+      let x = Constant kind z in
+      on u x front (subst (λ (d : Due). May d x) (sym (is ∙ e)) (AtConstant k kind z z (raw_in kind z r)))
+      (ap (λ (d : Due). first_of set names d (known set u) x) (is ∙ e) ∙ constant_passes set names (known set u) k kind z r)
+      (code_bytes kind z) (constant kind z lt)
+  one_field u k front is (AFiller n e lt) number constant filler behind =
+      let x = Filler (replicate n 0) in
+      on u x front (subst (λ (d : Due). May d x) (sym (is ∙ e)) (AtFiller k n (replicate n 0) (length-replicate n 0)))
+      refl (zeros_bytes n) (filler n lt)
+
+  -- more slots than there are aren't passed
+  never_past : (u : List Piece) (most : ℕ) → length (slots set u) ≤ most → most ≤ passed set u + 0 → skipped (left u) < length (left u) → ⊥
+  never_past u most fits far lt = omega (arith, fits, far, lt, length-drop (passed set u) (slots set u))
+
+  abbrev Fits : List Piece → ℕ → Type 0
+  Fits u most = (i : Image) → length (part_slots set (device set u) i (part set u)) ≤ most
+
+  -- what behind the fields is told of the units that came so far
+  abbrev Behind : ℕ → List Bool → Type 0
+  Behind k came = (w : List Piece) → Fine w → due set w ≡ AfterFields k (tail set w) → come set w ≡ came → Goes w
+
+  -- all fields that are left
+  fields_on : (fuel : ℕ) (u : List Piece) (k most : ℕ) → Fine u → opened set u ≡ Some k → due set u ≡ due_field (tail set u) (Some k) (left u) → Fits u most → most ≤ passed set u + fuel
+      → Behind k (come set u) → Goes u
+  fields_on zero u k most front opened_so is fits far next =
+      let constants = constants_left (passed set u) (slots set u) (constants_of (opened set u) (image set u) (part set u)) in
+      one_field u k front is (next_of (tail set u) k (left u) constants)
+      (λ c kind lt f. absurd (never_past u most (fits (image set u)) far lt))
+      (λ kind z lt f. absurd (never_past u most (fits (image set u)) far lt))
+      (λ n lt f. absurd (never_past u most (fits (image set u)) far lt))
+      (λ e. next u front e refl)
+  fields_on (suc fuel) u k most front opened_so is fits far next =
+      let constants = constants_left (passed set u) (slots set u) (constants_of (opened set u) (image set u) (part set u)) in
+      let far' : most ≤ suc (passed set u + skipped (left u)) + fuel = omega (arith, far) in
+      let field : (x : Piece) → opened set (x ∷ u) ≡ Some k → due_field (tail set (x ∷ u)) (opened set (x ∷ u)) (left (x ∷ u)) ≡ due_field (tail set (x ∷ u)) (Some k) (left (x ∷ u)) =
+      λ x e. ap (λ (o : Option ℕ). due_field (tail set (x ∷ u)) o (left (x ∷ u))) e in
+      one_field u k front is (next_of (tail set u) k (left u) constants)
+      (λ c kind lt f. fields_on fuel (Number c kind (pos 0) ∷ u) k most f opened_so (field (Number c kind (pos 0)) opened_so) fits far' next)
+      (λ kind z lt f. fields_on fuel (Constant kind z ∷ u) k most f opened_so (field (Constant kind z) opened_so) fits far' next)
+      (λ n lt f. fields_on fuel (Filler (replicate n 0) ∷ u) k most f opened_so (field (Filler (replicate n 0)) opened_so) fits far' next)
+      (λ e. next u front e refl)
+
+  -- a part whose fields aren't all passed
+  part_on : (u : List Piece) (k : ℕ) → Fine u → opened set u ≡ Some k → due set u ≡ due_field (tail set u) (Some k) (left u) → Behind k (come set u) → Goes u
+  part_on u k front opened_so is next =
+      let b = bounded set (device set u) (part set u) in
+      fields_on b.most u k b.most front opened_so is b.fits (omega arith) next
+
+  -- ---- between sections
+
+  -- a section head and the end mark may come
+  record Opens (u : List Piece) : Type 0 where
+    head : (id : ℕ) (name : List ℕ) (instance v : ℕ) → fits_four id → fits_four instance → fits_four v → May (due set u) (Head id name instance v)
+    end : May (due set u) End
+
+  opens_between : (u : List Piece) (first after : Bool) → due set u ≡ Between first after → Opens u
+  opens_between u first after is = record {
+    head = λ id name instance v f g h. subst (λ (d : Due). May d (Head id name instance v)) (sym is) (AtHead first after id name instance v f g h);
+    end = subst (λ (d : Due). May d End) (sym is) (AtEnd first after);
+  }
+
+  opens_bare : (u : List Piece) (k : ℕ) → due set u ≡ AfterFields k Bare → Opens u
+  opens_bare u k is = record {
+    head = λ id name instance v f g h. subst (λ (d : Due). May d (Head id name instance v)) (sym is) (AtNext k Bare (Head id name instance v) refl (AtHead false false id name instance v f g h));
+    end = subst (λ (d : Due). May d End) (sym is) (AtNext k Bare End refl (AtEnd false false));
+  }
+
+  abbrev Open : List Bool → Type 0
+  Open came = (w : List Piece) → Fine w → Opens w → come set w ≡ came → Goes w
+
+  abbrev IdFits : Piece → Type 0
+  IdFits (Head id name instance v) = fits_four id
+  IdFits x = Unit {0}
+
+  may_id : (d : Due) (x : Piece) → May d x → IdFits x
+  may_id _ _ (AtHead first after id name instance v f g h) = f
+  may_id _ x (AtNext k t _ f may) = may_id (Between false false) x may
+  may_id _ _ (AtMagic bytes e) = tt
+  may_id _ _ (AtVersion v f) = tt
+  may_id _ _ (AtConfiguration after name f) = tt
+  may_id _ _ (AtLongName after n f g) = tt
+  may_id _ _ (AtStart first after id name f) = tt
+  may_id _ _ (AtEnd first after) = tt
+  may_id _ _ (AtMark first after b f) = tt
+  may_id _ _ (AtNumber k c kind capacities z r) = tt
+  may_id _ _ (AtConstant k kind z y r) = tt
+  may_id _ _ (AtFiller k n bytes e) = tt
+  may_id _ _ (AtSubHead k t name v f) = tt
+  may_id _ _ (AtFoot k t id f g) = tt
+  may_id _ _ (AtOther k t b f g) = tt
+  may_id _ _ (AtDescription text f) = tt
+  may_id _ _ (AtLongText n f g) = tt
+  may_id _ _ (AtTrailing b f) = tt
+
+  id_fits : (u : List Piece) → Fine u → fits_four (id_of u)
+  id_fits [] front = omega arith
+  id_fits (Head id name instance v ∷ u) front = may_id (due set u) (Head id name instance v) front.2
+  id_fits (x ∷ u) front = id_fits u front.0
+
+  foot_on : (u : List Piece) (k : ℕ) (t : Tail) → is_foot t 0x7e ≡ true → Fine u → due set u ≡ AfterFields k t → Open (come set u) → Goes u
+  foot_on u k t may front is next =
+      let x = Foot (id_of u) in
+      on u x front (subst (λ (d : Due). May d x) (sym is) (AtFoot k t (id_of u) may (id_fits u front)))
+      (foot_passes set names (due set u) (known set u) (id_of u) refl) (foot_bytes (id_of u)) (λ f. next (x ∷ u) f (opens_between (x ∷ u) false false refl) refl)
+
+  -- behind the fields of a section comes its footer, or, where sections have none, what may come between sections
+  close_on : (u : List Piece) (k : ℕ) (t : Tail) → Fine u → due set u ≡ AfterFields k t → Open (come set u) → Goes u
+  close_on u k Unknown front is next = foot_on u k Unknown refl front is next
+  close_on u k Footed front is next = foot_on u k Footed refl front is next
+  close_on u k Bare front is next = next u front (opens_bare u k is) refl
+
+  -- a section of a device that has not come
+  section_on : (u : List Piece) (k : ℕ) (d : Device) → slice_get set.devices k ≡ Some d → slice_get (come set u) k ≡ Some false → Fine u → Opens u → Open (slice_set (come set u) k true) → Goes u
+  section_on u k d there new front opens next =
+      let name = d.desc.name in
+      let v = d.desc.version in
+      let x = Head 0 name d.instance v in
+      let tops = (well_good set well heads).instance k d there in
+      let named = (well_good set well heads).distinct k d there in
+      let low = leb-true d.desc.minimum v (device_parts set well k d there).0.own.1.1.0 in
+      on u x front (opens.head 0 name d.instance v (omega arith) tops.0 tops.1)
+      (head_passes set names (due set u) (known set u) 0 name d.instance v k d named there new (low, omega arith))
+      (head_bytes d.instance v name (parts_named set well k d there).0)
+      (λ f. part_on (x ∷ u) k f named (ap (λ (o : Option ℕ). due_field (tail set (x ∷ u)) o (left (x ∷ u))) named)
+      (λ w g is same. close_on w k (tail set w) g is (λ y h may came. next y h may (came ∙ same ∙ ap (mark_come (come set u)) named))))
+
+  end_on : (u : List Piece) → Fine u → Opens u → AllCame (come set u) → Goes u
+  end_on u front opens all =
+      on u End front opens.end (end_passes set names (due set u) (known set u) (none_missing 0 (come set u) all)) (bytes_more 0x00 [] (omega arith) no_bytes)
+      (λ f. over_here (End ∷ u) f refl)
+
+  come_long : (u : List Piece) → length (come set u) ≡ length set.devices
+  come_long [] = length-map set.devices (λ (d : Device). false)
+  come_long (Head id name instance v ∷ u) = by (device_named set name instance) ∙ come_long u
+    where
+      by : (o : Option ℕ) → length (mark_come (come set u) o) ≡ length (come set u)
+      by None = refl
+      by (Some k) = length-set (come set u) k true
+  come_long (x ∷ u) = come_long u
+
+  -- the sections of all devices that have not come, at most so many, and the end mark
+  devices_on : (n : ℕ) (u : List Piece) → Fine u → Opens u → waiting (come set u) ≤ n → Goes u
+  devices_on zero u front opens few = by (waits (come set u))
+    where
+      by : Waits (come set u) → Goes u
+      by (NoneWaits all) = end_on u front opens all
+      by (OneWaits k e less) = absurd (omega (arith, few, less))
+  devices_on (suc n) u front opens few = by (waits (come set u)) (λ w f may le. devices_on n w f may le)
+    where
+      there : (k : ℕ) → slice_get (come set u) k ≡ Some false → (o : Option Device) → slice_get set.devices k ≡ o → ((d : Device) → slice_get set.devices k ≡ Some d → Goes u) → Goes u
+      there k e (Some d) f go = go d f
+      there k e None f go =
+          let lt : k < length (come set u) = slice_get_within (come set u) k false e in
+          absurd (is_beyond set.devices k (omega (arith, lt, come_long u)) f)
+
+      by : Waits (come set u) → ((w : List Piece) → Fine w → Opens w → waiting (come set w) ≤ n → Goes w) → Goes u
+      by (NoneWaits all) again = end_on u front opens all
+      by (OneWaits k e less) again =
+          there k e (slice_get set.devices k) refl
+          (λ d at. section_on u k d at e front opens (λ w f may came. again w f may (subst (λ (c : List Bool). waiting c ≤ n) (sym came) (omega (arith, few, less)))))
+
+  sections_on : (u : List Piece) → Fine u → Opens u → Goes u
+  sections_on u front opens = devices_on (waiting (come set u)) u front opens (omega arith)
+
+  -- ---- whatever came
+
+  -- an open part, or none
+  inside_on : (u : List Piece) → Fine u → (o : Option ℕ) → opened set u ≡ o → due set u ≡ due_field (tail set u) o (left u) → Goes u
+  inside_on u front None opened_so is = over_here u front (ap (λ (d : Due). owes d []) is)
+  inside_on u front (Some k) opened_so is = part_on u k front opened_so is (λ w f due_is same. close_on w k (tail set w) f due_is (λ y g may came. sections_on y g may))
+
+  version_on : (u : List Piece) → Fine u → due set u ≡ AVersion → Goes u
+  version_on u front is =
+      on u (Version 3) front (subst (λ (d : Due). May d (Version 3)) (sym is) (AtVersion 3 (omega arith))) refl (be32_bytes 3)
+      (λ f. sections_on (Version 3 ∷ u) f (opens_between (Version 3 ∷ u) true false refl))
+
+  pub goes_on : (u : List Piece) → Fine u → Goes u
+  goes_on [] front =
+      on [] (Magic magic) tt (AtMagic magic refl) refl (bytes_at magic (spelled_bytes magic refl)) (λ f. version_on (Magic magic ∷ []) f refl)
+  goes_on (Magic bytes ∷ u) front = version_on (Magic bytes ∷ u) front refl
+  goes_on (Version v ∷ u) front = sections_on (Version v ∷ u) front (opens_between (Version v ∷ u) true false refl)
+  goes_on (Configuration name ∷ u) front = sections_on (Configuration name ∷ u) front (opens_between (Configuration name ∷ u) false true refl)
+  goes_on (Foot id ∷ u) front = sections_on (Foot id ∷ u) front (opens_between (Foot id ∷ u) false false refl)
+  goes_on (End ∷ u) front = over_here (End ∷ u) front refl
+  goes_on (x ∷ u) front = inside_on (x ∷ u) front (opened set (x ∷ u)) refl refl

@@ -1,0 +1,165 @@
+-- The units with which a stream can go on: no row takes them, and they are bytes; which slot is due; which devices have not come.
+use Rattle.std.proofs.Common.{◌≡◌, ℕ, zero, suc, ◌+◌, ◌<◌, ◌≤◌, Bool, true, false, not, ◌&&◌, ◌||◌, if◌then◌else◌, List, [], ◌∷◌, ◌++◌, length, drop, slice_set, ℤ, pos, negsuc, Option, Some, None, refl, ap, ◌∙◌, arith}
+use Rattle.std.specs.Int.{byte_at, bytes_high_first}
+use Rattle.std.specs.Prelude.{replicate}
+use Rattle.std.specs.List.{slice_get}
+use Rattle.std.proofs.lemmas.Bool.{le-ltb, ltb-false}
+use Rattle.vms_kinds.specs.Bytes.{IsBytes}
+use Rattle.vms_kinds.specs.Codes.{InRange, code, residue, width}
+use Rattle.vms_kinds.specs.declared.Kind.{Kind}
+use Rattle.vms_kinds.specs.declared.Kind.TheVariants.{U8, U16, U32, U64, I8, I16, I32, I64, Bool as Truth, Timer}
+use Rattle.vms_kinds.proofs.ByteLemmas.{bytes_both, bytes_more, no_bytes}
+use Rattle.vms_spec.specs.declared.Reason.{Reason}
+use Rattle.vms_spec.specs.declared.Reason.TheVariants as reasons
+use Rattle.vms_spec.specs.Layout.{Slot, Number as NumberSlot, Constant as ConstantSlot, Filler as FillerSlot, Rule as RuleSlot}
+use Rattle.vms_spec.specs.Lookup.{raw}
+use Rattle.vms_spec.specs.Numbers.{exceeds, is_above, is_truth, same_number}
+use Rattle.vms_spec.specs.Sets.{Set}
+use Rattle.vms_spec.specs.SoFar.{slots}
+use Rattle.vms_spec.specs.Streams.{AllCame, be32, foot, section_head}
+use Rattle.vms_spec.specs.Units.{Number, Constant}
+use Rattle.vms_spec.proofs.NumberLaws.{is_below, not_above, same_number_itself}
+use Rattle.vms_bodies.proofs.SectionLaws.{AreConstants}
+use Rattle.vms_stream.specs.Dues.{Field, AfterFields, due_field}
+use Rattle.vms_stream.specs.SoFar.{Known, Tail, skipped}
+use Rattle.vms_stream.specs.Table.{first_of}
+use Rattle.vms_stream.proofs.WrittenBytes.{IsNamed, bytes_at}
+
+-- ---- units of a part that no row takes
+
+pub zero_in : (kind : Kind) → InRange (raw kind) (pos 0)
+zero_in U8 = (omega arith, omega arith)
+zero_in U16 = (omega arith, omega arith)
+zero_in U32 = (omega arith, omega arith)
+zero_in U64 = (omega arith, omega arith)
+zero_in I8 = (omega arith, omega arith)
+zero_in I16 = (omega arith, omega arith)
+zero_in I32 = (omega arith, omega arith)
+zero_in I64 = (omega arith, omega arith)
+zero_in Truth = (omega arith, omega arith)
+zero_in Timer = (omega arith, omega arith)
+
+pub raw_in : (kind : Kind) (z : ℤ) → InRange kind z → InRange (raw kind) z
+raw_in Truth (pos n) r = let few : n ≤ 1 = ltb-false 1 n (is_below (pos n) 1 r.1) in (r.0, not_above (pos n) 255 (le-ltb 255 n (omega (arith, few))))
+raw_in Truth (negsuc n) r = (r.0, not_above (negsuc n) 255 refl)
+raw_in kind z r = r
+
+-- a truth value that is in range is 0 or 1
+fits_truth : (kind : Kind) (z : ℤ) → InRange kind z → (is_truth kind && is_above z 1) ≡ false
+fits_truth Truth z r = is_below z 1 r.1
+fits_truth kind z r = refl
+
+zero_fits : (capacities : List ℕ) → exceeds capacities (pos 0) ≡ false
+zero_fits [] = refl
+zero_fits (most ∷ capacities) = ap (λ (b : Bool). b || exceeds capacities (pos 0)) (le-ltb most 0 (omega arith)) ∙ zero_fits capacities
+
+abbrev Line : Type 0
+Line = Option (Option ℕ × Reason)
+
+abbrev row_or : Bool → Option ℕ → Reason → Line → Line
+row_or b section reason rest = if b then Some (section, reason) else rest
+
+passed_by : (b : Bool) (section : Option ℕ) (reason : Reason) (rest : Line) → b ≡ false → row_or b section reason rest ≡ rest
+passed_by true section reason rest e = cc
+passed_by false section reason rest e = refl
+
+module _ (set : Set) (names : List (List ℕ)) (so_far : Known) where
+  zero_kind : (kind : Kind) → (is_truth kind && is_above (pos 0) 1) ≡ false
+  zero_kind Truth = refl
+  zero_kind kind = refl
+
+  pub number_passes : (k c : ℕ) (kind : Kind) (capacities : List ℕ) → first_of set names (Field k (NumberSlot c kind capacities)) so_far (Number c kind (pos 0)) ≡ None
+  number_passes k c kind capacities =
+      passed_by (is_truth kind && is_above (pos 0) 1) so_far.section reasons.BadBool _ (zero_kind kind)
+      ∙ passed_by (exceeds capacities (pos 0)) so_far.section reasons.CountTooLarge None (zero_fits capacities)
+
+  pub constant_passes : (k : ℕ) (kind : Kind) (z : ℤ) → InRange kind z → first_of set names (Field k (ConstantSlot kind z)) so_far (Constant kind z) ≡ None
+  constant_passes k kind z r =
+      passed_by (is_truth kind && is_above z 1) so_far.section reasons.BadBool _ (fits_truth kind z r)
+      ∙ passed_by (not (same_number z z)) so_far.section reasons.NotEqual None (ap not (same_number_itself z))
+
+-- ---- their bytes
+
+high-bytes : (k n : ℕ) → IsBytes (bytes_high_first k n)
+high-bytes zero n = no_bytes
+high-bytes (suc k) n = bytes_more (byte_at k n) (bytes_high_first k n) (small k n) (high-bytes k n)
+  where
+    small : (k n : ℕ) → byte_at k n < 256
+    small zero n = omega arith
+    small (suc k) n = omega arith
+
+pub be32_bytes : (n : ℕ) → IsBytes (be32 n)
+be32_bytes n = high-bytes 4 n
+
+pub code_bytes : (kind : Kind) (z : ℤ) → IsBytes (code kind z)
+unfolding code
+code_bytes kind z = high-bytes (width kind) (residue (width kind) z)
+
+pub zeros_bytes : (n : ℕ) → IsBytes (replicate n 0)
+zeros_bytes zero = no_bytes
+zeros_bytes (suc n) = bytes_more 0 (replicate n 0) (omega arith) (zeros_bytes n)
+
+pub foot_bytes : (id : ℕ) → IsBytes (foot id)
+foot_bytes id = bytes_more 0x7e (be32 id) (omega arith) (be32_bytes id)
+
+pub head_bytes : (instance version : ℕ) (name : List ℕ) → IsNamed name → IsBytes (section_head 0 name instance version)
+head_bytes instance version name named =
+    let front = 0x04 ∷ be32 0 in
+    let middle = front ++ (length name ∷ name) in
+    bytes_both (middle ++ be32 instance) (be32 version)
+    (bytes_both middle (be32 instance)
+    (bytes_both front (length name ∷ name) (bytes_more 0x04 (be32 0) (omega arith) (be32_bytes 0)) (bytes_more (length name) name named.short (bytes_at name named.octets)))
+    (be32_bytes instance))
+    (be32_bytes version)
+
+-- ---- the slot that is due
+
+-- What comes next of the slots that are left: nothing, a number, a constant, or unused bytes.
+pub data Next (t : Tail) (k : ℕ) (left : List Slot) : Type 0 where
+  AllPassed : due_field t (Some k) left ≡ AfterFields k t → Next t k left
+  ANumber : (c : ℕ) (kind : Kind) (capacities : List ℕ) → due_field t (Some k) left ≡ Field k (NumberSlot c kind capacities) → skipped left < length left → Next t k left
+  AConstant : (kind : Kind) (z : ℤ) → InRange kind z → due_field t (Some k) left ≡ Field k (ConstantSlot kind z) → skipped left < length left → Next t k left
+  AFiller : (n : ℕ) → due_field t (Some k) left ≡ Field k (FillerSlot n) → skipped left < length left → Next t k left
+
+skips : (t : Tail) (k : ℕ) (slot : Slot) (left : List Slot) → due_field t (Some k) (slot ∷ left) ≡ due_field t (Some k) left → skipped (slot ∷ left) ≡ suc (skipped left)
+    → Next t k left → Next t k (slot ∷ left)
+skips t k slot left same more (AllPassed e) = AllPassed (same ∙ e)
+skips t k slot left same more (ANumber c kind capacities e lt) = ANumber c kind capacities (same ∙ e) (omega (arith, more, lt))
+skips t k slot left same more (AConstant kind z r e lt) = AConstant kind z r (same ∙ e) (omega (arith, more, lt))
+skips t k slot left same more (AFiller n e lt) = AFiller n (same ∙ e) (omega (arith, more, lt))
+
+pub next_of : (t : Tail) (k : ℕ) (left : List Slot) → AreConstants left → Next t k left
+next_of t k [] a = AllPassed refl
+next_of t k (RuleSlot b ∷ left) a = skips t k (RuleSlot b) left refl refl (next_of t k left a)
+next_of t k (FillerSlot zero ∷ left) a = skips t k (FillerSlot zero) left refl refl (next_of t k left a)
+next_of t k (FillerSlot (suc n) ∷ left) a = AFiller (suc n) refl (omega arith)
+next_of t k (NumberSlot c kind capacities ∷ left) a = ANumber c kind capacities refl (omega arith)
+next_of t k (ConstantSlot kind z ∷ left) a = AConstant kind z a.0 refl (omega arith)
+
+pub constants_left : (n : ℕ) (slots : List Slot) → AreConstants slots → AreConstants (drop n slots)
+constants_left zero slots a = a
+constants_left (suc n) [] a = tt
+constants_left (suc n) (NumberSlot c kind capacities ∷ slots) a = constants_left n slots a
+constants_left (suc n) (ConstantSlot kind z ∷ slots) a = constants_left n slots a.1
+constants_left (suc n) (FillerSlot m ∷ slots) a = constants_left n slots a
+constants_left (suc n) (RuleSlot b ∷ slots) a = constants_left n slots a
+
+-- ---- devices that have not come
+
+abbrev pub waiting : List Bool → ℕ
+waiting [] = 0
+waiting (true ∷ came) = waiting came
+waiting (false ∷ came) = suc (waiting came)
+
+pub data Waits (came : List Bool) : Type 0 where
+  NoneWaits : AllCame came → Waits came
+  OneWaits : (k : ℕ) → slice_get came k ≡ Some false → waiting (slice_set came k true) + 1 ≡ waiting came → Waits came
+
+pub waits : (came : List Bool) → Waits came
+waits [] = NoneWaits tt
+waits (false ∷ came) = OneWaits 0 refl (omega arith)
+waits (true ∷ came) = by (waits came)
+  where
+    by : Waits came → Waits (true ∷ came)
+    by (NoneWaits all) = NoneWaits all
+    by (OneWaits k e less) = OneWaits (suc k) e less

@@ -1,0 +1,213 @@
+-- A well-formed set is well formed without its validations.
+use Rattle.std.proofs.Common.{◌≡◌, ℕ, suc, ◌^◌, ◌<◌, Bool, true, false, not, ◌&&◌, nat_le, List, [], ◌∷◌, ◌+◌, length, get_or, map, take, None, refl, sym, ap, ◌∙◌, subst}
+use Rattle.std.specs.List.{list_all, list_any, slice_get}
+use Rattle.std.proofs.lemmas.Bool.{and_from, and_parts}
+use Rattle.std.proofs.lemmas.List.{length-map, take-map}
+use Rattle.vms_spec.specs.declared.TheConstants.{MOST_ITEMS}
+use Rattle.vms_spec.specs.declared.Part.{Part}
+use Rattle.vms_spec.specs.declared.Part.TheVariants as parts
+use Rattle.vms_spec.specs.Heads.{FitsHeads}
+use Rattle.vms_spec.specs.Lists.{first_answer, or_else}
+use Rattle.vms_spec.specs.Layout.{first}
+use Rattle.vms_spec.specs.Names.{is_name}
+use Rattle.vms_spec.specs.Rules.{is_small_test}
+use Rattle.vms_spec.specs.Sets.{Desc, Device, Set, Sub}
+use Rattle.vms_spec.specs.Streams.{is_one_of}
+use Rattle.vms_spec.specs.WellFormed.{WellFormed, are_distinct, deepest, desc_fault, device_fault, device_rules, devices_items, failing, fields_fault, first_fault, has_few, here, is_same_device, items_in, set_rules, size_rules, struct_depths, struct_fault, struct_items, struct_rules, sub_fault, sub_rules, subs_items, validations_fault}
+use Rattle.vms_spec.proofs.Faultless.{AllTrue, all_true, or_else_none}
+use Rattle.vms_stream_laws.specs.Unruled.{unruled, unruled_desc, unruled_device, unruled_sub}
+use Rattle.vms_stream_laws.proofs.Lists.{any_map, both_none, came_from, map_both, none_after}
+use Rattle.vms_stream_laws.proofs.Parts.{first_unruled}
+
+none_failing : (r : ℕ) (rules : List Bool) (part : Part) → AllTrue rules → failing r rules (here part) ≡ None
+none_failing r [] part h = refl
+none_failing r (true ∷ rules) part h = none_failing (suc r) rules part h.1
+none_failing r (false ∷ rules) part h = absurd (let e = h.0 in cc)
+
+few_still : (d : Desc) (b : Bool) → (has_few d && b) ≡ true → (has_few (unruled_desc d) && b) ≡ true
+few_still d b e =
+    let both = and_parts (has_few d) b e in
+    let few = and_parts (nat_le (length d.fields) 256) (nat_le (length d.validate) 16) both.0 in
+    and_from (nat_le (length d.fields) 256 && true) b (and_from (nat_le (length d.fields) 256) true few.0 refl) both.1
+
+-- a description whose own rules still hold
+desc_still : (k : ℕ) (d : Desc) (part : Part) (rules rules' : List Bool) → (AllTrue rules → AllTrue rules') → desc_fault k d part rules ≡ None → desc_fault k (unruled_desc d) part rules' ≡ None
+desc_still k d part rules rules' h e =
+    let a = or_else_none (failing 1 rules (here part)) (or_else (fields_fault k d part) (validations_fault d part)) e in
+    let b = or_else_none (fields_fault k d part) (validations_fault d part) a.1 in
+    both_none (failing 1 rules' (here part)) (or_else (fields_fault k (unruled_desc d) part) None) (none_failing 1 rules' part (h (all_true 1 rules (here part) a.0)))
+    (both_none (fields_fault k (unruled_desc d) part) None b.0 refl)
+
+-- ---- structures
+
+depths_same : (ds : List Desc) → struct_depths (map unruled_desc ds) ≡ struct_depths ds
+depths_same ds =
+    let f : List ℕ → Desc → ℕ = λ depths d. 1 + deepest depths d.fields in
+    ap (first f (map unruled_desc ds)) (length-map ds unruled_desc) ∙ first_unruled f (λ depths d. refl) ds (length ds)
+
+items_same : (ds : List Desc) → struct_items (map unruled_desc ds) ≡ struct_items ds
+items_same ds =
+    let f : List ℕ → Desc → ℕ = λ sizes d. items_in sizes d.fields in
+    ap (first f (map unruled_desc ds)) (length-map ds unruled_desc) ∙ first_unruled f (λ sizes d. refl) ds (length ds)
+
+-- the names of the first of them
+first_names : {X : Type 0} (f : X → X) (name_of : X → List ℕ) → ((x : X) → name_of (f x) ≡ name_of x) → (i : ℕ) (xs : List X) → map name_of (take i (map f xs)) ≡ map name_of (take i xs)
+first_names {X = X} f name_of same i xs = ap (map name_of) (take-map f i xs) ∙ map_both f name_of (take i xs) ∙ each (take i xs)
+  where
+    each : (ys : List X) → map (λ (x : X). name_of (f x)) ys ≡ map name_of ys
+    each [] = refl
+    each (y ∷ ys) = ap (λ (n : List ℕ). n ∷ map (λ (x : X). name_of (f x)) ys) (same y) ∙ ap (λ (l : List (List ℕ)). name_of y ∷ l) (each ys)
+
+struct_still : (ds : List Desc) (i : ℕ) (d : Desc) → struct_fault ds i d ≡ None → struct_fault (map unruled_desc ds) i (unruled_desc d) ≡ None
+struct_still ds i d e = desc_still i d (parts.Struct i) (struct_rules ds i d) (struct_rules (map unruled_desc ds) i (unruled_desc d)) rules e
+  where
+    rules : AllTrue (struct_rules ds i d) → AllTrue (struct_rules (map unruled_desc ds) i (unruled_desc d))
+    rules r =
+        let names = first_names unruled_desc (λ (d : Desc). d.name) (λ d. refl) i ds in (
+          r.0,
+          (
+            ap (λ (l : List (List ℕ)). not (is_one_of l d.name)) names ∙ r.1.0,
+            (
+              r.1.1.0,
+              (
+                refl,
+                (
+                  refl,
+                  (
+                    refl,
+                    (
+                      few_still d (nat_le (get_or (struct_depths (map unruled_desc ds)) i 0) 4) (ap (λ (l : List ℕ). has_few d && nat_le (get_or l i 0) 4) (depths_same ds) ∙ r.1.1.1.1.1.1.0),
+                      (r.1.1.1.1.1.1.1.0, tt),
+                    ),
+                  ),
+                ),
+              ),
+            ),
+          ),
+        )
+
+-- ---- devices
+
+sub_still : (k i : ℕ) (d : Device) (j : ℕ) (s : Sub) → sub_fault k i d j s ≡ None → sub_fault k i (unruled_device d) j (unruled_sub s) ≡ None
+sub_still k i d j s e = desc_still k s.desc (parts.Sub i j) (sub_rules d j s) (sub_rules (unruled_device d) j (unruled_sub s)) rules e
+  where
+    rules : AllTrue (sub_rules d j s) → AllTrue (sub_rules (unruled_device d) j (unruled_sub s))
+    rules r =
+        let names = first_names unruled_sub (λ (s : Sub). s.desc.name) (λ s. refl) j d.subs in (
+          r.0,
+          (
+            ap (λ (l : List (List ℕ)). not (is_one_of l s.desc.name)) names ∙ r.1.0,
+            (
+              r.1.1.0,
+              (
+                r.1.1.1.0,
+                (
+                  refl,
+                  (
+                    refl,
+                    (
+                      few_still s.desc (is_small_test s.needed) r.1.1.1.1.1.1.0,
+                      (refl, tt),
+                    ),
+                  ),
+                ),
+              ),
+            ),
+          ),
+        )
+
+module _ (set : Set) where
+  count_same : length (map unruled_desc set.structs) ≡ length set.structs
+  count_same = length-map set.structs unruled_desc
+
+  device_still : (i : ℕ) (d : Device) → device_fault set i d ≡ None → device_fault (unruled set) i (unruled_device d) ≡ None
+  device_still i d e =
+      let k = length set.structs in
+      let a = or_else_none (desc_fault k d.desc (parts.Device i) (device_rules set i d)) (first_answer (sub_fault k i d) 0 d.subs) e in
+      subst (λ (k : ℕ). or_else (desc_fault k (unruled_desc d.desc) (parts.Device i) (device_rules (unruled set) i (unruled_device d))) (first_answer (sub_fault k i (unruled_device d)) 0 (map unruled_sub d.subs)) ≡ None)
+      (sym count_same)
+      (both_none (desc_fault k (unruled_desc d.desc) (parts.Device i) (device_rules (unruled set) i (unruled_device d))) (first_answer (sub_fault k i (unruled_device d)) 0 (map unruled_sub d.subs))
+      (desc_still k d.desc (parts.Device i) (device_rules set i d) (device_rules (unruled set) i (unruled_device d)) rules a.0)
+      (none_after unruled_sub (sub_fault k i d) (sub_fault k i (unruled_device d)) (sub_still k i d) 0 d.subs a.1))
+    where
+      rules : AllTrue (device_rules set i d) → AllTrue (device_rules (unruled set) i (unruled_device d))
+      rules r =
+          let same = is_same_device d.desc.name d.instance in (
+            r.0,
+            (
+              ap (λ (l : List Device). not (list_any same l)) (take-map unruled_device i set.devices) ∙ ap not (any_map unruled_device same (take i set.devices)) ∙ r.1.0,
+              (
+                r.1.1.0,
+                (
+                  refl,
+                  (
+                    refl,
+                    (
+                      refl,
+                      (
+                        few_still d.desc (nat_le (length (map unruled_sub d.subs)) 32) (ap (λ (n : ℕ). has_few d.desc && nat_le n 32) (length-map d.subs unruled_sub) ∙ r.1.1.1.1.1.1.0),
+                        (refl, tt),
+                      ),
+                    ),
+                  ),
+                ),
+              ),
+            ),
+          )
+
+  subs_counted : (sizes : List ℕ) (subs : List Sub) → subs_items sizes (map unruled_sub subs) ≡ subs_items sizes subs
+  subs_counted sizes [] = refl
+  subs_counted sizes (s ∷ subs) = ap (λ (n : ℕ). items_in sizes s.desc.fields + n) (subs_counted sizes subs)
+
+  devices_counted : (sizes : List ℕ) (devices : List Device) → devices_items sizes (map unruled_device devices) ≡ devices_items sizes devices
+  devices_counted sizes [] = refl
+  devices_counted sizes (d ∷ devices) =
+      ap (λ (n : ℕ). items_in sizes d.desc.fields + (n + devices_items sizes (map unruled_device devices))) (subs_counted sizes d.subs)
+      ∙ ap (λ (n : ℕ). items_in sizes d.desc.fields + (subs_items sizes d.subs + n)) (devices_counted sizes devices)
+
+  abbrev rules_by : ℕ → ℕ → List Bool
+  rules_by structs devices =
+      list_all (is_name 64) set.machines
+      ∷ are_distinct set.machines
+      ∷ true ∷ true ∷ true ∷ true
+      ∷ (nat_le (length set.machines) 16 && nat_le structs 64 && nat_le devices 64)
+      ∷ true
+      ∷ []
+
+  set_rules_same : set_rules (unruled set) ≡ set_rules set
+  set_rules_same = ap (λ (n : ℕ). rules_by n (length (map unruled_device set.devices))) count_same ∙ ap (rules_by (length set.structs)) (length-map set.devices unruled_device)
+
+  size_rules_same : size_rules (unruled set) ≡ size_rules set
+  size_rules_same =
+      let of : ℕ → List Bool = λ n. true ∷ true ∷ true ∷ true ∷ true ∷ true ∷ nat_le n MOST_ITEMS ∷ true ∷ [] in
+      ap of (ap (λ (sizes : List ℕ). devices_items sizes (map unruled_device set.devices)) (items_same set.structs) ∙ devices_counted (struct_items set.structs) set.devices)
+
+  pub still_well : WellFormed set → WellFormed (unruled set)
+  unfolding first_fault
+  still_well well =
+      let bare = unruled set in
+      let at = here parts.Set in
+      let last = failing 1 (size_rules set) at in
+      let devices = or_else (first_answer (device_fault set) 0 set.devices) last in
+      let a = or_else_none (failing 1 (set_rules set) at) (or_else (first_answer (struct_fault set.structs) 0 set.structs) devices) well in
+      let b = or_else_none (first_answer (struct_fault set.structs) 0 set.structs) devices a.1 in
+      let c = or_else_none (first_answer (device_fault set) 0 set.devices) last b.1 in
+      let last' = failing 1 (size_rules bare) at in
+      let devices' = or_else (first_answer (device_fault bare) 0 bare.devices) last' in
+      both_none (failing 1 (set_rules bare) at) (or_else (first_answer (struct_fault bare.structs) 0 bare.structs) devices')
+      (ap (λ (rules : List Bool). failing 1 rules at) set_rules_same ∙ a.0)
+      (both_none (first_answer (struct_fault bare.structs) 0 bare.structs) devices'
+      (none_after unruled_desc (struct_fault set.structs) (struct_fault bare.structs) (struct_still set.structs) 0 set.structs b.0)
+      (both_none (first_answer (device_fault bare) 0 bare.devices) last'
+      (none_after unruled_device (device_fault set) (device_fault bare) device_still 0 set.devices c.0)
+      (ap (λ (rules : List Bool). failing 1 rules at) size_rules_same ∙ c.1)))
+
+  pub still_fits : FitsHeads set → FitsHeads (unruled set)
+  still_fits heads = record {
+    instance = λ k d e. let r = came_from unruled_device set.devices k d e in
+        subst (λ (d : Device). (d.instance < 2 ^ 32) × (d.desc.version < 2 ^ 32)) r.is (heads.instance k r.first r.there);
+    sub_version = λ k j d s e f.
+        let r = came_from unruled_device set.devices k d e in
+        let q = came_from unruled_sub r.first.subs j s (ap (λ (d : Device). slice_get d.subs j) r.is ∙ f) in
+        subst (λ (s : Sub). s.desc.version < 2 ^ 32) q.is (heads.sub_version k j r.first q.first r.there q.there);
+  }

@@ -1,0 +1,5 @@
+use Rattle.vms_stream_laws.proofs.Fronts.{refused_hold}
+use Rattle.vms_stream_laws.proofs.laws.refused_law.Goals as goal
+
+pub returns : goal.returns
+returns c = refused_hold
