@@ -1,9 +1,11 @@
 -- How a command may end and what it touches then, told or not: each sentence is a field.
-use Rattle.std.specs.Prelude.{◌≡◌, ℕ, Bool, true, false, ◌==◌, List, [], ◌∷◌, ◌++◌}
+use Rattle.std.specs.Prelude.{◌≡◌, ℕ, ◌≤◌, Bool, true, false, ◌==◌, List, [], ◌∷◌, ◌++◌}
 use Rattle.std.specs.List.{list_any}
 use Rattle.std.specs.Io.KnownBytes.{Keeps}
 use Rattle.vms_io.specs.Causes.{Rose}
+use Rattle.vms_io.specs.Shelving.{Reaches}
 use Rattle.vms_io.specs.Told.{Intake, Outlet, Stock}
+use Rattle.vms_io.specs.Writing.{Serves}
 use Rattle.vms_commands.specs.declared.ending.Ending.{Ending}
 use Rattle.vms_commands.specs.declared.ending.Ending.TheVariants.{ReadFault, WriteFault, ShelfFault}
 use Rattle.vms_commands.specs.Endings.{status_of}
@@ -30,18 +32,26 @@ of_shelf false = []
 abbrev pub text_course : (own takes : List ℕ) → Bool → Course
 text_course own takes asks = record { statuses = own ++ of_shelf asks; writes = 0 ∷ 6 ∷ []; takes = takes; stores = []; asks = asks }
 
-module _ (input input' : Intake) (out out' : Outlet) (shelf shelf' : Stock) where
+-- no fault of an input is forgotten, and the promise stays
+pub record Draws (old new : Intake) : Type 0 where
+  pub later : old.faults ≤ new.faults
+  pub promise : new.promise ≡ old.promise
+
+module _ (i i' : Intake) (o o' : Outlet) (s s' : Stock) where
   -- a fault only where its count rose
   abbrev pub Risen : Ending → Type 0
-  Risen ReadFault = Rose input.faults input'.faults
-  Risen WriteFault = Rose out.faults out'.faults
-  Risen ShelfFault = Rose shelf.faults shelf'.faults
+  Risen ReadFault = Rose i.faults i'.faults
+  Risen WriteFault = Rose o.faults o'.faults
+  Risen ShelfFault = Rose s.faults s'.faults
   Risen ending = Unit {0}
 
   pub record EndsSo (course : Course) (e : Ending) : Type 0 where
     pub can : is_among course.statuses (status_of e) ≡ true
     pub risen : Risen e
-    pub out : is_among course.writes (status_of e) ≡ false → Keeps out.written out'.written
-    pub input : is_among course.takes (status_of e) ≡ false → input' ≡ input
-    pub held : is_among course.stores (status_of e) ≡ false → shelf'.held ≡ shelf.held
-    pub shelf : course.asks ≡ false → shelf' ≡ shelf
+    pub out : is_among course.writes (status_of e) ≡ false → Keeps o.written o'.written
+    pub input : is_among course.takes (status_of e) ≡ false → i' ≡ i
+    pub held : is_among course.stores (status_of e) ≡ false → s'.held ≡ s.held
+    pub shelf : course.asks ≡ false → s' ≡ s
+    pub draws : Draws i i'
+    pub serves : Serves o o'
+    pub reaches : Reaches s s'
