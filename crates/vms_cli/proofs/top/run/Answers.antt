@@ -4,11 +4,9 @@ use Rattle.vms_io.specs.Told.{intake, outlet, stock}
 use Rattle.vms_commands.specs.Asks.{set_asked}
 use Rattle.vms_commands.specs.Courses.{EndsSo}
 use Rattle.vms_commands.specs.Fetching.{is_on_shelf}
-use Rattle.vms_commands.proofs.CourseLemmas.{draws_none, wrong}
-use Rattle.vms_cli.specs.Check.{asks_shelf}
 use Rattle.vms_cli.specs.Commands.{Asked}
 use Rattle.vms_cli.specs.Statuses.{course_of}
-use Rattle.vms_cli.proofs.EndsSo.{analyze_ends, check_ends, convert_ends, counter_ends, pack_ends, show_ends}
+use Rattle.vms_cli.proofs.EndsSo.{analyze_ends, convert_ends, show_ends}
 use Rattle.vms_cli.proofs.top.run.Goals as goal
 
 pub returns-in-Some-Show-clause-so : goal.returns-in-Some-Show-clause-so
@@ -44,8 +42,7 @@ returns-in-Some-Pack-clause-so g c =
     subst (λ (a : Option Asked). EndsSo (intake g.I.Source c.args.input.now) (intake g.I.Source c.args.input.now) (outlet g.O.Sink c.args.out.now) (outlet g.O.Sink c.pack.new.out)
     (stock g.H.Shelf c.args.shelf.now) (stock g.H.Shelf c.pack.new.shelf) (course_of a) c.pack.result)
     (rw c.in-Some-Pack.field-0-is at c.in-Some-Pack.ensures)
-    (pack_ends (intake g.I.Source c.args.input.now) (outlet g.O.Sink c.args.out.now) (outlet g.O.Sink c.pack.new.out) (stock g.H.Shelf c.args.shelf.now) (stock g.H.Shelf c.pack.new.shelf) c.pack.result e.cause
-    (record { held = e.held; unasked = λ f. absurd (wrong f); draws = draws_none _; serves = record { later = e.out_count; promise = e.out_promise }; reaches = record { later = e.shelf_count; promise = e.shelf_promise } }))
+    (e.so (intake g.I.Source c.args.input.now))
 
 pub returns-in-Some-Check-clause-so : goal.returns-in-Some-Check-clause-so
 returns-in-Some-Check-clause-so g c =
@@ -53,8 +50,7 @@ returns-in-Some-Check-clause-so g c =
     subst (λ (a : Option Asked). EndsSo (intake g.I.Source c.args.input.now) (intake g.I.Source c.args.input.now) (outlet g.O.Sink c.args.out.now) (outlet g.O.Sink c.check.new.out)
     (stock g.H.Shelf c.args.shelf.now) (stock g.H.Shelf c.check.new.shelf) (course_of a) c.check.result)
     (rw c.in-Some-Check.field-0-is at c.in-Some-Check.ensures)
-    (check_ends (intake g.I.Source c.args.input.now) (outlet g.O.Sink c.args.out.now) (outlet g.O.Sink c.check.new.out) (stock g.H.Shelf c.args.shelf.now) (stock g.H.Shelf c.check.new.shelf) (asks_shelf (set_asked c.in-Some-Check.old) (set_asked c.in-Some-Check.new)) c.check.result e.cause
-    (record { held = e.held; unasked = e.unasked; draws = draws_none _; serves = record { later = e.out_count; promise = e.out_promise }; reaches = record { later = e.shelf_count; promise = e.shelf_promise } }))
+    (e.so (intake g.I.Source c.args.input.now))
 
 pub returns-in-Some-Counter-clause-so : goal.returns-in-Some-Counter-clause-so
 returns-in-Some-Counter-clause-so g c =
@@ -62,8 +58,7 @@ returns-in-Some-Counter-clause-so g c =
     subst (λ (a : Option Asked). EndsSo (intake g.I.Source c.args.input.now) (intake g.I.Source c.args.input.now) (outlet g.O.Sink c.args.out.now) (outlet g.O.Sink c.counter.new.out)
     (stock g.H.Shelf c.args.shelf.now) (stock g.H.Shelf c.counter.new.shelf) (course_of a) c.counter.result)
     (rw c.in-Some-Counter.field-0-is at c.in-Some-Counter.ensures)
-    (counter_ends (intake g.I.Source c.args.input.now) (outlet g.O.Sink c.args.out.now) (outlet g.O.Sink c.counter.new.out) (stock g.H.Shelf c.args.shelf.now) (stock g.H.Shelf c.counter.new.shelf) (asks_shelf (set_asked c.in-Some-Counter.old) (set_asked c.in-Some-Counter.new)) c.counter.result e.cause
-    (record { held = e.held; unasked = e.unasked; draws = draws_none _; serves = record { later = e.out_count; promise = e.out_promise }; reaches = record { later = e.shelf_count; promise = e.shelf_promise } }))
+    (e.so (intake g.I.Source c.args.input.now))
 
 pub returns-in-Some-Save-clause-so : goal.returns-in-Some-Save-clause-so
 returns-in-Some-Save-clause-so g c =
