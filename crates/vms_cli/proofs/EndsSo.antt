@@ -1,22 +1,21 @@
 -- Each ending of a command, by what it touches.
-use Rattle.std.proofs.Common.{◌≡◌, ℕ, Bool, true, false, ◌||◌, ◌==◌, List, [], ◌∷◌, ◌++◌, Option, Some, None, inl, inr, refl, ap, ◌∙◌}
+use Rattle.std.proofs.Common.{◌≡◌, ℕ, Bool, true, false, ◌||◌, ◌==◌, List, [], ◌∷◌, ◌++◌, Option, inl, inr, refl, ap, ◌∙◌}
 use Rattle.std.proofs.lemmas.Bool.{or_right}
 use Rattle.std.specs.Io.KnownBytes.{Keeps}
-use Rattle.vms_io.specs.Causes.{Rose}
 use Rattle.vms_io.specs.Shelving.{Reaches}
 use Rattle.vms_io.specs.Told.{Intake, Outlet, Stock}
 use Rattle.vms_io.specs.Writing.{Serves}
 use Rattle.vms_board_commands.specs.Causes.{save_course}
 use Rattle.vms_commands.specs.declared.ending.Ending.{Ending}
-use Rattle.vms_commands.specs.declared.ending.Ending.TheVariants.{Done, Refused, BadWords, BadText, NotCompatible, ReadFault, WriteFault, ShelfFault, NotThere, TooLarge, NoMemory, WouldLose}
+use Rattle.vms_commands.specs.declared.ending.Ending.TheVariants.{Done, Refused, BadText, NotCompatible, ReadFault, WriteFault, ShelfFault, NotThere, TooLarge, NoMemory}
 use Rattle.vms_commands.specs.Endings.{Caused, SetCause, status_of}
 use Rattle.vms_commands.specs.Courses.{Draws, EndsSo, Risen, is_among, of_shelf, text_course}
 use Rattle.vms_commands.specs.Texts.{TextCause}
 use Rattle.vms_commands.proofs.CourseLemmas.{wrong}
 use Rattle.vms_cli.specs.Analyze.{ListCause}
-use Rattle.vms_cli.specs.Causes.{CheckCause, ConvertCause, CounterCause, RewriteCause, ShowCause, StreamCause}
+use Rattle.vms_cli.specs.Causes.{CheckCause, CounterCause, ShowCause, StreamCause}
 use Rattle.vms_cli.specs.Commands.{Asked}
-use Rattle.vms_cli.specs.Statuses.{analyze_course, check_course, convert_course, counter_course, course_of, show_course, stores_at, writes_at}
+use Rattle.vms_cli.specs.Statuses.{analyze_course, check_course, counter_course, course_of, show_course, stores_at, writes_at}
 use Rattle.vms_cli.proofs.RowTables.{stores_one, writes_one}
 
 or_here : (b c d : Bool) → b || c ≡ true → (c ≡ true → d ≡ true) → b || d ≡ true
@@ -121,26 +120,6 @@ module _ (i i' : Intake) (o o' : Outlet) (s s' : Stock) where
   show_so b e (inl c) = set_so own_stream stream_at refl b e c.0 c.1 c.2
   show_so b e (inr c) = shown_so b e c
 
-  abbrev own_convert : List ℕ
-  own_convert = 0 ∷ 1 ∷ 4 ∷ 5 ∷ 6 ∷ 10 ∷ 11 ∷ []
-
-  abbrev convert_at : List ℕ
-  convert_at = 0 ∷ 1 ∷ 5 ∷ 6 ∷ 10 ∷ 11 ∷ []
-
-  rewritten_so : (b : Bool) (e : Ending) → RewriteCause i i' o o' e → Reads (own_convert ++ of_shelf b) convert_at e
-  rewritten_so b Done c = ((refl, tt, λ f. absurd (wrong f)), λ f. absurd (wrong f))
-  rewritten_so b (Refused line) c = ((refl, tt, λ f. c), λ f. absurd (wrong f))
-  rewritten_so b (NotCompatible line) c = ((refl, tt, λ f. c.1), λ f. c.0)
-  rewritten_so b ReadFault c = ((refl, c.0, λ f. c.1), λ f. absurd (wrong f))
-  rewritten_so b WriteFault c = ((refl, c, λ f. absurd (wrong f)), λ f. absurd (wrong f))
-  rewritten_so b NoMemory c = ((refl, tt, λ f. c), λ f. absurd (wrong f))
-  rewritten_so b (WouldLose line) c = ((refl, tt, λ f. c), λ f. absurd (wrong f))
-  rewritten_so b e c = absurd c
-
-  convert_so : (b : Bool) (e : Ending) → ConvertCause b i i' o o' s s' e → Reads (own_convert ++ of_shelf b) convert_at e
-  convert_so b e (inl c) = set_so own_convert convert_at refl b e c.0 c.1 c.2
-  convert_so b e (inr c) = rewritten_so b e c
-
   -- ---- so a command ends
 
   -- with what it leaves of the objects
@@ -166,9 +145,6 @@ module _ (i i' : Intake) (o o' : Outlet) (s s' : Stock) where
 
   pub show_ends : (b : Bool) (e : Ending) → ShowCause b i i' o o' s s' e → Left b → EndsSo i i' o o' s s' (show_course b) e
   show_ends b e c l = ends_by own_stream stream_at b e (show_so b e c) l
-
-  pub convert_ends : (b : Bool) (e : Ending) → ConvertCause b i i' o o' s s' e → Left b → EndsSo i i' o o' s s' (convert_course b) e
-  convert_ends b e c l = ends_by own_convert convert_at b e (convert_so b e c) l
 
   pub analyze_ends : (e : Ending) → ListCause i i' o o' e → Left false → EndsSo i i' o o' s s' analyze_course e
   analyze_ends e c l = ends_by own_stream own_stream false e (list_so e c) l

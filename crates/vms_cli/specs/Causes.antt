@@ -5,7 +5,7 @@ use Rattle.vms_io.specs.Causes.{Rose}
 use Rattle.vms_io.specs.Shelves.{Held}
 use Rattle.vms_io.specs.Told.{Intake, Outlet, Stock}
 use Rattle.vms_commands.specs.declared.ending.Ending.{Ending}
-use Rattle.vms_commands.specs.declared.ending.Ending.TheVariants.{Done, Refused, BadText, NotCompatible, ReadFault, WriteFault, ShelfFault, NotThere, TooLarge, NoMemory, WouldLose}
+use Rattle.vms_commands.specs.declared.ending.Ending.TheVariants.{Done, Refused, BadText, NotCompatible, ReadFault, WriteFault, ShelfFault, NotThere, TooLarge, NoMemory}
 use Rattle.vms_commands.specs.Endings.{SetCause}
 use Rattle.vms_commands.specs.Fetching.{word_set}
 use Rattle.vms_board.specs.Clock.{clock}
@@ -31,24 +31,6 @@ abbrev pub ShowCause : Bool → (input input' : Intake) (out out' : Outlet) (she
 ShowCause asks input input' out out' shelf shelf' ending =
     (SetCause asks shelf shelf' ending × (input' ≡ input) × Keeps out.written out'.written)
     ⊎ StreamCause input input' out out' ending
-
--- once the set of `convert` is there
-abbrev pub RewriteCause : (input input' : Intake) (out out' : Outlet) → Ending → Type 0
-RewriteCause input input' out out' Done = Unit {0}
-RewriteCause input input' out out' (Refused line) = Keeps out.written out'.written
-RewriteCause input input' out out' (NotCompatible line) = (input' ≡ input) × Keeps out.written out'.written
-RewriteCause input input' out out' ReadFault =
-    Rose input.faults input'.faults × Keeps out.written out'.written
-RewriteCause input input' out out' WriteFault = Rose out.faults out'.faults
-RewriteCause input input' out out' NoMemory = Keeps out.written out'.written
-RewriteCause input input' out out' (WouldLose line) = Keeps out.written out'.written
-RewriteCause input input' out out' _ = ⊥
-
--- the set wasn't had, and input and out weren't touched; or it was
-abbrev pub ConvertCause : Bool → (input input' : Intake) (out out' : Outlet) (shelf shelf' : Stock) → Ending → Type 0
-ConvertCause asks input input' out out' shelf shelf' ending =
-    (SetCause asks shelf shelf' ending × (input' ≡ input) × Keeps out.written out'.written)
-    ⊎ RewriteCause input input' out out' ending
 
 -- once the text of `pack` is fetched
 abbrev pub WriteCause : (out out' : Outlet) → Ending → Type 0

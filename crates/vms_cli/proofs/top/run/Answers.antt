@@ -6,7 +6,7 @@ use Rattle.vms_commands.specs.Courses.{EndsSo}
 use Rattle.vms_commands.specs.Fetching.{is_on_shelf}
 use Rattle.vms_cli.specs.Commands.{Asked}
 use Rattle.vms_cli.specs.Statuses.{course_of}
-use Rattle.vms_cli.proofs.EndsSo.{analyze_ends, convert_ends, show_ends}
+use Rattle.vms_cli.proofs.EndsSo.{analyze_ends, show_ends}
 use Rattle.vms_cli.proofs.top.run.Goals as goal
 
 pub returns-in-Some-Show-clause-so : goal.returns-in-Some-Show-clause-so
@@ -24,8 +24,7 @@ returns-in-Some-Convert-clause-so g c =
     subst (λ (a : Option Asked). EndsSo (intake g.I.Source c.args.input.now) (intake g.I.Source c.convert.new.input) (outlet g.O.Sink c.args.out.now) (outlet g.O.Sink c.convert.new.out)
     (stock g.H.Shelf c.args.shelf.now) (stock g.H.Shelf c.convert.new.shelf) (course_of a) c.convert.result)
     (rw c.in-Some-Convert.field-0-is at c.in-Some-Convert.ensures)
-    (convert_ends (intake g.I.Source c.args.input.now) (intake g.I.Source c.convert.new.input) (outlet g.O.Sink c.args.out.now) (outlet g.O.Sink c.convert.new.out) (stock g.H.Shelf c.args.shelf.now) (stock g.H.Shelf c.convert.new.shelf) (is_on_shelf (set_asked c.in-Some-Convert.set)) c.convert.result e.cause
-    (record { held = e.held; unasked = e.unasked; draws = record { later = e.input_count; promise = e.input_promise }; serves = record { later = e.out_count; promise = e.out_promise }; reaches = record { later = e.shelf_count; promise = e.shelf_promise } }))
+    e.so
 
 pub returns-in-Some-Analyze-clause-so : goal.returns-in-Some-Analyze-clause-so
 returns-in-Some-Analyze-clause-so g c =
