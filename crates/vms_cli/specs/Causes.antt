@@ -4,6 +4,7 @@ use Rattle.std.specs.Io.KnownBytes.{Keeps}
 use Rattle.vms_io.specs.Causes.{Rose}
 use Rattle.vms_io.specs.Shelves.{Held}
 use Rattle.vms_io.specs.Told.{Intake, Outlet, Stock}
+use Rattle.vms_io.specs.Writing.{Serves}
 use Rattle.vms_commands.specs.declared.ending.Ending.{Ending}
 use Rattle.vms_commands.specs.declared.ending.Ending.TheVariants.{Done, Refused, BadText, NotCompatible, ReadFault, WriteFault, ShelfFault, NotThere, TooLarge, NoMemory}
 use Rattle.vms_commands.specs.Endings.{SetCause}
@@ -31,6 +32,11 @@ abbrev pub ShowCause : Bool → (input input' : Intake) (out out' : Outlet) (she
 ShowCause asks input input' out out' shelf shelf' ending =
     (SetCause asks shelf shelf' ending × (input' ≡ input) × Keeps out.written out'.written)
     ⊎ StreamCause input input' out out' ending
+
+-- a step that writes on out alone ends with this cause; no fault of out is forgotten, and its promise stays
+pub record WritesBy (Cause : Outlet → Outlet → Ending → Type 0) (out out' : Outlet) (ending : Ending) : Type 0 where
+  pub cause : Cause out out' ending
+  pub serves : Serves out out'
 
 -- once the text of `pack` is fetched
 abbrev pub WriteCause : (out out' : Outlet) → Ending → Type 0

@@ -5,7 +5,7 @@ ghost use Rattle.vms_desc.specs.Described.{described};
 ghost use Rattle.vms_check.specs.Comparing.{first_mismatch};
 ghost use Rattle.vms_commands.specs.Asks.{set_asked};
 ghost use Rattle.vms_cli.specs.Check.{asks_shelf, checked, compared, verdict};
-ghost use Rattle.vms_cli.specs.Causes.{CompareCause};
+ghost use Rattle.vms_cli.specs.Causes.{CompareCause, WritesBy};
 ghost use Rattle.vms_cli.specs.Statuses.{check_course};
 ghost use Rattle.vms_commands.specs.Courses.{EndsSo};
 ghost use Rattle.vms_commands.specs.Fetching.{is_text, set_in, sets_in};
@@ -50,10 +50,8 @@ fn check_texts<O: Sink>(alloc: Global, old: &SetText, new: &SetText, out: &mut O
     ensures ends { TextEnds
         (next (sets_in (record { old = text_of old.now; new = text_of new.now })) compared)
         (outlet O.Sink out.old) (outlet O.Sink out.new) result }
-    ensures cause { CompareCause (is_text (text_of old.now) || is_text (text_of new.now))
+    ensures so { WritesBy (CompareCause (is_text (text_of old.now) || is_text (text_of new.now)))
         (outlet O.Sink out.old) (outlet O.Sink out.new) result }
-    ensures count { O.faults out.old ≤ O.faults out.new }
-    ensures promise { O.promise out.new ≡ O.promise out.old }
 {
     match read_fetched(alloc, old) {
         Ok(old) => check_text(alloc, &old, new, out),
@@ -66,10 +64,8 @@ fn check_text<O: Sink>(alloc: Global, old: &DescSet, new: &SetText, out: &mut O)
     ensures ends { TextEnds
         (next (set_in (text_of new.now)) (λ set. verdict (first_mismatch (described old.now) set)))
         (outlet O.Sink out.old) (outlet O.Sink out.new) result }
-    ensures cause { CompareCause (is_text (text_of new.now))
+    ensures so { WritesBy (CompareCause (is_text (text_of new.now)))
         (outlet O.Sink out.old) (outlet O.Sink out.new) result }
-    ensures count { O.faults out.old ≤ O.faults out.new }
-    ensures promise { O.promise out.new ≡ O.promise out.old }
 {
     match read_fetched(alloc, new) {
         Ok(new) => compare(alloc, old, &new, out),
@@ -80,9 +76,8 @@ fn check_text<O: Sink>(alloc: Global, old: &DescSet, new: &SetText, out: &mut O)
 fn compare<O: Sink>(alloc: Global, old: &DescSet, new: &DescSet, out: &mut O) -> Ending
     ensures ends { TextEnds (verdict (first_mismatch (described old.now) (described new.now)))
         (outlet O.Sink out.old) (outlet O.Sink out.new) result }
-    ensures cause { CompareCause false (outlet O.Sink out.old) (outlet O.Sink out.new) result }
-    ensures count { O.faults out.old ≤ O.faults out.new }
-    ensures promise { O.promise out.new ≡ O.promise out.old }
+    ensures so { WritesBy (CompareCause false)
+        (outlet O.Sink out.old) (outlet O.Sink out.new) result }
 {
     match vms_check::check(old, new) {
         Verdict::Accepted => match write_all_of(out, b"compatible\n") {

@@ -11,7 +11,7 @@ ghost use Rattle.vms_commands.specs.StepEndings.{TextEnds, WrittenAs, text_of};
 ghost use Rattle.vms_commands.specs.Texts.{TextContent};
 ghost use Rattle.vms_commands.specs.Courses.{EndsSo};
 ghost use Rattle.vms_board_commands.specs.Causes.{save_course};
-ghost use Rattle.vms_cli.specs.Causes.{WriteCause};
+ghost use Rattle.vms_cli.specs.Causes.{WriteCause, WritesBy};
 ghost use Rattle.vms_cli.specs.Pack.{described_stream, packed, packed_texts, packs};
 
 use crate::values_notes::values_line;
@@ -52,9 +52,7 @@ fn pack_texts<O: Sink>(alloc: Global, set: &SetText, text: &[u8], out: &mut O) -
     requires { length text.now ≤ longest_file }
     ensures ends { TextEnds (packed_texts (record { set = text_of set.now; values = text.now }))
         (outlet O.Sink out.old) (outlet O.Sink out.new) result }
-    ensures cause { WriteCause (outlet O.Sink out.old) (outlet O.Sink out.new) result }
-    ensures count { O.faults out.old ≤ O.faults out.new }
-    ensures promise { O.promise out.new ≡ O.promise out.old }
+    ensures so { WritesBy WriteCause (outlet O.Sink out.old) (outlet O.Sink out.new) result }
 {
     match read_fetched(alloc, set) {
         Ok(set) => pack_text(alloc, &set, text, out),
@@ -67,9 +65,7 @@ fn pack_text<O: Sink>(alloc: Global, set: &DescSet, text: &[u8], out: &mut O) ->
     requires { length text.now ≤ longest_file }
     ensures ends { TextEnds (packed (described set.now) text.now) (outlet O.Sink out.old)
         (outlet O.Sink out.new) result }
-    ensures cause { WriteCause (outlet O.Sink out.old) (outlet O.Sink out.new) result }
-    ensures count { O.faults out.old ≤ O.faults out.new }
-    ensures promise { O.promise out.new ≡ O.promise out.old }
+    ensures so { WritesBy WriteCause (outlet O.Sink out.old) (outlet O.Sink out.new) result }
 {
     match read_values(alloc, set, text) {
         Ok(values) => write(alloc, set, &values, out),
@@ -90,9 +86,7 @@ fn write<O: Sink>(alloc: Global, set: &DescSet, values: &Values, out: &mut O) ->
         let machine = at_option set.machines values.now.machine in
         WrittenAs (described_stream set machine (map state_of values.now.images.items))
         (outlet O.Sink out.old) (outlet O.Sink out.new) result }
-    ensures cause { WriteCause (outlet O.Sink out.old) (outlet O.Sink out.new) result }
-    ensures count { O.faults out.old ≤ O.faults out.new }
-    ensures promise { O.promise out.new ≡ O.promise out.old }
+    ensures so { WritesBy WriteCause (outlet O.Sink out.old) (outlet O.Sink out.new) result }
 {
     let Ok(text) = describe(alloc, set, &values.images) else {
         return Ending::NoMemory;

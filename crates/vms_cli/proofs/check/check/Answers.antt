@@ -24,7 +24,7 @@ returns-clause-content g c = λ input o few has.
     subst (λ (h : Option Held). StepAs text_of (fetched_set h new) (Ok c.in-Ok-fetch_set.text)) c.in-Ok.ensures.held c.in-Ok-fetch_set.ensures.fetched in
     text_ends (checked held old new) input out out' (stock g.H.Shelf c.args.shelf.now) (stock g.H.Shelf c.fetch_set-2.new.shelf) c.check_texts.result o few
     (c.in-Ok-fetch_set.ensures.held ∙ c.in-Ok.ensures.held)
-    (compare_quiet _ out out' c.check_texts.result c.check_texts.ensures.cause)
+    (compare_quiet _ out out' c.check_texts.result c.check_texts.ensures.so.cause)
     (regroup (both (fetched_set held old) (fetched_set held new)) sets_in compared out out' c.check_texts.result
     (both_give text_of (λ texts. next (sets_in texts) compared) out out' c.check_texts.result (fetched_set held old) (fetched_set held new)
     c.in-Ok.text c.in-Ok-fetch_set.text c.in-Ok.ensures.fetched second c.check_texts.ensures.ends)) has

@@ -25,7 +25,7 @@ returns-clause-content g c = λ input o few has.
     subst (λ (h : Option Held). StepAs text_of (fetched_set h new) (Ok c.in-Ok-fetch_set.text)) c.in-Ok.ensures.held c.in-Ok-fetch_set.ensures.fetched in
     text_ends (next (named_sets held old new) counted) input out out' (stock g.H.Shelf c.args.shelf.now) (stock g.H.Shelf c.fetch_set-2.new.shelf) c.counter_texts.result o few
     (c.in-Ok-fetch_set.ensures.held ∙ c.in-Ok.ensures.held)
-    (find_quiet _ out out' c.counter_texts.result c.counter_texts.ensures.cause)
+    (find_quiet _ out out' c.counter_texts.result c.counter_texts.ensures.so.cause)
     (regroup (both (fetched_set held old) (fetched_set held new)) sets_in counted out out' c.counter_texts.result
     (both_give text_of (λ texts. next (sets_in texts) counted) out out' c.counter_texts.result (fetched_set held old) (fetched_set held new)
     c.in-Ok.text c.in-Ok-fetch_set.text c.in-Ok.ensures.fetched second c.counter_texts.ensures.ends))

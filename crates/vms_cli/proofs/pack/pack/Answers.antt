@@ -28,7 +28,7 @@ returns-in-Ok-fetch-clause-content g c = λ input o few has.
     let second : StepAs bytes (fetched longest_file held name) (Ok c.in-Ok-fetch.text) =
     subst (λ (h : Option Held). StepAs bytes (fetched longest_file h name) (Ok c.in-Ok-fetch.text)) c.in-Ok.ensures.held c.in-Ok-fetch.ensures.fetched in
     text_ends (packs held word name) input out out' (stock g.H.Shelf c.args.shelf.now) (stock g.H.Shelf c.fetch.new.shelf) ending o few
-    (c.in-Ok-fetch.ensures.held ∙ c.in-Ok.ensures.held) (write_quiet out out' ending c.pack_texts.ensures.cause)
+    (c.in-Ok-fetch.ensures.held ∙ c.in-Ok.ensures.held) (write_quiet out out' ending c.pack_texts.ensures.so.cause)
     (texts_end held word name out out' ending text_of bytes c.in-Ok.text c.in-Ok-fetch.text c.in-Ok.ensures.fetched second
     (subst (λ (l : List ℕ). TextEnds (packed_texts (record { set = text_of c.in-Ok.text; values = l })) out out' ending) c.deref.ensures.value
     c.pack_texts.ensures.ends)) has
