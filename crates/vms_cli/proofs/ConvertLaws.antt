@@ -1,5 +1,5 @@
 -- What follows of a stream that `convert` writes.
-use Rattle.std.proofs.Common.{◌≡◌, ℕ, List, [], ◌++◌, append-nil, length, Option, Some, None, refl, sym, ap, subst}
+use Rattle.std.proofs.Common.{◌≡◌, ℕ, List, [], append-nil, length, Option, Some, None, refl, sym, ap, subst}
 use Rattle.vms_io.specs.Shelves.{Held}
 use Rattle.vms_spec.specs.Good.{IsFit}
 use Rattle.vms_spec.specs.Images.{Image}

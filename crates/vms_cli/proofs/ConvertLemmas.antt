@@ -1,12 +1,10 @@
 -- From what the call answers to how `convert` ends.
-use Rattle.std.proofs.Common.{◌≡◌, ℕ, ◌+◌, ◌<◌, ◌≤◌, ◌^◌, List, [], ◌++◌, append-nil, length, drop, Option, Some, None, Result, Ok, Err, IfSome, IsSomeAnd, inl, inr, refl, sym, ap, ◌∙◌, subst, arith}
+use Rattle.std.proofs.Common.{◌≡◌, ℕ, ◌+◌, ◌<◌, ◌≤◌, ◌^◌, List, [], append-nil, length, drop, Option, Some, None, Result, Ok, Err, IfSome, IsSomeAnd, inl, refl, sym, ap, ◌∙◌, subst, arith}
 use Rattle.std.specs.Prelude.{string_bytes}
 use Rattle.arrayvec.specs.ArrayVec.{ArrayVec}
 use Rattle.vms_io.specs.Causes.{capped}
 use Rattle.vms_io.specs.Shelves.{Held}
 use Rattle.vms_io.specs.Told.{Intake, Outlet, Stock}
-use Rattle.vms_io.specs.Writing.{Puts, Stops}
-use Rattle.vms_io.specs.Reading.{Last, Takes as TakesFront}
 use Rattle.vms_io.proofs.ReadingLemmas.{reads_told}
 use Rattle.vms_kinds.specs.Bytes.{IsBytes}
 use Rattle.vms_spec.specs.declared.Reason.{Reason}

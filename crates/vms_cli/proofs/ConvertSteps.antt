@@ -1,18 +1,16 @@
 -- `convert`, by the step that gives its set and the one that compares it.
-use Rattle.std.proofs.Common.{◌≡◌, ℕ, ◌+◌, ◌≤◌, List, Option, Ok, refl, ap, subst, arith}
+use Rattle.std.proofs.Common.{ℕ, ◌+◌, ◌≤◌, List, Option, Ok, refl, ap, subst, arith}
 use Rattle.vms_io.specs.Shelves.{Held}
 use Rattle.vms_io.specs.Told.{Intake, Outlet}
 use Rattle.vms_load.specs.Staging.{most_given}
 use Rattle.vms_spec.specs.Sets.{Set}
 use Rattle.vms_commands.specs.declared.ending.Ending.{Ending}
 use Rattle.vms_commands.specs.declared.ending.Ending.TheVariants.{Done, Refused, WouldLose}
-use Rattle.vms_commands.specs.Fetching.{SetText, fetched_set, set_in, word_set}
 use Rattle.vms_commands.specs.Outcomes.{Outcome}
-use Rattle.vms_commands.specs.SetWords.{SetWord}
 use Rattle.vms_commands.specs.StepEndings.{StepAs}
 use Rattle.vms_commands.specs.Steps.{Step, Untold, Gives, Ends, HasBy, next}
 use Rattle.vms_board_commands.specs.Heard.{HearsBy, IsGiven}
-use Rattle.vms_cli.specs.Convert.{ConvertGives, ConvertHears, ConvertsBy, agrees, newest, target}
+use Rattle.vms_cli.specs.Convert.{ConvertGives, ConvertsBy, agrees, newest}
 
 -- the outcome once the set is there
 abbrev pub converts_after : Option (List ℕ) → Option Held → Set → Outcome → Type 0

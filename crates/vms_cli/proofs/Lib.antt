@@ -6,6 +6,7 @@ pub mod ContinuationLemmas
 pub mod Conversions
 pub mod ConvertLaws
 pub mod ConvertLemmas
+pub mod ConvertLoads
 pub mod ConvertOutcome
 pub mod ConvertSteps
 pub mod CounterLemmas

@@ -1,5 +1,5 @@
 -- What an older set wrote is shown as carried.
-use Rattle.std.proofs.Common.{◌≡◌, ℕ, List, [], append-nil, length, Option, Some, None, IsSomeAnd, refl, sym, ap, ◌∙◌, subst}
+use Rattle.std.proofs.Common.{◌≡◌, ℕ, List, [], append-nil, length, Option, Some, IsSomeAnd, refl, sym, ap, ◌∙◌, subst}
 use Rattle.vms_io.specs.Shelves.{Held}
 use Rattle.vms_spec.specs.Images.{Image}
 use Rattle.vms_spec.specs.Sets.{Set}

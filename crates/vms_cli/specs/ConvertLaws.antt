@@ -1,5 +1,6 @@
 -- What follows of a stream that `convert` writes.
 use Rattle.std.specs.Prelude.{◌≡◌, ℕ, List, length, Option, Some}
+use Rattle.dev_base.specs.Levels.{IsLevel}
 use Rattle.dev_base.specs.declared.limits.TheConstants.{NEWEST}
 use Rattle.vms_io.specs.Shelves.{Held}
 use Rattle.vms_spec.specs.Images.{Image}
@@ -14,7 +15,7 @@ use Rattle.vms_commands.specs.SetWords.{Isa, SetWord, Shipped}
 use Rattle.vms_commands.specs.Steps.{Gives}
 use Rattle.vms_cli.specs.AnalyzeLaws.{PrintsAlike}
 use Rattle.vms_cli.specs.Answers.{HasOutcome}
-use Rattle.vms_cli.specs.Commands.{Convert, Show}
+use Rattle.vms_cli.specs.Commands.{Convert, IsaBoard, Load, Show}
 use Rattle.vms_cli.specs.Convert.{newest}
 
 -- where `convert` writes a stream, `show` with the set of its word and `analyze` print that alike
@@ -41,3 +42,11 @@ pub record StandsFor (word : SetWord) (input stream : List ℕ) (held : Option H
 abbrev pub ConvertAgainLaw : Type 0
 ConvertAgainLaw = (word : SetWord) (input stream : List ℕ) (held : Option Held) (n : ℕ)
     → HasOutcome (Some (Convert word)) (Some input) held (done stream held n) → StandsFor word input stream held n
+
+-- where `convert` writes a stream, and `load` on a board isa-1 to isa-4 has a trace of the input, `load` has the same trace of the
+-- stream, and takes all of it
+abbrev pub ConvertThenLoadLaw : Type 0
+ConvertThenLoadLaw = (word : SetWord) (level : ℕ) (input stream script trace : List ℕ) (held : Option Held) (n k : ℕ) → IsLevel level
+    → HasOutcome (Some (Convert word)) (Some input) held (done stream held n)
+    → HasOutcome (Some (Load (IsaBoard level) script)) (Some input) held (done trace held k)
+    → HasOutcome (Some (Load (IsaBoard level) script)) (Some stream) held (done trace held (length stream))

@@ -1,7 +1,7 @@
 //! Each law is the contract of a function without a body. The statements stand in `specs/Laws.antt`, `specs/AnalyzeLaws.antt`, `specs/ClockSets.antt`, `specs/ConvertLaws.antt` and `specs/States.antt`.
 ghost use Rattle.vms_cli.specs.AnalyzeLaws.{PackThenAnalyzeLaw, SaveThenAnalyzeLaw, ShowThenAnalyzeLaw};
 ghost use Rattle.vms_cli.specs.ClockSets.{ClockSetsLaw};
-ghost use Rattle.vms_cli.specs.ConvertLaws.{ConvertAgainLaw, ConvertThenAnalyzeLaw};
+ghost use Rattle.vms_cli.specs.ConvertLaws.{ConvertAgainLaw, ConvertThenAnalyzeLaw, ConvertThenLoadLaw};
 ghost use Rattle.vms_cli.specs.States.{AlwaysNamedLaw, StateLaw};
 ghost use Rattle.vms_cli.specs.Laws.{AskedLaw, CheckThenShowLaw, OutcomeLaw, CompleteLaw, AmpleLaw, PackThenShowLaw, ShowThenPackLaw};
 
@@ -61,6 +61,11 @@ pub fn convert_then_analyze_law()
 /// rings being in arrays where the set keeps them so; and `convert` with the set gives the same bytes for it.
 pub fn convert_again_law()
     ensures { ConvertAgainLaw }
+{}
+
+/// Of what `convert` writes, `load` on a board `isa-1` to `isa-4` gives the trace that it gives of the input, and takes all.
+pub fn convert_then_load_law()
+    ensures { ConvertThenLoadLaw }
 {}
 
 /// The text that `show` gives for a stream that was written under its set with its description, `analyze` gives too.

@@ -1,5 +1,5 @@
 use Rattle.std.proofs.Common.{List, ℕ, Option, Some, ap, ◌∙◌, ◌<◌, length, sym, subst, codes}
-use Rattle.vms_desc.specs.Described.{described, device_at}
+use Rattle.vms_desc.specs.Described.{device_at}
 use Rattle.vms_elements.specs.Parts.{cell_name}
 use Rattle.vms_spec.specs.Sets.{Set}
 use Rattle.vms_cli.specs.Convert.{IsInNewest, line_of, lost_line, newest}
