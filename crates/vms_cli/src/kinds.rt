@@ -70,7 +70,8 @@ pub(crate) fn load<I: Source, O: Sink, H: Shelf>(
         → EndsAs (intake I.Source input.old) (intake I.Source input.new)
         (outlet O.Sink out.old) (outlet O.Sink out.new)
         (stock H.Shelf shelf.old) (stock H.Shelf shelf.new) result o }
-    ensures cause { EndsCause (Some (Load (board_asked loading.entry.board) loading.entry.script.now))
+    ensures cause { EndsCause
+        (Some (Load (board_asked loading.entry.board) loading.entry.script.now))
         (intake I.Source input.old) (intake I.Source input.new)
         (outlet O.Sink out.old) (outlet O.Sink out.new)
         (stock H.Shelf shelf.old) (stock H.Shelf shelf.new) result }
