@@ -78,7 +78,7 @@ written_end outcome held bytes text n before now o o' Done is ends given w = rec
   bytes = bytes;
   text = text;
   is = subst (λ (k : ℕ). outcome bytes (done text held k)) (sym ends) is;
-  written = w;
+  written = w.told;
   given = given;
 }
 written_end outcome held bytes text n before now o o' (Refused line) is ends given w = absurd w

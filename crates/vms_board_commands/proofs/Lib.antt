@@ -1,4 +1,4 @@
-pub mod CauseLemmas
+pub mod CourseLemmas
 pub mod HeardLemmas
 pub mod LoadLemmas
 pub mod LoadOutcome

@@ -31,7 +31,6 @@ use Rattle.vms_load.proofs.ExactLoads.{fault_within}
 use Rattle.vms_load.specs.Staging.{most_given}
 use Rattle.vms_commands.specs.StepEndings.{StepAs}
 use Rattle.vms_commands.specs.Steps.{Step, Untold, Gives, Ends}
-use Rattle.vms_board_commands.specs.Causes.{StreamCause}
 use Rattle.vms_board_commands.specs.Load.{LoadGives, Loads, Traces, Faulty, Unfit}
 
 -- an outcome of a refusal, and how much of the input it takes
@@ -134,13 +133,6 @@ module _ {S : Type 0} (kind : Family S) (well : WellFormed (kind.set kind.newest
 -- the trace of events is that of their lines
 pub written_events : {S : Type 0} (kind : Family S) (events : List Event) (m : S) (o o' : Outlet) (e : Ending) → WritesAs (trace_from kind events m) o o' e → WritesAs (trace_from kind (events_of (event_lines events)) m) o o' e
 written_events kind events m o o' e w = subst (λ (es : List Event). WritesAs (trace_from kind es m) o o' e) (sym (events_back events)) w
-
--- ---- causes
-
-pub trace_cause : (text : List ℕ) (i i' : Intake) (o o' : Outlet) (e : Ending) → WritesAs text o o' e → StreamCause i i' o o' e
-trace_cause text i i' o o' endings.Done w = tt
-trace_cause text i i' o o' endings.WriteFault w = w.1
-trace_cause text i i' o o' e w = absurd w
 
 -- ---- how many bytes the input gives
 

@@ -15,9 +15,7 @@ use Rattle.vms_session.specs.Session.{Session}
 use Rattle.vms_commands.specs.declared.ending.Ending.{Ending}
 use Rattle.vms_commands.specs.declared.ending.Ending.TheVariants.{Done, ReadFault, WriteFault, ShelfFault, NoMemory}
 use Rattle.vms_session.proofs.CourseLemmas.{rose_since}
-use Rattle.vms_session.specs.Playing.{HasPlayCause}
 use Rattle.vms_session.specs.declared.line.PlayFault.TheVariants as faults
-use Rattle.vms_board_commands.specs.Causes.{LinesCause}
 use Rattle.vms_board_commands.specs.Play.{PlaysAll, ending_by}
 
 -- what the playing says, of the parts and the session that the lines come to
@@ -60,11 +58,6 @@ module _ (level : ℕ) (lines : List ScriptLine) (i : Intake) (o o' : Outlet) (s
           subst (EndsAs i i o o' s s' (ending_by fault)) (sym h.outcome)
           (as_ending fault h.parts h.new (at-power-on (Err fault) content map h.parts h.new e h.plays))
 
-pub stopped_cause : (o o' : Outlet) (s s' : Stock) (fault : PlayFault) → HasPlayCause o o' s s' (Err fault) → LinesCause o o' s s' (ending_by fault)
-stopped_cause o o' s s' faults.WriteFault h = h
-stopped_cause o o' s s' faults.ShelfFault h = h
-stopped_cause o o' s s' faults.NoMemory h = tt
-
 -- ---- from before the script was fetched
 
 module _ (i i' : Intake) (o o' : Outlet) (a b s' : Stock) (held : b.held ≡ a.held) (le : a.faults ≤ b.faults) (x : Outcome) where
@@ -102,10 +95,3 @@ module _ (i i' : Intake) (o o' : Outlet) (a b s' : Stock) (held : b.held ≡ a.h
   ends_since ShelfFault (inr h) = inr (fails-since h)
   ends_since NoMemory h = comes-since h
   ends_since e h = h
-
-pub lines_since : (o o' : Outlet) (a b s' : Stock) (e : Ending) → a.faults ≤ b.faults → LinesCause o o' b s' e → LinesCause o o' a s' e
-lines_since o o' a b s' Done le c = tt
-lines_since o o' a b s' WriteFault le c = c
-lines_since o o' a b s' ShelfFault le c = rose_since a.faults b.faults s'.faults le c
-lines_since o o' a b s' NoMemory le c = tt
-lines_since o o' a b s' e le c = absurd c

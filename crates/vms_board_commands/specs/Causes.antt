@@ -1,9 +1,11 @@
 -- The endings of each command of boards with their causes, told or not.
-use Rattle.std.specs.Prelude.{◌≡◌, ◌⊎◌, ℕ, List, Result, Ok, Err}
+use Rattle.std.specs.Prelude.{◌≡◌, ◌⊎◌, ℕ, true, false, List, [], ◌∷◌, Result, Ok, Err}
 use Rattle.std.specs.Io.KnownBytes.{Keeps}
 use Rattle.vms_board.specs.Family.{Family}
 use Rattle.vms_io.specs.Causes.{Rose}
+use Rattle.vms_io.specs.Shelving.{Looks}
 use Rattle.vms_io.specs.Told.{Intake, Outlet, Stock}
+use Rattle.vms_commands.specs.Courses.{Course, of_shelf, text_course}
 use Rattle.vms_commands.specs.Steps.{Step}
 use Rattle.vms_commands.specs.declared.ending.Ending.{Ending}
 use Rattle.vms_commands.specs.declared.ending.Ending.TheVariants.{Done, Refused, BadText, ReadFault, WriteFault, ShelfFault, NotThere, TooLarge, NoMemory}
@@ -29,6 +31,31 @@ NoScript shelf shelf' ending = ⊥
 abbrev pub ScriptCause : {T : Type 0} → (shelf shelf' : Stock) → Result T Ending → Type 0
 ScriptCause shelf shelf' (Ok lines) = Unit {0}
 ScriptCause shelf shelf' (Err ending) = NoScript shelf shelf' ending
+
+-- the shelf was asked for a script, or how the command ends
+pub record AsksScript {T : Type 0} (shelf shelf' : Stock) (result : Result T Ending) : Type 0 where
+  pub looks : Looks shelf shelf'
+  pub cause : ScriptCause shelf shelf' result
+
+-- ---- how the commands end
+
+abbrev pub save_course : Course
+save_course = text_course (0 ∷ 6 ∷ 10 ∷ []) [] true
+
+abbrev pub load_course : Course
+load_course = text_course (0 ∷ 1 ∷ 5 ∷ 6 ∷ 10 ∷ []) (0 ∷ 1 ∷ 5 ∷ 6 ∷ []) true
+
+abbrev pub drill_course : Course
+drill_course = text_course (0 ∷ 6 ∷ 10 ∷ []) [] false
+
+abbrev pub play_course : Course
+play_course = record {
+  statuses = 0 ∷ 6 ∷ 10 ∷ of_shelf true;
+  writes = 0 ∷ 6 ∷ 7 ∷ 10 ∷ [];
+  takes = [];
+  stores = 0 ∷ 6 ∷ 7 ∷ 10 ∷ [];
+  asks = true;
+}
 
 -- of a text that is made and then written
 abbrev pub WriteCause : (out out' : Outlet) → Ending → Type 0

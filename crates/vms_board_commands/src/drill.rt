@@ -1,13 +1,12 @@
 // The command `drill`: what events that a seed chooses come to, with saves between them.
-ghost use Rattle.std.specs.Prelude.{◌≡◌, ◌^◌, ◌<◌, ◌≤◌, IfOk, string_bytes};
+ghost use Rattle.std.specs.Prelude.{◌≡◌, ◌^◌, ◌<◌, IfOk, string_bytes};
 ghost use Rattle.dev_base.specs.Levels.{IsLevel};
 ghost use Rattle.vms_drill.specs.Views.{summary_view};
 ghost use Rattle.vms_io.specs.Told.{Intake, Stock, outlet};
-ghost use Rattle.vms_commands.specs.Endings.{EndsAs};
+ghost use Rattle.vms_commands.specs.Endings.{EndsAs, WritesAs};
 ghost use Rattle.vms_commands.specs.Outcomes.{Outcome, done};
-ghost use Rattle.vms_commands.specs.StepEndings.{TextEnds};
-ghost use Rattle.vms_commands.specs.Steps.{Gives};
-ghost use Rattle.vms_board_commands.specs.Causes.{WriteCause};
+ghost use Rattle.vms_commands.specs.Courses.{EndsSo};
+ghost use Rattle.vms_board_commands.specs.Causes.{drill_course};
 ghost use Rattle.vms_board_commands.specs.Drill.{drill_line, drill_text, events_text, saves_text, summary_line};
 
 use std::alloc::Global;
@@ -23,9 +22,8 @@ pub fn drill_board<O: Sink>(alloc: Global, level: u8, seed: u64, count: u32, out
     ensures content { (input : Intake) (shelf : Stock) (o : Outcome) → input.given < 2 ^ 64
         → o ≡ done (drill_line level seed count) shelf.held 0
         → EndsAs input input (outlet O.Sink out.old) (outlet O.Sink out.new) shelf shelf result o }
-    ensures cause { WriteCause (outlet O.Sink out.old) (outlet O.Sink out.new) result }
-    ensures count { O.faults out.old ≤ O.faults out.new }
-    ensures promise { O.promise out.new ≡ O.promise out.old }
+    ensures so { (input : Intake) (shelf : Stock) → EndsSo input input (outlet O.Sink out.old)
+        (outlet O.Sink out.new) shelf shelf drill_course result }
 {
     match drilled_line(alloc, level, seed, count) {
         Ok(line) => write_text(line.as_bytes(), out),
@@ -34,11 +32,7 @@ pub fn drill_board<O: Sink>(alloc: Global, level: u8, seed: u64, count: u32, out
 }
 
 fn write_text<O: Sink>(text: &[u8], out: &mut O) -> Ending
-    ensures ends { TextEnds (Gives text.now)
-        (outlet O.Sink out.old) (outlet O.Sink out.new) result }
-    ensures cause { WriteCause (outlet O.Sink out.old) (outlet O.Sink out.new) result }
-    ensures count { O.faults out.old ≤ O.faults out.new }
-    ensures promise { O.promise out.new ≡ O.promise out.old }
+    ensures { WritesAs text.now (outlet O.Sink out.old) (outlet O.Sink out.new) result }
 {
     match write_all_of(out, text) {
         Ok(()) => Ending::Done,

@@ -9,7 +9,8 @@ ghost use Rattle.vms_commands.specs.Endings.{EndsAs, WritesAs};
 ghost use Rattle.vms_commands.specs.Outcomes.{Outcome};
 ghost use Rattle.vms_session.specs.Events.{trace_from};
 ghost use Rattle.vms_script.specs.Views.{event_lines};
-ghost use Rattle.vms_board_commands.specs.Causes.{LoadCause, StreamCause};
+ghost use Rattle.vms_commands.specs.Courses.{EndsSo};
+ghost use Rattle.vms_board_commands.specs.Causes.{load_course};
 ghost use Rattle.vms_board_commands.specs.Heard.{HearsEnd};
 ghost use Rattle.vms_board_commands.specs.Load.{LoadGives, LoadHears, Loads, LoadsBy};
 ghost use Rattle.vms_board_commands.specs.Scripts.{scripted};
@@ -40,22 +41,15 @@ pub fn load_board<M: Machine, I: Source, O: Sink, H: Shelf>(
         → EndsAs (intake I.Source input.old) (intake I.Source input.new)
         (outlet O.Sink out.old) (outlet O.Sink out.new)
         (stock H.Shelf shelf.old) (stock H.Shelf shelf.new) result o }
-    ensures cause { LoadCause (intake I.Source input.old) (intake I.Source input.new)
+    ensures so { EndsSo (intake I.Source input.old) (intake I.Source input.new)
         (outlet O.Sink out.old) (outlet O.Sink out.new)
-        (stock H.Shelf shelf.old) (stock H.Shelf shelf.new) result }
+        (stock H.Shelf shelf.old) (stock H.Shelf shelf.new) load_course result }
     ensures given { LoadGives M.family (scripted None (H.held shelf.old) asked.entry.script.now)
         (intake I.Source input.old) (intake I.Source input.new) }
     ensures heard { LoadHears M.family asked.entry.number
         (scripted None (H.held shelf.old) asked.entry.script.now) (H.held shelf.old)
         (I.given input.old) (I.given input.new)
         (outlet O.Sink out.old) (outlet O.Sink out.new) result }
-    ensures held { H.held shelf.new ≡ H.held shelf.old }
-    ensures input_count { I.faults input.old ≤ I.faults input.new }
-    ensures out_count { O.faults out.old ≤ O.faults out.new }
-    ensures shelf_count { H.faults shelf.old ≤ H.faults shelf.new }
-    ensures input_promise { I.promise input.new ≡ I.promise input.old }
-    ensures out_promise { O.promise out.new ≡ O.promise out.old }
-    ensures shelf_promise { H.promise shelf.new ≡ H.promise shelf.old }
 {
     match events_of(alloc, asked.script, shelf) {
         Ok(events) => load_events::<M, I, O>(alloc, asked.number, &events, input, out),
@@ -78,18 +72,14 @@ fn load_events<M: Machine, I: Source, O: Sink>(
         (λ bytes. Loads M.family number (event_lines events.now) bytes shelf.held o)
         → EndsAs (intake I.Source input.old) (intake I.Source input.new)
         (outlet O.Sink out.old) (outlet O.Sink out.new) shelf shelf' result o }
-    ensures cause { StreamCause (intake I.Source input.old) (intake I.Source input.new)
-        (outlet O.Sink out.old) (outlet O.Sink out.new) result }
+    ensures so { (shelf : Stock) → EndsSo (intake I.Source input.old) (intake I.Source input.new)
+        (outlet O.Sink out.old) (outlet O.Sink out.new) shelf shelf load_course result }
     ensures given { let most = most_given (M.family.set M.family.newest) in
         I.given input.new ≤ I.given input.old + most }
     ensures heard { (held : Option Held)
         → HearsEnd (λ bytes o. Loads M.family number (event_lines events.now) bytes held o) held
         (I.given input.old) (I.given input.new)
         (outlet O.Sink out.old) (outlet O.Sink out.new) result }
-    ensures input_count { I.faults input.old ≤ I.faults input.new }
-    ensures out_count { O.faults out.old ≤ O.faults out.new }
-    ensures input_promise { I.promise input.new ≡ I.promise input.old }
-    ensures out_promise { O.promise out.new ≡ O.promise out.old }
 {
     let Ok(mut board) = MachineBoard::<M>::new(alloc, number) else {
         return Ending::NoMemory;
@@ -111,18 +101,14 @@ fn load_on<M: Machine, I: Source, O: Sink>(
         Loads M.family number (event_lines events.now) bytes shelf.held o)
         → EndsAs (intake I.Source input.old) (intake I.Source input.new)
         (outlet O.Sink out.old) (outlet O.Sink out.new) shelf shelf' result o }
-    ensures cause { StreamCause (intake I.Source input.old) (intake I.Source input.new)
-        (outlet O.Sink out.old) (outlet O.Sink out.new) result }
+    ensures so { (shelf : Stock) → EndsSo (intake I.Source input.old) (intake I.Source input.new)
+        (outlet O.Sink out.old) (outlet O.Sink out.new) shelf shelf load_course result }
     ensures given { let most = most_given (M.family.set M.family.newest) in
         I.given input.new ≤ I.given input.old + most }
     ensures heard { (held : Option Held) → let number = M.family.number board.old.state in
         HearsEnd (λ bytes o. Loads M.family number (event_lines events.now) bytes held o) held
         (I.given input.old) (I.given input.new)
         (outlet O.Sink out.old) (outlet O.Sink out.new) result }
-    ensures input_count { I.faults input.old ≤ I.faults input.new }
-    ensures out_count { O.faults out.old ≤ O.faults out.new }
-    ensures input_promise { I.promise input.new ≡ I.promise input.old }
-    ensures out_promise { O.promise out.new ≡ O.promise out.old }
 {
     match board.restore(input) {
         Ok(()) => go_on(board, events, out),
@@ -134,10 +120,8 @@ fn load_on<M: Machine, I: Source, O: Sink>(
 // Once the board is restored.
 fn go_on<M: Machine, O: Sink>(board: &mut MachineBoard<M>, events: &[Event], out: &mut O) -> Ending
     requires { AreEvents events.now }
-    ensures written { let text = trace_from M.family events.now board.old.state in
+    ensures { let text = trace_from M.family events.now board.old.state in
         WritesAs text (outlet O.Sink out.old) (outlet O.Sink out.new) result }
-    ensures count { O.faults out.old ≤ O.faults out.new }
-    ensures promise { O.promise out.new ≡ O.promise out.old }
 {
     match trace(board, events, out) {
         Ok(()) => Ending::Done,

@@ -1,15 +1,16 @@
 // The command `save`: the stream of a board after a script.
-ghost use Rattle.std.specs.Prelude.{◌≡◌, ◌≤◌};
+ghost use Rattle.std.specs.Prelude.{◌≡◌};
 ghost use Rattle.dev_base.specs.Levels.{ReachesSet};
 ghost use Rattle.dev_board.specs.Laws.{AreEvents};
 ghost use Rattle.vms_board.specs.Family.{IsNumber};
 ghost use Rattle.vms_board.specs.Saving.{saved_stream};
 ghost use Rattle.vms_board_streams.specs.Streams.{after_events};
-ghost use Rattle.vms_io.specs.Told.{outlet, stock};
+ghost use Rattle.vms_io.specs.Told.{Intake, Stock, outlet, stock};
 ghost use Rattle.vms_commands.specs.StepEndings.{TextEnds};
 ghost use Rattle.vms_commands.specs.Steps.{Gives};
-ghost use Rattle.vms_commands.specs.Texts.{TextCause, TextContent};
-ghost use Rattle.vms_board_commands.specs.Causes.{WriteCause};
+ghost use Rattle.vms_commands.specs.Texts.{TextContent};
+ghost use Rattle.vms_commands.specs.Courses.{EndsSo};
+ghost use Rattle.vms_board_commands.specs.Causes.{save_course};
 ghost use Rattle.vms_board_commands.specs.Save.{ending_by, saved_after};
 
 use crate::asked::Saving;
@@ -35,13 +36,8 @@ pub fn save_board<M: Machine, O: Sink, H: Shelf>(
         (saved_after M.family said.number said.set (H.held shelf.old) said.script.now)
         (outlet O.Sink out.old) (outlet O.Sink out.new)
         (stock H.Shelf shelf.old) (stock H.Shelf shelf.new) result }
-    ensures cause { TextCause (outlet O.Sink out.old) (outlet O.Sink out.new)
-        (stock H.Shelf shelf.old) (stock H.Shelf shelf.new) result }
-    ensures held { H.held shelf.new ≡ H.held shelf.old }
-    ensures out_count { O.faults out.old ≤ O.faults out.new }
-    ensures shelf_count { H.faults shelf.old ≤ H.faults shelf.new }
-    ensures out_promise { O.promise out.new ≡ O.promise out.old }
-    ensures shelf_promise { H.promise shelf.new ≡ H.promise shelf.old }
+    ensures so { (input : Intake) → EndsSo input input (outlet O.Sink out.old) (outlet O.Sink out.new)
+        (stock H.Shelf shelf.old) (stock H.Shelf shelf.new) save_course result }
 {
     match events_of(alloc, asked.script, shelf) {
         Ok(events) => save_after::<M, O>(alloc, asked.number, asked.set, &events, out),
@@ -63,9 +59,8 @@ fn save_after<M: Machine, O: Sink>(
     ensures ends { let board = after_events M.family events.now (M.family.power_on number) in
         TextEnds (Gives (saved_stream M.family set board)) (outlet O.Sink out.old)
         (outlet O.Sink out.new) result }
-    ensures cause { WriteCause (outlet O.Sink out.old) (outlet O.Sink out.new) result }
-    ensures count { O.faults out.old ≤ O.faults out.new }
-    ensures promise { O.promise out.new ≡ O.promise out.old }
+    ensures so { (input : Intake) (shelf : Stock) → EndsSo input input (outlet O.Sink out.old)
+        (outlet O.Sink out.new) shelf shelf save_course result }
 {
     let Ok(mut board) = MachineBoard::<M>::new(alloc, number) else {
         return Ending::NoMemory;

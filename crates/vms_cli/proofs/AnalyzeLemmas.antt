@@ -136,12 +136,11 @@ module _ (i i' : Intake) (o o' : Outlet) where
   -- the outcome of an input that is told
   pub list_content : (r : Result (Unit {0}) AnalyzeFault) (e : Ending) → EndsLike r e → Analyzes i i' o o' r → (s : Stock) (x : Outcome) → IsSomeAnd i.left (λ bytes. IsListing s.held bytes x)
       → EndsAs i i' o o' s s e x
-  list_content _ _ (IsDone u) a s x is = shows_as s a.text x endings.Done (listed_took a.listed) a.written.told is
+  list_content _ _ (IsDone u) a s x is = shows_as s a.text x endings.Done (listed_took a.listed) a.written is
   list_content _ _ (IsRefused at reason line said) a s x is = refuses_with s at reason line.items x (refused_took at reason a.0) said is
   list_content _ _ FailsReading a s x is = comes_to_nothing o o' s s x.parts (same_keeps o o' a.1) refl
   list_content _ _ FailsWriting a s x is =
-      let w = a.written in
-      shows_as s a.text x endings.WriteFault (listed_took a.listed) ((w.n, w.within, w.puts.told), w.rose) is
+      shows_as s a.text x endings.WriteFault (listed_took a.listed) a.written is
   list_content _ _ LacksMemory a s x is = comes_to_nothing o o' s s x.parts (same_keeps o o' a.1) refl
 
   -- why it ends so

@@ -197,7 +197,7 @@ module _ (to : Set) (fit : IsFit to) (i i' : Intake) (o o' : Outlet) where
   convert_content _ _ (IsDone u) c ok few s s' x same has =
       let t = c.1 in
       let p = t.converts in
-      rewrites c.0 ok s s' same x (given_set c.0 s x has) t.images t.taken (name_of newest t.machine) p.bytes endings.Done (took i i' t.images t.taken t.machine t.reads) p.is p.puts.told
+      rewrites c.0 ok s s' same x (given_set c.0 s x has) t.images t.taken (name_of newest t.machine) p.bytes endings.Done (took i i' t.images t.taken t.machine t.reads) p.is p.puts
   convert_content _ _ (IsMismatch m line said) c ok few s s' x same has =
       let ends : x ≡ ended 4 (mismatch_line m) 0 = subst (λ (step : Step Set). ConvertsBy step i.left s.held x) (agreed_ends to m c.0) has in
       subst (λ (now : Intake). EndsWith 4 (string_bytes line) i now x) (sym c.1) (ends_with 4 (string_bytes line) i x few (ends ∙ ap (λ (l : List ℕ). ended 4 l 0) (sym said)))
@@ -209,9 +209,7 @@ module _ (to : Set) (fit : IsFit to) (i i' : Intake) (o o' : Outlet) where
   convert_content _ _ FailsWriting c ok few s s' x same has =
       let t = c.1 in
       let p = t.converts in
-      let w = p.puts in
-      rewrites c.0 ok s s' same x (given_set c.0 s x has) t.images t.taken (name_of newest t.machine) p.bytes endings.WriteFault (took i i' t.images t.taken t.machine t.reads) p.is
-      ((w.n, w.within, w.puts.told), w.rose)
+      rewrites c.0 ok s s' same x (given_set c.0 s x has) t.images t.taken (name_of newest t.machine) p.bytes endings.WriteFault (took i i' t.images t.taken t.machine t.reads) p.is p.puts
   convert_content _ _ (LacksMemory fault may) c ok few s s' x same has = comes_to_nothing o o' s s' x.parts (same_keeps o o' (unwritten fault may c)) same
 
   -- why it ends so

@@ -64,12 +64,12 @@ pub text_written : (text : List ℕ) (i i' : Intake) (o o' : Outlet) (s s' : Sto
     → WritesAs text o o' ending → s'.held ≡ s.held → TakesBytes i i' taken → EndsAs i i' o o' s s' ending (done text s.held taken)
 text_written text i i' o o' s s' taken Done w same t = record {
   status_is = refl;
-  text = subst (λ (l : List ℕ). Appends o.written o'.written l) (sym (append-nil text)) w;
+  text = subst (λ (l : List ℕ). Appends o.written o'.written l) (sym (append-nil text)) w.told;
   note = refl;
   held = same;
   taken = t;
 }
-text_written text i i' o o' s s' taken WriteFault w same t = record { begun = 1; bytes = w.0.0; text = w.0.2; held = same }
+text_written text i i' o o' s s' taken WriteFault w same t = record { begun = 1; bytes = w.n; text = w.puts.told; held = same }
 text_written text i i' o o' s s' taken e w same t = absurd w
 
 -- the outside of these objects

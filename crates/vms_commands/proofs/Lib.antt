@@ -1,3 +1,4 @@
+pub mod CourseLemmas
 pub mod EndLemmas
 pub mod FileSets
 pub mod LineLemmas

@@ -3,6 +3,7 @@ use Rattle.std.specs.Prelude.{◌≡◌, ◌⊎◌, ℕ, Bool, true, List, [], s
 use Rattle.std.specs.Io.KnownBytes.{Appends, Keeps}
 use Rattle.vms_io.specs.Causes.{Rose, AppendsPrefix}
 use Rattle.vms_io.specs.Told.{Intake, Outlet, Stock}
+use Rattle.vms_io.specs.Writing.{Puts, Stops}
 use Rattle.vms_commands.specs.declared.ending.Ending.{Ending}
 use Rattle.vms_commands.specs.declared.ending.Ending.TheVariants.{Done, Refused, BadWords, BadText, NotCompatible, ReadFault, WriteFault, ShelfFault, NotThere, TooLarge, NoMemory, WouldLose}
 use Rattle.vms_commands.specs.Lines.{bad_words, read_fault, write_fault, shelf_fault, out_of_memory}
@@ -106,6 +107,6 @@ Quiet out out' ending = Keeps out.written out'.written
 -- ---- what a write of a text says
 
 abbrev pub WritesAs : List ℕ → Outlet → Outlet → Ending → Type 0
-WritesAs text out out' Done = Appends out.written out'.written text
-WritesAs text out out' WriteFault = AppendsPrefix out.written out'.written text × Rose out.faults out'.faults
+WritesAs text out out' Done = Puts out out' text
+WritesAs text out out' WriteFault = Stops out out' text
 WritesAs text out out' _ = ⊥

@@ -1,7 +1,6 @@
-use Rattle.std.proofs.Common.{List, ℕ, None, refl, sym, inl, inr, subst}
+use Rattle.std.proofs.Common.{List, ℕ, None, refl, sym, subst}
 use Rattle.std.specs.declared.alloc.Global.{Global}
 use Rattle.std.specs.declared.vec.Vec.{Vec}
-use Rattle.std.proofs.KnownBytes.{Keeps-refl}
 use Rattle.dev_board.specs.declared.event.Event.{Event}
 use Rattle.vms_io.specs.Told.{intake, outlet, stock}
 use Rattle.vms_commands.proofs.EndLemmas.{quiet_same}
@@ -11,6 +10,9 @@ use Rattle.vms_script.specs.Lines.{ScriptLine}
 use Rattle.vms_script.specs.Views.{event_lines}
 use Rattle.vms_board_commands.proofs.HeardLemmas.{given_so, heard_so, other_heard, script_other}
 use Rattle.vms_board_commands.proofs.LoadLemmas.{gives_none, gives_some, loads_under}
+use Rattle.vms_commands.proofs.CourseLemmas.{so_since}
+use Rattle.vms_board_commands.proofs.CourseLemmas.{load_asks, script_so}
+use Rattle.vms_board_commands.specs.Causes.{load_course}
 use Rattle.vms_board_commands.specs.Heard.{HearsEnd}
 use Rattle.vms_board_commands.specs.Load.{Loads}
 use Rattle.vms_board_commands.specs.Scripts.{scripted}
@@ -25,11 +27,11 @@ returns-in-Ok-clause-content g c = λ o has.
     let left = g.I.Source.left c.args.input.now in
     let level = c.args.asked.number in
     let loads = had_by view (loads_under g.M.Machine.family level left held) (scripted None held c.args.asked.script.now) c.in-Ok.events o c.in-Ok.ensures.read has in
-    c.load_events.ensures.content (stock g.H.Shelf c.args.shelf.now) (stock g.H.Shelf c.events_of.new.shelf) o c.in-Ok.ensures.held
+    c.load_events.ensures.content (stock g.H.Shelf c.args.shelf.now) (stock g.H.Shelf c.events_of.new.shelf) o c.in-Ok.ensures.asks.looks.held
     (subst (λ (l : List Event). loads_under g.M.Machine.family level left held (event_lines l) o) (sym c.deref.ensures.value) loads)
 
-pub returns-in-Ok-clause-cause : goal.returns-in-Ok-clause-cause
-returns-in-Ok-clause-cause g c = inr c.load_events.ensures.cause
+pub returns-in-Ok-clause-so : goal.returns-in-Ok-clause-so
+returns-in-Ok-clause-so g c = so_since c.load_events.result refl c.in-Ok.ensures.asks.looks (c.load_events.ensures.so (stock g.H.Shelf c.events_of.new.shelf))
 
 pub returns-in-Ok-clause-given : goal.returns-in-Ok-clause-given
 returns-in-Ok-clause-given g c =
@@ -43,10 +45,11 @@ returns-in-Err-clause-content g c = λ o has.
     let out = outlet g.O.Sink c.args.out.now in
     ended_by view (loads_under g.M.Machine.family c.args.asked.number left held) (scripted None held c.args.asked.script.now)
     (intake g.I.Source c.args.input.now) out out (stock g.H.Shelf c.args.shelf.now) (stock g.H.Shelf c.events_of.new.shelf)
-    c.in-Err.ending o (g.met.I.Source.counted c.args.input.now) c.in-Err.ensures.held (quiet_same out c.in-Err.ending) c.in-Err.ensures.read has
+    c.in-Err.ending o (g.met.I.Source.counted c.args.input.now) c.in-Err.ensures.asks.looks.held (quiet_same out c.in-Err.ending) c.in-Err.ensures.read has
 
-pub returns-in-Err-clause-cause : goal.returns-in-Err-clause-cause
-returns-in-Err-clause-cause g c = inl (c.in-Err.ensures.cause, refl, Keeps-refl (g.O.Sink.written c.args.out.now))
+pub returns-in-Err-clause-so : goal.returns-in-Err-clause-so
+returns-in-Err-clause-so g c =
+    script_so (intake g.I.Source c.args.input.now) (outlet g.O.Sink c.args.out.now) load_course load_asks c.in-Err.ensures.asks.looks c.in-Err.ending c.in-Err.ensures.asks.cause
 
 pub returns-in-Err-clause-given : goal.returns-in-Err-clause-given
 returns-in-Err-clause-given g c =
@@ -73,4 +76,4 @@ returns-in-Err-clause-heard g c =
     let given = g.I.Source.given c.args.input.now in
     let out = outlet g.O.Sink c.args.out.now in
     other_heard (List ScriptLine) (scripted None held c.args.asked.script.now) (λ lines bytes o. Loads g.M.Machine.family c.args.asked.number lines bytes held o) held given given out out c.in-Err.ending
-    (script_other (stock g.H.Shelf c.args.shelf.now) (stock g.H.Shelf c.events_of.new.shelf) c.in-Err.ending c.in-Err.ensures.cause)
+    (script_other (stock g.H.Shelf c.args.shelf.now) (stock g.H.Shelf c.events_of.new.shelf) c.in-Err.ending c.in-Err.ensures.asks.cause)

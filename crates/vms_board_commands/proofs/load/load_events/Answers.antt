@@ -1,10 +1,13 @@
-use Rattle.std.proofs.Common.{ℕ, ap, ◌∙◌, sym, subst}
+use Rattle.std.proofs.Common.{ℕ, refl, ap, ◌∙◌, sym, subst}
 use Rattle.std.proofs.KnownBytes.{Keeps-refl}
 use Rattle.dev_board.specs.State.{State}
-use Rattle.vms_io.specs.Told.{outlet}
+use Rattle.vms_io.specs.Told.{intake, outlet}
 use Rattle.vms_commands.proofs.EndLemmas.{comes_to_nothing}
 use Rattle.vms_script.specs.Views.{event_lines}
 use Rattle.vms_board_commands.proofs.LoadLemmas.{loads_under}
+use Rattle.vms_commands.proofs.CourseLemmas.{same_so}
+use Rattle.vms_commands.specs.declared.ending.Ending.TheVariants.{NoMemory}
+use Rattle.vms_board_commands.specs.Causes.{load_course}
 use Rattle.vms_board_commands.specs.Heard.{HearsEnd}
 use Rattle.vms_board_commands.specs.Load.{Loads}
 use Rattle.vms_board_commands.proofs.load.load_events.Goals as goal
@@ -20,6 +23,12 @@ pub returns-in_default-clause-content : goal.returns-in_default-clause-content
 returns-in_default-clause-content g c = λ shelf shelf' o held loads.
     let out = outlet g.O.Sink c.args.out.now in
     comes_to_nothing out out shelf shelf' o.parts (Keeps-refl out.written) held
+
+pub returns-clause-so : goal.returns-clause-so
+returns-clause-so g c = c.load_on.ensures.so
+
+pub returns-in_default-clause-so : goal.returns-in_default-clause-so
+returns-in_default-clause-so g c = λ shelf. same_so (intake g.I.Source c.args.input.now) (outlet g.O.Sink c.args.out.now) shelf load_course NoMemory refl tt
 
 pub returns-clause-heard : goal.returns-clause-heard
 returns-clause-heard g c = λ held.

@@ -5,11 +5,12 @@ use Rattle.vms_board.specs.declared.restore.RestoreFault.{RestoreFault}
 use Rattle.vms_io.specs.Told.{intake, outlet}
 use Rattle.vms_commands.proofs.EndLemmas.{comes_to_nothing}
 use Rattle.vms_commands.specs.Lines.{refused_line}
-use Rattle.vms_session.specs.Events.{trace_from}
 use Rattle.vms_script.specs.Views.{event_lines}
 use Rattle.vms_spec.specs.Sets.{Set}
+use Rattle.vms_commands.proofs.CourseLemmas.{draws_took}
+use Rattle.vms_board_commands.proofs.CourseLemmas.{refused_so, traced_so, unread_so}
 use Rattle.vms_board_commands.proofs.HeardLemmas.{restore_heard, trace_heard}
-use Rattle.vms_board_commands.proofs.LoadLemmas.{refused, trace_cause, traced, written_events}
+use Rattle.vms_board_commands.proofs.LoadLemmas.{refused, traced, written_events}
 use Rattle.vms_board_commands.proofs.load.load_on.Goals as goal
 
 pub returns-in-Ok-clause-content : goal.returns-in-Ok-clause-content
@@ -17,12 +18,19 @@ returns-in-Ok-clause-content g c = λ shelf shelf' o held loads.
     traced g.M.Machine.family g.met.M.Machine.stands.well g.met.M.Machine.stands.heads (g.M.Machine.family.number c.args.board.now.state) (event_lines c.args.events.now) (intake g.I.Source c.args.input.now) (intake g.I.Source c.restore.new.source)
     (outlet g.O.Sink c.args.out.now) (outlet g.O.Sink c.go_on.new.out) shelf shelf' c.restore.new.self.state c.restore.new.self.taken c.go_on.result o held
     (g.met.I.Source.octets c.args.input.now) c.in-Ok.ensures.content c.in-Ok.ensures.given.0
-    (written_events g.M.Machine.family c.args.events.now c.restore.new.self.state (outlet g.O.Sink c.args.out.now) (outlet g.O.Sink c.go_on.new.out) c.go_on.result c.go_on.ensures.written) loads
+    (written_events g.M.Machine.family c.args.events.now c.restore.new.self.state (outlet g.O.Sink c.args.out.now) (outlet g.O.Sink c.go_on.new.out) c.go_on.result c.go_on.ensures) loads
 
-pub returns-in-Ok-clause-cause : goal.returns-in-Ok-clause-cause
-returns-in-Ok-clause-cause g c =
-    trace_cause (trace_from g.M.Machine.family c.args.events.now c.restore.new.self.state) (intake g.I.Source c.args.input.now) (intake g.I.Source c.restore.new.source)
-    (outlet g.O.Sink c.args.out.now) (outlet g.O.Sink c.go_on.new.out) c.go_on.result c.go_on.ensures.written
+pub returns-in-Ok-clause-so : goal.returns-in-Ok-clause-so
+returns-in-Ok-clause-so g c = λ shelf.
+    traced_so shelf (draws_took c.in-Ok.ensures.takes.1) _ (outlet g.O.Sink c.args.out.now) (outlet g.O.Sink c.go_on.new.out) c.go_on.result c.go_on.ensures
+
+pub returns-in-Err-Refused-clause-so : goal.returns-in-Err-Refused-clause-so
+returns-in-Err-Refused-clause-so g c = λ shelf. refused_so shelf (draws_took c.in-Err-Refused.ensures.takes.1) (outlet g.O.Sink c.args.out.now) c.refused_line.result
+
+pub returns-in-Err-ReadFault-clause-so : goal.returns-in-Err-ReadFault-clause-so
+returns-in-Err-ReadFault-clause-so g c = λ shelf.
+    let cause = rw c.in-Err-ReadFault.field-0-is at c.in-Err-ReadFault.ensures.cause in
+    unread_so shelf (draws_took c.in-Err-ReadFault.ensures.takes.1) (outlet g.O.Sink c.args.out.now) cause.1
 
 pub returns-in-Err-Refused-clause-content : goal.returns-in-Err-Refused-clause-content
 returns-in-Err-Refused-clause-content g c = λ shelf shelf' o held loads.
@@ -47,7 +55,7 @@ pub returns-in-Ok-clause-heard : goal.returns-in-Ok-clause-heard
 returns-in-Ok-clause-heard g c = λ held.
     trace_heard g.M.Machine.family (g.M.Machine.family.number c.args.board.now.state) (event_lines c.args.events.now) held (g.I.Source.given c.args.input.now) (g.I.Source.given c.restore.new.source)
     (outlet g.O.Sink c.args.out.now) (outlet g.O.Sink c.go_on.new.out) c.restore.new.self c.go_on.result c.in-Ok.ensures.heard
-    (written_events g.M.Machine.family c.args.events.now c.restore.new.self.state (outlet g.O.Sink c.args.out.now) (outlet g.O.Sink c.go_on.new.out) c.go_on.result c.go_on.ensures.written)
+    (written_events g.M.Machine.family c.args.events.now c.restore.new.self.state (outlet g.O.Sink c.args.out.now) (outlet g.O.Sink c.go_on.new.out) c.go_on.result c.go_on.ensures)
 
 pub returns-in-Err-Refused-clause-heard : goal.returns-in-Err-Refused-clause-heard
 returns-in-Err-Refused-clause-heard g c = λ held.

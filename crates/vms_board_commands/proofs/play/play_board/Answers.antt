@@ -1,8 +1,7 @@
-use Rattle.std.proofs.Common.{List, Option, Some, sym, subst, inl, inr}
+use Rattle.std.proofs.Common.{List, Option, Some, refl, sym, subst}
 use Rattle.std.specs.Prelude.{IsSomeAnd}
 use Rattle.std.specs.declared.alloc.Global.{Global}
 use Rattle.std.specs.declared.vec.Vec.{Vec}
-use Rattle.std.proofs.KnownBytes.{Keeps-refl}
 use Rattle.vms_io.specs.Shelves.{Held}
 use Rattle.vms_io.specs.Told.{outlet, stock}
 use Rattle.vms_commands.proofs.EndLemmas.{quiet_same}
@@ -11,7 +10,10 @@ use Rattle.vms_commands.specs.Outcomes.{Outcome}
 use Rattle.vms_script.specs.Lines.{ScriptLine}
 use Rattle.vms_script.specs.Views.{lines_view}
 use Rattle.vms_script.specs.declared.line.Line.{Line}
-use Rattle.vms_board_commands.proofs.PlayLemmas.{ends_since, lines_since}
+use Rattle.vms_board_commands.proofs.PlayLemmas.{ends_since}
+use Rattle.vms_commands.proofs.CourseLemmas.{so_since}
+use Rattle.vms_board_commands.proofs.CourseLemmas.{play_asks, script_so}
+use Rattle.vms_board_commands.specs.Causes.{play_course}
 use Rattle.vms_board_commands.specs.Play.{PlaysAll}
 use Rattle.vms_board_commands.specs.Scripts.{scripted}
 use Rattle.vms_board_commands.proofs.play.play_board.Goals as goal
@@ -23,15 +25,13 @@ returns-in-Ok-clause-content g c = λ input o few has.
     let plays = had_by (λ (l : Vec Line Global). lines_view l.items) (λ (lines : List ScriptLine) (x : Outcome). IsSomeAnd held (λ map. PlaysAll level lines map x))
     (scripted (Some level) held c.args.asked.script.now) c.in-Ok.lines o c.in-Ok.ensures.read has in
     ends_since input input (outlet g.O.Sink c.args.out.now) (outlet g.O.Sink c.play_lines.new.out) (stock g.H.Shelf c.args.shelf.now) (stock g.H.Shelf c.session_of.new.shelf)
-    (stock g.H.Shelf c.play_lines.new.shelf) c.in-Ok.ensures.held c.in-Ok.ensures.count o c.play_lines.result
+    (stock g.H.Shelf c.play_lines.new.shelf) c.in-Ok.ensures.asks.looks.held c.in-Ok.ensures.asks.looks.later o c.play_lines.result
     (c.play_lines.ensures.content input o few
-    (subst (λ (h : Option Held). IsSomeAnd h (λ map. PlaysAll level (lines_view c.deref.result.now) map o)) (sym c.in-Ok.ensures.held)
+    (subst (λ (h : Option Held). IsSomeAnd h (λ map. PlaysAll level (lines_view c.deref.result.now) map o)) (sym c.in-Ok.ensures.asks.looks.held)
     (subst (λ (l : List Line). IsSomeAnd held (λ map. PlaysAll level (lines_view l) map o)) (sym c.deref.ensures.value) plays)))
 
-pub returns-in-Ok-clause-cause : goal.returns-in-Ok-clause-cause
-returns-in-Ok-clause-cause g c =
-    inr (lines_since (outlet g.O.Sink c.args.out.now) (outlet g.O.Sink c.play_lines.new.out) (stock g.H.Shelf c.args.shelf.now) (stock g.H.Shelf c.session_of.new.shelf)
-    (stock g.H.Shelf c.play_lines.new.shelf) c.play_lines.result c.in-Ok.ensures.count c.play_lines.ensures.cause)
+pub returns-in-Ok-clause-so : goal.returns-in-Ok-clause-so
+returns-in-Ok-clause-so g c = λ input. so_since c.play_lines.result refl c.in-Ok.ensures.asks.looks (c.play_lines.ensures.so input)
 
 pub returns-in-Err-clause-content : goal.returns-in-Err-clause-content
 returns-in-Err-clause-content g c = λ input o few has.
@@ -40,7 +40,8 @@ returns-in-Err-clause-content g c = λ input o few has.
     let out = outlet g.O.Sink c.args.out.now in
     ended_by (λ (l : Vec Line Global). lines_view l.items) (λ (lines : List ScriptLine) (x : Outcome). IsSomeAnd held (λ map. PlaysAll level lines map x))
     (scripted (Some level) held c.args.asked.script.now) input out out (stock g.H.Shelf c.args.shelf.now) (stock g.H.Shelf c.session_of.new.shelf)
-    c.in-Err.ending o few c.in-Err.ensures.held (quiet_same out c.in-Err.ending) c.in-Err.ensures.read has
+    c.in-Err.ending o few c.in-Err.ensures.asks.looks.held (quiet_same out c.in-Err.ending) c.in-Err.ensures.read has
 
-pub returns-in-Err-clause-cause : goal.returns-in-Err-clause-cause
-returns-in-Err-clause-cause g c = inl (c.in-Err.ensures.cause, Keeps-refl (g.O.Sink.written c.args.out.now), c.in-Err.ensures.held)
+pub returns-in-Err-clause-so : goal.returns-in-Err-clause-so
+returns-in-Err-clause-so g c = λ input.
+    script_so input (outlet g.O.Sink c.args.out.now) play_course play_asks c.in-Err.ensures.asks.looks c.in-Err.ending c.in-Err.ensures.asks.cause

@@ -1,13 +1,17 @@
-use Rattle.std.proofs.Common.{ℕ, Some, sym, ap, ◌∙◌, subst}
+use Rattle.std.proofs.Common.{ℕ, Some, refl, sym, ap, ◌∙◌, subst}
 use Rattle.dev_board.specs.State.{State}
 use Rattle.vms_io.specs.Told.{outlet, stock}
 use Rattle.vms_commands.specs.Endings.{EndsAs}
 use Rattle.vms_commands.specs.declared.ending.Ending.{Ending}
 use Rattle.vms_script.specs.Grammar.{AreLines}
 use Rattle.vms_script.specs.Views.{lines_view}
-use Rattle.vms_board_commands.proofs.PlayLemmas.{all_played, stopped_by, stopped_cause}
+use Rattle.vms_board_commands.proofs.PlayLemmas.{all_played, stopped_by}
 use Rattle.vms_board_commands.proofs.SaveLemmas.{at_level}
-use Rattle.vms_board_commands.specs.Causes.{LinesCause}
+use Rattle.vms_commands.specs.Courses.{EndsSo}
+use Rattle.vms_commands.proofs.CourseLemmas.{same_so}
+use Rattle.vms_commands.specs.declared.ending.Ending.TheVariants.{NoMemory}
+use Rattle.vms_board_commands.proofs.CourseLemmas.{done_so, stopped_so}
+use Rattle.vms_board_commands.specs.Causes.{play_course}
 use Rattle.vms_board_commands.proofs.play.play_lines.Goals as goal
 
 pub play-requires : goal.play-requires
@@ -29,8 +33,14 @@ returns-clause-content g c = λ input o few has.
     (stock g.H.Shelf c.args.shelf.now) (stock g.H.Shelf c.play.new.shelf) c.in-Ok.board.state c.play.new.board.state o c.in-Ok.ensures.state
     c.in-Err.fault c.in-Err.ensures.content has)
 
-pub returns-clause-cause : goal.returns-clause-cause
-returns-clause-cause g c =
-    subst (λ (e : Ending). LinesCause (outlet g.O.Sink c.args.out.now) (outlet g.O.Sink c.play.new.out) (stock g.H.Shelf c.args.shelf.now) (stock g.H.Shelf c.play.new.shelf) e)
-    (sym c.ending_of.ensures)
-    (stopped_cause (outlet g.O.Sink c.args.out.now) (outlet g.O.Sink c.play.new.out) (stock g.H.Shelf c.args.shelf.now) (stock g.H.Shelf c.play.new.shelf) c.in-Err.fault c.in-Err.ensures.goes.cause)
+pub returns-in-Ok-play-clause-so : goal.returns-in-Ok-play-clause-so
+returns-in-Ok-play-clause-so g c = λ input. done_so input c.in-Ok-play.ensures.goes
+
+pub returns-clause-so : goal.returns-clause-so
+returns-clause-so g c = λ input.
+    subst (λ (e : Ending). EndsSo input input (outlet g.O.Sink c.args.out.now) (outlet g.O.Sink c.play.new.out) (stock g.H.Shelf c.args.shelf.now) (stock g.H.Shelf c.play.new.shelf) play_course e)
+    (sym c.ending_of.ensures) (stopped_so input c.in-Err.fault c.in-Err.ensures.goes)
+
+-- without memory nothing was done
+pub returns-in_default-clause-so : goal.returns-in_default-clause-so
+returns-in_default-clause-so g c = λ input. same_so input (outlet g.O.Sink c.args.out.now) (stock g.H.Shelf c.args.shelf.now) play_course NoMemory refl tt

@@ -1,4 +1,4 @@
-use Rattle.std.proofs.Common.{◌≡◌, ℕ, sym, ap, ◌∙◌, subst}
+use Rattle.std.proofs.Common.{◌≡◌, ℕ, refl, sym, ap, ◌∙◌, subst}
 use Rattle.dev_base.specs.Levels.{ReachesSet}
 use Rattle.vms_board.specs.Saving.{saved_stream}
 use Rattle.vms_board_streams.specs.Streams.{after_events}
@@ -6,8 +6,12 @@ use Rattle.vms_io.specs.Told.{outlet}
 use Rattle.vms_commands.specs.StepEndings.{TextEnds}
 use Rattle.vms_commands.specs.Steps.{Gives}
 use Rattle.vms_commands.specs.declared.ending.Ending.{Ending}
-use Rattle.vms_board_commands.proofs.SaveLemmas.{saved_ends, saved_cause, saved_serves}
-use Rattle.vms_board_commands.specs.Causes.{WriteCause}
+use Rattle.vms_commands.specs.declared.ending.Ending.TheVariants.{NoMemory}
+use Rattle.vms_commands.specs.Courses.{EndsSo}
+use Rattle.vms_commands.proofs.CourseLemmas.{same_so}
+use Rattle.vms_board_commands.proofs.CourseLemmas.{saved_so}
+use Rattle.vms_board_commands.proofs.SaveLemmas.{saved_ends}
+use Rattle.vms_board_commands.specs.Causes.{save_course}
 use Rattle.vms_board_commands.proofs.save.save_after.Goals as goal
 
 pub save-requires : goal.save-requires
@@ -27,13 +31,11 @@ returns-clause-ends g c =
     (saved_ends (saved_stream f c.args.set c.run_events.new.board.state) (saved_stream f c.args.set after)
     (outlet g.O.Sink c.args.out.now) (outlet g.O.Sink c.save.new.sink) c.save.result (ap (saved_stream f c.args.set) board) c.save.ensures)
 
-pub returns-clause-cause : goal.returns-clause-cause
-returns-clause-cause g c =
-    subst (λ (e : Ending). WriteCause (outlet g.O.Sink c.args.out.now) (outlet g.O.Sink c.save.new.sink) e) (sym c.ending_of.ensures)
-    (saved_cause (saved_stream g.M.Machine.family c.args.set c.run_events.new.board.state) (outlet g.O.Sink c.args.out.now) (outlet g.O.Sink c.save.new.sink) c.save.result c.save.ensures)
+pub returns-clause-so : goal.returns-clause-so
+returns-clause-so g c = λ input shelf.
+    subst (λ (e : Ending). EndsSo input input (outlet g.O.Sink c.args.out.now) (outlet g.O.Sink c.save.new.sink) shelf shelf save_course e) (sym c.ending_of.ensures)
+    (saved_so input shelf (outlet g.O.Sink c.args.out.now) (outlet g.O.Sink c.save.new.sink) _ c.save.result c.save.ensures)
 
-pub returns-clause-count : goal.returns-clause-count
-returns-clause-count g c = (saved_serves c.save.result c.save.ensures).later
-
-pub returns-clause-promise : goal.returns-clause-promise
-returns-clause-promise g c = (saved_serves c.save.result c.save.ensures).promise
+-- without memory nothing was done
+pub returns-in_default-clause-so : goal.returns-in_default-clause-so
+returns-in_default-clause-so g c = λ input shelf. same_so input (outlet g.O.Sink c.args.out.now) shelf save_course NoMemory refl tt

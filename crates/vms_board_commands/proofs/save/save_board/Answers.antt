@@ -1,7 +1,6 @@
-use Rattle.std.proofs.Common.{None, List, sym, ◌∙◌, subst}
+use Rattle.std.proofs.Common.{None, List, refl, sym, ◌∙◌, subst}
 use Rattle.std.specs.declared.alloc.Global.{Global}
 use Rattle.std.specs.declared.vec.Vec.{Vec}
-use Rattle.std.proofs.KnownBytes.{Keeps-refl}
 use Rattle.dev_board.specs.State.{power_on}
 use Rattle.dev_board.specs.declared.event.Event.{Event}
 use Rattle.vms_board.specs.Saving.{saved_stream}
@@ -15,7 +14,9 @@ use Rattle.vms_session.proofs.RunLemmas.{events_back}
 use Rattle.vms_session.specs.Events.{events_of}
 use Rattle.vms_script.specs.Lines.{ScriptLine}
 use Rattle.vms_script.specs.Views.{event_lines}
-use Rattle.vms_board_commands.proofs.CauseLemmas.{unread_text, written_quiet, written_text}
+use Rattle.vms_commands.proofs.CourseLemmas.{so_quiet, so_since}
+use Rattle.vms_board_commands.proofs.CourseLemmas.{save_asks, script_so}
+use Rattle.vms_board_commands.specs.Causes.{save_course}
 use Rattle.vms_board_commands.specs.Save.{saved_after}
 use Rattle.vms_board_commands.specs.Scripts.{scripted}
 use Rattle.vms_board_commands.proofs.save.save_board.Goals as goal
@@ -30,17 +31,16 @@ returns-in-Ok-clause-content g c = λ input o few has.
     let out = outlet g.O.Sink c.args.out.now in
     let out' = outlet g.O.Sink c.save_after.new.out in
     text_ends (saved_after g.M.Machine.family c.args.asked.number c.args.asked.set held name) input out out' (stock g.H.Shelf c.args.shelf.now) (stock g.H.Shelf c.events_of.new.shelf)
-    c.save_after.result o few c.in-Ok.ensures.held (written_quiet out out' c.save_after.result c.save_after.ensures.cause)
+    c.save_after.result o few c.in-Ok.ensures.asks.looks.held (so_quiet c.save_after.result (c.save_after.ensures.so input (stock g.H.Shelf c.events_of.new.shelf)))
     (then_text view
     (λ (lines : List ScriptLine). Gives (saved_stream g.M.Machine.family c.args.asked.set (after_events g.M.Machine.family (events_of lines) (g.M.Machine.family.power_on c.args.asked.number))))
     out out' c.save_after.result (scripted None held name) c.in-Ok.events c.in-Ok.ensures.read
     (subst (λ (events : List Event). TextEnds (Gives (saved_stream g.M.Machine.family c.args.asked.set (after_events g.M.Machine.family events (g.M.Machine.family.power_on c.args.asked.number)))) out out' c.save_after.result)
     (c.deref.ensures.value ∙ sym (events_back c.in-Ok.events.items)) c.save_after.ensures.ends)) has
 
-pub returns-in-Ok-clause-cause : goal.returns-in-Ok-clause-cause
-returns-in-Ok-clause-cause g c =
-    written_text (outlet g.O.Sink c.args.out.now) (outlet g.O.Sink c.save_after.new.out) (stock g.H.Shelf c.args.shelf.now) (stock g.H.Shelf c.events_of.new.shelf)
-    c.save_after.result c.save_after.ensures.cause
+pub returns-in-Ok-clause-so : goal.returns-in-Ok-clause-so
+returns-in-Ok-clause-so g c = λ input.
+    so_since c.save_after.result refl c.in-Ok.ensures.asks.looks (c.save_after.ensures.so input (stock g.H.Shelf c.events_of.new.shelf))
 
 pub returns-in-Err-clause-content : goal.returns-in-Err-clause-content
 returns-in-Err-clause-content g c = λ input o few has.
@@ -48,12 +48,11 @@ returns-in-Err-clause-content g c = λ input o few has.
     let name = c.args.asked.script.now in
     let out = outlet g.O.Sink c.args.out.now in
     text_ends (saved_after g.M.Machine.family c.args.asked.number c.args.asked.set held name) input out out (stock g.H.Shelf c.args.shelf.now) (stock g.H.Shelf c.events_of.new.shelf)
-    c.in-Err.ending o few c.in-Err.ensures.held (quiet_same out c.in-Err.ending)
+    c.in-Err.ending o few c.in-Err.ensures.asks.looks.held (quiet_same out c.in-Err.ending)
     (err_text view
     (λ (lines : List ScriptLine). Gives (saved_stream g.M.Machine.family c.args.asked.set (after_events g.M.Machine.family (events_of lines) (g.M.Machine.family.power_on c.args.asked.number))))
     out out c.in-Err.ending (scripted None held name) c.in-Err.ensures.read) has
 
-pub returns-in-Err-clause-cause : goal.returns-in-Err-clause-cause
-returns-in-Err-clause-cause g c =
-    let out = outlet g.O.Sink c.args.out.now in
-    unread_text out out (stock g.H.Shelf c.args.shelf.now) (stock g.H.Shelf c.events_of.new.shelf) c.in-Err.ending c.in-Err.ensures.cause (Keeps-refl out.written)
+pub returns-in-Err-clause-so : goal.returns-in-Err-clause-so
+returns-in-Err-clause-so g c = λ input.
+    script_so input (outlet g.O.Sink c.args.out.now) save_course save_asks c.in-Err.ensures.asks.looks c.in-Err.ending c.in-Err.ensures.asks.cause

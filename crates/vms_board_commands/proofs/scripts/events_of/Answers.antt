@@ -31,8 +31,14 @@ returns-in-Err-clause-read g c =
     first_err (λ (t : Vec ℕ Global). t.items) view (λ (text : List ℕ). said_lines (script_read None text))
     (fetched longest_script (g.H.Shelf.held c.args.shelf.now) c.args.name.now) c.in-Err.ending c.in-Err.ensures.fetched
 
-pub returns-in-Ok-clause-cause : goal.returns-in-Ok-clause-cause
-returns-in-Ok-clause-cause g c = read_caused (Vec Event Global) (stock g.H.Shelf c.args.shelf.now) (stock g.H.Shelf c.fetch.new.shelf) c.had.result c.had.ensures.cause
+pub returns-in-Ok-clause-asks : goal.returns-in-Ok-clause-asks
+returns-in-Ok-clause-asks g c = record {
+  looks = record { held = c.in-Ok.ensures.held; later = c.in-Ok.ensures.count; promise = c.in-Ok.ensures.promise };
+  cause = read_caused (Vec Event Global) (stock g.H.Shelf c.args.shelf.now) (stock g.H.Shelf c.fetch.new.shelf) c.had.result c.had.ensures.cause;
+}
 
-pub returns-in-Err-clause-cause : goal.returns-in-Err-clause-cause
-returns-in-Err-clause-cause g c = no_script (stock g.H.Shelf c.args.shelf.now) (stock g.H.Shelf c.fetch.new.shelf) c.in-Err.ending c.in-Err.ensures.cause
+pub returns-in-Err-clause-asks : goal.returns-in-Err-clause-asks
+returns-in-Err-clause-asks g c = record {
+  looks = record { held = c.in-Err.ensures.held; later = c.in-Err.ensures.count; promise = c.in-Err.ensures.promise };
+  cause = no_script (stock g.H.Shelf c.args.shelf.now) (stock g.H.Shelf c.fetch.new.shelf) c.in-Err.ending c.in-Err.ensures.cause;
+}

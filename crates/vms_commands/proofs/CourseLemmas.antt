@@ -1,0 +1,84 @@
+-- How a command ends, by its steps.
+use Rattle.std.proofs.Common.{◌≡◌, ℕ, Bool, true, false, List, [], ◌∷◌, refl, ◌∙◌, arith}
+use Rattle.std.proofs.KnownBytes.{Keeps-refl}
+use Rattle.vms_io.specs.Reading.{Takes}
+use Rattle.vms_io.specs.Shelving.{Looks, Reaches}
+use Rattle.vms_io.specs.Told.{Intake, Outlet, Stock}
+use Rattle.vms_io.specs.Writing.{Serves}
+use Rattle.vms_io.proofs.ShelvingLemmas.{reaches_both, reaches_none}
+use Rattle.vms_io.proofs.WritingLemmas.{serves_none}
+use Rattle.vms_commands.specs.Courses.{Course, Draws, EndsSo, Risen, is_among}
+use Rattle.vms_commands.specs.Endings.{Quiet, WritesAs, status_of}
+use Rattle.vms_commands.specs.StepEndings.{TextEnds}
+use Rattle.vms_commands.specs.Steps.{Gives}
+use Rattle.vms_commands.specs.declared.ending.Ending.{Ending}
+use Rattle.vms_commands.specs.declared.ending.Ending.TheVariants.{Done, ReadFault, WriteFault, ShelfFault}
+use Rattle.vms_io.proofs.WritingLemmas.{stops_prefix}
+
+pub wrong : true ≡ false → ⊥
+wrong e = cc
+
+pub draws_none : (i : Intake) → Draws i i
+draws_none i = record { later = omega arith; promise = refl }
+
+pub draws_took : {i i' : Intake} {bytes : List ℕ} → Takes i i' bytes → Draws i i'
+draws_took t = record { later = t.later; promise = t.promise }
+
+pub looks_reach : {s s' : Stock} → Looks s s' → Reaches s s'
+looks_reach p = record { later = p.later; promise = p.promise }
+
+-- nothing was touched
+pub same_so : (i : Intake) (o : Outlet) (s : Stock) (course : Course) (e : Ending) → is_among course.statuses (status_of e) ≡ true → Risen i i o o s s e → EndsSo i i o o s s course e
+same_so i o s course e can risen = record {
+  can = can;
+  risen = risen;
+  out = λ f. Keeps-refl o.written;
+  input = λ f. refl;
+  held = λ f. refl;
+  shelf = λ f. refl;
+  draws = draws_none i;
+  serves = serves_none o;
+  reaches = reaches_none s;
+}
+
+-- the shelf was asked before
+risen_since : (i i' : Intake) (o o' : Outlet) (a s s' : Stock) (e : Ending) → Looks a s → Risen i i' o o' s s' e → Risen i i' o o' a s' e
+risen_since i i' o o' a s s' ReadFault p h = h
+risen_since i i' o o' a s s' WriteFault p h = h
+risen_since i i' o o' a s s' ShelfFault p h = omega (arith, p.later, h)
+risen_since i i' o o' a s s' e p h = tt
+
+pub asked : (b : Bool) → b ≡ true → b ≡ false → ⊥
+asked true is f = wrong f
+asked false is f = cc
+
+pub so_since : {i i' : Intake} {o o' : Outlet} {a s s' : Stock} {course : Course} (e : Ending) → course.asks ≡ true → Looks a s → EndsSo i i' o o' s s' course e → EndsSo i i' o o' a s' course e
+so_since {i} {i'} {o} {o'} {a} {s} {s'} {course} e asks p g = record {
+  can = g.can;
+  risen = risen_since i i' o o' a s s' e p g.risen;
+  out = g.out;
+  input = g.input;
+  held = λ f. g.held f ∙ p.held;
+  shelf = λ f. absurd (asked course.asks asks f);
+  draws = g.draws;
+  serves = g.serves;
+  reaches = reaches_both (looks_reach p) g.reaches;
+}
+
+-- a text was written
+pub writes_serve : (text : List ℕ) (o o' : Outlet) (e : Ending) → WritesAs text o o' e → Serves o o'
+writes_serve text o o' Done w = record { later = w.later; promise = w.promise }
+writes_serve text o o' WriteFault w = record { later = w.puts.later; promise = w.puts.promise }
+writes_serve text o o' e w = absurd w
+
+pub writes_end : (text : List ℕ) (o o' : Outlet) (e : Ending) → WritesAs text o o' e → TextEnds (Gives text) o o' e
+writes_end text o o' Done w = w.told
+writes_end text o o' WriteFault w = stops_prefix w
+writes_end text o o' e w = absurd w
+
+-- out stays but where all was done or it failed
+pub so_quiet : {i i' : Intake} {o o' : Outlet} {s s' : Stock} {statuses takes stores : List ℕ} {asks : Bool} (e : Ending)
+    → EndsSo i i' o o' s s' (record { statuses = statuses; writes = 0 ∷ 6 ∷ []; takes = takes; stores = stores; asks = asks }) e → Quiet o o' e
+so_quiet Done g = tt
+so_quiet WriteFault g = tt
+so_quiet e g = g.out refl
