@@ -1,11 +1,13 @@
 -- From what the call answers to how `convert` ends.
-use Rattle.std.proofs.Common.{◌≡◌, ℕ, ◌+◌, ◌<◌, ◌≤◌, ◌^◌, List, [], append-nil, length, drop, Option, Some, None, Result, Ok, Err, IfSome, IsSomeAnd, inl, refl, sym, ap, ◌∙◌, subst, arith}
+use Rattle.std.proofs.Common.{◌≡◌, ℕ, ◌+◌, ◌<◌, ◌≤◌, ◌^◌, Bool, false, true, List, [], append-nil, length, drop, Option, Some, None, Result, Ok, Err, IfSome, IsSomeAnd, inl, refl, sym, ap, ◌∙◌, subst, arith}
+use Rattle.std.specs.Io.KnownBytes.{Keeps}
 use Rattle.std.specs.Prelude.{string_bytes}
 use Rattle.arrayvec.specs.ArrayVec.{ArrayVec}
 use Rattle.vms_io.specs.Causes.{capped}
 use Rattle.vms_io.specs.Shelves.{Held}
 use Rattle.vms_io.specs.Told.{Intake, Outlet, Stock}
 use Rattle.vms_io.proofs.ReadingLemmas.{reads_told}
+use Rattle.vms_io.proofs.ShelvingLemmas.{reaches_none}
 use Rattle.vms_kinds.specs.Bytes.{IsBytes}
 use Rattle.vms_spec.specs.declared.Reason.{Reason}
 use Rattle.vms_spec.specs.Good.{IsFit}
@@ -29,14 +31,16 @@ use Rattle.vms_convert.specs.declared.fault.ConvertFault.{ConvertFault}
 use Rattle.vms_convert.specs.declared.fault.ConvertFault.TheVariants as faults
 use Rattle.vms_commands.specs.declared.ending.Ending.{Ending}
 use Rattle.vms_commands.specs.declared.ending.Ending.TheVariants as endings
-use Rattle.vms_commands.specs.Endings.{EndsAs, EndsWith, WritesAs}
+use Rattle.vms_commands.specs.Courses.{EndsSo, Risen, is_among}
+use Rattle.vms_commands.specs.Endings.{EndsAs, EndsWith, WritesAs, status_of}
 use Rattle.vms_commands.specs.Lines.{refused_line}
 use Rattle.vms_commands.specs.Outcomes.{Outcome, TakesBytes, done, ended}
 use Rattle.vms_commands.specs.SetLines.{mismatch_line}
 use Rattle.vms_commands.specs.Steps.{Step, Gives, Ends}
+use Rattle.vms_commands.proofs.CourseLemmas.{wrong}
 use Rattle.vms_commands.proofs.EndLemmas.{comes_to_nothing, ends_with, same_keeps, takes_front, text_written}
 use Rattle.vms_board_commands.proofs.HeardLemmas.{all_of, heard_so, written_end}
-use Rattle.vms_cli.specs.Causes.{RewriteCause}
+use Rattle.vms_cli.specs.Statuses.{convert_course}
 use Rattle.vms_cli.specs.Convert.{Converts, ConvertGives, ConvertHears, ConvertsBy, ConvertsWell, EndsLike, FailsReading, FailsWriting, IsDone, IsLost, IsMismatch, IsRefused, LacksMemory, MayLackMemory, NamesCell, Refuses, Rewrites, WouldLose, agreed, agrees, lost_line, newest}
 use Rattle.vms_cli.proofs.AnalyzeLemmas.{Stands}
 use Rattle.vms_cli.proofs.Conversions.{lost_inside, never_both, newest_fit, one_loss, one_stream}
@@ -212,16 +216,6 @@ module _ (to : Set) (fit : IsFit to) (i i' : Intake) (o o' : Outlet) where
       rewrites c.0 ok s s' same x (given_set c.0 s x has) t.images t.taken (name_of newest t.machine) p.bytes endings.WriteFault (took i i' t.images t.taken t.machine t.reads) p.is p.puts
   convert_content _ _ (LacksMemory fault may) c ok few s s' x same has = comes_to_nothing o o' s s' x.parts (same_keeps o o' (unwritten fault may c)) same
 
-  -- why it ends so
-  pub convert_cause : (r : Result (Unit {0}) ConvertFault) (e : Ending) → EndsLike r e → Calls to newest i i' o o' r → RewriteCause i i' o o' e
-  convert_cause _ _ (IsDone u) c = tt
-  convert_cause _ _ (IsMismatch m line said) c = (c.1, same_keeps o o' c.2)
-  convert_cause _ _ (IsRefused r line said) c = same_keeps o o' c.1.none
-  convert_cause _ _ (IsLost section cell line said) c = same_keeps o o' c.1.converts.1
-  convert_cause _ _ FailsReading c = (c.1.reads.cause, same_keeps o o' c.1.none)
-  convert_cause _ _ FailsWriting c = c.1.converts.puts.rose
-  convert_cause _ _ (LacksMemory fault may) c = same_keeps o o' (unwritten fault may c)
-
   -- ---- told or not
 
   within : Compatible to newest → i'.given ≤ i.given + most_given newest → ConvertGives (agrees to) i i'
@@ -304,7 +298,7 @@ module _ (to : Set) (fit : IsFit to) (i i' : Intake) (o o' : Outlet) where
   convert_hears _ _ (IsDone u) c held =
       let t = c.1 in
       heard_by held endings.Done c.0 (heard_rewritten held c.0 t.images t.taken (name_of newest t.machine) t.converts.bytes endings.Done
-      (has_heard held c.0 t.images t.taken t.machine t.reads) t.converts.is t.converts.puts.told)
+      (has_heard held c.0 t.images t.taken t.machine t.reads) t.converts.is t.converts.puts)
   convert_hears _ _ (IsRefused r line said) c held = heard_by held (endings.Refused line) c.0 (heard_refused held c.0 r line c.1 said)
   convert_hears _ _ (IsLost section cell line said) c held =
       let t = c.1 in
@@ -340,6 +334,39 @@ module _ (to : Set) (fit : IsFit to) (i i' : Intake) (o o' : Outlet) where
       record { input_count = t.later; out_count = p.later; input_promise = t.promise; out_promise = p.promise }
   convert_stands (Err faults.NoMemory) (AtOnce input out) = stands_same (omega (arith, ap (λ (x : Intake). x.faults) input)) (ap (λ (x : Intake). x.promise) input) out
   convert_stands (Err faults.NoMemory) (Behind compatible t) = stands_same t.reads.takes.later t.reads.takes.promise t.converts
+
+  -- ---- what it touches
+
+  -- nothing of the shelf
+  so_by : (s : Stock) (asks : Bool) (e : Ending) → is_among (convert_course asks).statuses (status_of e) ≡ true → Risen i i' o o' s s e
+      → (is_among (convert_course asks).writes (status_of e) ≡ false → Keeps o.written o'.written) → (is_among (convert_course asks).takes (status_of e) ≡ false → i' ≡ i) → Stands i i' o o'
+      → EndsSo i i' o o' s s (convert_course asks) e
+  so_by s asks e can risen out input stands = record {
+    can = can;
+    risen = risen;
+    out = out;
+    input = input;
+    held = λ f. refl;
+    shelf = λ f. refl;
+    draws = record { later = stands.input_count; promise = stands.input_promise };
+    serves = record { later = stands.out_count; promise = stands.out_promise };
+    reaches = reaches_none s;
+  }
+
+  pub convert_so : (r : Result (Unit {0}) ConvertFault) (e : Ending) → EndsLike r e → Calls to newest i i' o o' r → (s : Stock) (asks : Bool) → EndsSo i i' o o' s s (convert_course asks) e
+  convert_so _ _ (IsDone u) c s asks = so_by s asks endings.Done refl tt (λ f. absurd (wrong f)) (λ f. absurd (wrong f)) (convert_stands (Ok u) c)
+  convert_so _ _ (IsMismatch m line said) c s asks =
+      so_by s asks (endings.NotCompatible line) refl tt (λ f. same_keeps o o' c.2) (λ f. c.1) (convert_stands (Err (faults.NotCompatible m)) c)
+  convert_so _ _ (IsRefused r line said) c s asks =
+      so_by s asks (endings.Refused line) refl tt (λ f. same_keeps o o' c.1.none) (λ f. absurd (wrong f)) (convert_stands (Err (faults.Refused r)) c)
+  convert_so _ _ (IsLost section cell line said) c s asks =
+      so_by s asks (endings.WouldLose line) refl tt (λ f. same_keeps o o' c.1.converts.1) (λ f. absurd (wrong f)) (convert_stands (Err (faults.WouldLose section cell)) c)
+  convert_so _ _ FailsReading c s asks =
+      so_by s asks endings.ReadFault refl c.1.reads.cause (λ f. same_keeps o o' c.1.none) (λ f. absurd (wrong f)) (convert_stands (Err faults.ReadFault) c)
+  convert_so _ _ FailsWriting c s asks =
+      so_by s asks endings.WriteFault refl c.1.converts.puts.rose (λ f. absurd (wrong f)) (λ f. absurd (wrong f)) (convert_stands (Err faults.WriteFault) c)
+  convert_so _ _ (LacksMemory fault may) c s asks =
+      so_by s asks endings.NoMemory refl tt (λ f. same_keeps o o' (unwritten fault may c)) (λ f. absurd (wrong f)) (convert_stands (Err fault) c)
 
 -- what would be lost is named in the newest set
 pub names_cell : (to : Set) → IsFit to → (i i' : Intake) (o o' : Outlet) (r : Result (Unit {0}) ConvertFault) → Calls to newest i i' o o' r → NamesCell r

@@ -1,22 +1,22 @@
 -- Each ending of a command, by what it touches.
-use Rattle.std.proofs.Common.{◌≡◌, ℕ, Bool, true, false, ◌||◌, ◌==◌, List, [], ◌∷◌, ◌++◌, Option, Some, None, inl, inr, refl, ap, ◌∙◌}
+use Rattle.std.proofs.Common.{◌≡◌, ℕ, Bool, true, false, ◌||◌, ◌==◌, List, [], ◌∷◌, ◌++◌, Option, inl, inr, refl, ap, ◌∙◌}
 use Rattle.std.proofs.lemmas.Bool.{or_right}
 use Rattle.std.specs.Io.KnownBytes.{Keeps}
-use Rattle.vms_io.specs.Causes.{Rose}
+use Rattle.vms_io.specs.Shelving.{Reaches}
 use Rattle.vms_io.specs.Told.{Intake, Outlet, Stock}
-use Rattle.vms_board_commands.specs.Causes.{LinesCause, LoadCause, NoScript, PlayCause, StreamCause as BoardCause, WriteCause}
+use Rattle.vms_io.specs.Writing.{Serves}
+use Rattle.vms_board_commands.specs.Causes.{save_course}
 use Rattle.vms_commands.specs.declared.ending.Ending.{Ending}
-use Rattle.vms_commands.specs.declared.ending.Ending.TheVariants.{Done, Refused, BadWords, BadText, NotCompatible, ReadFault, WriteFault, ShelfFault, NotThere, TooLarge, NoMemory, WouldLose}
+use Rattle.vms_commands.specs.declared.ending.Ending.TheVariants.{Done, Refused, BadText, NotCompatible, ReadFault, WriteFault, ShelfFault, NotThere, TooLarge, NoMemory}
 use Rattle.vms_commands.specs.Endings.{Caused, SetCause, status_of}
-use Rattle.vms_commands.specs.Fetching.{is_on_shelf}
+use Rattle.vms_commands.specs.Courses.{Draws, EndsSo, Risen, is_among, of_shelf, text_course}
 use Rattle.vms_commands.specs.Texts.{TextCause}
-use Rattle.vms_commands.proofs.EndLemmas.{same_keeps}
+use Rattle.vms_commands.proofs.CourseLemmas.{wrong}
 use Rattle.vms_cli.specs.Analyze.{ListCause}
-use Rattle.vms_cli.specs.Causes.{CheckCause, ConvertCause, CounterCause, EndsCause, IsBadWords, RewriteCause, ShowCause, StreamCause}
-use Rattle.vms_cli.specs.Check.{asks_shelf}
-use Rattle.vms_cli.specs.Commands.{Asked, IsaBoard, ClockBoard, Show, Convert, Analyze, Pack, Check, Counter, Save, Load, Drill, Play}
-use Rattle.vms_cli.specs.Statuses.{asks, is_among, of_shelf, statuses_of, stores_at, takes_at, writes_at}
-use Rattle.vms_cli.proofs.RowTables.{stores_one, writes_one, wrong}
+use Rattle.vms_cli.specs.Causes.{CheckCause, CounterCause, ShowCause, StreamCause}
+use Rattle.vms_cli.specs.Commands.{Asked}
+use Rattle.vms_cli.specs.Statuses.{analyze_course, check_course, counter_course, course_of, show_course, stores_at, writes_at}
+use Rattle.vms_cli.proofs.RowTables.{stores_one, writes_one}
 
 or_here : (b c d : Bool) → b || c ≡ true → (c ≡ true → d ≡ true) → b || d ≡ true
 or_here true c d e f = refl
@@ -32,26 +32,10 @@ among_right [] ys k e = e
 among_right (n ∷ xs) ys k e = or_right (n == k) (is_among (xs ++ ys) k) (among_right xs ys k e)
 
 module _ (i i' : Intake) (o o' : Outlet) (s s' : Stock) where
-  -- a fault only where its count rose
-  abbrev pub Risen : Ending → Type 0
-  Risen ReadFault = Rose i.faults i'.faults
-  Risen WriteFault = Rose o.faults o'.faults
-  Risen ShelfFault = Rose s.faults s'.faults
-  Risen ending = Unit {0}
-
-  pub record EndsSo (asked : Option Asked) (e : Ending) : Type 0 where
-    pub can : is_among (statuses_of asked) (status_of e) ≡ true
-    pub risen : Risen e
-    pub out : is_among (writes_at asked) (status_of e) ≡ false → Keeps o.written o'.written
-    pub input : is_among (takes_at asked) (status_of e) ≡ false → i' ≡ i
-    pub held : is_among (stores_at asked) (status_of e) ≡ false → s'.held ≡ s.held
-    pub shelf : asks asked ≡ false → s' ≡ s
-    pub unnamed : asked ≡ None → o' ≡ o
-
   -- ---- which ending it is, by the lists of a command
 
   abbrev IsOf : (all writes : List ℕ) → Ending → Type 0
-  IsOf all writes e = (is_among all (status_of e) ≡ true) × Risen e × (is_among writes (status_of e) ≡ false → Keeps o.written o'.written)
+  IsOf all writes e = (is_among all (status_of e) ≡ true) × Risen i i' o o' s s' e × (is_among writes (status_of e) ≡ false → Keeps o.written o'.written)
 
   abbrev own_text : List ℕ
   own_text = 0 ∷ 6 ∷ 10 ∷ []
@@ -68,12 +52,6 @@ module _ (i i' : Intake) (o o' : Outlet) (s s' : Stock) where
   text_so (TooLarge line) c = (refl, tt, λ f. c)
   text_so NoMemory c = (refl, tt, λ f. c)
   text_so e c = absurd c
-
-  drill_so : (e : Ending) → WriteCause o o' e → IsOf own_text text_at e
-  drill_so Done c = (refl, tt, λ f. absurd (wrong f))
-  drill_so WriteFault c = (refl, c, λ f. absurd (wrong f))
-  drill_so NoMemory c = (refl, tt, λ f. c)
-  drill_so e c = absurd c
 
   counter_so : (b : Bool) (e : Ending) → CounterCause b o o' s s' e → IsOf (own_text ++ of_shelf b) text_at e
   counter_so b Done c = (refl, tt, λ f. absurd (wrong f))
@@ -98,10 +76,6 @@ module _ (i i' : Intake) (o o' : Outlet) (s s' : Stock) where
   check_so b (TooLarge line) c = (ap (λ (x : Bool). is_among (own_check ++ of_shelf x) 9) c.0, tt, λ f. c.1)
   check_so b NoMemory c = (refl, tt, λ f. c)
   check_so b e c = absurd c
-
-  bad_words_so : (e : Ending) → IsBadWords e → o' ≡ o → IsOf (2 ∷ 6 ∷ []) [] e
-  bad_words_so BadWords c same = (refl, tt, λ f. same_keeps o o' same)
-  bad_words_so e c same = absurd c
 
   -- ---- of those that read the input
 
@@ -146,113 +120,34 @@ module _ (i i' : Intake) (o o' : Outlet) (s s' : Stock) where
   show_so b e (inl c) = set_so own_stream stream_at refl b e c.0 c.1 c.2
   show_so b e (inr c) = shown_so b e c
 
-  abbrev own_convert : List ℕ
-  own_convert = 0 ∷ 1 ∷ 4 ∷ 5 ∷ 6 ∷ 10 ∷ 11 ∷ []
+  -- ---- so a command ends
 
-  abbrev convert_at : List ℕ
-  convert_at = 0 ∷ 1 ∷ 5 ∷ 6 ∷ 10 ∷ 11 ∷ []
+  -- with what it leaves of the objects
+  pub record Left (asks : Bool) : Type 0 where
+    pub held : s'.held ≡ s.held
+    pub unasked : asks ≡ false → s' ≡ s
+    pub draws : Draws i i'
+    pub serves : Serves o o'
+    pub reaches : Reaches s s'
 
-  rewritten_so : (b : Bool) (e : Ending) → RewriteCause i i' o o' e → Reads (own_convert ++ of_shelf b) convert_at e
-  rewritten_so b Done c = ((refl, tt, λ f. absurd (wrong f)), λ f. absurd (wrong f))
-  rewritten_so b (Refused line) c = ((refl, tt, λ f. c), λ f. absurd (wrong f))
-  rewritten_so b (NotCompatible line) c = ((refl, tt, λ f. c.1), λ f. c.0)
-  rewritten_so b ReadFault c = ((refl, c.0, λ f. c.1), λ f. absurd (wrong f))
-  rewritten_so b WriteFault c = ((refl, c, λ f. absurd (wrong f)), λ f. absurd (wrong f))
-  rewritten_so b NoMemory c = ((refl, tt, λ f. c), λ f. absurd (wrong f))
-  rewritten_so b (WouldLose line) c = ((refl, tt, λ f. c), λ f. absurd (wrong f))
-  rewritten_so b e c = absurd c
+  ends_by : (own takes : List ℕ) (b : Bool) (e : Ending) → Reads (own ++ of_shelf b) takes e → Left b → EndsSo i i' o o' s s' (text_course own takes b) e
+  ends_by own takes b e r l = record {
+    can = r.0.0;
+    risen = r.0.1;
+    out = r.0.2;
+    input = r.1;
+    held = λ f. l.held;
+    shelf = l.unasked;
+    draws = l.draws;
+    serves = l.serves;
+    reaches = l.reaches;
+  }
 
-  convert_so : (b : Bool) (e : Ending) → ConvertCause b i i' o o' s s' e → Reads (own_convert ++ of_shelf b) convert_at e
-  convert_so b e (inl c) = set_so own_convert convert_at refl b e c.0 c.1 c.2
-  convert_so b e (inr c) = rewritten_so b e c
+  pub show_ends : (b : Bool) (e : Ending) → ShowCause b i i' o o' s s' e → Left b → EndsSo i i' o o' s s' (show_course b) e
+  show_ends b e c l = ends_by own_stream stream_at b e (show_so b e c) l
 
-  -- a script that isn't had is such a text
-  script_set : (e : Ending) → NoScript s s' e → SetCause true s s' e
-  script_set (BadText line) c = refl
-  script_set ShelfFault c = (refl, c)
-  script_set (NotThere line) c = refl
-  script_set (TooLarge line) c = refl
-  script_set NoMemory c = tt
-  script_set e c = absurd c
-
-  restored_so : (e : Ending) → BoardCause i i' o o' e → Reads (all_stream true) stream_at e
-  restored_so Done c = ((refl, tt, λ f. absurd (wrong f)), λ f. absurd (wrong f))
-  restored_so (Refused line) c = ((refl, tt, λ f. c), λ f. absurd (wrong f))
-  restored_so ReadFault c = ((refl, c.0, λ f. c.1), λ f. absurd (wrong f))
-  restored_so WriteFault c = ((refl, c, λ f. absurd (wrong f)), λ f. absurd (wrong f))
-  restored_so NoMemory c = ((refl, tt, λ f. c.0), λ f. c.1)
-  restored_so e c = absurd c
-
-  load_so : (e : Ending) → LoadCause i i' o o' s s' e → Reads (all_stream true) stream_at e
-  load_so e (inl c) = set_so own_stream stream_at refl true e (script_set e c.0) c.1 c.2
-  load_so e (inr c) = restored_so e c
-
-  -- ---- of a session
-
-  abbrev play_at : List ℕ
-  play_at = 0 ∷ 6 ∷ 7 ∷ 10 ∷ []
-
-  abbrev Stores : Ending → Type 0
-  Stores e = IsOf (own_text ++ of_shelf true) play_at e × (is_among play_at (status_of e) ≡ false → s'.held ≡ s.held)
-
-  unread_so : (e : Ending) → NoScript s s' e → Keeps o.written o'.written → s'.held ≡ s.held → Stores e
-  unread_so (BadText line) c k same = ((refl, tt, λ f. k), λ f. same)
-  unread_so ShelfFault c k same = ((refl, c, λ f. k), λ f. same)
-  unread_so (NotThere line) c k same = ((refl, tt, λ f. k), λ f. same)
-  unread_so (TooLarge line) c k same = ((refl, tt, λ f. k), λ f. same)
-  unread_so NoMemory c k same = ((refl, tt, λ f. k), λ f. same)
-  unread_so e c k same = absurd c
-
-  lines_so : (e : Ending) → LinesCause o o' s s' e → Stores e
-  lines_so Done c = ((refl, tt, λ f. absurd (wrong f)), λ f. absurd (wrong f))
-  lines_so WriteFault c = ((refl, c, λ f. absurd (wrong f)), λ f. absurd (wrong f))
-  lines_so ShelfFault c = ((refl, c, λ f. absurd (wrong f)), λ f. absurd (wrong f))
-  lines_so NoMemory c = ((refl, tt, λ f. absurd (wrong f)), λ f. absurd (wrong f))
-  lines_so e c = absurd c
-
-  play_so : (e : Ending) → PlayCause o o' s s' e → Stores e
-  play_so e (inl c) = unread_so e c.0 c.1 c.2
-  play_so e (inr c) = lines_so e c
-
-  -- ---- whatever is asked
-
-  pub ends_so : (asked : Option Asked) (e : Ending) → EndsCause asked i i' o o' s s' e → EndsSo asked e
-  ends_so None e c =
-      let r = bad_words_so e c.0 c.2 in
-      record { can = r.0; risen = r.1; out = r.2; input = λ f. c.1; held = λ f. ap (λ (x : Stock). x.held) c.3; shelf = λ f. c.3; unnamed = λ f. c.2 }
-  ends_so (Some (Show set)) e c =
-      let r = show_so (is_on_shelf set) e c.0 in
-      record { can = r.0.0; risen = r.0.1; out = r.0.2; input = r.1; held = λ f. c.1; shelf = c.2; unnamed = λ f. absurd (cc) }
-  ends_so (Some (Convert set)) e c =
-      let r = convert_so (is_on_shelf set) e c.0 in
-      record { can = r.0.0; risen = r.0.1; out = r.0.2; input = r.1; held = λ f. c.1; shelf = c.2; unnamed = λ f. absurd (cc) }
-  ends_so (Some Analyze) e c =
-      let r = list_so e c.0 in
-      record { can = r.0.0; risen = r.0.1; out = r.0.2; input = r.1; held = λ f. ap (λ (x : Stock). x.held) c.1; shelf = λ f. c.1; unnamed = λ f. absurd (cc) }
-  ends_so (Some (Pack set name)) e c =
-      let r = text_so e c.0 in
-      record { can = r.0; risen = r.1; out = r.2; input = λ f. c.1; held = λ f. c.2; shelf = λ f. absurd (wrong f); unnamed = λ f. absurd (cc) }
-  ends_so (Some (Check old new)) e c =
-      let r = check_so (asks_shelf old new) e c.0 in
-      record { can = r.0; risen = r.1; out = r.2; input = λ f. c.1; held = λ f. c.2; shelf = c.3; unnamed = λ f. absurd (cc) }
-  ends_so (Some (Counter old new)) e c =
-      let r = counter_so (asks_shelf old new) e c.0 in
-      record { can = r.0; risen = r.1; out = r.2; input = λ f. c.1; held = λ f. c.2; shelf = c.3; unnamed = λ f. absurd (cc) }
-  ends_so (Some (Save board set script)) e c =
-      let r = text_so e c.0 in
-      record { can = r.0; risen = r.1; out = r.2; input = λ f. c.1; held = λ f. c.2; shelf = λ f. absurd (wrong f); unnamed = λ f. absurd (cc) }
-  ends_so (Some (Load (IsaBoard level) script)) e c =
-      let r = load_so e c.0 in
-      record { can = r.0.0; risen = r.0.1; out = r.0.2; input = r.1; held = λ f. c.2; shelf = λ f. absurd (wrong f); unnamed = λ f. absurd (cc) }
-  ends_so (Some (Load (ClockBoard version) script)) e c =
-      let r = load_so e c.0 in
-      record { can = r.0.0; risen = r.0.1; out = r.0.2; input = r.1; held = λ f. c.2; shelf = λ f. absurd (wrong f); unnamed = λ f. absurd (cc) }
-  ends_so (Some (Drill level seed count)) e c =
-      let r = drill_so e c.0 in
-      record { can = r.0; risen = r.1; out = r.2; input = λ f. c.1; held = λ f. ap (λ (x : Stock). x.held) c.2; shelf = λ f. c.2; unnamed = λ f. absurd (cc) }
-  ends_so (Some (Play level script)) e c =
-      let r = play_so e c.0 in
-      record { can = r.0.0; risen = r.0.1; out = r.0.2; input = λ f. c.1; held = r.1; shelf = λ f. absurd (wrong f); unnamed = λ f. absurd (cc) }
+  pub analyze_ends : (e : Ending) → ListCause i i' o o' e → Left false → EndsSo i i' o o' s s' analyze_course e
+  analyze_ends e c l = ends_by own_stream own_stream false e (list_so e c) l
 
   -- ---- the cause of an ending, as the outcome wants it
 
@@ -260,14 +155,28 @@ module _ (i i' : Intake) (o o' : Outlet) (s s' : Stock) where
   abbrev Lacks : ℕ → List ℕ → Type 0
   Lacks k l = is_among l k ≡ false
 
-  own_ends : (asked : Option Asked) (e : Ending) → EndsSo asked e → Lacks (status_of e) (writes_at asked) → Lacks (status_of e) (stores_at asked)
+  own_ends : (asked : Option Asked) (e : Ending) → EndsSo i i' o o' s s' (course_of asked) e → Lacks (status_of e) (writes_at asked) → Lacks (status_of e) (stores_at asked)
       → Keeps o.written o'.written × (s'.held ≡ s.held)
   own_ends asked e h writes stores = (h.out writes, h.held stores)
 
-  pub caused_so : (asked : Option Asked) (e : Ending) → EndsSo asked e → Caused i i' o o' s s' e
+  pub caused_so : (asked : Option Asked) (e : Ending) → EndsSo i i' o o' s s' (course_of asked) e → Caused i i' o o' s s' e
   caused_so asked Done h = tt
   caused_so asked ReadFault h = (h.risen, h.out (writes_one (Lacks 5) refl refl refl asked))
   caused_so asked WriteFault h = h.risen
   caused_so asked ShelfFault h = h.risen
   caused_so asked NoMemory h = tt
   caused_so asked e h = own_ends asked e h (writes_one (Lacks (status_of e)) refl refl refl asked) (stores_one (Lacks (status_of e)) refl refl asked)
+
+-- of a command that reads nothing of the input
+module _ (i : Intake) (o o' : Outlet) (s s' : Stock) where
+  text_by : (own : List ℕ) (b : Bool) (e : Ending) → IsOf i i o o' s s' (own ++ of_shelf b) (0 ∷ 6 ∷ []) e → Left i i o o' s s' b → EndsSo i i o o' s s' (text_course own [] b) e
+  text_by own b e r l = ends_by i i o o' s s' own [] b e (r, λ f. refl) l
+
+  pub pack_ends : (e : Ending) → TextCause o o' s s' e → Left i i o o' s s' true → EndsSo i i o o' s s' save_course e
+  pack_ends e c l = text_by (0 ∷ 6 ∷ 10 ∷ []) true e (text_so i i o o' s s' e c) l
+
+  pub check_ends : (b : Bool) (e : Ending) → CheckCause b o o' s s' e → Left i i o o' s s' b → EndsSo i i o o' s s' (check_course b) e
+  check_ends b e c l = text_by (0 ∷ 4 ∷ 6 ∷ 10 ∷ []) b e (check_so i i o o' s s' b e c) l
+
+  pub counter_ends : (b : Bool) (e : Ending) → CounterCause b o o' s s' e → Left i i o o' s s' b → EndsSo i i o o' s s' (counter_course b) e
+  counter_ends b e c l = text_by (0 ∷ 6 ∷ 10 ∷ []) b e (counter_so i i o o' s s' b e c) l

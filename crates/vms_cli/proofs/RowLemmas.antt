@@ -11,25 +11,33 @@ use Rattle.vms_board_commands.specs.Load.{Loads}
 use Rattle.vms_board_commands.specs.Scripts.{scripted}
 use Rattle.vms_commands.specs.declared.ending.Ending.{Ending}
 use Rattle.vms_commands.specs.declared.ending.Ending.TheVariants.{Done, Refused, BadWords, ReadFault, WriteFault, ShelfFault, NoMemory, WouldLose}
+use Rattle.vms_commands.specs.Courses.{EndsSo, is_among}
 use Rattle.vms_commands.specs.Endings.{Tells, line_of, status_of}
 use Rattle.vms_commands.specs.Fetching.{word_set}
 use Rattle.vms_commands.specs.Outcomes.{Outcome, Outside, done, ended}
 use Rattle.vms_commands.specs.Steps.{Step, Gives as Gave}
+use Rattle.vms_commands.proofs.CourseLemmas.{wrong}
 use Rattle.vms_commands.proofs.EndLemmas.{around, kept_none, same_keeps}
 use Rattle.vms_script.specs.Lines.{ScriptLine}
 use Rattle.vms_cli.specs.Analyze.{IsListing}
-use Rattle.vms_cli.specs.Causes.{EndsCause}
+use Rattle.vms_cli.specs.Causes.{HearsAs}
 use Rattle.vms_cli.specs.Commands.{Asked, IsaBoard, ClockBoard, Show, Convert, Analyze, Load}
 use Rattle.vms_cli.specs.Convert.{ConvertsWell, target}
 use Rattle.vms_cli.specs.Rows.{CanAnswer, Gives, HasCause, IsSeen, Seen}
 use Rattle.vms_cli.specs.Show.{ShowsWell}
-use Rattle.vms_cli.specs.Statuses.{is_among, statuses_of, stores_at, takes_at, writes_at}
-use Rattle.vms_cli.proofs.EndsSo.{EndsSo, ends_so}
-use Rattle.vms_cli.proofs.RowTables.{HasSix, at_six, six_among, stores_six, takes_six, writes_one, writes_six, wrong}
+use Rattle.vms_cli.specs.Statuses.{course_of, statuses_of, stores_at, takes_at, writes_at}
+use Rattle.vms_cli.proofs.RowTables.{HasSix, at_six, six_among, stores_six, takes_six, writes_one, writes_six}
 
 -- the statuses of refusals, of texts, of sets and of what would be lost
 abbrev is_own : ℕ → Bool
 is_own k = is_among (1 ∷ 3 ∷ 4 ∷ 8 ∷ 9 ∷ 11 ∷ []) k
+
+-- how a command ends: what it touches, how much of the input is given, and what is heard of it
+pub record RunsSo (i i' : Intake) (o o' : Outlet) (s s' : Stock) (asked : Option Asked) (e : Ending) : Type 0 where
+  pub so : EndsSo i i' o o' s s' (course_of asked) e
+  pub given : Gives asked s.held i i'
+  pub heard : HearsAs asked s.held i.given i'.given o o' e
+  pub unnamed : asked ≡ None → o' ≡ o
 
 module _ (i i' : Intake) (o o' n n' : Outlet) (s s' : Stock) where
   abbrev old : Outside
@@ -76,7 +84,7 @@ module _ (i i' : Intake) (o o' n n' : Outlet) (s s' : Stock) where
     memory = λ e. absurd (omega (arith, e, six));
   }
 
-  has_cause : (asked : Option Asked) (e : Ending) (status : ℕ) → EndsSo i i' o o' s s' asked e → Tells n n' e status → HasCause status old new
+  has_cause : (asked : Option Asked) (e : Ending) (status : ℕ) → EndsSo i i' o o' s s' (course_of asked) e → Tells n n' e status → HasCause status old new
   has_cause asked Done status h t = record {
     done = λ e. t.1;
     words = λ e. absurd (omega (arith, e, t.0));
@@ -195,14 +203,6 @@ module _ (i i' : Intake) (o o' n n' : Outlet) (s s' : Stock) where
     seen_by (WouldLose line) status h (inr t) keeps which = beyond 6 status t.0 refl which
     seen_by e status h t keeps which = others e status refl (told e status t) which
 
-  given_so : (asked : Option Asked) (e : Ending) → EndsCause asked i i' o o' s s' e → Gives asked s.held i i'
-  given_so (Some (Show set)) e c = c.3
-  given_so (Some (Convert set)) e c = c.3
-  given_so (Some Analyze) e c = c.2
-  given_so (Some (Load (IsaBoard level) script)) e c = c.1
-  given_so (Some (Load (ClockBoard version) script)) e c = c.1
-  given_so asked e c = tt
-
   -- the listing of an input goes by nothing else
   listed_by : (e : Ending) → HearsEnd (IsListing s.held) s.held i.given i'.given o o' e → HearsBy (Unit {0}) (Gave tt) (λ u. IsListing s.held) s.held i.given i'.given o o' e
   listed_by Done h = (tt, refl, h)
@@ -210,17 +210,17 @@ module _ (i i' : Intake) (o o' n n' : Outlet) (s s' : Stock) where
   listed_by (WouldLose line) h = (tt, refl, h)
   listed_by e h = tt
 
-  seen_so : (asked : Option Asked) (e : Ending) (status : ℕ) → EndsCause asked i i' o o' s s' e → Tells n n' e status
+  seen_so : (asked : Option Asked) (e : Ending) (status : ℕ) → HearsAs asked s.held i.given i'.given o o' e → Tells n n' e status
       → ((status ≡ 1) ⊎ (status ≡ 11) → Keeps o.written o'.written) → IsHeard status → IsSeen asked status old new
-  seen_so (Some (Show set)) e status c t keeps which = seen_by Set (word_set s.held set) (ShowsWell s.held) e status c.4 t keeps which
-  seen_so (Some (Convert set)) e status c t keeps which = seen_by Set (target s.held set) (ConvertsWell s.held) e status c.4 t keeps which
+  seen_so (Some (Show set)) e status c t keeps which = seen_by Set (word_set s.held set) (ShowsWell s.held) e status c t keeps which
+  seen_so (Some (Convert set)) e status c t keeps which = seen_by Set (target s.held set) (ConvertsWell s.held) e status c t keeps which
   seen_so (Some Analyze) e status c t keeps which =
-      let r = seen_by (Unit {0}) (Gave tt) (λ u. IsListing s.held) e status (listed_by e c.3) t keeps which in
+      let r = seen_by (Unit {0}) (Gave tt) (λ u. IsListing s.held) e status (listed_by e c) t keeps which in
       record { bytes = r.bytes; outcome = r.outcome; is = r.is.2; all = r.all; given = r.given; same = r.same; text = r.text; note = r.note }
   seen_so (Some (Load (IsaBoard level) script)) e status c t keeps which =
-      seen_by (List ScriptLine) (scripted None s.held script) (λ lines bytes x. Loads isa level lines bytes s.held x) e status c.3 t keeps which
+      seen_by (List ScriptLine) (scripted None s.held script) (λ lines bytes x. Loads isa level lines bytes s.held x) e status c t keeps which
   seen_so (Some (Load (ClockBoard version) script)) e status c t keeps which =
-      seen_by (List ScriptLine) (scripted None s.held script) (λ lines bytes x. Loads clock version lines bytes s.held x) e status c.3 t keeps which
+      seen_by (List ScriptLine) (scripted None s.held script) (λ lines bytes x. Loads clock version lines bytes s.held x) e status c t keeps which
   seen_so asked e status c t keeps which = tt
 
   -- ---- the row
@@ -231,9 +231,9 @@ module _ (i i' : Intake) (o o' n n' : Outlet) (s s' : Stock) where
   kept_at asked status keeps (inl e) = keeps 1 (writes_one (λ l. is_among l 1 ≡ false) refl refl refl asked) e
   kept_at asked status keeps (inr e) = keeps 11 (writes_one (λ l. is_among l 11 ≡ false) refl refl refl asked) e
 
-  pub row_so : (asked : Option Asked) (e : Ending) (status : ℕ) → EndsCause asked i i' o o' s s' e → Tells n n' e status → CanAnswer asked status old new
+  pub row_so : (asked : Option Asked) (e : Ending) (status : ℕ) → RunsSo i i' o o' s s' asked e → Tells n n' e status → CanAnswer asked status old new
   row_so asked e status c t =
-      let h = ends_so i i' o o' s s' asked e c in
+      let h = c.so in
       let said = told e status t in
       let out : is_among (writes_at asked) status ≡ false → Keeps o.written o'.written =
       but_at (writes_at asked) (writes_six asked) e status said (Keeps o.written o'.written) h.out in
@@ -246,7 +246,7 @@ module _ (i i' : Intake) (o o' n n' : Outlet) (s s' : Stock) where
         input = but_at (takes_at asked) (takes_six asked) e status said (i' ≡ i) h.input;
         held = but_at (stores_at asked) (stores_six asked) e status said (s'.held ≡ s.held) h.held;
         shelf = h.shelf;
-        unnamed = h.unnamed;
-        given = given_so asked e c;
-        seen = seen_so asked e status c t (kept_at asked status keeps);
+        unnamed = c.unnamed;
+        given = c.given;
+        seen = seen_so asked e status c.heard t (kept_at asked status keeps);
       }

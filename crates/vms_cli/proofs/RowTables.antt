@@ -1,7 +1,9 @@
 -- The tables of statuses, each as one of a few lists.
 use Rattle.std.proofs.Common.{◌≡◌, ◌⊎◌, ℕ, true, false, List, [], ◌∷◌, Option, Some, None, inl, inr, refl, sym, ◌∙◌, subst}
+use Rattle.vms_commands.specs.Courses.{is_among}
+use Rattle.vms_commands.proofs.CourseLemmas.{wrong}
 use Rattle.vms_cli.specs.Commands.{Asked, Show, Convert, Analyze, Load, Play}
-use Rattle.vms_cli.specs.Statuses.{is_among, statuses_of, stores_at, takes_at, writes_at}
+use Rattle.vms_cli.specs.Statuses.{statuses_of, stores_at, takes_at, writes_at}
 
 pub writes_one : (P : List ℕ → Type 0) → P [] → P (0 ∷ 6 ∷ []) → P (0 ∷ 6 ∷ 7 ∷ 10 ∷ []) → (asked : Option Asked) → P (writes_at asked)
 writes_one P none text play None = none
@@ -38,9 +40,6 @@ takes_six asked = takes_one HasSix (inr refl) (inl refl) (inl refl) (inl refl) a
 
 pub stores_six : (asked : Option Asked) → HasSix (stores_at asked)
 stores_six asked = stores_one HasSix (inr refl) (inl refl) asked
-
-pub wrong : true ≡ false → ⊥
-wrong e = cc
 
 -- what holds but at the statuses of such a list holds too where notes failed
 pub at_six : (l : List ℕ) → HasSix l → (k status : ℕ) → status ≡ 6 → (P : Type 0) → (is_among l k ≡ false → P) → is_among l status ≡ false → P

@@ -5,7 +5,7 @@ use Rattle.std.specs.Io.KnownBytes.{Keeps}
 use Rattle.arrayvec.specs.ArrayVec.{ArrayVec}
 use Rattle.vms_io.specs.Causes.{Rose}
 use Rattle.vms_io.specs.Shelves.{Held}
-use Rattle.vms_io.specs.Told.{Intake, Outlet, Stock}
+use Rattle.vms_io.specs.Told.{Intake, Outlet}
 use Rattle.vms_analyze.specs.Listing.{Listing, Text, Refused, Lists, longest_input}
 use Rattle.vms_analyze.specs.declared.fault.AnalyzeFault.{AnalyzeFault}
 use Rattle.vms_analyze.specs.declared.fault.AnalyzeFault.TheVariants as faults
@@ -69,8 +69,3 @@ ListHears held before now out out' ending = HearsEnd (IsListing held) held befor
 -- at most so many bytes are given
 abbrev pub GivesListed : (before now : ℕ) → Type 0
 GivesListed before now = now ≤ before + (longest_input + 1)
-
-abbrev pub AnalyzeCauses : (input input' : Intake) (out out' : Outlet) (shelf shelf' : Stock) → Ending → Type 0
-AnalyzeCauses input input' out out' shelf shelf' ending =
-    ListCause input input' out out' ending × (shelf' ≡ shelf) × GivesListed input.given input'.given
-    × ListHears shelf.held input.given input'.given out out' ending

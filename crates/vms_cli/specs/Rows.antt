@@ -5,6 +5,7 @@ use Rattle.vms_io.specs.Causes.{Rose, capped}
 use Rattle.vms_io.specs.Shelves.{Held}
 use Rattle.vms_io.specs.Told.{Intake}
 use Rattle.vms_spec.specs.Sets.{Set}
+use Rattle.vms_commands.specs.Courses.{is_among}
 use Rattle.vms_commands.specs.Fetching.{word_set}
 use Rattle.vms_commands.specs.Lines.{bad_words, out_of_memory, read_fault, shelf_fault, write_fault}
 use Rattle.vms_commands.specs.Outcomes.{Outcome, Outside, text_of}
@@ -18,7 +19,7 @@ use Rattle.vms_cli.specs.Analyze.{GivesListed, IsListing}
 use Rattle.vms_cli.specs.Commands.{Asked, IsaBoard, ClockBoard, Show, Convert, Analyze, Load}
 use Rattle.vms_cli.specs.Convert.{ConvertGives, ConvertsWell, target}
 use Rattle.vms_cli.specs.Show.{GivesWithin, ShowsWell}
-use Rattle.vms_cli.specs.Statuses.{asks, is_among, statuses_of, stores_at, takes_at, writes_at}
+use Rattle.vms_cli.specs.Statuses.{asks, statuses_of, stores_at, takes_at, writes_at}
 
 -- the cause of a status, and its line on notes
 pub record HasCause (status : ℕ) (old new : Outside) : Type 0 where

@@ -1,62 +1,59 @@
 -- What each command can answer, and at which statuses it touches what.
-use Rattle.std.specs.Prelude.{ℕ, Bool, true, false, ◌==◌, List, [], ◌∷◌, ◌++◌, Option, Some, None}
-use Rattle.std.specs.List.{list_any}
+use Rattle.std.specs.Prelude.{ℕ, Bool, false, List, [], ◌∷◌, Option, Some, None}
+use Rattle.vms_commands.specs.Courses.{Course, text_course}
 use Rattle.vms_commands.specs.Fetching.{is_on_shelf}
+use Rattle.vms_board_commands.specs.Causes.{drill_course, load_course, play_course, save_course}
 use Rattle.vms_cli.specs.Check.{asks_shelf}
 use Rattle.vms_cli.specs.Commands.{Asked, Show, Convert, Analyze, Pack, Check, Counter, Save, Load, Drill, Play}
 
--- the status is one of these
-abbrev pub is_among : List ℕ → ℕ → Bool
-is_among statuses status = list_any (λ n. n == status) statuses
+-- of the commands that are no board's, where it is said whether the shelf is asked
+abbrev pub show_course : Bool → Course
+show_course asks = text_course (0 ∷ 1 ∷ 5 ∷ 6 ∷ 10 ∷ []) (0 ∷ 1 ∷ 5 ∷ 6 ∷ []) asks
 
--- whether the shelf is asked for anything
-abbrev pub asks : Option Asked → Bool
-asks None = false
-asks (Some (Show set)) = is_on_shelf set
-asks (Some (Convert set)) = is_on_shelf set
-asks (Some Analyze) = false
-asks (Some (Pack set name)) = true
-asks (Some (Check old new)) = asks_shelf old new
-asks (Some (Counter old new)) = asks_shelf old new
-asks (Some (Save board set script)) = true
-asks (Some (Load board script)) = true
-asks (Some (Drill level seed count)) = false
-asks (Some (Play level script)) = true
+-- `convert` takes memory once it has read
+abbrev pub convert_course : Bool → Course
+convert_course asks = text_course (0 ∷ 1 ∷ 4 ∷ 5 ∷ 6 ∷ 10 ∷ 11 ∷ []) (0 ∷ 1 ∷ 5 ∷ 6 ∷ 10 ∷ 11 ∷ []) asks
 
--- the statuses of what the shelf holds, or doesn't, and of a fault of it
-abbrev pub of_shelf : Bool → List ℕ
-of_shelf true = 3 ∷ 7 ∷ 8 ∷ 9 ∷ []
-of_shelf false = []
+-- `analyze` takes memory while it reads
+abbrev pub analyze_course : Course
+analyze_course = text_course (0 ∷ 1 ∷ 5 ∷ 6 ∷ 10 ∷ []) (0 ∷ 1 ∷ 5 ∷ 6 ∷ 10 ∷ []) false
 
--- the others
-abbrev pub own_statuses : Option Asked → List ℕ
-own_statuses None = 2 ∷ 6 ∷ []
-own_statuses (Some (Show set)) = 0 ∷ 1 ∷ 5 ∷ 6 ∷ 10 ∷ []
-own_statuses (Some (Convert set)) = 0 ∷ 1 ∷ 4 ∷ 5 ∷ 6 ∷ 10 ∷ 11 ∷ []
-own_statuses (Some Analyze) = 0 ∷ 1 ∷ 5 ∷ 6 ∷ 10 ∷ []
-own_statuses (Some (Check old new)) = 0 ∷ 4 ∷ 6 ∷ 10 ∷ []
-own_statuses (Some (Load board script)) = 0 ∷ 1 ∷ 5 ∷ 6 ∷ 10 ∷ []
-own_statuses asked = 0 ∷ 6 ∷ 10 ∷ []
+abbrev pub check_course : Bool → Course
+check_course asks = text_course (0 ∷ 4 ∷ 6 ∷ 10 ∷ []) [] asks
+
+abbrev pub counter_course : Bool → Course
+counter_course asks = text_course (0 ∷ 6 ∷ 10 ∷ []) [] asks
+
+-- the course of each command; 6 is also that of words that name none, where notes fail
+abbrev pub course_of : Option Asked → Course
+course_of None = record { statuses = 2 ∷ 6 ∷ []; writes = []; takes = []; stores = []; asks = false }
+course_of (Some (Show set)) = show_course (is_on_shelf set)
+course_of (Some (Convert set)) = convert_course (is_on_shelf set)
+course_of (Some Analyze) = analyze_course
+course_of (Some (Pack set name)) = save_course
+course_of (Some (Check old new)) = check_course (asks_shelf old new)
+course_of (Some (Counter old new)) = counter_course (asks_shelf old new)
+course_of (Some (Save board set script)) = save_course
+course_of (Some (Load board script)) = load_course
+course_of (Some (Drill level seed count)) = drill_course
+course_of (Some (Play level script)) = play_course
 
 -- the statuses that the command can answer
 abbrev pub statuses_of : Option Asked → List ℕ
-statuses_of asked = own_statuses asked ++ of_shelf (asks asked)
+statuses_of asked = (course_of asked).statuses
 
 -- at these something may be written on out: all of the text, or a beginning of it; of a session also what its lines left
 abbrev pub writes_at : Option Asked → List ℕ
-writes_at None = []
-writes_at (Some (Play level script)) = 0 ∷ 6 ∷ 7 ∷ 10 ∷ []
-writes_at asked = 0 ∷ 6 ∷ []
+writes_at asked = (course_of asked).writes
 
--- at these something of the input may be taken; `analyze` takes memory while it reads, and `convert` once it has read
+-- at these something of the input may be taken
 abbrev pub takes_at : Option Asked → List ℕ
-takes_at (Some (Show set)) = 0 ∷ 1 ∷ 5 ∷ 6 ∷ []
-takes_at (Some (Convert set)) = 0 ∷ 1 ∷ 5 ∷ 6 ∷ 10 ∷ 11 ∷ []
-takes_at (Some Analyze) = 0 ∷ 1 ∷ 5 ∷ 6 ∷ 10 ∷ []
-takes_at (Some (Load board script)) = 0 ∷ 1 ∷ 5 ∷ 6 ∷ []
-takes_at asked = []
+takes_at asked = (course_of asked).takes
 
 -- at these the shelf may tell something else than before: a session stores on it
 abbrev pub stores_at : Option Asked → List ℕ
-stores_at (Some (Play level script)) = 0 ∷ 6 ∷ 7 ∷ 10 ∷ []
-stores_at asked = []
+stores_at asked = (course_of asked).stores
+
+-- whether the shelf is asked for anything
+abbrev pub asks : Option Asked → Bool
+asks asked = (course_of asked).asks

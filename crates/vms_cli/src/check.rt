@@ -1,11 +1,13 @@
 // The command `check`: whether a newer set reads what an older one writes.
 ghost use Rattle.std.specs.Prelude.{◌≡◌, ◌≤◌, ◌||◌, false};
-ghost use Rattle.vms_io.specs.Told.{outlet, stock};
+ghost use Rattle.vms_io.specs.Told.{Intake, outlet, stock};
 ghost use Rattle.vms_desc.specs.Described.{described};
 ghost use Rattle.vms_check.specs.Comparing.{first_mismatch};
 ghost use Rattle.vms_commands.specs.Asks.{set_asked};
 ghost use Rattle.vms_cli.specs.Check.{asks_shelf, checked, compared, verdict};
-ghost use Rattle.vms_cli.specs.Causes.{CheckCause, CompareCause};
+ghost use Rattle.vms_cli.specs.Causes.{CompareCause};
+ghost use Rattle.vms_cli.specs.Statuses.{check_course};
+ghost use Rattle.vms_commands.specs.Courses.{EndsSo};
 ghost use Rattle.vms_commands.specs.Fetching.{is_text, set_in, sets_in};
 ghost use Rattle.vms_commands.specs.StepEndings.{TextEnds, text_of};
 ghost use Rattle.vms_commands.specs.Steps.{next};
@@ -28,16 +30,9 @@ pub(crate) fn check<O: Sink, H: Shelf>(
         (checked (H.held shelf.old) (set_asked old.entry) (set_asked new.entry))
         (outlet O.Sink out.old) (outlet O.Sink out.new)
         (stock H.Shelf shelf.old) (stock H.Shelf shelf.new) result }
-    ensures cause { CheckCause (asks_shelf (set_asked old.entry) (set_asked new.entry))
-        (outlet O.Sink out.old) (outlet O.Sink out.new)
-        (stock H.Shelf shelf.old) (stock H.Shelf shelf.new) result }
-    ensures unasked { asks_shelf (set_asked old.entry) (set_asked new.entry) ≡ false
-        → stock H.Shelf shelf.new ≡ stock H.Shelf shelf.old }
-    ensures held { H.held shelf.new ≡ H.held shelf.old }
-    ensures out_count { O.faults out.old ≤ O.faults out.new }
-    ensures shelf_count { H.faults shelf.old ≤ H.faults shelf.new }
-    ensures out_promise { O.promise out.new ≡ O.promise out.old }
-    ensures shelf_promise { H.promise shelf.new ≡ H.promise shelf.old }
+    ensures so { (input : Intake) → EndsSo input input (outlet O.Sink out.old)
+        (outlet O.Sink out.new) (stock H.Shelf shelf.old) (stock H.Shelf shelf.new)
+        (check_course (asks_shelf (set_asked old.entry) (set_asked new.entry))) result }
 {
     let old = match fetch_set(alloc, old, shelf) {
         Ok(text) => text,

@@ -1,5 +1,5 @@
 // The command `convert`: the stream of the same state under another set, or what would be lost.
-ghost use Rattle.std.specs.Prelude.{◌≡◌, ◌≤◌, ◌<◌, false, length, IfOk, MatchResult, Option, Err};
+ghost use Rattle.std.specs.Prelude.{◌≡◌, ◌<◌, Bool, length, IfOk, MatchResult, Option, Err};
 ghost use Rattle.vms_io.specs.Shelves.{Held};
 ghost use Rattle.vms_io.specs.Supplies.{store};
 ghost use Rattle.vms_io.specs.Told.{Stock, intake, outlet, stock};
@@ -10,7 +10,8 @@ ghost use Rattle.vms_commands.specs.Asks.{set_asked};
 ghost use Rattle.vms_commands.specs.Endings.{EndsAs};
 ghost use Rattle.vms_commands.specs.Fetching.{is_on_shelf};
 ghost use Rattle.vms_commands.specs.Outcomes.{Outcome};
-ghost use Rattle.vms_cli.specs.Causes.{ConvertCause, RewriteCause};
+ghost use Rattle.vms_commands.specs.Courses.{EndsSo};
+ghost use Rattle.vms_cli.specs.Statuses.{convert_course};
 ghost use Rattle.vms_cli.specs.Convert.{ConvertGives, ConvertHears, ConvertsBy, EndsLike, MayLackMemory, IsInNewest, NamesCell, agrees, line_of, lost_line, newest, target};
 
 use arrayvec::ArrayVec;
@@ -40,25 +41,16 @@ pub(crate) fn convert<I: Source, O: Sink, H: Shelf>(
         → EndsAs (intake I.Source input.old) (intake I.Source input.new)
         (outlet O.Sink out.old) (outlet O.Sink out.new)
         (stock H.Shelf shelf.old) (stock H.Shelf shelf.new) result o }
-    ensures cause { ConvertCause (is_on_shelf (set_asked set.entry))
-        (intake I.Source input.old) (intake I.Source input.new)
+    ensures so { EndsSo (intake I.Source input.old) (intake I.Source input.new)
         (outlet O.Sink out.old) (outlet O.Sink out.new)
-        (stock H.Shelf shelf.old) (stock H.Shelf shelf.new) result }
+        (stock H.Shelf shelf.old) (stock H.Shelf shelf.new)
+        (convert_course (is_on_shelf (set_asked set.entry))) result }
     ensures given { ConvertGives (target (H.held shelf.old) (set_asked set.entry))
         (intake I.Source input.old) (intake I.Source input.new) }
     ensures heard { let held = H.held shelf.old in
         ConvertHears (target held (set_asked set.entry)) held
         (I.given input.old) (I.given input.new)
         (outlet O.Sink out.old) (outlet O.Sink out.new) result }
-    ensures unasked { is_on_shelf (set_asked set.entry) ≡ false
-        → stock H.Shelf shelf.new ≡ stock H.Shelf shelf.old }
-    ensures held { H.held shelf.new ≡ H.held shelf.old }
-    ensures input_count { I.faults input.old ≤ I.faults input.new }
-    ensures out_count { O.faults out.old ≤ O.faults out.new }
-    ensures shelf_count { H.faults shelf.old ≤ H.faults shelf.new }
-    ensures input_promise { I.promise input.new ≡ I.promise input.old }
-    ensures out_promise { O.promise out.new ≡ O.promise out.old }
-    ensures shelf_promise { H.promise shelf.new ≡ H.promise shelf.old }
 {
     let text = match fetch_set(alloc, set, shelf) {
         Ok(text) => text,
@@ -76,17 +68,14 @@ fn convert_to<I: Source, O: Sink>(alloc: Global, to: &DescSet, input: &mut I, ou
         → ConvertsBy (agrees (described to.now)) (I.left input.old) shelf.held o
         → EndsAs (intake I.Source input.old) (intake I.Source input.new)
         (outlet O.Sink out.old) (outlet O.Sink out.new) shelf shelf' result o }
-    ensures cause { RewriteCause (intake I.Source input.old) (intake I.Source input.new)
-        (outlet O.Sink out.old) (outlet O.Sink out.new) result }
+    ensures so { (shelf : Stock) (asks : Bool)
+        → EndsSo (intake I.Source input.old) (intake I.Source input.new)
+        (outlet O.Sink out.old) (outlet O.Sink out.new) shelf shelf (convert_course asks) result }
     ensures given { ConvertGives (agrees (described to.now))
         (intake I.Source input.old) (intake I.Source input.new) }
     ensures heard { (held : Option Held) → ConvertHears (agrees (described to.now)) held
         (I.given input.old) (I.given input.new)
         (outlet O.Sink out.old) (outlet O.Sink out.new) result }
-    ensures input_count { I.faults input.old ≤ I.faults input.new }
-    ensures out_count { O.faults out.old ≤ O.faults out.new }
-    ensures input_promise { I.promise input.new ≡ I.promise input.old }
-    ensures out_promise { O.promise out.new ≡ O.promise out.old }
 {
     ending_of(alloc, vms_convert::convert(alloc, input, to, out))
 }

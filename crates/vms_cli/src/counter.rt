@@ -17,7 +17,9 @@ ghost use Rattle.vms_commands.specs.Outcomes.{Outcome};
 ghost use Rattle.vms_commands.specs.SetLines.{mismatch_line};
 ghost use Rattle.vms_commands.specs.StepEndings.{TextEnds, WrittenAs, text_of};
 ghost use Rattle.vms_commands.specs.Steps.{next};
-ghost use Rattle.vms_cli.specs.Causes.{CounterCause, FindCause};
+ghost use Rattle.vms_cli.specs.Causes.{FindCause};
+ghost use Rattle.vms_cli.specs.Statuses.{counter_course};
+ghost use Rattle.vms_commands.specs.Courses.{EndsSo};
 ghost use Rattle.vms_cli.specs.Check.{asks_shelf};
 ghost use Rattle.vms_cli.specs.Counter.{CountersBy, counted, counter_text, no_state};
 
@@ -45,16 +47,9 @@ pub(crate) fn counter<O: Sink, H: Shelf>(
         (H.held shelf.old) o
         → EndsAs input input (outlet O.Sink out.old) (outlet O.Sink out.new)
         (stock H.Shelf shelf.old) (stock H.Shelf shelf.new) result o }
-    ensures cause { CounterCause (asks_shelf (set_asked old.entry) (set_asked new.entry))
-        (outlet O.Sink out.old) (outlet O.Sink out.new)
-        (stock H.Shelf shelf.old) (stock H.Shelf shelf.new) result }
-    ensures unasked { asks_shelf (set_asked old.entry) (set_asked new.entry) ≡ false
-        → stock H.Shelf shelf.new ≡ stock H.Shelf shelf.old }
-    ensures held { H.held shelf.new ≡ H.held shelf.old }
-    ensures out_count { O.faults out.old ≤ O.faults out.new }
-    ensures shelf_count { H.faults shelf.old ≤ H.faults shelf.new }
-    ensures out_promise { O.promise out.new ≡ O.promise out.old }
-    ensures shelf_promise { H.promise shelf.new ≡ H.promise shelf.old }
+    ensures so { (input : Intake) → EndsSo input input (outlet O.Sink out.old)
+        (outlet O.Sink out.new) (stock H.Shelf shelf.old) (stock H.Shelf shelf.new)
+        (counter_course (asks_shelf (set_asked old.entry) (set_asked new.entry))) result }
 {
     let old = match fetch_set(alloc, old, shelf) {
         Ok(text) => text,

@@ -1,13 +1,16 @@
 // `save` and `load` on a board of the kind that a word names.
-ghost use Rattle.std.specs.Prelude.{◌≡◌, ◌≤◌, Some};
-ghost use Rattle.vms_io.specs.Told.{intake, outlet, stock};
+ghost use Rattle.std.specs.Prelude.{Some};
+ghost use Rattle.vms_io.specs.Told.{Intake, intake, outlet, stock};
 ghost use Rattle.vms_commands.specs.Endings.{EndsAs};
 ghost use Rattle.vms_commands.specs.Outcomes.{Outcome};
-ghost use Rattle.vms_commands.specs.Texts.{TextCause, TextContent};
+ghost use Rattle.vms_commands.specs.Texts.{TextContent};
 ghost use Rattle.vms_cli.specs.Answers.{HasOutcome, saved_on};
 ghost use Rattle.vms_cli.specs.Asks.{board_asked, saved_asked};
-ghost use Rattle.vms_cli.specs.Causes.{EndsCause};
+ghost use Rattle.vms_cli.specs.Causes.{HearsAs};
 ghost use Rattle.vms_cli.specs.Commands.{Load};
+ghost use Rattle.vms_cli.specs.Rows.{Gives};
+ghost use Rattle.vms_commands.specs.Courses.{EndsSo};
+ghost use Rattle.vms_board_commands.specs.Causes.{load_course, save_course};
 
 use crate::boards::{BoardWord, Loading, SavedBoard};
 use std::alloc::Global;
@@ -28,13 +31,9 @@ pub(crate) fn save<O: Sink, H: Shelf>(
         (saved_on asked.0 asked.1 (H.held shelf.old) script.now)
         (outlet O.Sink out.old) (outlet O.Sink out.new)
         (stock H.Shelf shelf.old) (stock H.Shelf shelf.new) result }
-    ensures cause { TextCause (outlet O.Sink out.old) (outlet O.Sink out.new)
-        (stock H.Shelf shelf.old) (stock H.Shelf shelf.new) result }
-    ensures held { H.held shelf.new ≡ H.held shelf.old }
-    ensures out_count { O.faults out.old ≤ O.faults out.new }
-    ensures shelf_count { H.faults shelf.old ≤ H.faults shelf.new }
-    ensures out_promise { O.promise out.new ≡ O.promise out.old }
-    ensures shelf_promise { H.promise shelf.new ≡ H.promise shelf.old }
+    ensures so { (input : Intake) → EndsSo input input (outlet O.Sink out.old)
+        (outlet O.Sink out.new) (stock H.Shelf shelf.old) (stock H.Shelf shelf.new) save_course
+        result }
 {
     match board {
         SavedBoard::Isa(board) => {
@@ -70,17 +69,14 @@ pub(crate) fn load<I: Source, O: Sink, H: Shelf>(
         → EndsAs (intake I.Source input.old) (intake I.Source input.new)
         (outlet O.Sink out.old) (outlet O.Sink out.new)
         (stock H.Shelf shelf.old) (stock H.Shelf shelf.new) result o }
-    ensures cause { EndsCause
-        (Some (Load (board_asked loading.entry.board) loading.entry.script.now))
-        (intake I.Source input.old) (intake I.Source input.new)
+    ensures so { EndsSo (intake I.Source input.old) (intake I.Source input.new)
         (outlet O.Sink out.old) (outlet O.Sink out.new)
-        (stock H.Shelf shelf.old) (stock H.Shelf shelf.new) result }
-    ensures input_count { I.faults input.old ≤ I.faults input.new }
-    ensures out_count { O.faults out.old ≤ O.faults out.new }
-    ensures shelf_count { H.faults shelf.old ≤ H.faults shelf.new }
-    ensures input_promise { I.promise input.new ≡ I.promise input.old }
-    ensures out_promise { O.promise out.new ≡ O.promise out.old }
-    ensures shelf_promise { H.promise shelf.new ≡ H.promise shelf.old }
+        (stock H.Shelf shelf.old) (stock H.Shelf shelf.new) load_course result }
+    ensures given { Gives (Some (Load (board_asked loading.entry.board) loading.entry.script.now))
+        (H.held shelf.old) (intake I.Source input.old) (intake I.Source input.new) }
+    ensures heard { HearsAs (Some (Load (board_asked loading.entry.board) loading.entry.script.now))
+        (H.held shelf.old) (I.given input.old) (I.given input.new)
+        (outlet O.Sink out.old) (outlet O.Sink out.new) result }
 {
     let script = loading.script;
     match loading.board {

@@ -1,6 +1,6 @@
 // The command `pack`: the stream of a values text on the shelf.
 ghost use Rattle.std.specs.Prelude.{◌≡◌, ◌<◌, ◌≤◌, length, map, IfSome};
-ghost use Rattle.vms_io.specs.Told.{outlet, stock};
+ghost use Rattle.vms_io.specs.Told.{Intake, outlet, stock};
 ghost use Rattle.vms_spec.specs.Lists.{at_option};
 ghost use Rattle.vms_spec.specs.Streams.{AreReady};
 ghost use Rattle.vms_desc.specs.Described.{described};
@@ -8,7 +8,9 @@ ghost use Rattle.vms_image.specs.Typed.{AreImagesOf, state_of};
 ghost use Rattle.vms_commands.specs.Asks.{set_asked};
 ghost use Rattle.vms_commands.specs.Fetching.{longest_file};
 ghost use Rattle.vms_commands.specs.StepEndings.{TextEnds, WrittenAs, text_of};
-ghost use Rattle.vms_commands.specs.Texts.{TextCause, TextContent};
+ghost use Rattle.vms_commands.specs.Texts.{TextContent};
+ghost use Rattle.vms_commands.specs.Courses.{EndsSo};
+ghost use Rattle.vms_board_commands.specs.Causes.{save_course};
 ghost use Rattle.vms_cli.specs.Causes.{WriteCause};
 ghost use Rattle.vms_cli.specs.Pack.{described_stream, packed, packed_texts, packs};
 
@@ -31,13 +33,9 @@ pub(crate) fn pack<O: Sink, H: Shelf>(
     ensures content { TextContent (packs (H.held shelf.old) (set_asked set.entry) values.now)
         (outlet O.Sink out.old) (outlet O.Sink out.new)
         (stock H.Shelf shelf.old) (stock H.Shelf shelf.new) result }
-    ensures cause { TextCause (outlet O.Sink out.old) (outlet O.Sink out.new)
-        (stock H.Shelf shelf.old) (stock H.Shelf shelf.new) result }
-    ensures held { H.held shelf.new ≡ H.held shelf.old }
-    ensures out_count { O.faults out.old ≤ O.faults out.new }
-    ensures shelf_count { H.faults shelf.old ≤ H.faults shelf.new }
-    ensures out_promise { O.promise out.new ≡ O.promise out.old }
-    ensures shelf_promise { H.promise shelf.new ≡ H.promise shelf.old }
+    ensures so { (input : Intake) → EndsSo input input (outlet O.Sink out.old)
+        (outlet O.Sink out.new) (stock H.Shelf shelf.old) (stock H.Shelf shelf.new) save_course
+        result }
 {
     let set = match fetch_set(alloc, set, shelf) {
         Ok(text) => text,

@@ -1,10 +1,13 @@
 // The top call.
-ghost use Rattle.std.specs.Prelude.{◌≡◌, ◌≤◌};
+ghost use Rattle.std.specs.Prelude.{◌≡◌, ◌≤◌, None};
 ghost use Rattle.vms_io.specs.Told.{intake, outlet, stock};
 ghost use Rattle.vms_cli.specs.Answers.{HasOutcome, Answers};
 ghost use Rattle.vms_cli.specs.Commands.{asked_of};
 ghost use Rattle.vms_commands.specs.Endings.{EndsAs, Tells};
-ghost use Rattle.vms_cli.specs.Causes.{EndsCause};
+ghost use Rattle.vms_commands.specs.Courses.{EndsSo};
+ghost use Rattle.vms_cli.specs.Causes.{HearsAs};
+ghost use Rattle.vms_cli.specs.Rows.{Gives};
+ghost use Rattle.vms_cli.specs.Statuses.{course_of};
 ghost use Rattle.vms_commands.specs.Outcomes.{Outcome};
 
 use crate::analyze::analyze_input;
@@ -95,16 +98,15 @@ fn run<I: Source, O: Sink, H: Shelf>(
         → EndsAs (intake I.Source input.old) (intake I.Source input.new)
         (outlet O.Sink out.old) (outlet O.Sink out.new)
         (stock H.Shelf shelf.old) (stock H.Shelf shelf.new) result o }
-    ensures cause { EndsCause (asked_of words.now)
-        (intake I.Source input.old) (intake I.Source input.new)
+    ensures so { EndsSo (intake I.Source input.old) (intake I.Source input.new)
         (outlet O.Sink out.old) (outlet O.Sink out.new)
-        (stock H.Shelf shelf.old) (stock H.Shelf shelf.new) result }
-    ensures input_count { I.faults input.old ≤ I.faults input.new }
-    ensures out_count { O.faults out.old ≤ O.faults out.new }
-    ensures shelf_count { H.faults shelf.old ≤ H.faults shelf.new }
-    ensures input_promise { I.promise input.new ≡ I.promise input.old }
-    ensures out_promise { O.promise out.new ≡ O.promise out.old }
-    ensures shelf_promise { H.promise shelf.new ≡ H.promise shelf.old }
+        (stock H.Shelf shelf.old) (stock H.Shelf shelf.new) (course_of (asked_of words.now)) result }
+    ensures given { Gives (asked_of words.now) (H.held shelf.old)
+        (intake I.Source input.old) (intake I.Source input.new) }
+    ensures heard { HearsAs (asked_of words.now) (H.held shelf.old)
+        (I.given input.old) (I.given input.new)
+        (outlet O.Sink out.old) (outlet O.Sink out.new) result }
+    ensures unnamed { asked_of words.now ≡ None → outlet O.Sink out.new ≡ outlet O.Sink out.old }
 {
     match words.command() {
         Some(Command::Show { set }) => show(alloc, set, input, out, shelf),

@@ -25,7 +25,3 @@ TextCause out out' shelf shelf' (NotThere line) = Keeps out.written out'.written
 TextCause out out' shelf shelf' (TooLarge line) = Keeps out.written out'.written
 TextCause out out' shelf shelf' NoMemory = Keeps out.written out'.written
 TextCause out out' shelf shelf' _ = ⊥
-
-abbrev pub TextCauses : (input input' : Intake) (out out' : Outlet) (shelf shelf' : Stock) → Ending → Type 0
-TextCauses input input' out out' shelf shelf' ending =
-    TextCause out out' shelf shelf' ending × (input' ≡ input) × (shelf'.held ≡ shelf.held)

@@ -1,14 +1,16 @@
-use Rattle.std.proofs.Common.{Ok, Err, Option, ◌∙◌, subst}
+use Rattle.std.proofs.Common.{rules, Ok, Err, Option, ◌∙◌, subst}
 use Rattle.vms_io.specs.Shelves.{Held}
 use Rattle.vms_io.specs.Told.{outlet, stock}
 use Rattle.vms_commands.specs.Asks.{set_asked}
-use Rattle.vms_cli.specs.Check.{checked, compared}
+use Rattle.vms_cli.specs.Check.{asks_shelf, checked, compared}
 use Rattle.vms_commands.specs.Fetching.{fetched_set, sets_in}
 use Rattle.vms_commands.specs.StepEndings.{StepAs, text_of}
 use Rattle.vms_commands.specs.Steps.{both, next}
 use Rattle.vms_commands.proofs.StepLemmas.{both_give, first_ends, regroup, second_ends, text_ends}
 use Rattle.vms_commands.proofs.EndLemmas.{quiet_same}
 use Rattle.vms_cli.proofs.CheckLemmas.{compare_quiet}
+use Rattle.vms_commands.proofs.CourseLemmas.{draws_none}
+use Rattle.vms_cli.proofs.EndsSo.{check_ends}
 use Rattle.vms_cli.proofs.check.check.Goals as goal
 
 pub returns-clause-content : goal.returns-clause-content
@@ -53,3 +55,30 @@ returns-in-Err-clause-content g c = λ input o few has.
     c.in-Err.ensures.held (quiet_same out ending)
     (regroup (both (fetched_set held old) (fetched_set held new)) sets_in compared out out ending
     (first_ends text_of (λ texts. next (sets_in texts) compared) out out ending (fetched_set held old) (fetched_set held new) c.in-Err.ensures.fetched)) has
+
+pub returns-clause-so : goal.returns-clause-so
+returns-clause-so g c = λ input.
+    let out = outlet g.O.Sink c.args.out.now in
+    let out' = outlet g.O.Sink c.check_texts.new.out in
+    let shelf = stock g.H.Shelf c.args.shelf.now in
+    let shelf' = stock g.H.Shelf c.fetch_set-2.new.shelf in
+    check_ends input out out' shelf shelf' (asks_shelf (set_asked c.args.old) (set_asked c.args.new)) c.check_texts.result (search rules)
+    (record { held = search rules; unasked = search rules; draws = draws_none input; serves = record { later = search rules; promise = search rules }; reaches = record { later = search rules; promise = search rules } })
+
+pub returns-in-Err-fetch_set-clause-so : goal.returns-in-Err-fetch_set-clause-so
+returns-in-Err-fetch_set-clause-so g c = λ input.
+    let out = outlet g.O.Sink c.args.out.now in
+    let out' = outlet g.O.Sink c.args.out.now in
+    let shelf = stock g.H.Shelf c.args.shelf.now in
+    let shelf' = stock g.H.Shelf c.fetch_set-2.new.shelf in
+    check_ends input out out' shelf shelf' (asks_shelf (set_asked c.args.old) (set_asked c.args.new)) c.in-Err-fetch_set.ending (search rules)
+    (record { held = search rules; unasked = search rules; draws = draws_none input; serves = record { later = search rules; promise = search rules }; reaches = record { later = search rules; promise = search rules } })
+
+pub returns-in-Err-clause-so : goal.returns-in-Err-clause-so
+returns-in-Err-clause-so g c = λ input.
+    let out = outlet g.O.Sink c.args.out.now in
+    let out' = outlet g.O.Sink c.args.out.now in
+    let shelf = stock g.H.Shelf c.args.shelf.now in
+    let shelf' = stock g.H.Shelf c.fetch_set.new.shelf in
+    check_ends input out out' shelf shelf' (asks_shelf (set_asked c.args.old) (set_asked c.args.new)) c.in-Err.ending (search rules)
+    (record { held = search rules; unasked = search rules; draws = draws_none input; serves = record { later = search rules; promise = search rules }; reaches = record { later = search rules; promise = search rules } })

@@ -1,13 +1,13 @@
-use Rattle.std.proofs.Common.{Ok, Err}
+use Rattle.std.proofs.Common.{ℕ, Bool, Ok, Err, subst}
 use Rattle.vms_io.specs.Told.{intake, outlet, stock}
 use Rattle.vms_desc.specs.Described.{described}
 use Rattle.vms_commands.specs.Asks.{set_asked}
-use Rattle.vms_commands.specs.Fetching.{fetched_set, set_in, word_set}
-use Rattle.vms_commands.specs.StepEndings.{text_of}
+use Rattle.vms_commands.specs.Fetching.{fetched_set, is_on_shelf, set_in, word_set}
+use Rattle.vms_commands.specs.StepEndings.{ReadCause, text_of}
 use Rattle.vms_commands.proofs.EndLemmas.{quiet_same}
 use Rattle.vms_commands.proofs.StepLemmas.{ended_by, first_err, had_by, then_as}
 use Rattle.vms_cli.specs.Convert.{ConvertsWell, agrees}
-use Rattle.vms_cli.proofs.ConvertSteps.{converts_after, converts_next, gives_next, hears_next}
+use Rattle.vms_cli.proofs.ConvertSteps.{behind_so, converts_after, converts_next, gives_next, hears_next, unfetched, unread, unset_so}
 use Rattle.vms_cli.proofs.convert.convert.Goals as goal
 
 pub returns-in-Ok-read_fetched-clause-content : goal.returns-in-Ok-read_fetched-clause-content
@@ -59,3 +59,31 @@ returns-clause-content g c = λ o has.
     ended_by described (converts_after left held) (word_set held word) (intake g.I.Source c.args.input.now) out out (stock g.H.Shelf c.args.shelf.now)
     (stock g.H.Shelf c.fetch_set.new.shelf) ending o (g.met.I.Source.counted c.args.input.now) c.in-Ok.ensures.held (quiet_same out ending) had
     (converts_next left held (word_set held word) o has)
+
+-- ---- what it touches
+
+pub returns-in-Ok-read_fetched-clause-so : goal.returns-in-Ok-read_fetched-clause-so
+returns-in-Ok-read_fetched-clause-so g c =
+    let fetched = c.in-Ok.ensures in
+    let b = is_on_shelf (set_asked c.args.set) in
+    behind_so b c.convert_to.result fetched.unasked (record { held = fetched.held; later = fetched.count; promise = fetched.promise })
+    (c.convert_to.ensures.so (stock g.H.Shelf c.fetch_set.new.shelf) b)
+
+pub returns-in-Err-clause-so : goal.returns-in-Err-clause-so
+returns-in-Err-clause-so g c =
+    let fetched = c.in-Err.ensures in
+    let b = is_on_shelf (set_asked c.args.set) in
+    let s = stock g.H.Shelf c.args.shelf.now in
+    let s' = stock g.H.Shelf c.fetch_set.new.shelf in
+    unset_so (intake g.I.Source c.args.input.now) (outlet g.O.Sink c.args.out.now) s s' (record { held = fetched.held; later = fetched.count; promise = fetched.promise })
+    b fetched.unasked c.in-Err.ending (unfetched b s s' c.in-Err.ending fetched.cause)
+
+pub returns-clause-so : goal.returns-clause-so
+returns-clause-so g c =
+    let fetched = c.in-Ok.ensures in
+    let b = is_on_shelf (set_asked c.args.set) in
+    let s = stock g.H.Shelf c.args.shelf.now in
+    let s' = stock g.H.Shelf c.fetch_set.new.shelf in
+    let ending = c.in-Err-read_fetched.ending in
+    unset_so (intake g.I.Source c.args.input.now) (outlet g.O.Sink c.args.out.now) s s' (record { held = fetched.held; later = fetched.count; promise = fetched.promise })
+    b fetched.unasked ending (unread b s s' ending (subst (λ (x : Bool). ReadCause {T = ℕ} x (Err ending)) fetched.text c.in-Err-read_fetched.ensures.cause))

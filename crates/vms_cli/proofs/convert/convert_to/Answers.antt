@@ -1,7 +1,7 @@
 use Rattle.vms_io.specs.Told.{intake, outlet}
 use Rattle.vms_desc.specs.Described.{described}
 use Rattle.vms_values.proofs.TextRead.{fit_of}
-use Rattle.vms_cli.proofs.ConvertLemmas.{convert_cause, convert_content, convert_given, convert_hears, convert_stands, names_cell}
+use Rattle.vms_cli.proofs.ConvertLemmas.{convert_content, convert_given, convert_hears, convert_so, names_cell}
 use Rattle.vms_cli.proofs.convert.convert_to.Goals as goal
 
 pub ending_of-requires : goal.ending_of-requires
@@ -17,11 +17,11 @@ returns-clause-content g c = λ shelf shelf' o held has.
     (outlet g.O.Sink c.args.out.now) (outlet g.O.Sink c.convert.new.sink) c.convert.result c.ending_of.result c.ending_of.ensures c.convert.ensures
     (g.met.I.Source.octets c.args.input.now) (g.met.I.Source.counted c.args.input.now) shelf shelf' o held has
 
-pub returns-clause-cause : goal.returns-clause-cause
-returns-clause-cause g c =
+pub returns-clause-so : goal.returns-clause-so
+returns-clause-so g c = λ shelf asks.
     let to = c.args.to.now in
-    convert_cause (described to) (fit_of (described to) to.well_formed to.heads) (intake g.I.Source c.args.input.now) (intake g.I.Source c.convert.new.source)
-    (outlet g.O.Sink c.args.out.now) (outlet g.O.Sink c.convert.new.sink) c.convert.result c.ending_of.result c.ending_of.ensures c.convert.ensures
+    convert_so (described to) (fit_of (described to) to.well_formed to.heads) (intake g.I.Source c.args.input.now) (intake g.I.Source c.convert.new.source)
+    (outlet g.O.Sink c.args.out.now) (outlet g.O.Sink c.convert.new.sink) c.convert.result c.ending_of.result c.ending_of.ensures c.convert.ensures shelf asks
 
 pub returns-clause-given : goal.returns-clause-given
 returns-clause-given g c =
@@ -34,27 +34,3 @@ returns-clause-heard g c = λ held.
     let to = c.args.to.now in
     convert_hears (described to) (fit_of (described to) to.well_formed to.heads) (intake g.I.Source c.args.input.now) (intake g.I.Source c.convert.new.source)
     (outlet g.O.Sink c.args.out.now) (outlet g.O.Sink c.convert.new.sink) c.convert.result c.ending_of.result c.ending_of.ensures c.convert.ensures held
-
-pub returns-clause-input_count : goal.returns-clause-input_count
-returns-clause-input_count g c =
-    let to = c.args.to.now in
-    (convert_stands (described to) (fit_of (described to) to.well_formed to.heads) (intake g.I.Source c.args.input.now) (intake g.I.Source c.convert.new.source)
-    (outlet g.O.Sink c.args.out.now) (outlet g.O.Sink c.convert.new.sink) c.convert.result c.convert.ensures).input_count
-
-pub returns-clause-out_count : goal.returns-clause-out_count
-returns-clause-out_count g c =
-    let to = c.args.to.now in
-    (convert_stands (described to) (fit_of (described to) to.well_formed to.heads) (intake g.I.Source c.args.input.now) (intake g.I.Source c.convert.new.source)
-    (outlet g.O.Sink c.args.out.now) (outlet g.O.Sink c.convert.new.sink) c.convert.result c.convert.ensures).out_count
-
-pub returns-clause-input_promise : goal.returns-clause-input_promise
-returns-clause-input_promise g c =
-    let to = c.args.to.now in
-    (convert_stands (described to) (fit_of (described to) to.well_formed to.heads) (intake g.I.Source c.args.input.now) (intake g.I.Source c.convert.new.source)
-    (outlet g.O.Sink c.args.out.now) (outlet g.O.Sink c.convert.new.sink) c.convert.result c.convert.ensures).input_promise
-
-pub returns-clause-out_promise : goal.returns-clause-out_promise
-returns-clause-out_promise g c =
-    let to = c.args.to.now in
-    (convert_stands (described to) (fit_of (described to) to.well_formed to.heads) (intake g.I.Source c.args.input.now) (intake g.I.Source c.convert.new.source)
-    (outlet g.O.Sink c.args.out.now) (outlet g.O.Sink c.convert.new.sink) c.convert.result c.convert.ensures).out_promise

@@ -1,4 +1,4 @@
-use Rattle.std.proofs.Common.{ℕ, List, Option, Ok, Err, ◌∙◌, subst}
+use Rattle.std.proofs.Common.{rules, ℕ, List, Option, Ok, Err, ◌∙◌, subst}
 use Rattle.std.specs.declared.vec.Vec.{Vec}
 use Rattle.std.specs.declared.alloc.Global.{Global}
 use Rattle.vms_io.specs.Shelves.{Held}
@@ -10,6 +10,8 @@ use Rattle.vms_commands.proofs.EndLemmas.{quiet_same}
 use Rattle.vms_commands.proofs.StepLemmas.{text_ends}
 use Rattle.vms_cli.specs.Pack.{packed_texts, packs}
 use Rattle.vms_cli.proofs.PackLemmas.{set_ends, texts_end, values_end, write_quiet}
+use Rattle.vms_commands.proofs.CourseLemmas.{draws_none, wrong}
+use Rattle.vms_cli.proofs.EndsSo.{pack_ends}
 use Rattle.vms_cli.proofs.pack.pack.Goals as goal
 
 abbrev bytes : Vec ℕ Global → List ℕ
@@ -53,3 +55,30 @@ returns-clause-content g c = λ input o few has.
     text_ends (packs held word name) input out out (stock g.H.Shelf c.args.shelf.now) (stock g.H.Shelf c.fetch.new.shelf) ending o few
     (c.in-Err-fetch.ensures.held ∙ c.in-Ok.ensures.held) (quiet_same out ending)
     (values_end held word name out out ending text_of bytes c.in-Ok.text c.in-Ok.ensures.fetched second) has
+
+pub returns-in-Ok-fetch-clause-so : goal.returns-in-Ok-fetch-clause-so
+returns-in-Ok-fetch-clause-so g c = λ input.
+    let out = outlet g.O.Sink c.args.out.now in
+    let out' = outlet g.O.Sink c.pack_texts.new.out in
+    let shelf = stock g.H.Shelf c.args.shelf.now in
+    let shelf' = stock g.H.Shelf c.fetch.new.shelf in
+    pack_ends input out out' shelf shelf' c.pack_texts.result (search rules)
+    (record { held = search rules; unasked = λ f. absurd (wrong f); draws = draws_none input; serves = record { later = search rules; promise = search rules }; reaches = record { later = search rules; promise = search rules } })
+
+pub returns-in-Err-clause-so : goal.returns-in-Err-clause-so
+returns-in-Err-clause-so g c = λ input.
+    let out = outlet g.O.Sink c.args.out.now in
+    let out' = outlet g.O.Sink c.args.out.now in
+    let shelf = stock g.H.Shelf c.args.shelf.now in
+    let shelf' = stock g.H.Shelf c.fetch_set.new.shelf in
+    pack_ends input out out' shelf shelf' c.in-Err.ending (search rules)
+    (record { held = search rules; unasked = λ f. absurd (wrong f); draws = draws_none input; serves = record { later = search rules; promise = search rules }; reaches = record { later = search rules; promise = search rules } })
+
+pub returns-clause-so : goal.returns-clause-so
+returns-clause-so g c = λ input.
+    let out = outlet g.O.Sink c.args.out.now in
+    let out' = outlet g.O.Sink c.args.out.now in
+    let shelf = stock g.H.Shelf c.args.shelf.now in
+    let shelf' = stock g.H.Shelf c.fetch.new.shelf in
+    pack_ends input out out' shelf shelf' c.in-Err-fetch.ending (search rules)
+    (record { held = search rules; unasked = λ f. absurd (wrong f); draws = draws_none input; serves = record { later = search rules; promise = search rules }; reaches = record { later = search rules; promise = search rules } })
