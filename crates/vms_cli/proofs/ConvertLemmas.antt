@@ -140,6 +140,11 @@ took i i' images taken machine r =
       few = omega (arith, given, long.0, long.1);
     }
 
+-- of an input that is told
+of_told : {P : Type 0} {A B C : List ℕ → Type 0} (left : Option (List ℕ)) → IfSome left A → IfSome left B → IsSomeAnd left C → ((bytes : List ℕ) → A bytes → B bytes → C bytes → P) → P
+of_told None a b c f = absurd c
+of_told (Some bytes) a b c f = f bytes a b c
+
 -- ---- the outcome
 
 module _ (to : Set) (fit : IsFit to) (i i' : Intake) (o o' : Outlet) where
@@ -155,24 +160,16 @@ module _ (to : Set) (fit : IsFit to) (i i' : Intake) (o o' : Outlet) where
   module _ (compatible : Compatible to newest) (ok : IfSome i.left IsBytes) (s s' : Stock) (same : s'.held ≡ s.held) (x : Outcome) (has : IsSomeAnd i.left (λ bytes. Converts to bytes s.held x)) where
     rewrites : (images : List Image) (taken : ℕ) (machine : Option (List ℕ)) (stream : List ℕ) (e : Ending) → Took i i' taken machine images
         → IsStreamFor to newest machine images stream → WritesAs stream o o' e → EndsAs i i' o o' s s' e x
-    rewrites images taken machine stream e t p w = by i.left ok t.left has
-      where
-        by : (left : Option (List ℕ)) → IfSome left IsBytes → IfSome left (λ input. Takes newest newest.machines input taken machine images × (i'.left ≡ Some (drop taken input)))
-            → IsSomeAnd left (λ bytes. Converts to bytes s.held x) → EndsAs i i' o o' s s' e x
-        by None ok l has = absurd has
-        by (Some bytes) ok l has =
-            subst (λ (y : Outcome). EndsAs i i' o o' s s' e y) (sym (rewritten_is to fit compatible bytes s.held ok taken machine images stream x l.0 p has))
-            (text_written stream i i' o o' s s' taken e w same t.takes)
+    rewrites images taken machine stream e t p w =
+        of_told i.left ok t.left has (λ bytes ok l has.
+        subst (λ (y : Outcome). EndsAs i i' o o' s s' e y) (sym (rewritten_is to fit compatible bytes s.held ok taken machine images stream x l.0 p has))
+        (text_written stream i i' o o' s s' taken e w same t.takes))
 
     loses : (images : List Image) (taken : ℕ) (machine : Option (List ℕ)) (section cell : Option ℕ) (line : List ℕ) → Took i i' taken machine images
         → LosesFirst to newest machine images section cell → line ≡ lost_line newest section cell → EndsWith 11 line i i' x
-    loses images taken machine section cell line t p said = by i.left ok t.left has
-      where
-        by : (left : Option (List ℕ)) → IfSome left IsBytes → IfSome left (λ input. Takes newest newest.machines input taken machine images × (i'.left ≡ Some (drop taken input)))
-            → IsSomeAnd left (λ bytes. Converts to bytes s.held x) → EndsWith 11 line i i' x
-        by None ok l has = absurd has
-        by (Some bytes) ok l has =
-            with_line 11 line (lost_line newest section cell) taken x (lost_is to fit compatible bytes s.held ok taken machine images section cell x l.0 p has) said t.takes
+    loses images taken machine section cell line t p said =
+        of_told i.left ok t.left has (λ bytes ok l has.
+        with_line 11 line (lost_line newest section cell) taken x (lost_is to fit compatible bytes s.held ok taken machine images section cell x l.0 p has) said t.takes)
 
     refuses : (r : Refusal) (line : List ℕ) → RefusesFirst to newest i i' o o' (loads.Refused r) → line ≡ refused_line newest r.at r.section r.reason → EndsWith 1 line i i' x
     refuses r line f said = by i.left refl ok (reads_told (λ (input : List ℕ) (left : Option (List ℕ)). Loads newest newest.machines input left f.images f.taken (Err (loads.Refused r))) tt f.reads) has

@@ -248,8 +248,8 @@ fn triple_of<'a>(name: &str, one: &str, two: &str, three: &'a str) -> Option<Com
 }
 
 fn drill_of<'a>(board: &str, seed: &str, count: &str) -> Option<Command<'a>>
-    ensures { option_map asked result ≡ drill_of (isa_level (board_word board.now)) (number_word seed.now)
-        (few_events (number_word count.now)) }
+    ensures { option_map asked result ≡ drill_of (isa_level (board_word board.now))
+        (number_word seed.now) (few_events (number_word count.now)) }
 {
     match (isa_board(board), number_word(seed), events_word(count)) {
         (Some(board), Some(seed), Some(count)) => Some(Command::Drill { board, seed, count }),

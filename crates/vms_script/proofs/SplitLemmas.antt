@@ -1,7 +1,13 @@
 -- The first word of a line.
-use Rattle.std.proofs.Common.{◌≡◌, ℕ, zero, suc, ◌+◌, ◌<◌, ◌≤◌, Bool, List, [], ◌∷◌, length, get_or, take, drop, Some, None, if◌then◌else◌, refl, ap, ◌∙◌, arith, ⊎_elim}
+use Rattle.std.proofs.Common.{◌≡◌, ℕ, zero, suc, ◌+◌, ◌<◌, ◌≤◌, ◌==◌, Bool, true, false, List, [], ◌∷◌, length, get_or, take, drop, Option, Some, None, Ok, Err, if◌then◌else◌, refl, sym, ap, ◌∙◌, arith, ⊎_elim}
+use Rattle.std.specs.Prelude.{codes}
+use Rattle.std.specs.Str.{bytes_eq}
 use Rattle.std.proofs.lemmas.Bool.{cases_lt, ne_eqb, eq-eqb}
+use Rattle.std.proofs.lemmas.Option.{none-some}
+use Rattle.dev_board.specs.declared.event.Event.TheVariants.{Ack}
+use Rattle.vms_script.specs.Lines.{Happens, line_read, line_split}
 use Rattle.vms_script.specs.Words.{first_word, longer_word}
+use Rattle.vms_script.specs.declared.line.ScriptReason.TheVariants as reasons
 
 -- a byte stands at a place, and not before it
 abbrev pub NotBefore : ℕ → List ℕ → ℕ → Type 0
@@ -39,3 +45,26 @@ none_here byte xs i other before k h is = ⊎_elim (λ lt. before k lt is) here 
   here from =
       let same : i ≡ k = omega (arith, h, from) in
       other (ap (λ (n : ℕ). get_or xs n 0) same ∙ is)
+
+-- a line without a blank is its own first word
+by_blank : (t : Bool) (b : ℕ) (xs : List ℕ) → ((first_word xs).1 ≡ None → (first_word xs).0 ≡ xs)
+    → (if t then ([], Some xs) else longer_word b (first_word xs)).1 ≡ None → (if t then ([], Some xs) else longer_word b (first_word xs)).0 ≡ b ∷ xs
+by_blank true b xs whole none = absurd (none-some xs (sym none))
+by_blank false b xs whole none = ap (λ (ys : List ℕ). b ∷ ys) (whole none)
+
+whole_word : (xs : List ℕ) → (first_word xs).1 ≡ None → (first_word xs).0 ≡ xs
+whole_word [] none = refl
+whole_word (b ∷ xs) none = by_blank (b == 32) b xs (λ e. whole_word xs e) none
+
+lone_word : (xs : List ℕ) → (first_word xs).1 ≡ None → first_word xs ≡ (xs, None)
+lone_word xs none = ap (λ (word : List ℕ). (word, (first_word xs).1)) (whole_word xs none) ∙ ap (λ (rest : Option (List ℕ)). (xs, rest)) none
+
+-- a line with a blank isn't empty
+pub words_long : (xs rest : List ℕ) → (first_word xs).1 ≡ Some rest → 0 < length xs
+words_long [] rest some = absurd (none-some rest some)
+words_long (b ∷ xs) rest some = omega arith
+
+-- what a line of one word that isn't `ack` says
+pub other_says : (play : Option ℕ) (xs : List ℕ) → bytes_eq xs (codes "ack") ≡ false → (first_word xs).1 ≡ None → line_read play xs ≡ Err reasons.Form
+other_says play xs other none =
+    ap (line_split play) (lone_word xs none) ∙ ap (λ (t : Bool). if t then Ok (Happens Ack) else Err reasons.Form) other

@@ -1,5 +1,6 @@
 // Reads scripts.
-ghost use Rattle.std.specs.Prelude.{◌≡◌, ◌<◌, ◌++◌, ◌∷◌, [], None, length, map, IfErr, OnOk};
+ghost use Rattle.std.specs.Prelude.{◌≡◌, ◌<◌, ◌++◌, ◌∷◌, [], None, codes, length, map, IfErr, OnOk};
+ghost use Rattle.std.specs.Str.{bytes_eq};
 ghost use Rattle.vms_script.specs.Lines.{line_of_words, line_read};
 ghost use Rattle.vms_script.specs.Script.{script_read};
 ghost use Rattle.vms_script.specs.Views.{event_lines, IsPut, IsRefusal, ReadsAs, ReadsLines};
@@ -71,16 +72,23 @@ fn put_line<L: Kept>(
     ensures refused { IfErr result (IsRefusal (line_read play text.now) number) }
     ensures long { OnOk result (0 < length text.now) }
 {
+    if is_ack(text) {
+        return push_line(lines, L::of_event(Event::Ack));
+    }
     let split = split_word(text);
     match split.rest {
         Some(rest) => put_words(lines, number, play, split.word, rest),
-        None => {
-            if split.word == b"ack".as_slice() {
-                push_line(lines, L::of_event(Event::Ack))
-            } else {
-                Err(bad(number, ScriptReason::Form))
-            }
-        }
+        None => Err(bad(number, ScriptReason::Form)),
+    }
+}
+
+// Whether a line is the one of a single word.
+fn is_ack(text: &[u8]) -> bool
+    ensures { result ≡ bytes_eq text.now (codes "ack") }
+{
+    match text {
+        [b'a', b'c', b'k'] => true,
+        _ => false,
     }
 }
 

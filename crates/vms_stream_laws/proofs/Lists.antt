@@ -3,12 +3,9 @@ use Rattle.std.proofs.Common.{◌≡◌, ℕ, zero, suc, Bool, if◌then◌else�
 use Rattle.std.specs.List.{list_any, slice_get}
 use Rattle.std.specs.Option.{option_map}
 use Rattle.std.proofs.lemmas.Option.{slice_get-map}
-use Rattle.vms_spec.specs.Lists.{at_option, first_answer, or_else, position}
+use Rattle.vms_spec.specs.Lists.{at_option, first_answer, position}
 use Rattle.vms_spec.proofs.Faultless.{or_else_none}
-
-pub both_none : {Z : Type 0} (x y : Option Z) → x ≡ None → y ≡ None → or_else x y ≡ None
-both_none None y p q = q
-both_none (Some x) y p q = absurd (cc)
+use Rattle.vms_spec.proofs.ListLaws.{both_none}
 
 module _ {X Y : Type 0} (f : X → Y) where
   pub map_both : {Z : Type 0} (g : Y → Z) (xs : List X) → map g (map f xs) ≡ map (λ x. g (f x)) xs

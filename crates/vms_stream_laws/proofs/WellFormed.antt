@@ -16,7 +16,8 @@ use Rattle.vms_spec.specs.Streams.{is_one_of}
 use Rattle.vms_spec.specs.WellFormed.{WellFormed, are_distinct, deepest, desc_fault, device_fault, device_rules, devices_items, failing, fields_fault, first_fault, has_few, here, is_same_device, items_in, set_rules, size_rules, struct_depths, struct_fault, struct_items, struct_rules, sub_fault, sub_rules, subs_items, validations_fault}
 use Rattle.vms_spec.proofs.Faultless.{AllTrue, all_true, or_else_none}
 use Rattle.vms_stream_laws.specs.Unruled.{unruled, unruled_desc, unruled_device, unruled_sub}
-use Rattle.vms_stream_laws.proofs.Lists.{any_map, both_none, came_from, map_both, none_after}
+use Rattle.vms_spec.proofs.ListLaws.{both_none}
+use Rattle.vms_stream_laws.proofs.Lists.{any_map, came_from, map_both, none_after}
 use Rattle.vms_stream_laws.proofs.Parts.{first_unruled}
 
 none_failing : (r : ℕ) (rules : List Bool) (part : Part) → AllTrue rules → failing r rules (here part) ≡ None

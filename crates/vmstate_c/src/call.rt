@@ -21,7 +21,8 @@ pub(crate) struct Ended {
 
 /// Makes the call that is asked for, over objects in memory.
 pub(crate) fn call(alloc: Global, request: &Request<'_>) -> Result<Ended, NoMemory>
-    ensures { IfOk result (λ ended. Comes request.now ended.status ended.out.items ended.notes.items) }
+    ensures { IfOk result (λ ended.
+        Comes request.now ended.status ended.out.items ended.notes.items) }
 {
     let words = words_of(alloc, request.words)?;
     let mut shelf = shelf_of(alloc, request.files)?;
@@ -67,7 +68,8 @@ fn empty_word(alloc: Global) -> Result<Words, NoMemory>
 
 // The files on a shelf. No word names a file whose name isn't UTF-8.
 fn shelf_of(alloc: Global, files: &[File<'_>]) -> Result<MemShelf, NoMemory>
-    ensures held { (name : List ℕ) → IfOk result (λ shelf. (cabinet shelf).held name ≡ file_of name files.now) }
+    ensures held { (name : List ℕ) →
+        IfOk result (λ shelf. (cabinet shelf).held name ≡ file_of name files.now) }
     ensures faults { IfOk result (λ shelf. (cabinet shelf).faults ≡ 0) }
     ensures failing { IfOk result (λ shelf. (cabinet shelf).failing ≡ []) }
 {
