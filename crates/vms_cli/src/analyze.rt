@@ -1,10 +1,12 @@
 // The command `analyze`: the values text of a stream by its own description.
-ghost use Rattle.std.specs.Prelude.{◌≡◌, ◌≤◌, IsSomeAnd, Option, Err};
+ghost use Rattle.std.specs.Prelude.{◌≡◌, IsSomeAnd, Option, Err};
 ghost use Rattle.vms_io.specs.Shelves.{Held};
 ghost use Rattle.vms_io.specs.Told.{Stock, intake, outlet};
+ghost use Rattle.vms_commands.specs.Courses.{EndsSo};
 ghost use Rattle.vms_commands.specs.Endings.{EndsAs};
 ghost use Rattle.vms_commands.specs.Outcomes.{Outcome};
-ghost use Rattle.vms_cli.specs.Analyze.{EndsLike, GivesListed, IsListing, ListCause, ListHears, analyze_reason_name, unlisted_line};
+ghost use Rattle.vms_cli.specs.Analyze.{EndsLike, GivesListed, IsListing, ListHears, analyze_reason_name, unlisted_line};
+ghost use Rattle.vms_cli.specs.Statuses.{analyze_course};
 
 use arrayvec::ArrayVec;
 use std::alloc::Global;
@@ -18,15 +20,11 @@ pub(crate) fn analyze_input<I: Source, O: Sink>(alloc: Global, input: &mut I, ou
         → IsSomeAnd (I.left input.old) (λ bytes. IsListing shelf.held bytes o)
         → EndsAs (intake I.Source input.old) (intake I.Source input.new)
         (outlet O.Sink out.old) (outlet O.Sink out.new) shelf shelf result o }
-    ensures cause { ListCause (intake I.Source input.old) (intake I.Source input.new)
-        (outlet O.Sink out.old) (outlet O.Sink out.new) result }
+    ensures so { (shelf : Stock) → EndsSo (intake I.Source input.old) (intake I.Source input.new)
+        (outlet O.Sink out.old) (outlet O.Sink out.new) shelf shelf analyze_course result }
     ensures given { GivesListed (I.given input.old) (I.given input.new) }
     ensures heard { (held : Option Held) → ListHears held (I.given input.old) (I.given input.new)
         (outlet O.Sink out.old) (outlet O.Sink out.new) result }
-    ensures input_count { I.faults input.old ≤ I.faults input.new }
-    ensures out_count { O.faults out.old ≤ O.faults out.new }
-    ensures input_promise { I.promise input.new ≡ I.promise input.old }
-    ensures out_promise { O.promise out.new ≡ O.promise out.old }
 {
     ending_of(analyze(alloc, input, out))
 }

@@ -1,5 +1,5 @@
 // The command `show`: the values text of a stream.
-ghost use Rattle.std.specs.Prelude.{◌≡◌, ◌+◌, ◌≤◌, ◌<◌, false, length, IfSome, IsSomeAnd, Option};
+ghost use Rattle.std.specs.Prelude.{◌≡◌, ◌+◌, ◌≤◌, ◌<◌, length, IfSome, IsSomeAnd, Option};
 ghost use Rattle.vms_io.specs.Shelves.{Held};
 ghost use Rattle.vms_io.specs.Told.{Stock, intake, outlet, stock};
 ghost use Rattle.vms_spec.specs.Values.{values_text};
@@ -8,7 +8,9 @@ ghost use Rattle.vms_load.specs.Staging.{most_given};
 ghost use Rattle.vms_values.specs.Printing.{machine_of};
 ghost use Rattle.vms_commands.specs.Asks.{set_asked};
 ghost use Rattle.vms_commands.specs.Endings.{EndsAs, WritesAs};
-ghost use Rattle.vms_cli.specs.Causes.{ShowCause, StreamCause};
+ghost use Rattle.vms_commands.specs.Courses.{EndsSo};
+ghost use Rattle.vms_cli.specs.Causes.{StreamCause};
+ghost use Rattle.vms_cli.specs.Statuses.{show_course};
 ghost use Rattle.vms_commands.specs.Fetching.{is_on_shelf, word_set};
 ghost use Rattle.vms_commands.specs.Outcomes.{Outcome};
 ghost use Rattle.vms_board_commands.specs.Heard.{HearsEnd};
@@ -32,25 +34,16 @@ pub(crate) fn show<I: Source, O: Sink, H: Shelf>(
         → EndsAs (intake I.Source input.old) (intake I.Source input.new)
         (outlet O.Sink out.old) (outlet O.Sink out.new)
         (stock H.Shelf shelf.old) (stock H.Shelf shelf.new) result o }
-    ensures cause { ShowCause (is_on_shelf (set_asked set.entry))
-        (intake I.Source input.old) (intake I.Source input.new)
+    ensures so { EndsSo (intake I.Source input.old) (intake I.Source input.new)
         (outlet O.Sink out.old) (outlet O.Sink out.new)
-        (stock H.Shelf shelf.old) (stock H.Shelf shelf.new) result }
+        (stock H.Shelf shelf.old) (stock H.Shelf shelf.new)
+        (show_course (is_on_shelf (set_asked set.entry))) result }
     ensures given { GivesWithin (word_set (H.held shelf.old) (set_asked set.entry))
         (intake I.Source input.old) (intake I.Source input.new) }
     ensures heard { let held = H.held shelf.old in
         ShowHears (word_set held (set_asked set.entry)) held
         (I.given input.old) (I.given input.new)
         (outlet O.Sink out.old) (outlet O.Sink out.new) result }
-    ensures unasked { is_on_shelf (set_asked set.entry) ≡ false
-        → stock H.Shelf shelf.new ≡ stock H.Shelf shelf.old }
-    ensures held { H.held shelf.new ≡ H.held shelf.old }
-    ensures input_count { I.faults input.old ≤ I.faults input.new }
-    ensures out_count { O.faults out.old ≤ O.faults out.new }
-    ensures shelf_count { H.faults shelf.old ≤ H.faults shelf.new }
-    ensures input_promise { I.promise input.new ≡ I.promise input.old }
-    ensures out_promise { O.promise out.new ≡ O.promise out.old }
-    ensures shelf_promise { H.promise shelf.new ≡ H.promise shelf.old }
 {
     match loader_of(alloc, set, shelf) {
         Ok(mut loader) => show_stream(&mut loader, input, out),

@@ -4,6 +4,8 @@ use Rattle.vms_io.specs.Told.{intake, outlet, stock}
 use Rattle.vms_load.specs.Kept.{loads}
 use Rattle.vms_commands.specs.Asks.{set_asked}
 use Rattle.vms_commands.specs.Fetching.{is_on_shelf, word_set}
+use Rattle.vms_io.proofs.WritingLemmas.{serves_none}
+use Rattle.vms_commands.proofs.CourseLemmas.{draws_none}
 use Rattle.vms_commands.proofs.EndLemmas.{quiet_same}
 use Rattle.vms_commands.proofs.StepLemmas.{ended_by, had_by}
 use Rattle.vms_board_commands.proofs.HeardLemmas.{given_so, heard_so, other_heard}
@@ -11,6 +13,7 @@ use Rattle.vms_load.proofs.SetFacts.{well_of}
 use Rattle.vms_load.specs.declared.loader.Loader.{Loader}
 use Rattle.vms_spec.specs.Sets.{Set}
 use Rattle.vms_cli.specs.Show.{ShowsWell}
+use Rattle.vms_cli.proofs.EndsSo.{show_ends}
 use Rattle.vms_cli.proofs.ShowLemmas.{set_other, gives_none, gives_within, shows_under}
 use Rattle.vms_cli.proofs.show.show.Goals as goal
 
@@ -20,8 +23,19 @@ returns-in-Ok-clause-content g c = λ o has.
     c.show_stream.ensures.content (stock g.H.Shelf c.args.shelf.now) (stock g.H.Shelf c.loader_of.new.shelf) o c.in-Ok.ensures.held
     (had_by loads (shows_under (g.I.Source.left c.args.input.now) held) (word_set held (set_asked c.args.set)) c.in-Ok.loader o c.in-Ok.ensures.had has)
 
-pub returns-in-Ok-clause-cause : goal.returns-in-Ok-clause-cause
-returns-in-Ok-clause-cause g c = inr c.show_stream.ensures.cause
+pub returns-in-Ok-clause-so : goal.returns-in-Ok-clause-so
+returns-in-Ok-clause-so g c =
+    let e = c.show_stream.ensures in
+    let had = c.in-Ok.ensures in
+    show_ends (intake g.I.Source c.args.input.now) (intake g.I.Source c.show_stream.new.input) (outlet g.O.Sink c.args.out.now) (outlet g.O.Sink c.show_stream.new.out)
+    (stock g.H.Shelf c.args.shelf.now) (stock g.H.Shelf c.loader_of.new.shelf) (is_on_shelf (set_asked c.args.set)) c.show_stream.result (inr e.cause)
+    (record {
+      held = had.held;
+      unasked = had.unasked;
+      draws = record { later = e.input_count; promise = e.input_promise };
+      serves = record { later = e.out_count; promise = e.out_promise };
+      reaches = record { later = had.count; promise = had.promise };
+    })
 
 pub returns-in-Ok-clause-given : goal.returns-in-Ok-clause-given
 returns-in-Ok-clause-given g c =
@@ -37,9 +51,20 @@ returns-in-Err-clause-content g c = λ o has.
     (intake g.I.Source c.args.input.now) out out (stock g.H.Shelf c.args.shelf.now) (stock g.H.Shelf c.loader_of.new.shelf)
     c.in-Err.ending o (g.met.I.Source.counted c.args.input.now) c.in-Err.ensures.held (quiet_same out c.in-Err.ending) c.in-Err.ensures.had has
 
-pub returns-in-Err-clause-cause : goal.returns-in-Err-clause-cause
-returns-in-Err-clause-cause g c =
-    inl (c.in-Err.ensures.cause, refl, Keeps-refl (g.O.Sink.written c.args.out.now))
+pub returns-in-Err-clause-so : goal.returns-in-Err-clause-so
+returns-in-Err-clause-so g c =
+    let had = c.in-Err.ensures in
+    let input = intake g.I.Source c.args.input.now in
+    let out = outlet g.O.Sink c.args.out.now in
+    show_ends input input out out (stock g.H.Shelf c.args.shelf.now) (stock g.H.Shelf c.loader_of.new.shelf) (is_on_shelf (set_asked c.args.set)) c.in-Err.ending
+    (inl (had.cause, refl, Keeps-refl out.written))
+    (record {
+      held = had.held;
+      unasked = had.unasked;
+      draws = draws_none input;
+      serves = serves_none out;
+      reaches = record { later = had.count; promise = had.promise };
+    })
 
 pub returns-in-Err-clause-given : goal.returns-in-Err-clause-given
 returns-in-Err-clause-given g c =

@@ -1,12 +1,9 @@
-use Rattle.std.proofs.Common.{Option, refl, subst}
-use Rattle.vms_io.proofs.ShelvingLemmas.{reaches_none}
+use Rattle.std.proofs.Common.{Option, subst}
 use Rattle.vms_io.specs.Told.{intake, outlet, stock}
-use Rattle.vms_commands.specs.Asks.{set_asked}
 use Rattle.vms_commands.specs.Courses.{EndsSo}
-use Rattle.vms_commands.specs.Fetching.{is_on_shelf}
+use Rattle.vms_cli.specs.Causes.{HearsAs}
 use Rattle.vms_cli.specs.Commands.{Asked}
 use Rattle.vms_cli.specs.Statuses.{course_of}
-use Rattle.vms_cli.proofs.EndsSo.{analyze_ends, show_ends}
 use Rattle.vms_cli.proofs.top.run.Goals as goal
 
 pub returns-in-Some-Show-clause-so : goal.returns-in-Some-Show-clause-so
@@ -15,8 +12,7 @@ returns-in-Some-Show-clause-so g c =
     subst (λ (a : Option Asked). EndsSo (intake g.I.Source c.args.input.now) (intake g.I.Source c.show.new.input) (outlet g.O.Sink c.args.out.now) (outlet g.O.Sink c.show.new.out)
     (stock g.H.Shelf c.args.shelf.now) (stock g.H.Shelf c.show.new.shelf) (course_of a) c.show.result)
     (rw c.in-Some-Show.field-0-is at c.in-Some-Show.ensures)
-    (show_ends (intake g.I.Source c.args.input.now) (intake g.I.Source c.show.new.input) (outlet g.O.Sink c.args.out.now) (outlet g.O.Sink c.show.new.out) (stock g.H.Shelf c.args.shelf.now) (stock g.H.Shelf c.show.new.shelf) (is_on_shelf (set_asked c.in-Some-Show.set)) c.show.result e.cause
-    (record { held = e.held; unasked = e.unasked; draws = record { later = e.input_count; promise = e.input_promise }; serves = record { later = e.out_count; promise = e.out_promise }; reaches = record { later = e.shelf_count; promise = e.shelf_promise } }))
+    e.so
 
 pub returns-in-Some-Convert-clause-so : goal.returns-in-Some-Convert-clause-so
 returns-in-Some-Convert-clause-so g c =
@@ -32,8 +28,14 @@ returns-in-Some-Analyze-clause-so g c =
     subst (λ (a : Option Asked). EndsSo (intake g.I.Source c.args.input.now) (intake g.I.Source c.analyze_input.new.input) (outlet g.O.Sink c.args.out.now) (outlet g.O.Sink c.analyze_input.new.out)
     (stock g.H.Shelf c.args.shelf.now) (stock g.H.Shelf c.args.shelf.now) (course_of a) c.analyze_input.result)
     (rw c.in-Some-Analyze.field-0-is at c.in-Some-Analyze.ensures)
-    (analyze_ends (intake g.I.Source c.args.input.now) (intake g.I.Source c.analyze_input.new.input) (outlet g.O.Sink c.args.out.now) (outlet g.O.Sink c.analyze_input.new.out) (stock g.H.Shelf c.args.shelf.now) (stock g.H.Shelf c.args.shelf.now) c.analyze_input.result e.cause
-    (record { held = refl; unasked = λ f. refl; draws = record { later = e.input_count; promise = e.input_promise }; serves = record { later = e.out_count; promise = e.out_promise }; reaches = reaches_none _ }))
+    (e.so (stock g.H.Shelf c.args.shelf.now))
+
+pub returns-in-Some-Analyze-clause-heard : goal.returns-in-Some-Analyze-clause-heard
+returns-in-Some-Analyze-clause-heard g c =
+    let held = g.H.Shelf.held c.args.shelf.now in
+    subst (λ (a : Option Asked). HearsAs a held (g.I.Source.given c.args.input.now) (g.I.Source.given c.analyze_input.new.input)
+    (outlet g.O.Sink c.args.out.now) (outlet g.O.Sink c.analyze_input.new.out) c.analyze_input.result)
+    (rw c.in-Some-Analyze.field-0-is at c.in-Some-Analyze.ensures) (c.analyze_input.ensures.heard held)
 
 pub returns-in-Some-Pack-clause-so : goal.returns-in-Some-Pack-clause-so
 returns-in-Some-Pack-clause-so g c =
