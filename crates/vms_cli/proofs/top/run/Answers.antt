@@ -4,6 +4,7 @@ use Rattle.vms_io.specs.Told.{intake, outlet, stock}
 use Rattle.vms_commands.specs.Asks.{set_asked}
 use Rattle.vms_commands.specs.Courses.{EndsSo}
 use Rattle.vms_commands.specs.Fetching.{is_on_shelf}
+use Rattle.vms_cli.specs.Causes.{HearsAs}
 use Rattle.vms_cli.specs.Commands.{Asked}
 use Rattle.vms_cli.specs.Statuses.{course_of}
 use Rattle.vms_cli.proofs.EndsSo.{analyze_ends, show_ends}
@@ -82,3 +83,12 @@ returns-in-Some-Drill-clause-so g c =
     (stock g.H.Shelf c.args.shelf.now) (stock g.H.Shelf c.args.shelf.now) (course_of a) c.drill_board.result)
     (rw c.in-Some-Drill.field-0-is at c.in-Some-Drill.ensures)
     (e.so (intake g.I.Source c.args.input.now) (stock g.H.Shelf c.args.shelf.now))
+
+-- ---- what is heard
+
+pub returns-in-Some-Analyze-clause-heard : goal.returns-in-Some-Analyze-clause-heard
+returns-in-Some-Analyze-clause-heard g c =
+    let held = g.H.Shelf.held c.args.shelf.now in
+    subst (λ (a : Option Asked). HearsAs a held (g.I.Source.given c.args.input.now) (g.I.Source.given c.analyze_input.new.input)
+    (outlet g.O.Sink c.args.out.now) (outlet g.O.Sink c.analyze_input.new.out) c.analyze_input.result)
+    (rw c.in-Some-Analyze.field-0-is at c.in-Some-Analyze.ensures) (c.analyze_input.ensures.heard held)
