@@ -7,6 +7,7 @@ use Rattle.vms_io.specs.Told.{Intake, Outlet, Stock}
 use Rattle.vms_io.specs.Writing.{Serves}
 use Rattle.vms_commands.specs.declared.ending.Ending.{Ending}
 use Rattle.vms_commands.specs.declared.ending.Ending.TheVariants.{Done, Refused, BadText, NotCompatible, ReadFault, WriteFault, ShelfFault, NotThere, TooLarge, NoMemory}
+use Rattle.vms_commands.specs.Courses.{Draws}
 use Rattle.vms_commands.specs.Endings.{SetCause}
 use Rattle.vms_commands.specs.Fetching.{word_set}
 use Rattle.vms_board.specs.Clock.{clock}
@@ -26,6 +27,12 @@ StreamCause input input' out out' ReadFault =
     Rose input.faults input'.faults × Keeps out.written out'.written
 StreamCause input input' out out' WriteFault = Rose out.faults out'.faults
 StreamCause input input' out out' _ = ⊥
+
+-- with what input and out keep
+pub record StreamEnds (input input' : Intake) (out out' : Outlet) (ending : Ending) : Type 0 where
+  pub cause : StreamCause input input' out out' ending
+  pub draws : Draws input input'
+  pub serves : Serves out out'
 
 -- the set wasn't had, and input and out weren't touched; or it was
 abbrev pub ShowCause : Bool → (input input' : Intake) (out out' : Outlet) (shelf shelf' : Stock) → Ending → Type 0

@@ -9,7 +9,7 @@ ghost use Rattle.vms_values.specs.Printing.{machine_of};
 ghost use Rattle.vms_commands.specs.Asks.{set_asked};
 ghost use Rattle.vms_commands.specs.Endings.{EndsAs, WritesAs};
 ghost use Rattle.vms_commands.specs.Courses.{EndsSo};
-ghost use Rattle.vms_cli.specs.Causes.{StreamCause};
+ghost use Rattle.vms_cli.specs.Causes.{StreamEnds};
 ghost use Rattle.vms_cli.specs.Statuses.{show_course};
 ghost use Rattle.vms_commands.specs.Fetching.{is_on_shelf, word_set};
 ghost use Rattle.vms_commands.specs.Outcomes.{Outcome};
@@ -57,16 +57,12 @@ fn show_stream<I: Source, O: Sink>(loader: &mut Loader, input: &mut I, out: &mut
         → IsSomeAnd (I.left input.old) (λ bytes. Shows (loads loader.old) bytes shelf.held o)
         → EndsAs (intake I.Source input.old) (intake I.Source input.new)
         (outlet O.Sink out.old) (outlet O.Sink out.new) shelf shelf' result o }
-    ensures cause { StreamCause (intake I.Source input.old) (intake I.Source input.new)
+    ensures so { StreamEnds (intake I.Source input.old) (intake I.Source input.new)
         (outlet O.Sink out.old) (outlet O.Sink out.new) result }
     ensures given { I.given input.new ≤ I.given input.old + most_given (loads loader.old) }
     ensures heard { (held : Option Held) → HearsEnd (ShowsWell held (loads loader.old)) held
         (I.given input.old) (I.given input.new)
         (outlet O.Sink out.old) (outlet O.Sink out.new) result }
-    ensures input_count { I.faults input.old ≤ I.faults input.new }
-    ensures out_count { O.faults out.old ≤ O.faults out.new }
-    ensures input_promise { I.promise input.new ≡ I.promise input.old }
-    ensures out_promise { O.promise out.new ≡ O.promise out.old }
 {
     match loader.load(input, None) {
         Ok(machine) => write_values(loader, machine, out),
@@ -77,11 +73,9 @@ fn show_stream<I: Source, O: Sink>(loader: &mut Loader, input: &mut I, out: &mut
 
 fn write_values<O: Sink>(loader: &Loader, machine: Option<u32>, out: &mut O) -> Ending
     requires { IfSome machine (λ m. m < length (loads loader.now).machines) }
-    ensures written { let set = loads loader.now in
+    ensures { let set = loads loader.now in
         WritesAs (values_text set (machine_of set machine) (kept loader.now))
         (outlet O.Sink out.old) (outlet O.Sink out.new) result }
-    ensures count { O.faults out.old ≤ O.faults out.new }
-    ensures promise { O.promise out.new ≡ O.promise out.old }
 {
     match print_values(loader.set(), machine, loader.images(), out) {
         Ok(()) => Ending::Done,

@@ -28,12 +28,12 @@ returns-in-Ok-clause-so g c =
     let e = c.show_stream.ensures in
     let had = c.in-Ok.ensures in
     show_ends (intake g.I.Source c.args.input.now) (intake g.I.Source c.show_stream.new.input) (outlet g.O.Sink c.args.out.now) (outlet g.O.Sink c.show_stream.new.out)
-    (stock g.H.Shelf c.args.shelf.now) (stock g.H.Shelf c.loader_of.new.shelf) (is_on_shelf (set_asked c.args.set)) c.show_stream.result (inr e.cause)
+    (stock g.H.Shelf c.args.shelf.now) (stock g.H.Shelf c.loader_of.new.shelf) (is_on_shelf (set_asked c.args.set)) c.show_stream.result (inr e.so.cause)
     (record {
       held = had.held;
       unasked = had.unasked;
-      draws = record { later = e.input_count; promise = e.input_promise };
-      serves = record { later = e.out_count; promise = e.out_promise };
+      draws = e.so.draws;
+      serves = e.so.serves;
       reaches = record { later = had.count; promise = had.promise };
     })
 

@@ -1,4 +1,4 @@
-use Rattle.std.proofs.Common.{ap, ◌∙◌, subst, []}
+use Rattle.std.proofs.Common.{rules, ap, ◌∙◌, subst, []}
 use Rattle.std.proofs.KnownBytes.{Keeps-refl}
 use Rattle.vms_io.specs.Told.{intake, outlet}
 use Rattle.vms_spec.specs.Sets.{Set}
@@ -7,6 +7,7 @@ use Rattle.vms_values.specs.Printing.{machine_of}
 use Rattle.vms_load.specs.Kept.{loads, kept, taken_by}
 use Rattle.vms_commands.specs.Endings.{WritesAs}
 use Rattle.vms_commands.specs.Lines.{refused_line}
+use Rattle.vms_commands.proofs.CourseLemmas.{writes_serve}
 use Rattle.vms_commands.proofs.EndLemmas.{comes_to_nothing}
 use Rattle.vms_cli.proofs.ShowLemmas.{heard_refused, heard_shown, loaded, refused}
 use Rattle.vms_cli.proofs.show.show_stream.Goals as goal
@@ -21,7 +22,7 @@ returns-in-Ok-clause-content g c = λ shelf shelf' o held shows.
     (intake g.I.Source c.load.new.source) out out' shelf shelf' held _ _ c.in-Ok.machine c.write_values.result o
     (g.met.I.Source.octets c.args.input.now) c.in-Ok.ensures.content c.in-Ok.ensures.given.0
     (subst (λ (s : Set). WritesAs (values_text s (machine_of s c.in-Ok.machine) (kept c.load.new.self)) out out' c.write_values.result)
-    c.in-Ok.ensures.set c.write_values.ensures.written) shows
+    c.in-Ok.ensures.set c.write_values.ensures) shows
 
 pub returns-in-Err-Refused-clause-content : goal.returns-in-Err-Refused-clause-content
 returns-in-Err-Refused-clause-content g c = λ shelf shelf' o held shows.
@@ -38,6 +39,13 @@ returns-in-Err-ReadFault-clause-content g c = λ shelf shelf' o held shows.
     let out = outlet g.O.Sink c.args.out.now in
     comes_to_nothing out out shelf shelf' o.parts (Keeps-refl out.written) held
 
+pub returns-in-Ok-clause-so : goal.returns-in-Ok-clause-so
+returns-in-Ok-clause-so g c = record {
+  cause = search rules;
+  draws = record { later = search rules; promise = search rules };
+  serves = writes_serve _ (outlet g.O.Sink c.args.out.now) (outlet g.O.Sink c.write_values.new.out) c.write_values.result c.write_values.ensures;
+}
+
 -- ---- what is heard
 
 pub returns-in-Ok-clause-heard : goal.returns-in-Ok-clause-heard
@@ -48,7 +56,7 @@ returns-in-Ok-clause-heard g c = λ held.
     heard_shown set (fit_of set c.args.loader.now.set.well_formed c.args.loader.now.set.heads) held (g.I.Source.given c.args.input.now) (g.I.Source.given c.load.new.source) out out'
     (kept c.load.new.self) (taken_by c.load.new.self) c.in-Ok.machine c.write_values.result c.in-Ok.ensures.heard
     (subst (λ (s : Set). WritesAs (values_text s (machine_of s c.in-Ok.machine) (kept c.load.new.self)) out out' c.write_values.result)
-    c.in-Ok.ensures.set c.write_values.ensures.written)
+    c.in-Ok.ensures.set c.write_values.ensures)
 
 pub returns-in-Err-Refused-clause-heard : goal.returns-in-Err-Refused-clause-heard
 returns-in-Err-Refused-clause-heard g c = λ held.
