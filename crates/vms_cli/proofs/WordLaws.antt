@@ -1,11 +1,12 @@
 -- Words name boards that there are.
-use Rattle.std.proofs.Common.{◌≡◌, ℕ, ◌≤◌, Bool, true, false, if◌then◌else◌, nat_le, List, [], ◌∷◌, Option, Some, None, codes, arith, refl}
-use Rattle.std.proofs.lemmas.Bool.{leb-true}
+use Rattle.std.proofs.Common.{◌≡◌, ℕ, ◌≤◌, Bool, true, false, if◌then◌else◌, List, [], ◌∷◌, Option, Some, None, codes, arith, refl}
+use Rattle.std.proofs.lemmas.Bool.Decides.{nat_tests}
 use Rattle.std.specs.Str.{bytes_eq}
-use Rattle.dev_base.specs.Levels.{IsLevel}
+use Rattle.dev_base.specs.Levels.{IsLevel, ReachesSet}
 use Rattle.dev_base.specs.declared.limits.TheConstants.{NEWEST}
 use Rattle.vms_rtc.specs.declared.limits.TheConstants.{NEWEST_CLOCK}
-use Rattle.vms_commands.specs.SetWords.{Isa, Clock, ShippedSet, SetWord, Shipped, OnShelf, named_in, set_word, shipped_word, shipped_words}
+use Rattle.vms_commands.specs.SetWords.{Isa, Clock, ShippedSet, SetWord, Shipped, OnShelf, named_in, set_word, shipped_word}
+use Rattle.vms_script.specs.Lines.{is_set_of}
 use Rattle.vms_script.specs.Names.{is_shelf_name}
 use Rattle.vms_cli.specs.Commands.{Asked, BoardWord, IsaBoard, ClockBoard, Analyze, Pack, board_word, board_words, check_of, convert_of, counter_of, drill_of, few_events, isa_level, load_of, number_word, on_board, pack_of, pair_of, play_of, save_of, save_under, show_of, single_of, triple_of}
 use Rattle.vms_cli.specs.Laws.{AskedLaw, CanBeAsked, IsBoard, MaySaveOn}
@@ -59,30 +60,6 @@ level-of (Some (ClockBoard version)) is = tt
 word-level : (word : List ℕ) → HasLevel (isa_level (board_word word))
 word-level word = level-of (board_word word) (word-board word)
 
--- ---- sets
-
--- there is such a set
-abbrev IsSet : Option ShippedSet → Type 0
-IsSet None = Unit {0}
-IsSet (Some (Isa set)) = set ≤ NEWEST
-IsSet (Some (Clock set)) = set ≤ NEWEST_CLOCK
-
--- each set of a table is one
-abbrev AreSets : List (List ℕ × ShippedSet) → Type 0
-AreSets [] = Unit {0}
-AreSets ((name, set) ∷ table) = IsSet (Some set) × AreSets table
-
-found-set : (b : Bool) (x y : Option ShippedSet) → IsSet x → IsSet y → IsSet (if b then x else y)
-found-set true x y p q = p
-found-set false x y p q = q
-
-table-set : (word : List ℕ) (table : List (List ℕ × ShippedSet)) → AreSets table → IsSet (named_in word table)
-table-set word [] are = tt
-table-set word ((name, set) ∷ table) are = found-set (bytes_eq word name) (Some set) (named_in word table) are.0 (table-set word table are.1)
-
-word-set : (word : List ℕ) → IsSet (shipped_word word)
-word-set word = table-set word shipped_words (omega arith, (omega arith, (omega arith, (omega arith, (omega arith, (omega arith, (omega arith, tt)))))))
-
 -- ---- commands
 
 either-asked : (b : Bool) (x y : Option Asked) → CanBeAsked x → CanBeAsked y → CanBeAsked (if b then x else y)
@@ -131,28 +108,30 @@ play-asked : (level : Option ℕ) (script : List ℕ) → HasLevel level → Can
 play-asked None script is = tt
 play-asked (Some level) script is = play-if (is_shelf_name script) level script is
 
-under-asked : (board : BoardWord) (number set : ℕ) (script : List ℕ) (b : Bool) → nat_le number set ≡ b → IsBoard board → (number ≤ set → MaySaveOn board set)
+under-asked : (board : BoardWord) (newest number set : ℕ) (script : List ℕ) (b : Bool) → is_set_of newest number set ≡ b → IsBoard board
+    → (ReachesSet newest number set → MaySaveOn board set)
     → CanBeAsked (save_under board script (if b then Some set else None))
-under-asked board number set script true e is may = (is, may (leb-true number set e))
-under-asked board number set script false e is may = tt
+under-asked board newest number set script true e is may =
+    (is, may (record { level_le_set = grind (arith, nat_tests, e); set_le_newest = grind (arith, nat_tests, e) }))
+under-asked board newest number set script false e is may = tt
 
-save-if : (b : Bool) (board : BoardWord) (script : List ℕ) (set : Option ShippedSet) → IsBoard board → IsSet set
+save-if : (b : Bool) (board : BoardWord) (script : List ℕ) (set : Option ShippedSet) → IsBoard board
     → CanBeAsked (save_of (if b then Some (board, script) else None) set)
-save-if true board script None is last = tt
-save-if true (IsaBoard level) script (Some (Isa set)) is last =
-    under-asked (IsaBoard level) level set script (nat_le level set) refl is (λ le. record { level_le_set = le; set_le_newest = last })
-save-if true (IsaBoard level) script (Some (Clock set)) is last = tt
-save-if true (ClockBoard version) script (Some (Isa set)) is last = tt
-save-if true (ClockBoard version) script (Some (Clock set)) is last =
-    under-asked (ClockBoard version) version set script (nat_le version set) refl is (λ le. record { level_le_set = le; set_le_newest = last })
-save-if false board script None is last = tt
-save-if false board script (Some set) is last = tt
+save-if true board script None is = tt
+save-if true (IsaBoard level) script (Some (Isa set)) is =
+    under-asked (IsaBoard level) NEWEST level set script (is_set_of NEWEST level set) refl is (λ may. may)
+save-if true (IsaBoard level) script (Some (Clock set)) is = tt
+save-if true (ClockBoard version) script (Some (Isa set)) is = tt
+save-if true (ClockBoard version) script (Some (Clock set)) is =
+    under-asked (ClockBoard version) NEWEST_CLOCK version set script (is_set_of NEWEST_CLOCK version set) refl is (λ may. may)
+save-if false board script None is = tt
+save-if false board script (Some set) is = tt
 
-save-asked : (board : Option BoardWord) (script : List ℕ) (set : Option ShippedSet) → IsThere board → IsSet set
+save-asked : (board : Option BoardWord) (script : List ℕ) (set : Option ShippedSet) → IsThere board
     → CanBeAsked (save_of (on_board board script) set)
-save-asked None script None is last = tt
-save-asked None script (Some set) is last = tt
-save-asked (Some board) script set is last = save-if (is_shelf_name script) board script set is last
+save-asked None script None is = tt
+save-asked None script (Some set) is = tt
+save-asked (Some board) script set is = save-if (is_shelf_name script) board script set is
 
 drill-asked : (level seed count : Option ℕ) → HasLevel level → CanBeAsked (drill_of level seed count)
 drill-asked None None None is = tt
@@ -185,7 +164,7 @@ triple-asked name one two three =
     either-asked (bytes_eq name (codes "drill")) (drill_of (isa_level (board_word one)) (number_word two) (few_events (number_word three))) _
     (drill-asked (isa_level (board_word one)) (number_word two) (few_events (number_word three)) (word-level one))
     (either-asked (bytes_eq name (codes "save")) (save_of (on_board (board_word one) three) (shipped_word two)) None
-    (save-asked (board_word one) three (shipped_word two) (word-board one) (word-set two)) tt)
+    (save-asked (board_word one) three (shipped_word two) (word-board one)) tt)
 
 pub words_ask : AskedLaw
 words_ask [] = tt

@@ -2,6 +2,9 @@
 use Rattle.std.specs.Prelude.{ℕ, if◌then◌else◌, nat_le, List, [], ◌∷◌, Option, Some, None, Result, Ok, Err, codes}
 use Rattle.std.specs.Str.{bytes_eq}
 use Rattle.vms_spec.specs.Spelling.{number_spelled}
+use Rattle.dev_base.specs.declared.limits.TheConstants.{NEWEST}
+use Rattle.vms_rtc.specs.declared.limits.TheConstants.{NEWEST_CLOCK}
+use Rattle.vms_script.specs.Lines.{is_set_of}
 use Rattle.vms_script.specs.Names.{is_shelf_name}
 use Rattle.vms_script.specs.Views.{number_read}
 use Rattle.vms_script.specs.declared.line.ScriptReason.{ScriptReason}
@@ -119,8 +122,8 @@ drill_of _ _ _ = None
 
 -- the number of a set of the board's kind, where it is at or above the board
 abbrev pub saved_set : BoardWord → ShippedSet → Option ℕ
-saved_set (IsaBoard level) (Isa set) = if nat_le level set then Some set else None
-saved_set (ClockBoard version) (Clock set) = if nat_le version set then Some set else None
+saved_set (IsaBoard level) (Isa set) = if is_set_of NEWEST level set then Some set else None
+saved_set (ClockBoard version) (Clock set) = if is_set_of NEWEST_CLOCK version set then Some set else None
 saved_set _ _ = None
 
 abbrev pub save_under : BoardWord → List ℕ → Option ℕ → Option Asked

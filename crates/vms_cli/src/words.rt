@@ -9,11 +9,13 @@ ghost use Rattle.vms_commands.specs.Asks.{shipped_asked};
 
 use crate::board_words::{board_word, events_word, isa_board, number_word};
 use crate::boards::{BoardWord, ClockSaved, IsaBoard, IsaSaved, SavedBoard};
+use dev_base::NEWEST;
 use std::alloc::Global;
 use std::marker::Model;
 use vms_commands::{SetWord, ShippedSet, set_word, shipped_set};
 use vms_io::NoMemory;
-use vms_script::is_shelf_name;
+use vms_rtc::NEWEST_CLOCK;
+use vms_script::{is_set_of, is_shelf_name};
 
 /// What the words ask for.
 #[derive(Clone, Copy)]
@@ -273,14 +275,16 @@ fn save_under<'a>(board: BoardWord, set: ShippedSet, script: &'a str) -> Option<
         (saved_set (board_asked board) (shipped_asked set)) }
 {
     match (board, set) {
-        (BoardWord::Isa(board), ShippedSet::Isa(set)) if board.level <= set.number => {
+        (BoardWord::Isa(board), ShippedSet::Isa(set))
+            if is_set_of(NEWEST, board.level, set.number.into()) => {
             let board = SavedBoard::Isa(IsaSaved {
                 level: board.level,
                 set: set.number,
             });
             Some(Command::Save { board, script })
         }
-        (BoardWord::Clock(board), ShippedSet::Clock(set)) if board.version <= set.number => {
+        (BoardWord::Clock(board), ShippedSet::Clock(set))
+            if is_set_of(NEWEST_CLOCK, board.version, set.number.into()) => {
             let board = SavedBoard::Clock(ClockSaved {
                 version: board.version,
                 set: set.number,

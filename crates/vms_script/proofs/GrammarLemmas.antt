@@ -10,6 +10,7 @@ use Rattle.dev_board.specs.declared.event.Event.TheVariants as events
 use Rattle.vms_words.proofs.Spells.{numerals, number_holds}
 use Rattle.vms_script.specs.Grammar.{port_text, event_text, line_text, script_text, IsEvent, IsLine, AreLines}
 use Rattle.dev_board.specs.Wires.{is_wire}
+use Rattle.dev_base.specs.declared.limits.TheConstants.{NEWEST}
 use Rattle.vms_script.specs.Lines.{ScriptLine, Happens, Saves, Restores, Read, or_form, or_range, number_in, is_wait, is_set_of, out_line, wire_line, set_spelled, save_line, line_read}
 use Rattle.vms_spec.specs.Names.{is_name_byte, is_name}
 use Rattle.vms_spec.proofs.NameBytes.{name_byte_high}
@@ -89,9 +90,9 @@ line_good play (Happens event) h = event_good play event h
 line_good None (Saves set name) h = absurd h
 line_good None (Restores name) h = absurd h
 line_good (Some level) (Saves set name) h =
-    ap (save_line level) (word_front (64 ∷ decimal set) name (decimal_lacks 32 set (omega arith) (early_small (is_set_of level) set (sets_end level) h.0)))
-    ∙ ap (λ (t : Bool). or_form (if t then Some name else None) (λ name. or_form (set_spelled (64 ∷ decimal set)) (λ number. number_in (is_set_of level) (λ set. Saves set name) number))) h.1
-    ∙ number_good (is_set_of level) (λ set. Saves set name) set (sets_end level) h.0
+    ap (save_line level) (word_front (64 ∷ decimal set) name (decimal_lacks 32 set (omega arith) (early_small (is_set_of NEWEST level) set (sets_end level) h.0)))
+    ∙ ap (λ (t : Bool). or_form (if t then Some name else None) (λ name. or_form (set_spelled (64 ∷ decimal set)) (λ number. number_in (is_set_of NEWEST level) (λ set. Saves set name) number))) h.1
+    ∙ number_good (is_set_of NEWEST level) (λ set. Saves set name) set (sets_end level) h.0
 line_good (Some level) (Restores name) h = ap (λ (t : Bool). or_form (if t then Some name else None) (λ name. Ok (Restores name))) h
 
 event_lacks : (event : Event) → IsEvent event → lacks 10 (event_text event) ≡ true
@@ -108,7 +109,7 @@ line_lacks play (Happens event) h = event_lacks event h
 line_lacks None (Saves set name) h = absurd h
 line_lacks None (Restores name) h = absurd h
 line_lacks (Some level) (Saves set name) h =
-    lacks-append 10 (decimal set) (32 ∷ name) (decimal_lacks 10 set (omega arith) (early_small (is_set_of level) set (sets_end level) h.0)) (shelf_lacks name h.1)
+    lacks-append 10 (decimal set) (32 ∷ name) (decimal_lacks 10 set (omega arith) (early_small (is_set_of NEWEST level) set (sets_end level) h.0)) (shelf_lacks name h.1)
 line_lacks (Some level) (Restores name) h = shelf_lacks name h
 
 -- ---- a good script is read as it is spelled

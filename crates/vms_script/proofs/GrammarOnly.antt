@@ -11,6 +11,7 @@ use Rattle.vms_spec.specs.Spelling.{number_spelled, begins_with}
 use Rattle.vms_words.proofs.Spells.{spelled_holds}
 use Rattle.vms_script.specs.Grammar.{port_text, line_text, script_text, IsLine, AreLines, ReadsExactly}
 use Rattle.dev_board.specs.Wires.{is_wire}
+use Rattle.dev_base.specs.declared.limits.TheConstants.{NEWEST}
 use Rattle.vms_script.specs.Lines.{ScriptLine, Happens, Saves, Restores, Read, or_form, or_range, number_in, is_wait, is_set_of, in_line, byte_line, wait_line, out_line, wire_line, set_spelled, name_spelled, save_line, restore_line, session_line, play_line, line_of_words, line_split, line_read}
 use Rattle.vms_script.specs.Names.{is_shelf_name}
 use Rattle.vms_script.specs.Script.{Split, Reading, lines_of, begun, with_line, unended, tail_read, lines_read, script_read}
@@ -158,10 +159,10 @@ set_is (b ∷ word) number e = by (begins_with (codes "@") (b ∷ word)) refl wh
 
 save_line_is : (level : ℕ) (split : List ℕ × Option (List ℕ)) (line : ScriptLine) → save_line level split ≡ Ok line → Says (Some level) (codes "save " ++ rejoined split) line
 save_line_is level (word, rest) line e =
-    formed rest (λ text. or_form (name_spelled text) (λ name. or_form (set_spelled word) (λ number. number_in (is_set_of level) (λ set. Saves set name) number))) line (Says (Some level) (codes "save " ++ rejoined (word, rest)) line) e
-    (λ text r e2. formed (name_spelled text) (λ name. or_form (set_spelled word) (λ number. number_in (is_set_of level) (λ set. Saves set name) number)) line (Says (Some level) (codes "save " ++ rejoined (word, rest)) line) e2
-    (λ name s e3. formed (set_spelled word) (λ number. number_in (is_set_of level) (λ set. Saves set name) number) line (Says (Some level) (codes "save " ++ rejoined (word, rest)) line) e3
-    (λ number w e4. number_is (is_set_of level) (λ set. Saves set name) number line (Says (Some level) (codes "save " ++ rejoined (word, rest)) line) (sets_end level) e4
+    formed rest (λ text. or_form (name_spelled text) (λ name. or_form (set_spelled word) (λ number. number_in (is_set_of NEWEST level) (λ set. Saves set name) number))) line (Says (Some level) (codes "save " ++ rejoined (word, rest)) line) e
+    (λ text r e2. formed (name_spelled text) (λ name. or_form (set_spelled word) (λ number. number_in (is_set_of NEWEST level) (λ set. Saves set name) number)) line (Says (Some level) (codes "save " ++ rejoined (word, rest)) line) e2
+    (λ name s e3. formed (set_spelled word) (λ number. number_in (is_set_of NEWEST level) (λ set. Saves set name) number) line (Says (Some level) (codes "save " ++ rejoined (word, rest)) line) e3
+    (λ number w e4. number_is (is_set_of NEWEST level) (λ set. Saves set name) number line (Says (Some level) (codes "save " ++ rejoined (word, rest)) line) (sets_end level) e4
     (λ n h is t. let k = named text name s in
     says_by (Some level) (codes "save " ++ rejoined (word, rest)) (Saves n name) line is (
       (h, k.0),

@@ -7,6 +7,7 @@ use Rattle.vms_spec.specs.Spelling.{natural_from, number_spelled}
 use Rattle.vms_spec.proofs.ListLaws.{natural_up}
 use Rattle.dev_board.specs.declared.event.Event.TheVariants as events
 use Rattle.dev_board.specs.Wires.{is_wire}
+use Rattle.dev_base.specs.declared.limits.TheConstants.{NEWEST}
 use Rattle.vms_script.specs.Lines.{ScriptLine, Happens, or_form, or_range, number_in, is_wait, is_set_of, wire_line}
 use Rattle.vms_script.specs.Words.{level_spelled}
 use Rattle.vms_script.specs.Views.{number_read, below_2_64}
@@ -90,8 +91,8 @@ waits_end n le = grind (arith, nat_tests)
 pub wires_end : EndsEarly is_wire
 wires_end n le = grind (arith, nat_tests)
 
-pub sets_end : (level : ℕ) → EndsEarly (is_set_of level)
-sets_end level n le = and_right (nat_le level n) (nat_le n 4) (grind (arith, nat_tests))
+pub sets_end : (level : ℕ) → EndsEarly (is_set_of NEWEST level)
+sets_end level n le = and_right (nat_le level n) (nat_le n NEWEST) (grind (arith, nat_tests))
 
 -- ---- wires and sets, by the words of the line
 

@@ -4,6 +4,7 @@ use Rattle.std.specs.Fmt.{decimal}
 use Rattle.dev_board.specs.declared.event.Event.{Event}
 use Rattle.dev_board.specs.declared.event.Event.TheVariants.{Read, Write, Byte, Wait, Wire, Ack}
 use Rattle.dev_board.specs.Wires.{is_wire}
+use Rattle.dev_base.specs.declared.limits.TheConstants.{NEWEST}
 use Rattle.vms_script.specs.Lines.{ScriptLine, Happens, Saves, Restores, is_wait, is_set_of}
 use Rattle.vms_script.specs.Names.{is_shelf_name}
 use Rattle.vms_script.specs.Script.{script_read}
@@ -46,7 +47,7 @@ IsEvent Ack = Unit {0}
 abbrev pub IsLine : Option ℕ → ScriptLine → Type 0
 IsLine play (Happens event) = IsEvent event
 IsLine None (Saves set name) = ⊥
-IsLine (Some level) (Saves set name) = (is_set_of level set ≡ true) × (is_shelf_name name ≡ true)
+IsLine (Some level) (Saves set name) = (is_set_of NEWEST level set ≡ true) × (is_shelf_name name ≡ true)
 IsLine None (Restores name) = ⊥
 IsLine (Some level) (Restores name) = is_shelf_name name ≡ true
 

@@ -35,9 +35,9 @@ or_range holds line (negsuc n) = Err reasons.Range
 abbrev pub number_in : (ℕ → Bool) → (ℕ → ScriptLine) → List ℕ → Read
 number_in holds line text = or_form (number_spelled text) (or_range holds line)
 
--- the sets under which a board of a level is saved
-abbrev pub is_set_of : ℕ → ℕ → Bool
-is_set_of level set = nat_le level set && nat_le set NEWEST
+-- a set, by its number, is at or above a board, and one that there is
+abbrev pub is_set_of : (newest board set : ℕ) → Bool
+is_set_of newest board set = nat_le board set && nat_le set newest
 
 abbrev pub is_wait : ℕ → Bool
 is_wait ns = nat_le ns LONGEST_WAIT
@@ -74,7 +74,7 @@ name_spelled name = if is_shelf_name name then Some name else None
 abbrev pub save_line : ℕ → List ℕ × Option (List ℕ) → Read
 save_line level (word, rest) =
     or_form rest (λ text. or_form (name_spelled text) (λ name. or_form (set_spelled word) (λ number.
-    number_in (is_set_of level) (λ set. Saves set name) number)))
+    number_in (is_set_of NEWEST level) (λ set. Saves set name) number)))
 
 -- `restore NAME`
 abbrev pub restore_line : List ℕ → Read

@@ -18,5 +18,6 @@ pub use line::{Line, ScriptFault, ScriptReason};
 pub use name::is_shelf_name;
 pub use number::{LONGEST_WAIT, number_of};
 pub use script::{read_events, read_script};
+pub use session::is_set_of;
 pub use trace::print_answer;
 pub use vms_io::WriteFault;

@@ -39,7 +39,7 @@ fn read_save(level: u8, words: &[u8]) -> Result<Line, ScriptReason>
     };
     match number_of(number) {
         Ok(set) => {
-            if is_set_of(level, set) {
+            if is_set_of(NEWEST, level, set) {
                 let set = set as u8;
                 Ok(Line::Save { set, name })
             } else {
@@ -60,9 +60,10 @@ fn read_restore(name: &[u8]) -> Result<Line, ScriptReason>
     }
 }
 
-// Tells whether a board of this level is saved under a set.
-fn is_set_of(level: u8, set: u64) -> bool
-    ensures { result ≡ is_set_of level set }
+/// Tells whether a set, by its number, is at or above a board of this number, and one of the sets up to the newest. A board is
+/// saved under these.
+pub fn is_set_of(newest: u8, board: u8, set: u64) -> bool
+    ensures { result ≡ is_set_of newest board set }
 {
-    u64::from(level) <= set && set <= u64::from(NEWEST)
+    u64::from(board) <= set && set <= u64::from(newest)
 }

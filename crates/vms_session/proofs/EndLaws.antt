@@ -118,7 +118,7 @@ held-end name old None there comes held = record {
 held-end name old (Some bytes) there comes held =
     bytes-end name bytes old (nat_lt longest_file (length bytes)) refl there comes held
 
-pub may_save : (m : State) (set : ℕ) → is_set_of m.level set ≡ true → MaySaveIn isa m set
+pub may_save : (m : State) (set : ℕ) → is_set_of NEWEST m.level set ≡ true → MaySaveIn isa m set
 may_save m set e = record { level_le_set = grind (arith, nat_tests, e); set_le_newest = grind (arith, nat_tests, e) }
 
 saved-ends : (set : ℕ) (name : List ℕ) (old : Session) → MaySaveIn isa old.board set → IsSound old.board → still old.board.level old.held → LineEnds (Saves set name) old
