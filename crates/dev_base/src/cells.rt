@@ -2,6 +2,7 @@
 ghost use Rattle.std.specs.Prelude.{◌≡◌, ◌+◌, ◌++◌, ◌<◌, ◌≤◌, ◌↔◌, length, IsTrue};
 ghost use Rattle.vms_kinds.specs.Codes.{InRange};
 ghost use Rattle.dev_base.specs.Cells.{cell_at, number_at, flag_at as flag_at_of, kind_at, AreInRange, AreOf};
+ghost use Rattle.vms_kinds.specs.declared.TheConstants.{MOST_CELLS};
 
 use vms_kinds::{DevCells, Kind};
 
@@ -50,9 +51,9 @@ pub fn flag_at(cells: &DevCells, place: usize) -> bool
     cells[place] == 1
 }
 
-/// Appends cells that there is room for; there is room for 96 in all.
+/// Appends cells that there is room for; there is room for `MOST_CELLS` in all.
 pub fn append(cells: &mut DevCells, more: &[i128])
-    requires { length cells.old.items + length more.now ≤ 96 }
+    requires { length cells.old.items + length more.now ≤ MOST_CELLS }
     ensures { cells.new.items ≡ cells.old.items ++ more.now }
 {
     let _fits = cells.try_extend_from_slice(more);

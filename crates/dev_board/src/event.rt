@@ -1,5 +1,6 @@
 // What happens to a board, and what it answers.
 use arrayvec::ArrayVec;
+use dev_serial::MOST_SENT;
 
 /// What happens to a board: an access of the guest, a byte or a line from outside, or the passing of time.
 #[derive(Clone, Copy, Debug, PartialEq, Eq)]
@@ -26,5 +27,5 @@ pub struct Answer {
     /// The interrupt output of the master 8259A after the event.
     pub int: bool,
     /// The bytes that left the serial port during the event, first out first.
-    pub sent: ArrayVec<u8, 17>,
+    pub sent: ArrayVec<u8, MOST_SENT>,
 }

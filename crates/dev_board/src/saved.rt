@@ -7,6 +7,7 @@ ghost use Rattle.dev_pit.specs.Cells.{IsPitCells};
 ghost use Rattle.dev_serial.specs.Cells.{IsPortCells};
 ghost use Rattle.dev_base.specs.Bits.{same};
 ghost use Rattle.dev_board.specs.Saved.{timed as timed_of, pair_back, pit_back, serial_back, numbers_back};
+ghost use Rattle.vms_kinds.specs.declared.TheConstants.{MOST_CELLS};
 
 use crate::cells::BoardCells;
 use crate::devices::Devices;
@@ -155,9 +156,9 @@ fn restore_serial(level: u8, moment: u64, cells: &DevCells) -> Result<Serial, Mi
     })
 }
 
-// These numbers as cells; there is room for 96.
+// These numbers as cells; there is room for `MOST_CELLS`.
 fn cells_of(numbers: &[i128]) -> DevCells
-    requires { length numbers.now ≤ 96 }
+    requires { length numbers.now ≤ MOST_CELLS }
     ensures { result.items ≡ numbers.now }
 {
     let mut cells = ArrayVec::new();
@@ -174,7 +175,7 @@ fn moment_cells(moment: u64) -> DevCells
 
 // The cells of two chips, one behind the other.
 fn joined(master: &DevCells, slave: &DevCells) -> DevCells
-    requires { length master.now.items + length slave.now.items ≤ 96 }
+    requires { length master.now.items + length slave.now.items ≤ MOST_CELLS }
     ensures { result.items ≡ master.now.items ++ slave.now.items }
 {
     let mut cells = cells_of(master);
@@ -184,7 +185,7 @@ fn joined(master: &DevCells, slave: &DevCells) -> DevCells
 
 // The cells of two chips apart, as many of each.
 fn halves(cells: &DevCells) -> (DevCells, DevCells)
-    requires { length cells.now.items ≤ 96 }
+    requires { length cells.now.items ≤ MOST_CELLS }
     ensures master { result.0.items ≡ take (length cells.now.items / 2) cells.now.items }
     ensures slave { result.1.items ≡ drop (length cells.now.items / 2) cells.now.items }
 {

@@ -28,3 +28,5 @@ pub use laws::{
 };
 pub use rings::recast;
 pub use serial::Serial;
+pub use stored::PORT_CELLS;
+pub use transmitter::MOST_SENT;

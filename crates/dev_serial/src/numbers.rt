@@ -3,6 +3,8 @@ ghost use Rattle.std.specs.Prelude.{◌≡◌, ◌≤◌, ◌+◌, ◌++◌, if�
 ghost use Rattle.dev_base.specs.Tables.{since};
 ghost use Rattle.dev_serial.specs.Port.{is_thr_empty};
 ghost use Rattle.dev_serial.specs.PortNumbers.{single_byte as single_byte_of, fcr_number, ipending_of, fifo_bytes as fifo_bytes_of, due_number, shift_number};
+ghost use Rattle.vms_kinds.specs.declared.TheConstants.{MOST_CELLS};
+ghost use Rattle.dev_serial.specs.declared.stored.TheConstants.{PORT_CELLS};
 
 use crate::interrupt::Interrupt;
 use crate::levels::{FIFOS_SINCE, RINGS_SINCE, TIMEOUT_SINCE};
@@ -85,7 +87,7 @@ impl PortNumbers {
     #[tactic(auto, unfolding(crate::specs::Cells::cells_of))]
     pub fn cells(&self, set: u8) -> DevCells
         ensures cells { result.items ≡ cells_of set self.now }
-        ensures count { length result.items ≤ 84 }
+        ensures count { length result.items ≤ PORT_CELLS }
     {
         let mut cells = self.field_cells();
         append_since(&mut cells, FIFOS_SINCE, set, &[i128::from(self.fcr)]);
@@ -155,7 +157,7 @@ impl PortNumbers {
 
 // Appends cells that a set has from the first one on.
 fn append_since(cells: &mut DevCells, first: u8, set: u8, more: &[i128])
-    requires room { length cells.old.items + length more.now ≤ 96 }
+    requires room { length cells.old.items + length more.now ≤ MOST_CELLS }
     ensures items { cells.new.items ≡ cells.old.items ++ since first set more.now }
     ensures most { length cells.new.items ≤ length cells.old.items + length more.now }
 {

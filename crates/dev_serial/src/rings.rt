@@ -2,6 +2,7 @@
 ghost use Rattle.std.specs.Prelude.{◌≡◌, ◌≤◌, length};
 ghost use Rattle.dev_serial.specs.Cells.{IsPortCells};
 ghost use Rattle.dev_serial.specs.Recast.{array_for, is_in_ring as is_in_ring_of, recast_cells, ring_left};
+ghost use Rattle.dev_serial.specs.declared.stored.TheConstants.{PORT_CELLS};
 
 use crate::numbers::PortNumbers;
 use crate::stored::{Counted, Ring};
@@ -13,7 +14,7 @@ use vms_kinds::DevCells;
 pub fn recast(cells: &DevCells) -> DevCells
     requires { IsPortCells cells.now.items }
     ensures cells { result.items ≡ recast_cells cells.now.items }
-    ensures count { length result.items ≤ 84 }
+    ensures count { length result.items ≤ PORT_CELLS }
 {
     let mut port = PortNumbers::of_cells(cells);
     let rx = Direction::recast(port.rx, port.rx_ring);

@@ -1,5 +1,6 @@
 // Saving and restoring a port.
 ghost use Rattle.std.specs.Prelude.{◌≡◌, ◌≤◌, length, IfErr};
+ghost use Rattle.dev_serial.specs.declared.stored.TheConstants.{PORT_CELLS};
 
 use crate::numbers::PortNumbers;
 use crate::serial::Serial;
@@ -28,7 +29,7 @@ impl Serial {
     pub fn cells(&self, pass: &Pass) -> DevCells
         requires { CanSave pass.now self.now }
         ensures cells { result.items ≡ cells_at pass.now self.now }
-        ensures count { length result.items ≤ 84 }
+        ensures count { length result.items ≤ PORT_CELLS }
     {
         PortNumbers::of_port(self, pass.set(), pass.now()).cells(pass.set())
     }

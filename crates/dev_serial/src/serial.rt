@@ -2,6 +2,7 @@
 ghost use Rattle.dev_serial.specs.Access.{msr_of, switch_of as switch_of_number};
 ghost use Rattle.dev_base.specs.Levels.{IsLevel};
 ghost use Rattle.std.specs.Prelude.{◌≡◌, ◌≤◌, ◌+◌, length, ◌&&◌};
+ghost use Rattle.dev_serial.specs.declared.transmitter.TheConstants.{MOST_SENT};
 
 use crate::interrupt::Interrupt;
 use crate::levels::{FIFOS_SINCE, TIMEOUT_SINCE};
@@ -12,7 +13,7 @@ use crate::registers::{
     IIR_FCR, LCR, LOOP, LSR, MCR, MCR_BITS, MODEM_READY, MSR, OE, OUT1, OUT2, RBR_THR, RCVR_RESET,
     RI, RTS, TEMT, THRE, XMIT_RESET, bit_where,
 };
-use crate::transmitter::Transmitter;
+use crate::transmitter::{MOST_SENT, Transmitter};
 use crate::trigger::Trigger;
 use arrayvec::ArrayVec;
 use dev_base::{LAST_MOMENT, bits_where, has};
@@ -297,13 +298,13 @@ impl Serial {
     }
 
     /// Lets time pass up to a moment, at most `LAST_MOMENT`, and answers the bytes that left for the line, first
-    /// out first, at most 17. In loop mode what leaves the shift register comes in again at its moment.
+    /// out first, at most `MOST_SENT`. In loop mode what leaves the shift register comes in again at its moment.
     #[tactic(auto, unfolding(crate::specs::Access::advanced))]
-    pub fn advance(&mut self, to: u64) -> ArrayVec<u8, 17>
+    pub fn advance(&mut self, to: u64) -> ArrayVec<u8, MOST_SENT>
         requires { to ≤ LAST_MOMENT }
         ensures state { (result.items, self.new) ≡ advanced to self.old }
         ensures level { self.new.level ≡ self.old.level }
-        ensures few { length result.items ≤ 17 }
+        ensures few { length result.items ≤ MOST_SENT }
         ensures none_due { IsSentAfter to self.new.transmitter.shift }
     {
         let mode = self.mode();

@@ -3,10 +3,21 @@ ghost use Rattle.std.specs.Prelude.{◌≡◌, ◌+◌, ◌<◌, ◌≤◌, leng
 ghost use Rattle.std.specs.List.{range_with_len, list_all};
 ghost use Rattle.dev_serial.specs.Stored.{byte_of, padded as padded_of, is_held_or_zero as is_held_or_zero_of};
 ghost use Rattle.dev_serial.specs.Cells.{AreBytesIn, bytes_at as bytes_at_of};
+ghost use Rattle.vms_kinds.specs.declared.TheConstants.{MOST_CELLS};
+ghost use Rattle.dev_serial.specs.declared.stored.TheConstants.{ARRAY_CELLS, RING_CELLS};
 
 use arrayvec::ArrayVec;
 use dev_base::byte_at;
 use vms_kinds::DevCells;
+
+/// The cells of a counted array: the count, and sixteen bytes.
+pub(crate) const ARRAY_CELLS: usize = 17;
+
+/// The cells of a ring: sixteen bytes, the place of the first that is held, and how many are held.
+pub(crate) const RING_CELLS: usize = 18;
+
+/// The cells of a port in the newest set, of which older sets have fewer.
+pub const PORT_CELLS: usize = 84;
 
 /// A list of bytes as a counted array: how many there are, and sixteen bytes that begin with them.
 #[derive(Clone, Copy)]
@@ -44,9 +55,9 @@ impl Counted {
 
     /// Its cells: the count, and then the sixteen bytes.
     #[tactic(auto, unfolding(crate::specs::Cells::array_cells))]
-    pub fn cells(&self) -> ArrayVec<i128, 17>
+    pub fn cells(&self) -> ArrayVec<i128, ARRAY_CELLS>
         ensures items { result.items ≡ array_cells self.now }
-        ensures count { length result.items ≡ 17 }
+        ensures count { length result.items ≡ ARRAY_CELLS }
     {
         let mut cells = ArrayVec::new();
         cells.push(i128::from(self.count));
@@ -58,9 +69,9 @@ impl Counted {
 
     /// The array whose count is the cell at a place.
     pub fn at(cells: &DevCells, place: usize) -> Counted
-        requires small { place < 96 }
-        requires within { place + 17 ≤ length cells.now.items }
-        requires in_range { AreBytesIn cells.now.items place 17 }
+        requires small { place < MOST_CELLS }
+        requires within { place + ARRAY_CELLS ≤ length cells.now.items }
+        requires in_range { AreBytesIn cells.now.items place ARRAY_CELLS }
         ensures { result ≡ array_at cells.now.items place }
     {
         Counted {
@@ -142,9 +153,9 @@ impl Ring {
 
     /// Its cells: the sixteen elements, the head and the number.
     #[tactic(auto, unfolding(crate::specs::Cells::ring_cells))]
-    pub fn cells(&self) -> ArrayVec<i128, 18>
+    pub fn cells(&self) -> ArrayVec<i128, RING_CELLS>
         ensures items { result.items ≡ ring_cells self.now }
-        ensures count { length result.items ≡ 18 }
+        ensures count { length result.items ≡ RING_CELLS }
     {
         let mut cells = ArrayVec::new();
         for byte in &self.elements {
@@ -157,9 +168,9 @@ impl Ring {
 
     /// The ring whose first element is the cell at a place.
     pub fn at(cells: &DevCells, place: usize) -> Ring
-        requires small { place < 96 }
-        requires within { place + 18 ≤ length cells.now.items }
-        requires in_range { AreBytesIn cells.now.items place 18 }
+        requires small { place < MOST_CELLS }
+        requires within { place + RING_CELLS ≤ length cells.now.items }
+        requires in_range { AreBytesIn cells.now.items place RING_CELLS }
         ensures { result ≡ ring_at cells.now.items place }
     {
         Ring {
@@ -193,7 +204,7 @@ fn byte_or_zero(bytes: &[u8], place: usize) -> u8
 
 // Sixteen bytes of cells from a place on.
 fn bytes_at(cells: &DevCells, place: usize) -> [u8; 16]
-    requires small { place ≤ 96 }
+    requires small { place ≤ MOST_CELLS }
     requires within { place + 16 ≤ length cells.now.items }
     requires in_range { AreBytesIn cells.now.items place 16 }
     ensures { result ≡ bytes_at_of cells.now.items place }

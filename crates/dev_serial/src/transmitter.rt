@@ -2,6 +2,7 @@
 ghost use Rattle.std.specs.Prelude.{◌≡◌, ◌≤◌, ◌+◌, ◌++◌, length, Some, [], ◌∷◌, false};
 ghost use Rattle.dev_serial.specs.Transmit.{on_line, looped_in, gone_of, still_of, transmitter_of, IsSentAfter};
 ghost use Rattle.dev_serial.specs.Parts.{IsShort};
+ghost use Rattle.dev_serial.specs.declared.transmitter.TheConstants.{MOST_SENT};
 
 use crate::mode::{LONGEST_CHARACTER, Mode};
 use crate::receiver::Receiver;
@@ -9,6 +10,9 @@ use crate::shift::Shift;
 use arrayvec::ArrayVec;
 use dev_base::LAST_MOMENT;
 use std::marker::Model;
+
+/// The most bytes that leave a port while time passes: those of a full FIFO and of the shift register.
+pub const MOST_SENT: usize = 17;
 
 /// The Transmitter Holding Register or, with FIFOs, the transmit FIFO, and the shift register behind
 /// it, which may be idle.
@@ -82,7 +86,7 @@ impl Transmitter {
     /// Sends the bytes that are due at or before a moment, each to the line or, in loop mode, to the
     /// receiver, and answers those that left for the line.
     #[tactic(auto, unfolding(crate::specs::Transmit::run_until, crate::specs::Transmit::departures, crate::specs::Transmit::gone, crate::specs::Transmit::arrived))]
-    pub fn advance(&mut self, mode: Mode, to: u64, receiver: &mut Receiver) -> ArrayVec<u8, 17>
+    pub fn advance(&mut self, mode: Mode, to: u64, receiver: &mut Receiver) -> ArrayVec<u8, MOST_SENT>
         requires longest { mode.character ≤ LONGEST_CHARACTER }
         requires moment { to ≤ LAST_MOMENT }
         requires few { length self.old.waiting ≤ 16 }
@@ -90,7 +94,7 @@ impl Transmitter {
         ensures state { self.new ≡ run_until mode.character to self.old.shift self.old.waiting }
         ensures line { result.items ≡ on_line mode (gone_from mode to self.old) }
         ensures looped { receiver.new ≡ looped_in mode (gone_from mode to self.old) receiver.old }
-        ensures few_sent { length result.items ≤ 17 }
+        ensures few_sent { length result.items ≤ MOST_SENT }
         ensures none_due { IsSentAfter to self.new.shift }
         ensures fewer { length self.new.waiting ≤ length self.old.waiting }
         ensures still_few { IsShort mode.has_fifos receiver.new.held }
@@ -111,7 +115,7 @@ fn send_due(
     first: Shift,
     waiting: &mut ArrayVec<u8, 16>,
     receiver: &mut Receiver,
-) -> (ArrayVec<u8, 17>, Option<Shift>)
+) -> (ArrayVec<u8, MOST_SENT>, Option<Shift>)
     requires longest { mode.character ≤ LONGEST_CHARACTER }
     requires moment { to ≤ LAST_MOMENT }
     requires few { length waiting.old.items ≤ 16 }
@@ -121,7 +125,7 @@ fn send_due(
     ensures line { result.0.items ≡ on_line mode (gone_of mode to first waiting.old.items) }
     ensures looped { receiver.new
         ≡ looped_in mode (gone_of mode to first waiting.old.items) receiver.old }
-    ensures few_sent { length result.0.items ≤ 17 }
+    ensures few_sent { length result.0.items ≤ MOST_SENT }
     ensures none_due { IsSentAfter to result.1 }
     ensures fewer { length waiting.new.items ≤ length waiting.old.items }
     ensures still_few { IsShort mode.has_fifos receiver.new.held }
@@ -145,7 +149,7 @@ fn send_due(
 
 /// A byte leaves the shift register, to the line or to the receiver.
 #[tactic(auto, unfolding(crate::specs::Transmit::arrived))]
-fn leave(mode: Mode, shift: Shift, line: &mut ArrayVec<u8, 17>, receiver: &mut Receiver)
+fn leave(mode: Mode, shift: Shift, line: &mut ArrayVec<u8, MOST_SENT>, receiver: &mut Receiver)
     requires longest { mode.character ≤ LONGEST_CHARACTER }
     requires moment { shift.due ≤ LAST_MOMENT }
     requires room { length line.old.items ≤ 16 }

@@ -10,6 +10,7 @@ use Rattle.vms_json.specs.Keys.{fits}
 use Rattle.vms_spec.specs.Rules.{in_range}
 use Rattle.vms_words.specs.Words.{kind_named}
 use Rattle.vms_analyze.specs.Told.{Told, Sent, Kept, Fixed, Skipped, ToldSub, ToldDevice, is_path, fits_four, is_kept}
+use Rattle.vms_analyze.specs.declared.elements.TheConstants.{LONGEST_PATH}
 
 -- what comes after what was read
 abbrev pub next : {A B : Type 0} → Option A → (A → Option B) → Option B
@@ -81,7 +82,7 @@ sent_as path size word None = unprinted path size word
 
 abbrev pub sent_in : Data → Option Told
 sent_in d =
-    next (path_at 300 (codes "name") d) (λ path. next (natural_at (codes "size") d) (λ size. next (text_at (codes "type") d) (λ word.
+    next (path_at LONGEST_PATH (codes "name") d) (λ path. next (natural_at (codes "size") d) (λ size. next (text_at (codes "type") d) (λ word.
     sent_as path size word (kind_named word))))
 
 abbrev pub kept_as : List ℕ → ℕ → ℤ → Option Kind → Option Told
@@ -90,7 +91,7 @@ kept_as path size value (Some kind) = only (size == 0 && in_range kind value) (K
 
 abbrev pub kept_in : Data → Option Told
 kept_in d =
-    next (path_at 300 (codes "name") d) (λ path. next (natural_at (codes "size") d) (λ size. next (text_at (codes "type") d) (λ word.
+    next (path_at LONGEST_PATH (codes "name") d) (λ path. next (natural_at (codes "size") d) (λ size. next (text_at (codes "type") d) (λ word.
     next (whole_at (codes "value") d) (λ value. kept_as path size value (kind_named word)))))
 
 abbrev pub element_in : Data → Option Told

@@ -9,6 +9,7 @@ use Rattle.vms_spec.specs.Rules.{in_range}
 use Rattle.vms_words.specs.Words.{kind_word}
 use Rattle.vms_selfdesc.specs.Entries.{Entry, sent_entry, absent_entry}
 use Rattle.vms_selfdesc.specs.Tree.{list_tree, sub_members, device_members}
+use Rattle.vms_analyze.specs.declared.elements.TheConstants.{LONGEST_PATH}
 
 -- an element under its path: a number that stands in the stream; one that doesn't, with its value; a constant of so many bytes;
 -- so many unused bytes
@@ -62,10 +63,10 @@ abbrev pub fits_four : ℕ → Bool
 fits_four n = nat_lt n 4294967296
 
 abbrev pub is_good : Told → Bool
-is_good (Sent path kind) = is_path 300 path
-is_good (Kept path kind z) = is_path 300 path && in_range kind z
-is_good (Fixed path n) = is_path 300 path && (n == 1 || n == 2 || n == 4 || n == 8)
-is_good (Skipped path n) = is_path 300 path && (nat_le 1 n && nat_le n 4096)
+is_good (Sent path kind) = is_path LONGEST_PATH path
+is_good (Kept path kind z) = is_path LONGEST_PATH path && in_range kind z
+is_good (Fixed path n) = is_path LONGEST_PATH path && (n == 1 || n == 2 || n == 4 || n == 8)
+is_good (Skipped path n) = is_path LONGEST_PATH path && (nat_le 1 n && nat_le n 4096)
 
 abbrev pub is_kept : Told → Bool
 is_kept (Sent path kind) = false

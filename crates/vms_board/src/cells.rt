@@ -6,6 +6,7 @@ ghost use Rattle.dev_images.specs.Images.{cells_in as cells_of, numbers_at};
 ghost use Rattle.vms_desc.specs.Formed.{clock_set, shipped_set};
 ghost use Rattle.vms_rtc.specs.declared.limits.TheConstants.{NEWEST_CLOCK as newest_clock};
 ghost use Rattle.vms_image.specs.Typed.{AreImagesOf, state_of};
+ghost use Rattle.vms_kinds.specs.declared.TheConstants.{MOST_CELLS};
 
 use arrayvec::ArrayVec;
 use dev_board::BoardCells;
@@ -47,9 +48,9 @@ fn cells_at(images: &[Image], device: usize) -> DevCells
     numbers(&images[device])
 }
 
-// The numbers of an image, of which there are 96 at most.
+// The numbers of an image, of which there are `MOST_CELLS` at most.
 fn numbers(image: &Image) -> DevCells
-    requires { length image.now.numbers ≤ 96 }
+    requires { length image.now.numbers ≤ MOST_CELLS }
     ensures { result.items ≡ image.now.numbers }
 {
     let mut cells = ArrayVec::new();

@@ -11,6 +11,7 @@ ghost use Rattle.vms_kinds.specs.Codes.{InRange};
 ghost use Rattle.vms_kinds.specs.declared.Kind.TheVariants.{U8};
 ghost use Rattle.vms_image.specs.Typed.{IsImageOf};
 ghost use Rattle.vms_convert.specs.Recast.{is_port, is_ring, wants, wants_arrays};
+ghost use Rattle.vms_kinds.specs.declared.TheConstants.{MOST_CELLS};
 
 use arrayvec::ArrayVec;
 use dev_serial::recast;
@@ -84,9 +85,9 @@ pub(crate) fn recast_image(
     Ok(recast)
 }
 
-// The numbers of an image, of which there are 96 at most.
+// The numbers of an image, of which there are `MOST_CELLS` at most.
 fn cells_of(image: &Image) -> DevCells
-    requires { length image.now.numbers ≤ 96 }
+    requires { length image.now.numbers ≤ MOST_CELLS }
     ensures { result.items ≡ image.now.numbers }
 {
     let mut cells = ArrayVec::new();

@@ -7,11 +7,13 @@ ghost use Rattle.vms_load.specs.Bounds.{item_bytes, fields_bytes, struct_bytes};
 ghost use Rattle.vms_load.specs.Staging.{devices_most};
 ghost use Rattle.vms_counter.specs.Found.{HasRoom};
 ghost use Rattle.vms_counter.specs.Room.{subs_in, devices_in};
+ghost use Rattle.vms_marks.specs.declared.head.TheConstants.{LONGEST_HEAD};
 
 use std::alloc::{AllocError, Global};
 use vms_desc::{Desc, DescSet, Device, Field, Sub};
 use vms_io::NoMemory;
 use vms_kinds::Item;
+use vms_marks::LONGEST_HEAD;
 use vms_parts::capacity;
 
 // The bytes of one element, where those of each structure are given.
@@ -75,13 +77,13 @@ fn devices_bytes(structs: &[u32], devices: &[Device]) -> u32
     sum
 }
 
-/// 269 bytes more than all sections of the set have at full lengths and capacities: no stream of ready images that has no
+/// `LONGEST_HEAD` bytes more than all sections of the set have at full lengths and capacities: no stream of ready images that has no
 /// description fills that.
 pub(crate) fn room(alloc: Global, set: &DescSet) -> Result<u32, NoMemory>
     ensures bytes { IfOk result (λ room.
-        room ≡ 269 + devices_most (described set.now) (described set.now).devices) }
+        room ≡ LONGEST_HEAD + devices_most (described set.now) (described set.now).devices) }
     ensures room { IfOk result (HasRoom (described set.now)) }
 {
     let structs = struct_bytes(alloc, set.parts().structs.as_slice())?;
-    Ok(269 + devices_bytes(&structs, set.parts().devices.as_slice()))
+    Ok(LONGEST_HEAD as u32 + devices_bytes(&structs, set.parts().devices.as_slice()))
 }

@@ -1,6 +1,7 @@
 -- What contracts see of a drill in its course and of its summary.
 use Rattle.std.specs.Prelude.{◌*◌, ◌≤◌}
 use Rattle.dev_board.specs.Sound.{IsSound}
+use Rattle.dev_serial.specs.declared.transmitter.TheConstants.{MOST_SENT}
 use Rattle.vms_board.specs.Isa.{isa}
 use Rattle.vms_board_streams.specs.Sets.{AreOf}
 use Rattle.vms_drill.specs.Tallies.{tally_view}
@@ -19,7 +20,7 @@ course_view c = record {
 pub record IsInCourse (c : Course) : Type 0 where
   pub sound : IsSound c.board.state
   pub sets : AreOf isa c.sets
-  pub sent : c.tally.sent ≤ 17 * c.done
+  pub sent : c.tally.sent ≤ MOST_SENT * c.done
   pub raised : c.tally.raised ≤ c.done
   pub bytes : c.bytes ≤ 65536 * c.done
 

@@ -2,6 +2,7 @@
 ghost use Rattle.std.specs.Prelude.{◌≡◌, ◌+◌, ◌<◌, ◌≤◌, ◌^◌};
 ghost use Rattle.vms_drill.specs.Fold.{Counts, counted};
 ghost use Rattle.vms_drill.specs.Tallies.{tally_view};
+ghost use Rattle.dev_serial.specs.declared.transmitter.TheConstants.{MOST_SENT};
 
 use dev_board::Answer;
 
@@ -26,10 +27,10 @@ impl Tally {
     /// Counts an answer.
     #[tactic(auto, unfolding(crate::specs::Fold::counted))]
     pub fn count(&mut self, answer: &Answer)
-        requires sent { self.old.sent + 17 < 2 ^ 64 }
+        requires sent { self.old.sent + MOST_SENT < 2 ^ 64 }
         requires raised { self.old.raised + 1 < 2 ^ 64 }
         ensures counts { tally_view self.new ≡ counted answer.now (tally_view self.old) }
-        ensures sent { self.new.sent ≤ self.old.sent + 17 }
+        ensures sent { self.new.sent ≤ self.old.sent + MOST_SENT }
         ensures raised { self.new.raised ≤ self.old.raised + 1 }
     {
         self.sent += answer.sent.len() as u64;

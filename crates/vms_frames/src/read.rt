@@ -6,6 +6,8 @@ ghost use Rattle.vms_frames.specs.Found.{magic_found, version_found, step_long, 
 ghost use Rattle.vms_frames.specs.Calls.{IsNext};
 ghost use Rattle.vms_io.specs.Told.{intake};
 ghost use Rattle.vms_frames.specs.Reads.{ReadsUnit, ReadsStep, ReadsMarked, ReadsTrailer};
+ghost use Rattle.vms_frames.specs.declared.read.TheConstants.{LONGEST_DESCRIPTION};
+ghost use Rattle.vms_marks.specs.declared.head.TheConstants.{LONGEST_HEAD};
 
 use crate::fault::refused;
 use crate::fill::{Unit, fill, grow, pass};
@@ -19,6 +21,9 @@ use vms_spec::Reason;
 
 /// A description has at most so many bytes of text.
 const LONGEST_TEXT: u32 = 16_777_216;
+
+/// A description section has at most so many bytes: its mark, its length and its text.
+const LONGEST_DESCRIPTION: u64 = 16_777_221;
 
 /// The first four bytes of a stream, which tell that it is one.
 pub(crate) fn magic<S: Source>(source: &mut S, at: u64) -> Result<(), FrameFault>
@@ -122,7 +127,7 @@ fn sub_reason(between: Between) -> Reason
 fn section<S: Source>(source: &mut S, at: u64, unit: Unit) -> Result<Step, FrameFault>
     requires { length unit.items ≡ 1 }
     ensures reads { ReadsUnit (intake S.Source source.old) (intake S.Source source.new)
-        step_long 269 head_found unit.items at result }
+        step_long LONGEST_HEAD head_found unit.items at result }
     ensures section { IfOk result (λ step. is_configuration step ≡ false) }
 {
     let mut unit = unit;
@@ -136,7 +141,7 @@ fn section<S: Source>(source: &mut S, at: u64, unit: Unit) -> Result<Step, Frame
 fn configuration<S: Source>(source: &mut S, at: u64, unit: Unit) -> Result<Step, FrameFault>
     requires { length unit.items ≡ 1 }
     ensures reads { ReadsUnit (intake S.Source source.old) (intake S.Source source.new)
-        step_long 269 configuration_found unit.items at result }
+        step_long LONGEST_HEAD configuration_found unit.items at result }
 {
     let mut unit = unit;
     grow(source, at, &mut unit, 4)?;
@@ -152,7 +157,7 @@ fn configuration<S: Source>(source: &mut S, at: u64, unit: Unit) -> Result<Step,
 fn start<S: Source>(source: &mut S, at: u64, unit: Unit) -> Result<Step, FrameFault>
     requires { length unit.items ≡ 1 }
     ensures reads { ReadsUnit (intake S.Source source.old) (intake S.Source source.new)
-        step_long 269 start_found unit.items at result }
+        step_long LONGEST_HEAD start_found unit.items at result }
     ensures none { IfOk result (λ step. is_configuration step ≡ false) }
 {
     let mut unit = unit;
@@ -278,7 +283,7 @@ fn no_footer(at: u64) -> FrameFault
 pub(crate) fn trailer<S: Source>(source: &mut S, at: u64) -> Result<u64, FrameFault>
     ensures reads { ReadsTrailer (intake S.Source source.old) (intake S.Source source.new)
         at result }
-    ensures most { IfOk result (λ n. n ≤ 16777221) }
+    ensures most { IfOk result (λ n. n ≤ LONGEST_DESCRIPTION) }
 {
     let mut mark = [0; 1];
     match read_exact_of(source, &mut mark) {
@@ -292,9 +297,9 @@ pub(crate) fn trailer<S: Source>(source: &mut S, at: u64) -> Result<u64, FrameFa
 // A description section, of which the mark came, and how many bytes it has with its mark.
 fn description<S: Source>(source: &mut S, at: u64) -> Result<u64, FrameFault>
     ensures reads { ReadsUnit (intake S.Source source.old) (intake S.Source source.new)
-        (λ n. n) 16777221 description_found (0x06 ∷ []) at result }
+        (λ n. n) LONGEST_DESCRIPTION description_found (0x06 ∷ []) at result }
     ensures least { IfOk result (λ n. 5 ≤ n) }
-    ensures most { IfOk result (λ n. n ≤ 16777221) }
+    ensures most { IfOk result (λ n. n ≤ LONGEST_DESCRIPTION) }
 {
     let mut length = [0; 4];
     fill(source, at, &mut length)?;

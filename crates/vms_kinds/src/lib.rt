@@ -41,8 +41,11 @@ pub enum Item {
     Struct(u32),
 }
 
-/// The numbers of one device's state, in the order of its description, at most 96.
-pub type DevCells = ArrayVec<i128, 96>;
+/// The most numbers of one device's state.
+pub const MOST_CELLS: usize = 96;
+
+/// The numbers of one device's state, in the order of its description, at most `MOST_CELLS`.
+pub type DevCells = ArrayVec<i128, MOST_CELLS>;
 
 impl Kind {
     /// The number of bytes, 1, 2, 4 or 8.

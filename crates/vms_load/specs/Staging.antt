@@ -20,6 +20,7 @@ use Rattle.vms_load.specs.Parts.{bytes_of, subs_due}
 use Rattle.vms_load.specs.declared.fault.LoadFault.{LoadFault}
 use Rattle.vms_load.specs.declared.fault.LoadFault.TheVariants as faults
 use Rattle.vms_load.specs.declared.staged.Staged.{Staged}
+use Rattle.vms_marks.specs.declared.head.TheConstants.{LONGEST_HEAD}
 
 abbrev pub no_image : Typed
 no_image = record { version = 0; came = []; numbers = []; kinds = [] }
@@ -101,7 +102,7 @@ IsAccepted machines only name (Some machine) = (is_one_of (accepted machines onl
 
 -- of a section: its head, its fields, all subsections with their heads, and its footer
 abbrev pub section_bytes : Set → Device → ℕ
-section_bytes set d = 269 + (bytes_of set d.desc + (subs_due set d.subs (map (λ s. None) d.subs) + 5))
+section_bytes set d = LONGEST_HEAD + (bytes_of set d.desc + (subs_due set d.subs (map (λ s. None) d.subs) + 5))
 
 -- of the sections of devices that haven't come
 abbrev pub sections_due : Set → List Device → List Bool → ℕ

@@ -7,6 +7,7 @@ ghost use Rattle.vms_image.specs.Typed.{IsImageOf, state_of as untyped};
 ghost use Rattle.vms_io.specs.Told.{intake};
 ghost use Rattle.vms_load.specs.Going.{GoesOn, Moves};
 ghost use Rattle.vms_load.specs.Parts.{IsOpen, OpensNext, part_of, part_due, bytes_of_part, subs_due, in_fields, after_fields, after_part, IsMoved, IsSame, HoldsNone};
+ghost use Rattle.vms_marks.specs.declared.head.TheConstants.{LONGEST_HEAD};
 
 use crate::LoadFault;
 use crate::body::read_part;
@@ -167,7 +168,7 @@ pub(crate) fn read_section<S: Source>(
         → GoesOn (intake S.Source source.old) (intake S.Source source.new)
         (part_due (described set.now) (device_at (described set.now) section.old.device)
         image.old.came (Some (record { sub = None; version = image.old.version }))
-        + 269)
+        + LONGEST_HEAD)
         (in_fields (described set.now) names state section.old None (untyped image.old))
         (λ _. after_part (described set.now) names state section.new (untyped image.new) None)
         cursor.old cursor.new result }

@@ -10,6 +10,7 @@ ghost use Rattle.vms_spec.specs.Units.{Head as HeadUnit};
 ghost use Rattle.vms_io.specs.Told.{intake};
 ghost use Rattle.vms_load.specs.Going.{GoesOn, GoesBehind, GoesThrough, Moves};
 ghost use Rattle.vms_load.specs.Staging.{AreShaped, IsOf, IsMachine, accepted_of, state_of, spot_of, spot_at, read_from, HoldsAt, sections_due, stream_due};
+ghost use Rattle.vms_marks.specs.declared.head.TheConstants.{LONGEST_HEAD};
 
 use crate::LoadFault;
 use crate::heads::open_section;
@@ -79,7 +80,7 @@ fn sections<S: Source>(
         + stream_due (described set.now) staged.old.came.items (Some Between.First) ≤ 2 ^ 63 }
     requires held { cursor.old.held ≡ None }
     ensures reads { GoesOn (intake S.Source source.old) (intake S.Source source.new)
-        (stream_due (described set.now) staged.old.came.items (Some Between.First) + 269)
+        (stream_due (described set.now) staged.old.came.items (Some Between.First) + LONGEST_HEAD)
         (read_from set.now only staged.old (spot_at (Some Between.First)))
         (λ _. read_from set.now only staged.new (spot_at None))
         cursor.old cursor.new result }
@@ -111,7 +112,7 @@ fn turn<S: Source>(
     requires place { cursor.old.at
         + stream_due (described set.now) staged.old.came.items (Some between) ≤ 2 ^ 63 }
     ensures reads { GoesOn (intake S.Source source.old) (intake S.Source source.new)
-        (stream_due (described set.now) staged.old.came.items (Some between) + 269)
+        (stream_due (described set.now) staged.old.came.items (Some between) + LONGEST_HEAD)
         (read_from set.now only staged.old (spot_of between))
         (λ next. read_from set.now only staged.new (spot_at next))
         cursor.old cursor.new result }
@@ -147,7 +148,7 @@ fn opened<S: Source>(
     requires held { cursor.old.held ≡ None }
     requires place { cursor.old.at
         + sections_due (described set.now) (described set.now).devices staged.old.came.items
-        ≤ 2 ^ 63 + 269 }
+        ≤ 2 ^ 63 + LONGEST_HEAD }
     ensures reads { (names : List (List ℕ)) (first after : Bool)
         → GoesBehind (intake S.Source source.old) (intake S.Source source.new)
         (sections_due (described set.now) (described set.now).devices staged.old.came.items)
@@ -162,7 +163,7 @@ fn opened<S: Source>(
         at (14 + length head.now.name.items) cursor.old cursor.new result }
     ensures moves { Moves cursor.old cursor.new
         (sections_due (described set.now) (described set.now).devices staged.old.came.items)
-        (λ _. 269
+        (λ _. LONGEST_HEAD
         + sections_due (described set.now) (described set.now).devices staged.new.came.items)
         result }
     ensures whole { IsOf (described set.now) staged.new }

@@ -9,6 +9,9 @@ use byteorder::{BigEndian, ByteOrder};
 /// The name of a section, a subsection or a machine, of at most 255 bytes, since one byte holds its length.
 pub type Name = ArrayVec<u8, 255>;
 
+/// The most bytes of a head: its mark, three numbers, and a name of 255 bytes with its length.
+pub const LONGEST_HEAD: usize = 269;
+
 /// The head of a section that is sent whole.
 #[derive(Clone, Debug, Drop, PartialEq, Eq)]
 pub struct Head {
@@ -35,7 +38,7 @@ impl Head {
     ghost use Rattle.vms_marks.specs.Heads.{head_bytes, head_in, HasWrongMark, HasWrongLength};
 
     /// The bytes of the head, from its mark to its version.
-    pub fn bytes(&self) -> ArrayVec<u8, 269>
+    pub fn bytes(&self) -> ArrayVec<u8, LONGEST_HEAD>
         ensures { result.items ≡ section_head self.now.id self.now.name.items
             self.now.instance self.now.version }
     {

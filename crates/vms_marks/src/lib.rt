@@ -10,5 +10,5 @@ pub mod laws;
 mod mark;
 
 pub use foot::Foot;
-pub use head::{Head, HeadFault, Name};
+pub use head::{Head, HeadFault, LONGEST_HEAD, Name};
 pub use mark::Mark;

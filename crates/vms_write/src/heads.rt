@@ -2,16 +2,17 @@
 ghost use Rattle.std.specs.Prelude.{◌≡◌, ◌≤◌, ◌+◌, ◌∷◌, ◌++◌, length};
 ghost use Rattle.vms_spec.specs.Streams.{configuration, section_head, sub_head, be32};
 ghost use Rattle.vms_marks.specs.Marks.{byte_of};
+ghost use Rattle.vms_marks.specs.declared.head.TheConstants.{LONGEST_HEAD};
 
 use arrayvec::ArrayVec;
-use vms_marks::{Head, Mark, Name};
+use vms_marks::{Head, LONGEST_HEAD, Mark, Name};
 
 /// Room for a mark, three numbers, and a name of at most 255 bytes with its length.
-pub type Bytes = ArrayVec<u8, 269>;
+pub type Bytes = ArrayVec<u8, LONGEST_HEAD>;
 
 // Appends bytes for which there is room.
 fn put(head: &mut Bytes, bytes: &[u8])
-    requires { length head.old.items + length bytes.now ≤ 269 }
+    requires { length head.old.items + length bytes.now ≤ LONGEST_HEAD }
     ensures { head.new.items ≡ head.old.items ++ bytes.now }
 {
     let _fits = head.try_extend_from_slice(bytes);
