@@ -86,7 +86,12 @@ impl Transmitter {
     /// Sends the bytes that are due at or before a moment, each to the line or, in loop mode, to the
     /// receiver, and answers those that left for the line.
     #[tactic(auto, unfolding(crate::specs::Transmit::run_until, crate::specs::Transmit::departures, crate::specs::Transmit::gone, crate::specs::Transmit::arrived))]
-    pub fn advance(&mut self, mode: Mode, to: u64, receiver: &mut Receiver) -> ArrayVec<u8, MOST_SENT>
+    pub fn advance(
+        &mut self,
+        mode: Mode,
+        to: u64,
+        receiver: &mut Receiver,
+    ) -> ArrayVec<u8, MOST_SENT>
         requires longest { mode.character ≤ LONGEST_CHARACTER }
         requires moment { to ≤ LAST_MOMENT }
         requires few { length self.old.waiting ≤ 16 }
