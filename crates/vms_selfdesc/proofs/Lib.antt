@@ -3,6 +3,7 @@ pub mod ElementLaws
 pub mod EntryLong
 pub mod FieldNeeds
 pub mod Fits
+pub mod JsonBytes
 pub mod Keys
 pub mod Lengths
 pub mod Following
