@@ -69,7 +69,9 @@ pub fn read_node<'a>(
     Ok(node)
 }
 
+// One value. It is laid into the two loops below, so that a text or a number among members or items takes no call.
 #[cycle(read)]
+#[inline(always)]
 fn read<'a>(alloc: Global, reader: &mut Reader<'a>, depth: usize) -> Result<Node<'a>, NoNode>
     ensures ok { IfOk result
         (λ v. converted of_json (value depth reader.old) ≡ Some (view v, reader.new)) }
@@ -102,6 +104,7 @@ fn read<'a>(alloc: Global, reader: &mut Reader<'a>, depth: usize) -> Result<Node
 }
 
 #[cycle(read)]
+#[inline(never)]
 fn read_items<'a>(
     alloc: Global,
     reader: &mut Reader<'a>,
@@ -123,6 +126,7 @@ fn read_items<'a>(
 }
 
 #[cycle(read)]
+#[inline(never)]
 fn read_members<'a>(
     alloc: Global,
     reader: &mut Reader<'a>,

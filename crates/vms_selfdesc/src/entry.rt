@@ -121,6 +121,7 @@ fn write_absent(draft: &mut Draft, kind: Kind, default: i128) -> Result<(), Allo
 }
 
 // A cell, which stands in the stream or doesn't and then holds its default.
+#[inline(always)]
 pub(crate) fn write_cell(
     draft: &mut Draft,
     sent: bool,

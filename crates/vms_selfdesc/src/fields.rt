@@ -59,8 +59,9 @@ fn leave(path: &mut String, kept: usize)
     path.truncate(kept);
 }
 
-// One element of a field.
+// One element of a field. The cycle closes at `list_part`.
 #[cycle(list)]
+#[inline(always)]
 fn list_item(
     lister: &Lister,
     field: &Field,

@@ -216,6 +216,7 @@ fn read_item(set: &DescSet, run: Run, path: &mut Line, taken: &mut Taken) -> Res
 }
 
 // The line of a cell, the first of the run.
+#[inline(always)]
 fn read_number_line(kind: Kind, run: Run, path: &Line, taken: &mut Taken) -> Result<(), LineFault>
     requires room { run.first < length taken.old.image.numbers }
     requires of_kind { get_or taken.old.image.kinds run.first U8 ≡ kind }
@@ -253,6 +254,7 @@ fn put(taken: &mut Taken, cell: u32, number: i128)
 }
 
 // The number that a text spells, or why it may not stand for the first cell of the run.
+#[inline(always)]
 fn judge_number(kind: Kind, run: Run, text: &[u8]) -> Result<i128, ValuesReason>
     ensures { let caps = capacities_of run.entry.most in
         let number = held kind (number_spelled text.now) in
