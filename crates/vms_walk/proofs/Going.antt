@@ -18,7 +18,7 @@ use Rattle.vms_walk.specs.declared.step.WalkStep.TheVariants as steps
 use Rattle.vms_walk.specs.declared.fields.PartAt.{PartAt}
 use Rattle.vms_walk.specs.Inside.{Keeps}
 use Rattle.vms_walk.specs.Steps.{steps_of, table, spot_numbers, spot_slots, slots_at, size_in, capacities_of, elements_slots, present_of, cell_of, HasSpot, MayCome}
-use Rattle.vms_walk.proofs.Walking.{steps_append, part_next}
+use Rattle.vms_walk.proofs.Walking.{steps_append, part_left}
 use Rattle.vms_walk.proofs.Spots.{field_needs}
 use Rattle.vms_walk.proofs.Parts.{times_more, times_split, fields_split, fields_more}
 use Rattle.vms_walk.proofs.Local.{keeps_below, keeps_first, items_local, fields_local, present_local, part_sound, set_settled}
@@ -70,11 +70,11 @@ module _ {S F : Type 0} (N : S → List ℤ) (goes : List WalkStep → S → S �
           (way_at (N c) s) h
 
       pub items_may : (count : ℕ) → i < count → MayCome goes N may (λ n. elements_slots set item most n count first) a → MayCome goes N may (λ n. item_slots (table set) item (capacities_of most) n cell) b
-      items_may count lt all ys zs x d h e =
-          let s = keeps_first cell (item_slots (table set) item (capacities_of most) (N d) cell) ys (x ∷ zs) (N b) (N d) e (item_above (table set) (meanings_above set.structs (length set.structs)) item (capacities_of most) (N d) cell) (laws.keeps ys b d h) in
+      items_may count lt all ys ws zs x d h e =
+          let s = keeps_first cell (item_slots (table set) item (capacities_of most) (N d) cell) ys (ws ++ (x ∷ zs)) (N b) (N d) e (item_above (table set) (meanings_above set.structs (length set.structs)) item (capacities_of most) (N d) cell) (laws.keeps ys b d h) in
           let parts = times_split count i (item_slots (table set) item (capacities_of most) (N d)) first (size_in set item) lt in
-          all (steps_of (elements_slots set item most (N d) i first) ++ ys) (zs ++ steps_of parts.0) x d (laws.more _ ys a b d (way_at (N d) s) h)
-          (part_next (elements_slots set item most (N d) i first) (item_slots (table set) item (capacities_of most) (N d) cell) parts.0 (elements_slots set item most (N d) count first) ys zs x
+          all (steps_of (elements_slots set item most (N d) i first) ++ ys) ws (zs ++ steps_of parts.0) x d (laws.more _ ys a b d (way_at (N d) s) h)
+          (part_left (elements_slots set item most (N d) i first) (item_slots (table set) item (capacities_of most) (N d) cell) parts.0 (elements_slots set item most (N d) count first) ys ws zs x
           (parts.1 ∙ ap (λ (k : ℕ). elements_slots set item most (N d) i first ++ (item_slots (table set) item (capacities_of most) (N d) k ++ parts.0)) (sym here)) e)
 
     -- ---- fields
@@ -140,11 +140,11 @@ module _ {S F : Type 0} (N : S → List ℤ) (goes : List WalkStep → S → S �
             (fields_way (N c) s) h
 
         pub fields_may : i < length (desc_at set spot.part).fields → MayCome goes N may (spot_slots set spot) a → MayCome goes N may (λ n. slots_at set spot n i cell) b
-        fields_may lt all ys zs x d h e =
-            let s = keeps_first cell (slots_at set spot (N d) i cell) ys (x ∷ zs) (N b) (N d) e (field_above (table set) (meanings_above set.structs (length set.structs)) (desc_at set spot.part).fields spot.version (spot_numbers set spot (N d)) (N d) i cell (field_at set spot.part i)) (laws.keeps ys b d h) in
+        fields_may lt all ys ws zs x d h e =
+            let s = keeps_first cell (slots_at set spot (N d) i cell) ys (ws ++ (x ∷ zs)) (N b) (N d) e (field_above (table set) (meanings_above set.structs (length set.structs)) (desc_at set spot.part).fields spot.version (spot_numbers set spot (N d)) (N d) i cell (field_at set spot.part i)) (laws.keeps ys b d h) in
             let parts = whole_split lt (N d) in
             let past = slots_from (table set) (desc_at set spot.part).fields spot.version (spot_numbers set spot (N d)) (N d) 0 spot.base (take i (desc_at set spot.part).fields) in
-            all (steps_of past ++ ys) (zs ++ steps_of parts.0) x d (laws.more _ ys a b d (fields_way (N d) s) h) (part_next past (slots_at set spot (N d) i cell) parts.0 (spot_slots set spot (N d)) ys zs x parts.1 e)
+            all (steps_of past ++ ys) ws (zs ++ steps_of parts.0) x d (laws.more _ ys a b d (fields_way (N d) s) h) (part_left past (slots_at set spot (N d) i cell) parts.0 (spot_slots set spot (N d)) ys ws zs x parts.1 e)
 
         -- the end of the part, where all its fields are behind
         whole_past : i ≡ length (desc_at set spot.part).fields → (n : List ℤ)
@@ -172,7 +172,7 @@ module _ {S F : Type 0} (N : S → List ℤ) (goes : List WalkStep → S → S �
         rule_may end all =
             let past = slots_from (table set) (desc_at set spot.part).fields spot.version (spot_numbers set spot (N b)) (N b) 0 spot.base (take i (desc_at set spot.part).fields) in
             let rule = Rule (all_hold (desc_at set spot.part).validate spot.version (spot_numbers set spot (N b))) ∷ [] in
-            all (steps_of past) [] _ b way (ap steps_of (whole_past end (N b)) ∙ steps_append past rule)
+            all (steps_of past) [] [] _ b way (ap steps_of (whole_past end (N b)) ∙ steps_append past rule)
 
 -- a rule changes no number
 pub same_rule : (b : Bool) (n m : List ℤ) → Keeps (steps.Rule b ∷ []) n m → m ≡ n

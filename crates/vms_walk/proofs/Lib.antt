@@ -4,6 +4,7 @@ pub mod Local
 pub mod Order
 pub mod Parts
 pub mod Results
+pub mod Runs
 pub mod Spots
 pub mod Walking
 pub mod Least

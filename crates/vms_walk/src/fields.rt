@@ -134,6 +134,9 @@ fn walk_items<W: Walker>(
         let slots = elements_by (described set.now) item.now most count first n in
         IfErr result (λ fault. W.stops (steps_of slots) walker.old fault walker.new) }
 {
+    if let (Item::Num(kind), None) = (item, most) {
+        return walker.run(first, count, *kind);
+    }
     let size = set.item_cells(*item);
     let mut cell = first;
     for _turn in 0..count {

@@ -31,7 +31,9 @@ pub enum WalkStep {
 
 /// What is done at each step. It may change numbers, but of the cells alone at which it is called.
 pub trait Walker: Cells {
-    ghost use Rattle.std.specs.Prelude.{List, [], ◌∷◌, ◌++◌};
+    ghost use Rattle.std.specs.Prelude.{List, [], ◌∷◌, ◌++◌, ◌+◌, ◌≤◌, length};
+    ghost use Rattle.vms_spec.specs.declared.TheConstants.{MOST_ITEMS};
+    ghost use Rattle.vms_walk.specs.Runs.{run_of, MayRun};
     ghost use Rattle.vms_desc.specs.Described.{described};
     ghost use Rattle.vms_walk.specs.declared.step.WalkStep.{WalkStep as OneStep};
     ghost use Rattle.vms_walk.specs.declared.step.WalkStep.TheVariants.{Rule};
@@ -71,6 +73,26 @@ pub trait Walker: Cells {
     {
         let holds = set.holds_rules(spot.part, spot.base, spot.version, self);
         self.step(WalkStep::Rule { holds })
+    }
+
+    /// Takes the steps at so many numbers of one kind, which count nothing and whose cells follow one another from
+    /// `first` on, or stops at one of them.
+    fn run(&mut self, first: u32, count: u32, kind: Kind) -> Result<(), Self::Fault>
+        requires room { first + count ≤ length (Self.numbers self.old) }
+        requires few { length (Self.numbers self.old) ≤ MOST_ITEMS }
+        requires may { MayRun goes may (run_of first count kind) self.old }
+        ensures ok { OnOk result (goes (run_of first count kind) self.old self.new) }
+        ensures err { IfErr result (λ fault.
+            stops (run_of first count kind) self.old fault self.new) }
+    {
+        for cell in first..first + count {
+            self.step(WalkStep::Number {
+                cell,
+                kind,
+                most: None,
+            })?;
+        }
+        Ok(())
     }
 
     /// Only the cells of the steps change.

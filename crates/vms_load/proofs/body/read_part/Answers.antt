@@ -1,4 +1,4 @@
-use Rattle.std.proofs.Common.{◌≡◌, List, sym, subst, ◌∷◌, ap, arith}
+use Rattle.std.proofs.Common.{◌≡◌, List, sym, subst, ◌∷◌, ◌++◌, ap, ◌∙◌, arith, append_assoc}
 use Rattle.vms_desc.specs.Described.{described}
 use Rattle.vms_load.specs.Reading.{steps_long, long_append}
 use Rattle.vms_load.proofs.StepBytes.{part_bound}
@@ -11,9 +11,9 @@ use Rattle.vms_load.proofs.body.read_part.Goals as goal
 
 pub walk-requires-clause-may : goal.walk-requires-clause-may
 walk-requires-clause-may g c =
-    λ xs rest x b h e.
+    λ xs ys rest x b h e.
     let bound = part_bound (described c.args.set.now) c.args.spot b.image.now.numbers in
     let long = ap steps_long e in
     let kinds : b.image.now.kinds ≡ c.args.image.now.kinds = ap (λ (i : Typed). i.kinds) h.3.kept in
-    let kind = step_kind c.args.image.now.kinds (spot_slots (described c.args.set.now) c.args.spot b.image.now.numbers) xs rest x (c.requires.kinds b.image.now.numbers) e in
-    (omega (arith, bound, long, long_append xs (x ∷ rest), h.3.reads.long, c.requires.place), h.4 c.requires.held, subst (λ (ks : List Kind). IsOfKind ks x) (sym kinds) kind)
+    let kind = step_kind c.args.image.now.kinds (spot_slots (described c.args.set.now) c.args.spot b.image.now.numbers) (xs ++ ys) rest x (c.requires.kinds b.image.now.numbers) (e ∙ sym (append_assoc xs ys (x ∷ rest))) in
+    (omega (arith, bound, long, long_append xs (ys ++ (x ∷ rest)), h.3.reads.long, c.requires.place), h.4 c.requires.held, subst (λ (ks : List Kind). IsOfKind ks x) (sym kinds) kind)

@@ -1,4 +1,4 @@
-use Rattle.std.proofs.Common.{rules, arith, refl, sym, ap, ◌∙◌, subst, ◌≡◌, ℕ, ℤ, ◌+◌, ◌*◌, ◌<◌, ◌≤◌, List, [], ◌∷◌, length, get_or, map, drop, Bool, true, OnOk, IfErr, Option}
+use Rattle.std.proofs.Common.{rules, arith, refl, sym, ap, ◌∙◌, subst, ◌≡◌, ℕ, ℤ, ◌+◌, ◌*◌, ◌<◌, ◌≤◌, List, [], ◌∷◌, ◌++◌, length, get_or, map, drop, Bool, true, OnOk, IfErr, Option}
 use Rattle.std.proofs.lemmas.Bool.{ltb-true}
 use Rattle.std.proofs.lemmas.Result.{IfErr-weaker}
 use Rattle.vms_kinds.specs.declared.Item.{Item}
@@ -21,8 +21,10 @@ use Rattle.vms_desc.proofs.Bounds.{good_of}
 use Rattle.vms_walk.specs.declared.step.WalkStep.{WalkStep}
 use Rattle.vms_walk.specs.declared.step.WalkStep.TheVariants as steps
 use Rattle.vms_walk.specs.Steps.{steps_of, table, cells_in, spot_numbers, holds_at, spot_slots, slots_at, size_in, capacities_of, elements_slots, HasSpot, MayCome}
+use Rattle.vms_walk.specs.Runs.{run_of}
 use Rattle.std.proofs.lemmas.Result.{on_ok_weaker}
 use Rattle.vms_walk.proofs.Results.{err_is}
+use Rattle.vms_walk.proofs.Runs.{run_steps}
 use Rattle.vms_walk.proofs.Walking.{room_at, least_again}
 use Rattle.vms_walk.proofs.Spots.{next_field, field_needs, size_code, width_code, spot_room, struct_spot, struct_size, own_is}
 use Rattle.vms_walk.proofs.Local.{keeps_below, keeps_first, next_place, set_settled, part_sound}
@@ -100,6 +102,30 @@ walk_items-overflow_add-cell g t c =
     let room = room_at c.loop-turn._turn c.args.count (size_in set item) c.args.first c.loop-turn.cell (length (g.W.Cells.numbers c.args.walker.now)) (omega arith) c.loop-turn.invariant.here c.requires.room in
     omega (arith, size_code set item c.item_cells-size.result c.item_cells-size.ensures c.requires.small, room, c.requires.few)
 
+-- numbers that count nothing
+
+pub walk_items-run-requires-clause-may : goal.walk_items-run-requires-clause-may
+walk_items-run-requires-clause-may g t c = λ xs ys rest x b h e.
+    c.requires.may xs ys rest x b h (run_steps (described c.args.set.now) c.args.item.now c.args.most c.in-Num-None.kind c.in-Num-None.is-0 c.in-Num-None.is-1 (g.W.Cells.numbers b) c.args.first c.args.count ∙ e)
+
+pub walk_items-returns-in-Num-None-clause-ok : goal.walk_items-returns-in-Num-None-clause-ok
+walk_items-returns-in-Num-None-clause-ok g t c =
+    let a = c.args.walker.now in
+    let b = c.run.new.self in
+    let same = run_steps (described c.args.set.now) c.args.item.now c.args.most c.in-Num-None.kind c.in-Num-None.is-0 c.in-Num-None.is-1 (g.W.Cells.numbers b) c.args.first c.args.count in
+    on_ok_weaker c.run.result (λ h. subst (λ (l : List WalkStep). g.W.Walker.goes l a b) (sym same) h) c.run.ensures.ok
+
+pub walk_items-returns-in-Num-None-clause-err : goal.walk_items-returns-in-Num-None-clause-err
+walk_items-returns-in-Num-None-clause-err g t c =
+    let set = described c.args.set.now in
+    let a = c.args.walker.now in
+    let b = c.run.new.self in
+    let kind = c.in-Num-None.kind in
+    let slots = elements_slots set c.args.item.now c.args.most (g.W.Cells.numbers b) c.args.count c.args.first in
+    let same = run_steps set c.args.item.now c.args.most kind c.in-Num-None.is-0 c.in-Num-None.is-1 (g.W.Cells.numbers b) c.args.first c.args.count in
+    IfErr-weaker c.run.result (λ fault. g.W.Walker.stops (run_of c.args.first c.args.count kind) a fault b) (λ fault. g.W.Walker.stops (steps_of slots) a fault b)
+    (λ fault h. subst (λ (l : List WalkStep). g.W.Walker.stops l a fault b) (sym same) h) c.run.ensures.err
+
 -- ---- one field
 
 pub walk_field-walk_items-requires : goal.walk_field-walk_items-requires
@@ -120,9 +146,9 @@ walk_field-walk_items-requires g t c =
     let are = λ (m : List ℤ) (long : length m ≡ length n) (s : SameBelow cell n m). field_slots_are _ _ _ g.W.Walker.may laws set (good_of set c.args.set.now.well_formed c.args.set.now.heads) spot c.requires.spot.part k cell c.requires.here well n m long c.requires.spot count f.item most c.requires.field item c.present-count.ensures c.most-most.ensures c.requires.room s in
     let needs = field_needs set well spot n c.requires.spot k cell count f.item most c.requires.field item c.present-count.ensures c.most-most.ensures c.requires.room in
     let above = λ (m : List ℤ). items_above (table set) (meanings_above set.structs (length set.structs)) f.item (capacities_of most) m count cell (size_in set f.item) in
-    let come : MayCome g.W.Walker.goes N g.W.Walker.may (λ n. elements_slots set f.item most n count cell) c.args.walker.now = λ ys zs x d h e.
+    let come : MayCome g.W.Walker.goes N g.W.Walker.may (λ n. elements_slots set f.item most n count cell) c.args.walker.now = λ ys ws zs x d h e.
     let kept = laws.keeps ys c.args.walker.now d h in
-    c.requires.may ys zs x d h (are (N d) kept.long (keeps_first cell (elements_slots set f.item most (N d) count cell) ys (x ∷ zs) n (N d) e (above (N d)) kept) ∙ e) in
+    c.requires.may ys ws zs x d h (are (N d) kept.long (keeps_first cell (elements_slots set f.item most (N d) count cell) ys (ws ++ (x ∷ zs)) n (N d) e (above (N d)) kept) ∙ e) in
     λ κs h. (search rules, (search rules, (search rules, (needs.uses, (come, (needs.small, (needs.room, c.requires.spot.few)))))))
 
 pub walk_field-returns-clause-ok : goal.walk_field-returns-clause-ok
@@ -322,18 +348,18 @@ walk-returns-clause-err g t c =
 pub walk_item-step-requires-clause-may : goal.walk_item-step-requires-clause-may
 walk_item-step-requires-clause-may g t c =
     let here = λ (x : Item). steps_of (item_slots (table (described c.args.set.now)) x (capacities_of c.args.most) (g.W.Cells.numbers c.args.walker.now) c.args.cell) in
-    c.requires.may [] [] _ c.args.walker.now (g.met.W.Walker.none c.args.walker.now) (ap here c.in-Num.is ∙ ap (λ (o : Option ℕ). steps.Number c.args.cell c.in-Num.kind o ∷ []) (least_again c.args.most))
+    c.requires.may [] [] [] _ c.args.walker.now (g.met.W.Walker.none c.args.walker.now) (ap here c.in-Num.is ∙ ap (λ (o : Option ℕ). steps.Number c.args.cell c.in-Num.kind o ∷ []) (least_again c.args.most))
 
 pub walk_item-step-requires-in-Equal-clause-may : goal.walk_item-step-requires-in-Equal-clause-may
 walk_item-step-requires-in-Equal-clause-may g t c =
     let here = λ (x : Item). steps_of (item_slots (table (described c.args.set.now)) x (capacities_of c.args.most) (g.W.Cells.numbers c.args.walker.now) c.args.cell) in
-    let may : g.W.Walker.may c.args.walker.now (steps.Constant c.in-Equal.kind c.in-Equal.value) = c.requires.may [] [] _ c.args.walker.now (g.met.W.Walker.none c.args.walker.now) (ap here c.in-Equal.is) in
+    let may : g.W.Walker.may c.args.walker.now (steps.Constant c.in-Equal.kind c.in-Equal.value) = c.requires.may [] [] [] _ c.args.walker.now (g.met.W.Walker.none c.args.walker.now) (ap here c.in-Equal.is) in
     search rules
 
 pub walk_item-step-requires-in-Unused-clause-may : goal.walk_item-step-requires-in-Unused-clause-may
 walk_item-step-requires-in-Unused-clause-may g t c =
     let here = λ (x : Item). steps_of (item_slots (table (described c.args.set.now)) x (capacities_of c.args.most) (g.W.Cells.numbers c.args.walker.now) c.args.cell) in
-    c.requires.may [] [] _ c.args.walker.now (g.met.W.Walker.none c.args.walker.now) (ap here c.in-Unused.is)
+    c.requires.may [] [] [] _ c.args.walker.now (g.met.W.Walker.none c.args.walker.now) (ap here c.in-Unused.is)
 
 pub walk_item-walk_struct-requires : goal.walk_item-walk_struct-requires
 walk_item-walk_struct-requires g t c =
@@ -343,7 +369,7 @@ walk_item-walk_struct-requires g t c =
     let reaches = subst (λ (x : Item). uses_below (length set.structs) x ≡ true) is c.requires.reaches in
     let room = subst (λ (x : Item). c.args.cell + size_in set x ≤ length (N c.args.walker.now)) is c.requires.room in
     let slots = λ (m : List ℤ). ap (λ (x : Item). item_slots (table set) x (capacities_of c.args.most) m c.args.cell) is in
-    λ κs h. (search rules, (search rules, (search rules, (reaches, (λ ys zs x d k e. c.requires.may ys zs x d k (ap steps_of (slots (N d)) ∙ e), (room, c.requires.few))))))
+    λ κs h. (search rules, (search rules, (search rules, (reaches, (λ ys ws zs x d k e. c.requires.may ys ws zs x d k (ap steps_of (slots (N d)) ∙ e), (room, c.requires.few))))))
 
 pub walk_item-returns-in-Struct-clause-ok : goal.walk_item-returns-in-Struct-clause-ok
 walk_item-returns-in-Struct-clause-ok g t c =
@@ -368,7 +394,7 @@ walk_struct-walk-requires g t c =
     let slots = λ (m : List ℤ). struct_spot set well j lt c.desc.result.now.version c.args.cell m version [] in
     let spot : HasSpot set (record { part = parts.Struct j; version = c.desc.result.now.version; base = c.args.cell }) (N c.args.walker.now) =
     record { part = lt; few = c.requires.few; room = omega (arith, (struct_size set well j lt), c.requires.room) } in
-    λ κs h. (search rules, (search rules, (search rules, (spot, λ ys zs x d k e. c.requires.may ys zs x d k (ap steps_of (slots (N d)) ∙ e)))))
+    λ κs h. (search rules, (search rules, (search rules, (spot, λ ys ws zs x d k e. c.requires.may ys ws zs x d k (ap steps_of (slots (N d)) ∙ e)))))
 
 pub walk_struct-returns-clause-ok : goal.walk_struct-returns-clause-ok
 walk_struct-returns-clause-ok g t c =

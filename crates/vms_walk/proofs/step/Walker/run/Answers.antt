@@ -1,0 +1,59 @@
+use Rattle.std.proofs.Common.{◌≡◌, ◌-◌, refl, ◌∙◌, subst, arith, zero, ℕ}
+use Rattle.vms_walk.specs.Runs.{run_of}
+use Rattle.vms_walk.proofs.Going.{Laws}
+use Rattle.vms_walk.proofs.Results.{err_is}
+use Rattle.vms_walk.proofs.Runs.{run_next, run_stop, run_may}
+use Rattle.vms_walk.proofs.step.Walker.run.Given.{Over}
+use Rattle.vms_walk.proofs.step.Walker.run.Goals as goal
+
+laws_of : (g : Over) → Laws g.Self.Cells.numbers g.Self.Walker.goes g.Self.Walker.stops
+laws_of g = record {
+  more = g.met.Self.Walker.more;
+  after = g.met.Self.Walker.stops_after;
+  before = g.met.Self.Walker.stops_before;
+  keeps = g.met.Self.Walker.keeps;
+  stopped = g.met.Self.Walker.keeps_stopped;
+}
+
+pub loop-cell-init : goal.loop-cell-init
+loop-cell-init g c =
+    let none : zero ≡ c.args.first - c.args.first = omega arith in
+    record {
+      way = subst (λ (n : ℕ). g.Self.Walker.goes (run_of c.args.first n c.args.kind) c.args.self.now c.args.self.now) none (g.met.Self.Walker.none c.args.self.now);
+      long = refl;
+      within = omega arith;
+    }
+
+pub loop-cell-preserved : goal.loop-cell-preserved
+loop-cell-preserved g c =
+    let laws = laws_of g in
+    let inv = c.loop-cell.invariant in
+    let b = c.loop-cell.self in
+    let d = c.step.new.self in
+    record {
+      way = run_next _ _ _ laws c.args.first c.loop-cell.cell c.args.kind c.args.self.now b c.loop-cell.auto.cell inv.way d c.in_ok-step.ensures.ok;
+      long = (laws.keeps _ b d c.in_ok-step.ensures.ok).long ∙ inv.long;
+      within = omega (arith, c.loop-cell-test.true);
+    }
+
+pub step-requires-clause-inside : goal.step-requires-clause-inside
+step-requires-clause-inside g c = omega (arith, c.loop-cell.invariant.long, c.loop-cell-test.true, c.requires.room)
+
+pub step-requires-clause-may : goal.step-requires-clause-may
+step-requires-clause-may g c =
+    run_may _ _ _ (laws_of g) c.args.first c.loop-cell.cell c.args.kind c.args.self.now c.loop-cell.self c.loop-cell.auto.cell c.loop-cell.invariant.way
+    c.args.count c.loop-cell-test.true g.Self.Walker.may c.requires.may
+
+pub returns-clause-ok : goal.returns-clause-ok
+returns-clause-ok g c =
+    let all : c.loop-cell.cell - c.args.first ≡ c.args.count = omega (arith, c.loop-cell-test.false, c.loop-cell.invariant.within) in
+    subst (λ (n : ℕ). g.Self.Walker.goes (run_of c.args.first n c.args.kind) c.args.self.now c.loop-cell.self) all c.loop-cell.invariant.way
+
+pub returns-in_err-step-clause-err : goal.returns-in_err-step-clause-err
+returns-in_err-step-clause-err g c =
+    let a = c.args.self.now in
+    let d = c.step.new.self in
+    let fault = c.in_err-step.field-0.0 in
+    err_is (λ fault. g.Self.Walker.stops (run_of c.args.first c.args.count c.args.kind) a fault d) c.from_residual.result fault c.from_residual.ensures.1
+    (run_stop _ _ _ (laws_of g) c.args.first c.loop-cell.cell c.args.kind a c.loop-cell.self c.loop-cell.auto.cell c.loop-cell.invariant.way
+    c.args.count c.loop-cell-test.true d fault c.in_err-step.ensures.err)
