@@ -1,13 +1,13 @@
 // The state of a device.
 ghost use Rattle.vms_spec.specs.declared.TheConstants.{MOST_ITEMS};
-ghost use Rattle.std.specs.Prelude.{◌≡◌, ◌<◌, ◌≤◌, ◌↔◌, IsTrue, ℕ, Option, None, pos, length, get_or, slice_set, map, replicate, IfOk};
+ghost use Rattle.std.specs.Prelude.{◌≡◌, ◌+◌, ◌<◌, ◌≤◌, ◌↔◌, IsTrue, ℕ, Option, None, pos, length, get_or, slice_set, map, replicate, take, drop, IfOk};
 ghost use Rattle.vms_desc.specs.Described.{described, device_at};
 ghost use Rattle.vms_desc.specs.Spots.{kinds_at};
 ghost use Rattle.vms_image.specs.Typed.{default_at, IsImageOf};
 ghost use Rattle.vms_kinds.specs.Codes.{InRange, code};
 ghost use Rattle.vms_kinds.specs.declared.Kind.TheVariants.{U8};
 ghost use Rattle.vms_spec.specs.Layout.{device_cells};
-ghost use Rattle.vms_spots.specs.Spots.{raw_of, no_spot};
+ghost use Rattle.vms_spots.specs.Spots.{raw_of, no_spot, codes_of, AreOne};
 
 use std::alloc::{AllocError, Global};
 use std::marker::Model;
@@ -103,6 +103,16 @@ impl Image {
             (get_or self.now.numbers cell (pos 0)) }
     {
         self.cells.code(cell)
+    }
+
+    /// The codes of so many numbers of one kind, one after the other: their cells follow one another from
+    /// `first` on.
+    pub fn codes(&self, first: u32, count: u32, kind: Kind) -> &[u8]
+        requires room { first + count ≤ length self.now.numbers }
+        requires one { AreOne self.now.kinds first count kind }
+        ensures { result.now ≡ codes_of kind (take count (drop first self.now.numbers)) }
+    {
+        self.cells.codes(first, count, kind)
     }
 
     /// Tells whether a number is in the range of a cell's kind.

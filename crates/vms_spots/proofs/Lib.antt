@@ -1,4 +1,5 @@
 pub mod BufferLaws
 pub mod LayoutLaws
+pub mod RunLaws
 pub mod SpotLaws
 pub mod SpotRows

@@ -1,6 +1,7 @@
 -- Where the numbers of a state lie in one buffer of bytes, and what stands there.
 use Rattle.vms_spec.specs.declared.TheConstants.{MOST_ITEMS}
 use Rattle.std.specs.Prelude.{◌≡◌, ℕ, ◌+◌, ◌-◌, ◌*◌, ◌/◌, ◌%◌, ◌<◌, ◌≤◌, List, [], ◌∷◌, ◌++◌, length, get_or, map, replicate, take, drop, ℤ, pos}
+use Rattle.std.specs.List.{flat_map}
 use Rattle.vms_kinds.specs.declared.Kind.{Kind}
 use Rattle.vms_kinds.specs.declared.Kind.TheVariants.{U8}
 use Rattle.vms_kinds.specs.Codes.{width, code, value_of, InRange}
@@ -84,3 +85,12 @@ pub record AreApart (kinds : List Kind) (spots : List Spot) : Type 0 where
   pub inside : (k : ℕ) → k < length kinds → (get_or spots k no_spot).offset + width (get_or kinds k U8) ≤ bytes_of kinds
   -- each ends before the later ones begin
   pub apart : (j k : ℕ) → j < k → k < length kinds → (get_or spots j no_spot).offset + width (get_or kinds j U8) ≤ (get_or spots k no_spot).offset
+
+-- ---- numbers of one kind, one after the other
+
+abbrev pub codes_of : Kind → List ℤ → List ℕ
+codes_of kind numbers = flat_map (code kind) numbers
+
+-- so many cells from one on are of a kind
+abbrev pub AreOne : List Kind → ℕ → ℕ → Kind → Type 0
+AreOne kinds first count kind = (k : ℕ) → first ≤ k → k < first + count → get_or kinds k U8 ≡ kind

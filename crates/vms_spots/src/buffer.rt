@@ -1,13 +1,14 @@
 // The bytes of a state.
 ghost use Rattle.vms_spec.specs.declared.TheConstants.{MOST_ITEMS};
-ghost use Rattle.std.specs.Prelude.{◌≡◌, ◌≤◌, ◌<◌, length, get_or, slice_set, replicate, pos, IfOk};
+ghost use Rattle.std.specs.Prelude.{◌≡◌, ◌+◌, ◌≤◌, ◌<◌, length, get_or, slice_set, replicate, take, drop, pos, IfOk};
 ghost use Rattle.vms_kinds.specs.Codes.{InRange, code};
 ghost use Rattle.vms_kinds.specs.declared.Kind.TheVariants.{U8};
-ghost use Rattle.vms_spots.specs.Spots.{spots_of, kinds_of, raw_of};
+ghost use Rattle.vms_spots.specs.Spots.{spots_of, kinds_of, raw_of, codes_of, AreOne};
 
 use crate::{Spot, size};
 use std::alloc::{AllocError, Global};
 use std::marker::Model;
+use vms_kinds::Kind;
 
 /// The numbers of a state in one buffer of bytes: each stands at its spot with the highest byte first, and
 /// the bytes between the spots are 0. It is seen as the kinds and the numbers of its cells.
@@ -92,6 +93,21 @@ impl Buffer {
         let spot = self.spots[cell as usize];
         let offset = spot.offset as usize;
         let end = spot.end() as usize;
+        &self.bytes[offset..end]
+    }
+
+    /// The codes of so many numbers of one kind, one after the other: their cells follow one another from
+    /// `first` on.
+    pub fn codes(&self, first: u32, count: u32, kind: Kind) -> &[u8]
+        requires room { first + count ≤ length self.now.numbers }
+        requires one { AreOne self.now.kinds first count kind }
+        ensures { result.now ≡ codes_of kind (take count (drop first self.now.numbers)) }
+    {
+        if count == 0 {
+            return &self.bytes[..0];
+        }
+        let offset = self.spots[first as usize].offset as usize;
+        let end = offset + count as usize * kind.width();
         &self.bytes[offset..end]
     }
 

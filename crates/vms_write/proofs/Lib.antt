@@ -4,6 +4,7 @@ pub mod FineParts
 pub mod FineReady
 pub mod Formed
 pub mod ReadyImages
+pub mod RunBytes
 pub mod Sections
 pub mod StepsFine
 pub mod Subs

@@ -13,6 +13,7 @@ use crate::pieces::{append, write_zeros};
 use vms_desc::{Cells, DescSet};
 use vms_image::Image;
 use vms_io::Sink;
+use vms_kinds::Kind;
 use vms_walk::{PartAt, WalkStep, Walker, walk};
 
 // Appends the bytes of a part.
@@ -94,6 +95,11 @@ impl<K: Sink> Walker for Writer<'_, K> {
     #[inline(always)]
     fn step(&mut self, step: WalkStep) -> Result<(), WriteFault> {
         write_step(self.image, step, self.sink)
+    }
+
+    #[inline(always)]
+    fn run(&mut self, first: u32, count: u32, kind: Kind) -> Result<(), WriteFault> {
+        append(self.sink, self.image.codes(first, count, kind))
     }
 
     // What is written doesn't depend on them.
