@@ -1,25 +1,21 @@
-use Rattle.std.proofs.Common.{◌≡◌, ℕ, List, Option, Some, None, map, ap, ◌∙◌, subst, sym}
-use Rattle.vms_spec.specs.Good.{IsFit}
-use Rattle.vms_spec.specs.Images.{Image}
+use Rattle.std.proofs.Common.{◌≡◌, ℕ, Option, Some, None, map, ap, ◌∙◌, subst, sym}
 use Rattle.vms_spec.specs.Sets.{Set}
-use Rattle.vms_spec.specs.WellFormed.{first_fault}
 use Rattle.vms_desc.specs.Described.{described}
-use Rattle.vms_desc.proofs.Bounds.{none_is}
-use Rattle.vms_image.specs.Typed.{Typed, state_of}
+use Rattle.vms_image.specs.Typed.{state_of}
 use Rattle.vms_load.specs.Kept.{kept, loads}
 use Rattle.vms_load.specs.Staging.{name_of}
 use Rattle.vms_check.specs.Carrying.{carried}
 use Rattle.vms_convert.specs.Converted.{recast_each}
-use Rattle.vms_convert.specs.Losing.{FirstInvalid, KeepsMachine, first_cell_at}
+use Rattle.vms_convert.specs.Losing.{KeepsMachine, first_cell_at}
 use Rattle.vms_convert.specs.Lost.{Loses, numbers_in}
-use Rattle.vms_convert.proofs.JudgeLaws.{cell_first, device_first, machine_last, writable_back}
+use Rattle.vms_convert.proofs.JudgeLaws.{cell_first, device_first, fit_by, invalid_by, machine_last, writable_back}
 use Rattle.vms_convert.proofs.losing.judge.Goals as goal
 
 pub returns-in-Some : goal.returns-in-Some
 returns-in-Some c =
     let to = described c.args.to.now in
     let new = loads c.args.loader.now in
-    let fit : IsFit to = record { well = none_is (first_fault to) c.args.to.now.well_formed; heads = c.args.to.now.heads } in
+    let fit = fit_by to c.args.to.now.well_formed c.args.to.now.heads in
     let images = kept c.args.loader.now in
     let r = c.args.returns.now in
     let name = name_of new c.args.machine in
@@ -29,7 +25,7 @@ pub first_invalid-requires : goal.first_invalid-requires
 first_invalid-requires c =
     let to = described c.args.to.now in
     let new = loads c.args.loader.now in
-    let fit : IsFit to = record { well = none_is (first_fault to) c.args.to.now.well_formed; heads = c.args.to.now.heads } in
+    let fit = fit_by to c.args.to.now.well_formed c.args.to.now.heads in
     let images = kept c.args.loader.now in
     let r = c.args.returns.now in
     writable_back to new fit c.requires.newest c.requires.compatible images c.requires.kept r c.requires.returned c.deref.result.now c.deref.ensures.value
@@ -38,35 +34,27 @@ pub returns-in-Some-first_invalid : goal.returns-in-Some-first_invalid
 returns-in-Some-first_invalid c =
     let to = described c.args.to.now in
     let new = loads c.args.loader.now in
-    let fit : IsFit to = record { well = none_is (first_fault to) c.args.to.now.well_formed; heads = c.args.to.now.heads } in
+    let fit = fit_by to c.args.to.now.well_formed c.args.to.now.heads in
     let images = kept c.args.loader.now in
     let r = c.args.returns.now in
     let name = name_of new c.args.machine in
-    let backs : map state_of c.deref.result.now ≡ map state_of r.images.items = ap (λ (l : List Typed). map state_of l) c.deref.ensures.value in
-    let invalid : (o : Option ℕ) → c.first_invalid.result ≡ o → FirstInvalid to new (map state_of r.images.items) o =
-    λ o same. subst (λ (x : Option ℕ). FirstInvalid to new (map state_of r.images.items) x) same
-    (subst (λ (l : List Image). FirstInvalid to new l c.first_invalid.result) backs
-    (subst (λ (s : Set). FirstInvalid to s (map state_of c.deref.result.now) c.first_invalid.result) c.set.ensures c.first_invalid.ensures)) in
     let k = c.in-Some-first_invalid.device in
     let wanted = recast_each to new.devices (numbers_in images) in
     let there = numbers_in (carried to new (map state_of r.images.items)) in
     let cell : c.first_cell.result ≡ first_cell_at new k = c.first_cell.ensures ∙ ap (λ (s : Set). first_cell_at s k) c.set-in-Some-first_invalid.ensures in
     subst (λ (o : Option ℕ). Loses to new name wanted there (map state_of r.images.items) (Some k) o) (sym cell)
-    (device_first to new fit c.requires.newest c.requires.compatible images c.requires.kept r c.requires.returned name c.in_default.is k (invalid (Some k) c.in-Some-first_invalid.is))
+    (device_first to new fit c.requires.newest c.requires.compatible images c.requires.kept r c.requires.returned name c.in_default.is k
+    (invalid_by to new r.images.items _ c.deref.result.now (Some k) c.first_invalid.result c.set.ensures c.deref.ensures.value c.first_invalid.ensures c.in-Some-first_invalid.is))
 
 pub returns : goal.returns
 returns c =
     let to = described c.args.to.now in
     let new = loads c.args.loader.now in
-    let fit : IsFit to = record { well = none_is (first_fault to) c.args.to.now.well_formed; heads = c.args.to.now.heads } in
+    let fit = fit_by to c.args.to.now.well_formed c.args.to.now.heads in
     let images = kept c.args.loader.now in
     let r = c.args.returns.now in
     let name = name_of new c.args.machine in
-    let backs : map state_of c.deref.result.now ≡ map state_of r.images.items = ap (λ (l : List Typed). map state_of l) c.deref.ensures.value in
-    let invalid : (o : Option ℕ) → c.first_invalid.result ≡ o → FirstInvalid to new (map state_of r.images.items) o =
-    λ o same. subst (λ (x : Option ℕ). FirstInvalid to new (map state_of r.images.items) x) same
-    (subst (λ (l : List Image). FirstInvalid to new l c.first_invalid.result) backs
-    (subst (λ (s : Set). FirstInvalid to s (map state_of c.deref.result.now) c.first_invalid.result) c.set.ensures c.first_invalid.ensures)) in
     let machine : KeepsMachine to name c.machine_under.result =
     subst (λ (s : Set). KeepsMachine to (name_of s c.args.machine) c.machine_under.result) c.set-2.ensures c.machine_under.ensures in
-    machine_last to new fit c.requires.newest c.requires.compatible images c.requires.kept r c.requires.returned name c.in_default.is (invalid None c.in_default-first_invalid.is) c.machine_under.result machine
+    machine_last to new fit c.requires.newest c.requires.compatible images c.requires.kept r c.requires.returned name c.in_default.is
+    (invalid_by to new r.images.items _ c.deref.result.now None c.first_invalid.result c.set.ensures c.deref.ensures.value c.first_invalid.ensures c.in_default-first_invalid.is) c.machine_under.result machine
