@@ -13,7 +13,8 @@ use Rattle.vms_io.proofs.WritingLemmas.{serves_none}
 use Rattle.vms_session.specs.Playing.{Goes}
 use Rattle.vms_session.specs.declared.line.PlayFault.{PlayFault}
 use Rattle.vms_session.specs.declared.line.PlayFault.TheVariants as plays
-use Rattle.vms_commands.proofs.CourseLemmas.{asked, draws_none, looks_reach, same_so, writes_serve, wrong}
+use Rattle.vms_io.proofs.ShelvingLemmas.{looks_reaches}
+use Rattle.vms_commands.proofs.CourseLemmas.{asked, draws_none, same_so, writes_serve, wrong}
 use Rattle.vms_commands.specs.Courses.{Course, Draws, EndsSo, Risen, is_among}
 use Rattle.vms_commands.specs.Endings.{WritesAs, status_of}
 use Rattle.vms_commands.specs.declared.ending.Ending.{Ending}
@@ -44,7 +45,7 @@ module _ (i : Intake) (o : Outlet) {s s' : Stock} (course : Course) (may : AsksS
     shelf = λ f. absurd (asked course.asks may.asks f);
     draws = draws_none i;
     serves = serves_none o;
-    reaches = looks_reach p;
+    reaches = looks_reaches p;
   }
 
   pub script_so : (e : Ending) → NoScript s s' e → EndsSo i i o o s s' course e

@@ -13,7 +13,8 @@ use Rattle.vms_commands.specs.Outcomes.{Outcome}
 use Rattle.vms_commands.specs.Courses.{EndsSo, Risen, is_among}
 use Rattle.vms_commands.specs.Endings.{SetCause, status_of}
 use Rattle.vms_commands.specs.StepEndings.{ReadCause, StepAs, WordCause}
-use Rattle.vms_commands.proofs.CourseLemmas.{draws_none, looks_reach, so_since}
+use Rattle.vms_io.proofs.ShelvingLemmas.{looks_reaches}
+use Rattle.vms_commands.proofs.CourseLemmas.{draws_none, so_since}
 use Rattle.vms_cli.specs.Statuses.{convert_course}
 use Rattle.vms_commands.specs.Steps.{Step, Untold, Gives, Ends, HasBy, next}
 use Rattle.vms_board_commands.specs.Heard.{HearsBy, IsGiven}
@@ -86,7 +87,7 @@ module _ (i : Intake) (o : Outlet) (s s' : Stock) (looks : Looks s s') (b : Bool
     shelf = same;
     draws = draws_none i;
     serves = serves_none o;
-    reaches = looks_reach looks;
+    reaches = looks_reaches looks;
   }
 
   among : (k : ℕ) → b ≡ true → is_among (convert_course b).statuses k ≡ is_among (convert_course true).statuses k

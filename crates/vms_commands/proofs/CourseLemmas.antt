@@ -2,7 +2,7 @@
 use Rattle.std.proofs.Common.{◌≡◌, ℕ, Bool, true, false, List, [], ◌∷◌, refl, ◌∙◌, arith}
 use Rattle.std.proofs.KnownBytes.{Keeps-refl}
 use Rattle.vms_io.specs.Reading.{Takes}
-use Rattle.vms_io.specs.Shelving.{Looks, Reaches}
+use Rattle.vms_io.specs.Shelving.{Looks}
 use Rattle.vms_io.specs.Told.{Intake, Outlet, Stock}
 use Rattle.vms_io.specs.Writing.{Serves}
 use Rattle.vms_io.proofs.ShelvingLemmas.{reaches_both, reaches_none}
@@ -23,9 +23,6 @@ draws_none i = record { later = omega arith; promise = refl }
 
 pub draws_took : {i i' : Intake} {bytes : List ℕ} → Takes i i' bytes → Draws i i'
 draws_took t = record { later = t.later; promise = t.promise }
-
-pub looks_reach : {s s' : Stock} → Looks s s' → Reaches s s'
-looks_reach p = record { later = p.later; promise = p.promise }
 
 -- nothing was touched
 pub same_so : (i : Intake) (o : Outlet) (s : Stock) (course : Course) (e : Ending) → is_among course.statuses (status_of e) ≡ true → Risen i i o o s s e → EndsSo i i o o s s course e
@@ -62,7 +59,7 @@ so_since {i} {i'} {o} {o'} {a} {s} {s'} {course} e asks p g = record {
   shelf = λ f. absurd (asked course.asks asks f);
   draws = g.draws;
   serves = g.serves;
-  reaches = reaches_both (looks_reach p) g.reaches;
+  reaches = reaches_both (looks_reaches p) g.reaches;
 }
 
 -- a text was written
