@@ -8,12 +8,11 @@ use Rattle.vms_board.specs.declared.save.SaveFault.TheVariants as saves
 use Rattle.vms_io.specs.Causes.{Rose}
 use Rattle.vms_io.specs.Shelving.{Looks}
 use Rattle.vms_io.specs.Told.{Intake, Outlet, Stock}
-use Rattle.vms_io.proofs.ShelvingLemmas.{reaches_none}
+use Rattle.vms_io.proofs.ShelvingLemmas.{looks_reaches, reaches_none}
 use Rattle.vms_io.proofs.WritingLemmas.{serves_none}
 use Rattle.vms_session.specs.Playing.{Goes}
 use Rattle.vms_session.specs.declared.line.PlayFault.{PlayFault}
 use Rattle.vms_session.specs.declared.line.PlayFault.TheVariants as plays
-use Rattle.vms_io.proofs.ShelvingLemmas.{looks_reaches}
 use Rattle.vms_commands.proofs.CourseLemmas.{asked, draws_none, same_so, writes_serve, wrong}
 use Rattle.vms_commands.specs.Courses.{Course, Draws, EndsSo, Risen, is_among}
 use Rattle.vms_commands.specs.Endings.{WritesAs, status_of}

@@ -5,7 +5,7 @@ use Rattle.vms_io.specs.Reading.{Takes}
 use Rattle.vms_io.specs.Shelving.{Looks}
 use Rattle.vms_io.specs.Told.{Intake, Outlet, Stock}
 use Rattle.vms_io.specs.Writing.{Serves}
-use Rattle.vms_io.proofs.ShelvingLemmas.{reaches_both, reaches_none}
+use Rattle.vms_io.proofs.ShelvingLemmas.{looks_reaches, reaches_both, reaches_none}
 use Rattle.vms_io.proofs.WritingLemmas.{serves_none}
 use Rattle.vms_commands.specs.Courses.{Course, Draws, EndsSo, Risen, is_among}
 use Rattle.vms_commands.specs.Endings.{Quiet, WritesAs, status_of}
