@@ -8,7 +8,6 @@ use Rattle.std.specs.List.{slice_get}
 use Rattle.std.specs.Bool.{OnFalse, OnTrue}
 use Rattle.std.specs.Str.{bytes_eq}
 use Rattle.vms_spec.specs.Good.{IsFit}
-use Rattle.vms_spec.specs.Heads.{FitsHeads}
 use Rattle.vms_spec.specs.Sets.{Device, Set}
 use Rattle.vms_spec.specs.Images.{Image, IsValid}
 use Rattle.vms_spec.specs.Layout.{Cell, device_cells}
@@ -17,14 +16,12 @@ use Rattle.vms_spec.specs.Shipped.{set_4}
 use Rattle.vms_spec.specs.Streams.{AreReady, IsReady, is_one_of}
 use Rattle.vms_spec.specs.WellFormed.{WellFormed}
 use Rattle.vms_desc.specs.Described.{device_at}
-use Rattle.vms_desc.specs.Formed.{is_well_formed}
 use Rattle.vms_desc.proofs.AskLaws.{device_is}
 use Rattle.vms_image.specs.Typed.{Typed, state_of}
 use Rattle.vms_bodies.proofs.Stated.{shipped_holds}
 use Rattle.vms_load.specs.Good.{AreKept}
 use Rattle.vms_load.specs.Staging.{name_of}
 use Rattle.vms_load.proofs.HeadLemmas.{device_below}
-use Rattle.vms_load.proofs.SetFacts.{well_of}
 use Rattle.vms_image.proofs.States.{image_at}
 use Rattle.vms_check.specs.Carrying.{carried}
 use Rattle.vms_check.specs.Comparing.{Compatible}
@@ -179,10 +176,6 @@ module _ (to : Set) (images : List Typed) (writable : AreWritable to images) (na
 
   pub own_image : (image : Typed) → image ≡ get_or images own image → slice_get images own ≡ Some image
   own_image image is = image_at images own image own_bound is
-
--- a set that code has is fit
-pub fit_by : (set : Set) → is_well_formed set ≡ true → FitsHeads set → IsFit set
-fit_by set well heads = record { well = well_of set well; heads = heads }
 
 -- what is first invalid of images in the newest set, as both are named elsewhere
 pub invalid_by : (to new : Set) (images : List Typed) (s : Set) (typed : List Typed) (o found : Option ℕ) → s ≡ new → typed ≡ images → FirstInvalid to s (map state_of typed) found → found ≡ o

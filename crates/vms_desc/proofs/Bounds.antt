@@ -20,7 +20,7 @@ use Rattle.vms_parts.proofs.ItemLaws.{items_are, items_to}
 use Rattle.vms_desc.proofs.CellSizes.{cells_size, struct_sizes}
 use Rattle.vms_spec.proofs.Faultless.{or_else_none, AllTrue, all_true}
 use Rattle.vms_spec.proofs.Tables.{first_long}
-use Rattle.vms_spec.specs.Good.{IsGood}
+use Rattle.vms_spec.specs.Good.{IsFit, IsGood}
 use Rattle.vms_spec.specs.Heads.{FitsHeads}
 use Rattle.vms_spec.proofs.WellFormedLaws.{well_good}
 
@@ -61,7 +61,10 @@ few_items set h =
     let c = set_clean set h in
     leb-true (devices_items (struct_items set.structs) set.devices) MOST_ITEMS c.last.1.1.1.1.1.1.0
 
--- where instances and versions fit, it is good
+-- where instances and versions fit, it is fit, and good
+pub fit_of : (set : Set) → is_well_formed set ≡ true → FitsHeads set → IsFit set
+fit_of set well heads = record { well = none_is (first_fault set) well; heads = heads }
+
 pub good_of : (set : Set) → is_well_formed set ≡ true → FitsHeads set → IsGood set
 good_of set h heads = well_good set (none_is (first_fault set) h) heads
 

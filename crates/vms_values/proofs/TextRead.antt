@@ -6,14 +6,12 @@ use Rattle.vms_spec.specs.Heads.{FitsHeads}
 use Rattle.vms_spec.specs.Sets.{Device, Set}
 use Rattle.vms_spec.specs.Layout.{no_desc}
 use Rattle.vms_spec.specs.ValuesReading.{values_read, ValuesRead, Values, Bad}
-use Rattle.vms_spec.specs.WellFormed.{first_fault}
 use Rattle.vms_spec.specs.Images.{Image}
-use Rattle.vms_spec.specs.Good.{IsFit}
 use Rattle.vms_elements.specs.Reading.{IsText, Refused, Reads}
 use Rattle.vms_image.specs.Typed.{state_of}
 use Rattle.vms_desc.specs.Formed.{is_well_formed}
 use Rattle.vms_desc.proofs.AskLaws.{few_cells}
-use Rattle.vms_desc.proofs.Bounds.{few_devices, none_is}
+use Rattle.vms_desc.proofs.Bounds.{few_devices, fit_of}
 use Rattle.vms_desc.proofs.Clean.{few_subs}
 use Rattle.vms_values_laws.specs.Laws.{device_lines, most_lines}
 use Rattle.vms_values_laws.proofs.FewLines.{line_holds}
@@ -36,9 +34,6 @@ few_lines : (set : Set) → is_well_formed set ≡ true → most_lines set ≤ 1
 few_lines set well =
     let each = few_each set 16417 set.devices (λ i lt. omega (arith, few_subs set well i lt, few_cells set well i)) in
     omega (arith, each, few_devices set well)
-
-pub fit_of : (set : Set) → is_well_formed set ≡ true → FitsHeads set → IsFit set
-fit_of set well heads = record { well = none_is (first_fault set) well; heads = heads }
 
 -- such a number is known as the line of the text
 pub line_fits : (set : Set) → is_well_formed set ≡ true → FitsHeads set → (text : List ℕ) (line : ℕ) (reason : ValuesReason) → ReadsBy set (values_read set text) (Err (faults.Bad line reason)) → line < 2 ^ 32

@@ -1,6 +1,6 @@
 use Rattle.vms_io.specs.Told.{intake, outlet}
 use Rattle.vms_desc.specs.Described.{described}
-use Rattle.vms_values.proofs.TextRead.{fit_of}
+use Rattle.vms_desc.proofs.Bounds.{fit_of}
 use Rattle.vms_cli.proofs.ConvertLemmas.{convert_content, convert_given, convert_hears, convert_so, names_cell}
 use Rattle.vms_cli.proofs.convert.convert_to.Goals as goal
 

@@ -11,7 +11,7 @@ use Rattle.vms_commands.proofs.CourseLemmas.{writes_serve}
 use Rattle.vms_commands.proofs.EndLemmas.{comes_to_nothing}
 use Rattle.vms_cli.proofs.ShowLemmas.{heard_refused, heard_shown, loaded, refused}
 use Rattle.vms_cli.proofs.show.show_stream.Goals as goal
-use Rattle.vms_values.proofs.TextRead.{fit_of}
+use Rattle.vms_desc.proofs.Bounds.{fit_of}
 
 pub returns-in-Ok-clause-content : goal.returns-in-Ok-clause-content
 returns-in-Ok-clause-content g c = λ shelf shelf' o held shows.

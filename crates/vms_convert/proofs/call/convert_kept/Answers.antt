@@ -3,6 +3,7 @@ use Rattle.std.proofs.lemmas.Result.{err_from_is_err_and}
 use Rattle.vms_spec.specs.Lists.{at_option}
 use Rattle.vms_spec.specs.Sets.{Set}
 use Rattle.vms_spec.specs.Streams.{AreReady}
+use Rattle.vms_desc.proofs.Bounds.{fit_of}
 use Rattle.vms_desc.specs.Described.{described}
 use Rattle.vms_image.specs.Typed.{AreImagesOf, Typed, state_of}
 use Rattle.vms_io.specs.Told.{outlet}
@@ -14,14 +15,14 @@ use Rattle.vms_convert.specs.Calls.{ConvertsKept}
 use Rattle.vms_convert.specs.Losing.{PutsBytes, stream_of}
 use Rattle.vms_convert.specs.declared.fault.ConvertFault.{ConvertFault}
 use Rattle.vms_convert.proofs.ConvertLaws.{loses_kept, puts_kept}
-use Rattle.vms_convert.proofs.JudgeLaws.{backs_are, fit_by, ready_back}
+use Rattle.vms_convert.proofs.JudgeLaws.{backs_are, ready_back}
 use Rattle.vms_convert.proofs.call.convert_kept.Goals as goal
 
 pub returns-in_err-machine : goal.returns-in_err-machine
 returns-in_err-machine g c =
     let to = described c.args.to.now in
     let new = loads c.args.loader.now in
-    let fit = fit_by to c.args.to.now.well_formed c.args.to.now.heads in
+    let fit = fit_of to c.args.to.now.well_formed c.args.to.now.heads in
     let newest = c.requires.newest in
     let compatible : Compatible to new = subst (λ (s : Set). Compatible to s) (sym newest) c.requires.compatible in
     let images = kept c.args.loader.now in
@@ -47,7 +48,7 @@ pub write_back-requires-clause-ready : goal.write_back-requires-clause-ready
 write_back-requires-clause-ready g c =
     let to = described c.args.to.now in
     let new = loads c.args.loader.now in
-    let fit = fit_by to c.args.to.now.well_formed c.args.to.now.heads in
+    let fit = fit_of to c.args.to.now.well_formed c.args.to.now.heads in
     let newest = c.requires.newest in
     let compatible : Compatible to new = subst (λ (s : Set). Compatible to s) (sym newest) c.requires.compatible in
     let images = kept c.args.loader.now in
@@ -60,7 +61,7 @@ pub returns : goal.returns
 returns g c =
     let to = described c.args.to.now in
     let new = loads c.args.loader.now in
-    let fit = fit_by to c.args.to.now.well_formed c.args.to.now.heads in
+    let fit = fit_of to c.args.to.now.well_formed c.args.to.now.heads in
     let newest = c.requires.newest in
     let compatible : Compatible to new = subst (λ (s : Set). Compatible to s) (sym newest) c.requires.compatible in
     let images = kept c.args.loader.now in

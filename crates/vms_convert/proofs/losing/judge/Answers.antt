@@ -1,5 +1,6 @@
 use Rattle.std.proofs.Common.{◌≡◌, ℕ, Option, Some, None, map, ap, ◌∙◌, subst, sym}
 use Rattle.vms_spec.specs.Sets.{Set}
+use Rattle.vms_desc.proofs.Bounds.{fit_of}
 use Rattle.vms_desc.specs.Described.{described}
 use Rattle.vms_image.specs.Typed.{state_of}
 use Rattle.vms_load.specs.Kept.{kept, loads}
@@ -8,14 +9,14 @@ use Rattle.vms_check.specs.Carrying.{carried}
 use Rattle.vms_convert.specs.Converted.{recast_each}
 use Rattle.vms_convert.specs.Losing.{KeepsMachine, first_cell_at}
 use Rattle.vms_convert.specs.Lost.{Loses, numbers_in}
-use Rattle.vms_convert.proofs.JudgeLaws.{cell_first, device_first, fit_by, invalid_by, machine_last, writable_back}
+use Rattle.vms_convert.proofs.JudgeLaws.{cell_first, device_first, invalid_by, machine_last, writable_back}
 use Rattle.vms_convert.proofs.losing.judge.Goals as goal
 
 pub returns-in-Some : goal.returns-in-Some
 returns-in-Some c =
     let to = described c.args.to.now in
     let new = loads c.args.loader.now in
-    let fit = fit_by to c.args.to.now.well_formed c.args.to.now.heads in
+    let fit = fit_of to c.args.to.now.well_formed c.args.to.now.heads in
     let images = kept c.args.loader.now in
     let r = c.args.returns.now in
     let name = name_of new c.args.machine in
@@ -25,7 +26,7 @@ pub first_invalid-requires : goal.first_invalid-requires
 first_invalid-requires c =
     let to = described c.args.to.now in
     let new = loads c.args.loader.now in
-    let fit = fit_by to c.args.to.now.well_formed c.args.to.now.heads in
+    let fit = fit_of to c.args.to.now.well_formed c.args.to.now.heads in
     let images = kept c.args.loader.now in
     let r = c.args.returns.now in
     writable_back to new fit c.requires.newest c.requires.compatible images c.requires.kept r c.requires.returned c.deref.result.now c.deref.ensures.value
@@ -34,7 +35,7 @@ pub returns-in-Some-first_invalid : goal.returns-in-Some-first_invalid
 returns-in-Some-first_invalid c =
     let to = described c.args.to.now in
     let new = loads c.args.loader.now in
-    let fit = fit_by to c.args.to.now.well_formed c.args.to.now.heads in
+    let fit = fit_of to c.args.to.now.well_formed c.args.to.now.heads in
     let images = kept c.args.loader.now in
     let r = c.args.returns.now in
     let name = name_of new c.args.machine in
@@ -50,7 +51,7 @@ pub returns : goal.returns
 returns c =
     let to = described c.args.to.now in
     let new = loads c.args.loader.now in
-    let fit = fit_by to c.args.to.now.well_formed c.args.to.now.heads in
+    let fit = fit_of to c.args.to.now.well_formed c.args.to.now.heads in
     let images = kept c.args.loader.now in
     let r = c.args.returns.now in
     let name = name_of new c.args.machine in

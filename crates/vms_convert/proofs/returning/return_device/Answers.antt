@@ -1,11 +1,11 @@
 use Rattle.std.proofs.Common.{◌≡◌, List, ℕ, ℤ, Option, sym, ◌∙◌, subst}
+use Rattle.vms_desc.proofs.Bounds.{fit_of}
 use Rattle.vms_desc.specs.Described.{described, device_at}
 use Rattle.vms_image.specs.Typed.{state_of}
 use Rattle.vms_check.specs.Partners.{device_partners}
 use Rattle.vms_convert.specs.Back.{IsBack}
 use Rattle.vms_convert.specs.Returning.{FirstDifference}
 use Rattle.vms_load.proofs.SetFacts.{well_of}
-use Rattle.vms_convert.proofs.JudgeLaws.{fit_by}
 use Rattle.vms_convert.proofs.ReturnedLaws.{back_of, given_is, given_long, sources_of, targets_of}
 use Rattle.vms_convert.proofs.returning.return_device.Goals as goal
 
@@ -14,7 +14,7 @@ come_back-requires-clause-sources c =
     let pair = c.args.pair in
     let to = described pair.to.now in
     let new = described pair.newest.now in
-    let fit = fit_by to pair.to.now.well_formed pair.to.now.heads in
+    let fit = fit_of to pair.to.now.well_formed pair.to.now.heads in
     let well = well_of new pair.newest.now.well_formed in
     sources_of to new fit well pair.device pair.other c.requires.device c.requires.other c.args.source.now.numbers c.requires.kinds c.deref.result.now
     (c.deref.ensures.value ∙ c.in_ok-partners.ensures)
@@ -25,7 +25,7 @@ give_all-requires-clause-targets c =
     let to = described pair.to.now in
     let new = described pair.newest.now in
     let image = c.in_ok-image.image in
-    let fit = fit_by to pair.to.now.well_formed pair.to.now.heads in
+    let fit = fit_of to pair.to.now.well_formed pair.to.now.heads in
     let well = well_of new pair.newest.now.well_formed in
     let same : c.deref.result.now ≡ c.deref-2.result.now = c.deref.ensures.value ∙ sym c.deref-2.ensures.value in
     let back : IsBack to (device_at to pair.device) c.deref-2.result.now c.args.source.now.numbers (state_of image) =
@@ -39,7 +39,7 @@ first_difference-lost-requires c =
     let to = described pair.to.now in
     let new = described pair.newest.now in
     let image = c.in_ok-image.image in
-    let fit = fit_by to pair.to.now.well_formed pair.to.now.heads in
+    let fit = fit_of to pair.to.now.well_formed pair.to.now.heads in
     let well = well_of new pair.newest.now.well_formed in
     let same : c.deref.result.now ≡ c.deref-2.result.now = c.deref.ensures.value ∙ sym c.deref-2.ensures.value in
     let back : IsBack to (device_at to pair.device) c.deref-2.result.now c.args.source.now.numbers (state_of image) =
@@ -54,7 +54,7 @@ returns c =
     let new = described pair.newest.now in
     let image = c.in_ok-image.image in
     let source = c.args.source.now.numbers in
-    let fit = fit_by to pair.to.now.well_formed pair.to.now.heads in
+    let fit = fit_of to pair.to.now.well_formed pair.to.now.heads in
     let well = well_of new pair.newest.now.well_formed in
     let are : c.deref-2.result.now ≡ device_partners to new (device_at to pair.device) (device_at new pair.other) = c.deref-2.ensures.value ∙ c.in_ok-partners.ensures in
     let same : c.deref.result.now ≡ c.deref-2.result.now = c.deref.ensures.value ∙ sym c.deref-2.ensures.value in
