@@ -8,4 +8,3 @@ pub mod RunBytes
 pub mod Sections
 pub mod StepsFine
 pub mod Subs
-pub mod OldClauses

@@ -1,8 +1,6 @@
 // Whole streams.
-ghost use Rattle.std.specs.Prelude.{◌≡◌, ◌<◌, ◌≤◌, length, map, IfSome, OnOk, OnErr};
+ghost use Rattle.std.specs.Prelude.{◌<◌, ◌≤◌, length, map, IfSome};
 ghost use Rattle.std.specs.Option.{option_copied};
-ghost use Rattle.std.specs.Io.KnownBytes.{Appends};
-ghost use Rattle.vms_io.specs.Causes.{HasCause, AppendsPrefix};
 ghost use Rattle.vms_io.specs.Told.{outlet};
 ghost use Rattle.vms_io.specs.Writing.{Wrote};
 ghost use Rattle.vms_spec.specs.Lists.{at_option};
@@ -33,20 +31,10 @@ pub fn write_stream<K: Sink>(
     requires of { AreImagesOf (described set.now) images.now }
     requires ready { AreReady (described set.now) (map state_of images.now) }
     requires text { IfSome text (λ t. length t.now ≤ longest_text) }
-    ensures wrote { let named = at_option (described set.now).machines machine in
+    ensures { let named = at_option (described set.now).machines machine in
         let images = map state_of images.now in
         let bytes = written (described set.now) named images (option_copied text.entry) in
         Wrote (outlet K.Sink sink.old) (outlet K.Sink sink.new) bytes result }
-    ensures ok { let named = at_option (described set.now).machines machine in
-        let images = map state_of images.now in
-        let bytes = written (described set.now) named images (option_copied text.entry) in
-        OnOk result (Appends (K.written sink.old) (K.written sink.new) bytes) }
-    ensures err { let named = at_option (described set.now).machines machine in
-        let images = map state_of images.now in
-        let bytes = written (described set.now) named images (option_copied text.entry) in
-        OnErr result (AppendsPrefix (K.written sink.old) (K.written sink.new) bytes) }
-    ensures cause { HasCause (K.faults sink.old) (K.faults sink.new) result }
-    ensures promise { K.promise sink.new ≡ K.promise sink.old }
 {
     append(sink, &STREAM_HEAD)?;
     write_configuration(set, machine, sink)?;
