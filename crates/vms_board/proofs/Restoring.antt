@@ -1,19 +1,19 @@
 -- What a load brings to a board.
-use Rattle.std.proofs.Common.{◌≡◌, inl, inr, ℕ, zero, suc, ◌-◌, ◌<◌, List, [], ◌∷◌, length, get_or, Option, Some, None, IfSome, Ok, Err, Result, refl, sym, ap, ◌∙◌, subst, arith}
+use Rattle.std.proofs.Common.{◌≡◌, inl, inr, ℕ, zero, suc, ◌-◌, ◌<◌, ◌≤◌, List, [], ◌∷◌, length, get_or, Option, Some, None, IfSome, Ok, Err, Result, refl, sym, ap, ◌∙◌, subst, arith}
 use Rattle.std.specs.List.{slice_get}
-use Rattle.vms_frames.proofs.HeardLemmas.{heard_as}
+use Rattle.vms_io.proofs.ReadingLemmas.{reads_as}
+use Rattle.vms_io.specs.Told.{Intake}
 use Rattle.vms_frames.specs.declared.fault.Refusal.{Refusal}
-use Rattle.vms_load.specs.Hearing.{HearsLoad}
+use Rattle.vms_load.specs.Going.{LoadReads}
 use Rattle.vms_load.specs.Loads.{Loads}
-use Rattle.vms_load.specs.Staging.{accepted_of, name_of}
-use Rattle.vms_load.specs.declared.fault.LoadFault.{LoadFault}
+use Rattle.vms_load.specs.Staging.{accepted_of, most_given, name_of}
 use Rattle.vms_load.specs.declared.fault.LoadFault.TheVariants as loads
 use Rattle.vms_spec.specs.Images.{Image}
 use Rattle.vms_spec.specs.Sets.{Set}
 use Rattle.vms_stream.specs.Faults.{Fault}
 use Rattle.vms_stream.specs.Streams.{Takes}
 use Rattle.vms_board.proofs.Imaging.{at_below}
-use Rattle.vms_board.specs.Comes.{ComesTo, HearsBoard, Takings, HearsTakings, IsUnfit, refusal_of}
+use Rattle.vms_board.specs.Comes.{ComesTo, RestoreReads, Takings, TakingsRead, IsUnfit, refusal_of}
 use Rattle.vms_board.specs.Family.{Family, lists_in}
 use Rattle.vms_board.specs.Standing.{Standing}
 use Rattle.vms_board.specs.declared.restore.RestoreFault.{RestoreFault}
@@ -55,23 +55,20 @@ module _ {S : Type 0} (f : Family S) where
       let own = subst (λ (names : List (List ℕ)). Fault set names input r.at r.section r.reason loaded.0) (names-are number n set h e i) loaded.1 in
       ((loaded.0, subst (λ (s : Set). Fault s (f.machine number ∷ []) input r.at r.section r.reason loaded.0) i own), loaded.2)
 
-  -- nothing is said of a source that doesn't tell
-  pub fault_so : (number : ℕ) (old left : Option (List ℕ)) (images : List Image) (taken : ℕ) → IfSome old (λ input. Takings f number input left images taken (Err faults.ReadFault))
-  fault_so number None left images taken = tt
-  fault_so number (Some input) left images taken = tt
+  -- the same, read
+  pub taken_read : {a b : Intake} (number n : ℕ) (set : Set) (images : List Image) (taken : ℕ) (machine : Option ℕ) → slice_get (f.set f.newest).machines (number - 1) ≡ Some (f.machine number) → n ≡ number - 1 → set ≡ f.set f.newest
+      → LoadReads a b set (accepted_of set (Some n)) images taken (Ok machine) → TakingsRead f number a b images taken (Ok tt)
+  taken_read number n set images taken machine h e i p =
+      reads_as (λ k l. (l.0, subst (λ (s : Set). taken ≤ most_given s) i l.1)) (λ rest more said. taken_so number n set (Some rest) (Some more) images taken machine h e i said) p
 
-  -- the same, heard
-  pub heard_taken : (number n : ℕ) (set : Set) (before now : ℕ) (images : List Image) (taken : ℕ) (machine : Option ℕ) → slice_get (f.set f.newest).machines (number - 1) ≡ Some (f.machine number) → n ≡ number - 1 → set ≡ f.set f.newest
-      → HearsLoad set (accepted_of set (Some n)) before now images taken (Ok machine) → HearsTakings f number before now images taken (Ok tt)
-  heard_taken number n set before now images taken machine h e i heard =
-      heard_as (λ more. more ≡ []) before now (λ old left loaded. taken_so number n set old left images taken machine h e i loaded) heard
+  pub refused_read : {a b : Intake} (number n : ℕ) (set : Set) (images : List Image) (taken : ℕ) (r : Refusal) → slice_get (f.set f.newest).machines (number - 1) ≡ Some (f.machine number) → n ≡ number - 1 → set ≡ f.set f.newest
+      → LoadReads a b set (accepted_of set (Some n)) images taken (Err (loads.Refused r)) → TakingsRead f number a b images taken (Err (faults.Refused r))
+  refused_read number n set images taken r h e i p =
+      reads_as (λ k l. subst (λ (s : Set). k ≤ most_given s) i l) (λ rest more said. refused_so number n set (Some rest) (Some more) images taken r h e i said) p
 
-  pub heard_refused : (number n : ℕ) (set : Set) (before now : ℕ) (images : List Image) (taken : ℕ) (fault : LoadFault) (r : Refusal) → slice_get (f.set f.newest).machines (number - 1) ≡ Some (f.machine number) → n ≡ number - 1 → set ≡ f.set f.newest → fault ≡ loads.Refused r
-      → HearsLoad set (accepted_of set (Some n)) before now images taken (Err fault) → HearsTakings f number before now images taken (Err (faults.Refused r))
-  heard_refused number n set before now images taken fault r h e i is heard =
-      let refused : HearsLoad set (accepted_of set (Some n)) before now images taken (Err (loads.Refused r)) =
-      subst (λ (x : LoadFault). HearsLoad set (accepted_of set (Some n)) before now images taken (Err x)) is heard in
-      heard_as (λ more. more ≡ []) before now (λ old left loaded. refused_so number n set old left images taken r h e i loaded) refused
+  pub broken_read : {a b : Intake} (number n : ℕ) (set : Set) (images : List Image) (taken : ℕ) → set ≡ f.set f.newest
+      → LoadReads a b set (accepted_of set (Some n)) images taken (Err loads.ReadFault) → TakingsRead f number a b images taken (Err faults.ReadFault)
+  broken_read number n set images taken i p = reads_as (λ k l. subst (λ (s : Set). k ≤ most_given s) i l) (λ rest more said. tt) p
 
   -- ---- what comes of it
 
@@ -104,29 +101,25 @@ module _ {S : Type 0} (f : Family S) where
       subst (λ (x : RestoreFault). ComesTo f number new input left (Err x)) (sym u.fault_is)
       (inr (record { images = images; taken = h.0; misfit = u.misfit; fails = u.fails; section_is = refl; reason_is = refl }, h.1))
 
-  -- ---- the same, heard
+  -- ---- the same, read
 
-  pub hears_back : (own number before now : ℕ) (images : List Image) (taken : ℕ) (m : S) (count : ℕ) → number ≡ own → count ≡ taken → f.restored number (lists_in images) ≡ Ok m
-      → HearsTakings f number before now images taken (Ok tt) → HearsBoard f own before now (record { state = m; taken = count }) (Ok tt)
-  hears_back own number before now images taken m count l e d heard =
-      heard_as (λ more. more ≡ []) before now (λ old left h. comes_back own number old left images taken m count l e d h) heard
+  pub back_read : {a b : Intake} (own number : ℕ) (images : List Image) (taken : ℕ) (m : S) (count : ℕ) → number ≡ own → count ≡ taken → f.restored number (lists_in images) ≡ Ok m
+      → TakingsRead f number a b images taken (Ok tt) → RestoreReads f own a b (record { state = m; taken = count }) (Ok tt)
+  back_read own number images taken m count l e d p =
+      reads_as (λ k w. subst (λ (n : ℕ). (k ≡ n) × (n ≤ most_given (f.set f.newest))) (sym e) w)
+      (λ rest more h. comes_back own number (Some rest) (Some more) images taken m count l e d h) p
 
-  heard-fault : (number before now : ℕ) (new : Standing S) (images : List Image) (taken : ℕ) (fault : RestoreFault)
-      → HearsTakings f number before now images taken (Err fault) → HearsBoard f number before now new (Err fault)
-  heard-fault number before now new images taken (faults.Refused r) heard =
-      heard_as (λ more. more ≡ []) before now (λ old left h. came-fault number new old left images taken (faults.Refused r) h) heard
-  heard-fault number before now new images taken faults.ReadFault heard = tt
+  pub fault_read : {a b : Intake} (own number : ℕ) (new : Standing S) (images : List Image) (taken : ℕ) (fault : RestoreFault) (r : Result (Unit {0}) RestoreFault) → number ≡ own → r ≡ Err fault
+      → TakingsRead f number a b images taken (Err fault) → RestoreReads f own a b new r
+  fault_read {a} {b} own number new images taken fault r l e p =
+      subst (λ (x : Result (Unit {0}) RestoreFault). RestoreReads f own a b new x) (sym e)
+      (reads_as (λ k w. w) (λ rest more h. comes_fault own number new (Some rest) (Some more) images taken fault (Err fault) l refl h) p)
 
-  module _ (own number before now : ℕ) (new : Standing S) (images : List Image) (taken : ℕ) (fault : RestoreFault) (r : Result (Unit {0}) RestoreFault) (l : number ≡ own) (e : r ≡ Err fault) where
-    pub hears_fault : HearsTakings f number before now images taken (Err fault) → HearsBoard f own before now new r
-    hears_fault heard =
-        subst (λ (x : Result (Unit {0}) RestoreFault). HearsBoard f own before now new x) (sym e)
-        (subst (λ (k : ℕ). HearsBoard f k before now new (Err fault)) l (heard-fault number before now new images taken fault heard))
-
-    pub hears_unfit : IsUnfit f number taken images fault → HearsTakings f number before now images taken (Ok tt) → HearsBoard f own before now new r
-    hears_unfit u heard =
-        let refused : HearsBoard f number before now new (Err (faults.Refused (refusal_of taken u.misfit))) =
-        heard_as (λ more. more ≡ []) before now
-        (λ old left h. subst (λ (x : RestoreFault). IfSome old (λ input. ComesTo f number new input left (Err x))) u.fault_is (comes_unfit number new old left images taken fault u h)) heard in
-        subst (λ (x : Result (Unit {0}) RestoreFault). HearsBoard f own before now new x) (sym e)
-        (subst (λ (k : ℕ). HearsBoard f k before now new (Err fault)) l (subst (λ (x : RestoreFault). HearsBoard f number before now new (Err x)) (sym u.fault_is) refused))
+  pub unfit_read : {a b : Intake} (own number : ℕ) (new : Standing S) (images : List Image) (taken : ℕ) (fault : RestoreFault) (r : Result (Unit {0}) RestoreFault) → number ≡ own → r ≡ Err fault
+      → IsUnfit f number taken images fault → TakingsRead f number a b images taken (Ok tt) → RestoreReads f own a b new r
+  unfit_read {a} {b} own number new images taken fault r l e u p =
+      let said : (rest more : List ℕ) → Takings f number rest (Some more) images taken (Ok tt) → ComesTo f own new rest (Some more) (Err (faults.Refused (refusal_of taken u.misfit))) =
+      λ rest more h. subst (λ (k : ℕ). ComesTo f k new rest (Some more) (Err (faults.Refused (refusal_of taken u.misfit)))) l
+      (subst (λ (x : RestoreFault). ComesTo f number new rest (Some more) (Err x)) u.fault_is (comes_unfit number new (Some rest) (Some more) images taken fault u h)) in
+      subst (λ (x : Result (Unit {0}) RestoreFault). RestoreReads f own a b new x) (sym (e ∙ ap Err u.fault_is))
+      (reads_as (λ k w. omega (arith, w.0, w.1)) said p)

@@ -1,10 +1,10 @@
 // Restoring a board.
-ghost use Rattle.std.specs.Prelude.{◌≡◌, IfErr, IfOk, IfSome, OnErr, OnOk};
+ghost use Rattle.std.specs.Prelude.{◌≡◌, IfErr, IfOk, OnErr, OnOk};
 ghost use Rattle.vms_io.specs.Told.{intake};
 ghost use Rattle.vms_load.specs.Kept.{loads, kept, taken_by};
-ghost use Rattle.vms_board.specs.Comes.{ComesTo, HasCause, GivesWithin, HearsBoard, TakesSome};
+ghost use Rattle.vms_board.specs.Comes.{RestoreReads, TakingsRead};
 ghost use Rattle.vms_board.specs.Family.{IsNumber, lists_in};
-ghost use Rattle.vms_board.specs.Comes.{Takings, HearsTakings, IsUnfit, refusal_of as refusal_by};
+ghost use Rattle.vms_board.specs.Comes.{IsUnfit, refusal_of as refusal_by};
 
 use crate::board::MachineBoard;
 use crate::machine::Machine;
@@ -33,18 +33,11 @@ impl<M: Machine> MachineBoard<M> {
     /// order of the devices and of the rules' numbers (`Unsound`), or lines that the master remembers otherwise
     /// than the devices have them (`LinesDisagree`). After an error the board is as it was. No memory is taken.
     pub fn restore<S: Source>(&mut self, source: &mut S) -> Result<(), RestoreFault>
-        ensures content { let number = M.family.number self.old.state in let left = S.left source.new in
-            IfSome (S.left source.old) (λ input. ComesTo M.family number self.new input left result) }
-        ensures takes { TakesSome (intake S.Source source.old) (intake S.Source source.new) }
+        ensures reads { RestoreReads M.family (M.family.number self.old.state)
+            (intake S.Source source.old) (intake S.Source source.new) self.new result }
         ensures same { OnErr result (self.new ≡ self.old) }
         ensures sound { M.is_sound self.new.state }
         ensures number { M.family.number self.new.state ≡ M.family.number self.old.state }
-        ensures given { let before = S.given source.old in
-            GivesWithin M.family before (S.given source.new) self.new.taken result }
-        ensures heard { let number = M.family.number self.old.state in
-            HearsBoard M.family number (S.given source.old) (S.given source.new) self.new result }
-        ensures cause { HasCause (S.faults source.old) (S.faults source.new) result }
-        ensures promise { S.promise source.new ≡ S.promise source.old }
     {
         let number = self.devices.number();
         take::<M, S>(&mut self.loader, number, source)?;
@@ -62,19 +55,10 @@ fn take<M: Machine, S: Source>(
 ) -> Result<(), RestoreFault>
     requires number { IsNumber M.family number }
     requires newest { loads loader.old ≡ M.family.set M.family.newest }
-    ensures content { let images = kept loader.new in let taken = taken_by loader.new in
-        let left = S.left source.new in
-        IfSome (S.left source.old) (λ input. Takings M.family number input left images taken result) }
-    ensures takes { TakesSome (intake S.Source source.old) (intake S.Source source.new) }
+    ensures reads { TakingsRead M.family number (intake S.Source source.old)
+        (intake S.Source source.new) (kept loader.new) (taken_by loader.new) result }
     ensures newest { loads loader.new ≡ M.family.set M.family.newest }
     ensures told { OnOk result (M.are_told (lists_in (kept loader.new))) }
-    ensures given { let before = S.given source.old in
-        GivesWithin M.family before (S.given source.new) (taken_by loader.new) result }
-    ensures heard { let images = kept loader.new in let taken = taken_by loader.new in
-        let before = S.given source.old in
-        HearsTakings M.family number before (S.given source.new) images taken result }
-    ensures cause { HasCause (S.faults source.old) (S.faults source.new) result }
-    ensures promise { S.promise source.new ≡ S.promise source.old }
 {
     match loader.load(source, Some(u32::from(number - 1))) {
         Ok(_) => Ok(()),
