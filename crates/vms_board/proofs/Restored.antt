@@ -1,10 +1,13 @@
 -- What a call that reads a board's stream says of what is told, and of what is heard.
-use Rattle.std.proofs.Common.{◌≤◌, ℕ, ◌+◌, inl, List, Option, Some, None, IfSome, Result, Ok, Err, arith}
+use Rattle.std.proofs.Common.{◌≡◌, ◌≤◌, ℕ, ◌+◌, inl, inr, List, Option, Some, None, IfSome, Result, Ok, Err, arith}
 use Rattle.vms_io.proofs.ReadingLemmas.{reads_told}
+use Rattle.vms_io.specs.Causes.{capped}
 use Rattle.vms_io.specs.Told.{Intake}
+use Rattle.vms_frames.specs.declared.fault.Refusal.{Refusal}
 use Rattle.vms_load.specs.Staging.{most_given}
-use Rattle.vms_board.specs.Comes.{ComesTo, HearsBoard, RestoreReads}
+use Rattle.vms_board.specs.Comes.{ComesTo, HearsBoard, IsRefused, RestoreReads}
 use Rattle.vms_board.specs.Family.{Family}
+use Rattle.vms_board.specs.Restoring.{Refused, Restores}
 use Rattle.vms_board.specs.Standing.{Standing}
 use Rattle.vms_board.specs.declared.restore.RestoreFault.{RestoreFault}
 use Rattle.vms_board.specs.declared.restore.RestoreFault.TheVariants as faults
@@ -13,7 +16,7 @@ nothing : (old : Option (List ℕ)) → IfSome old (λ input. Unit {0})
 nothing None = tt
 nothing (Some input) = tt
 
-module _ {S : Type 0} (f : Family S) {a b : Intake} (number : ℕ) (new : Standing S) where
+module _ {S : Type 0} (f : Family S) (number : ℕ) (new : Standing S) {a b : Intake} where
   pub content : (r : Result Unit RestoreFault) → RestoreReads f number a b new r → IfSome a.left (λ input. ComesTo f number new input b.left r)
   content (Ok u) p = reads_told (λ input left. ComesTo f number new input left (Ok u)) tt p
   content (Err (faults.Refused r)) p = reads_told (λ input left. ComesTo f number new input left (Err (faults.Refused r))) tt p
@@ -24,6 +27,14 @@ module _ {S : Type 0} (f : Family S) {a b : Intake} (number : ℕ) (new : Standi
   heard (Err (faults.Refused r)) p = record { bytes = p.bytes; octets = p.takes.octets; given = p.takes.given; says = λ more e. p.says more (inl e) }
   heard (Err faults.ReadFault) p = tt
 
+  pub back_given : RestoreReads f number a b new (Ok tt) → b.given ≡ capped (a.given + new.taken)
+  back_given p = omega (arith, p.takes.given, p.long.0)
+
   pub within : (r : Result Unit RestoreFault) → RestoreReads f number a b new r → b.given ≤ a.given + most_given (f.set f.newest)
   within (Ok u) p = omega (arith, p.takes.given, p.long.0, p.long.1)
   within (Err fault) p = omega (arith, p.takes.given, p.long)
+
+-- bytes that are refused restore to that refusal
+pub refused_is : {S : Type 0} (f : Family S) (number : ℕ) (input : List ℕ) (left : Option (List ℕ)) (r : Refusal) → IsRefused f number input left r → Restores f number input (Refused r.at r.section r.reason)
+refused_is f number input left r (inl h) = inl h.0
+refused_is f number input left r (inr h) = inr h.0

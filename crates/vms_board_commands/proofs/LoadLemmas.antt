@@ -3,7 +3,7 @@ use Rattle.std.proofs.Common.{◌≡◌, inl, inr, ℕ, ◌+◌, ◌≤◌, List
 use Rattle.arrayvec.specs.ArrayVec.{ArrayVec}
 use Rattle.std.specs.Prelude.{IsSomeAnd}
 use Rattle.dev_board.specs.declared.event.Event.{Event}
-use Rattle.vms_board.specs.Comes.{IsRefused, TakesSome}
+use Rattle.vms_board.specs.Comes.{IsRefused}
 use Rattle.vms_board.specs.Restoring.{Back, Refused, Restores}
 use Rattle.vms_board.specs.Family.{Family}
 use Rattle.vms_board_streams.proofs.BytesLaws.{one_restore, no_fault}
@@ -11,6 +11,7 @@ use Rattle.vms_board_streams.specs.Streams.{answers_to, trace_of}
 use Rattle.vms_frames.specs.declared.fault.Refusal.{Refusal}
 use Rattle.vms_io.specs.Causes.{capped}
 use Rattle.vms_io.specs.Shelves.{Held}
+use Rattle.vms_io.specs.Reading.{Takes}
 use Rattle.vms_io.specs.Told.{Intake, Outlet, Stock}
 use Rattle.vms_commands.proofs.EndLemmas.{takes_front, text_written}
 use Rattle.vms_commands.specs.Endings.{EndsAs, EndsWith, WritesAs}
@@ -113,16 +114,16 @@ module _ {S : Type 0} (kind : Family S) (well : WellFormed (kind.set kind.newest
           (text_written (trace-from m) i i' o o' s s' taken ending text held t)
 
   pub refused : (i i' : Intake) (o o' : Outlet) (s s' : Stock) (r : Refusal) (line : ArrayVec ℕ) (x : Outcome) → IfSome i.left IsBytes
-      → TakesSome i i' → IfSome i.left (λ input. IsRefused kind level input i'.left r) → line.items ≡ refused_line (kind.set kind.newest) r.at r.section r.reason
+      → {front : List ℕ} → Takes i i' front → IfSome i.left (λ input. IsRefused kind level input i'.left r) → line.items ≡ refused_line (kind.set kind.newest) r.at r.section r.reason
       → IsSomeAnd i.left (λ bytes. Loads kind level lines bytes s.held x) → EndsAs i i' o o' s s' (endings.Refused line) x
-  refused i i' o o' s s' r line x octets some comes said loads = by i.left refl octets comes loads
+  refused i i' o o' s s' r line x octets {front} some comes said loads = by i.left refl octets comes loads
     where
       ends : (bytes : List ℕ) → i.left ≡ Some bytes → IsRefusal kind bytes i'.left r x → EndsWith 1 line.items i i' x
       ends bytes e is = record {
         status_is = ap (λ (y : Outcome). y.status) is.outcome;
         parts = ap (λ (y : Outcome). y.parts) is.outcome;
         note = ap (λ (y : Outcome). y.note) is.outcome ∙ sym said;
-        taken = subst (λ (n : ℕ). TakesBytes i i' n) (sym (ap (λ (y : Outcome). y.taken) is.outcome)) (takes_front i i' some.0 bytes is.taken some.1 e is.rest is.within);
+        taken = subst (λ (n : ℕ). TakesBytes i i' n) (sym (ap (λ (y : Outcome). y.taken) is.outcome)) (takes_front i i' front bytes is.taken some e is.rest is.within);
       }
 
       by : (left : Option (List ℕ)) → i.left ≡ left → IfSome left IsBytes → IfSome left (λ input. IsRefused kind level input i'.left r)

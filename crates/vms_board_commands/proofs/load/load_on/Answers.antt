@@ -1,5 +1,6 @@
-use Rattle.std.proofs.Common.{List, ℕ, Err, IfSome, ap, ◌∙◌, subst}
+use Rattle.std.proofs.Common.{List, ℕ, Ok, Err, IfSome, ap, ◌∙◌, subst}
 use Rattle.std.proofs.KnownBytes.{Keeps-refl}
+use Rattle.vms_board.proofs.Restored.{back_given, content, heard, within}
 use Rattle.vms_board.specs.Comes.{ComesTo}
 use Rattle.vms_board.specs.declared.restore.RestoreFault.{RestoreFault}
 use Rattle.vms_io.specs.Told.{intake, outlet}
@@ -17,20 +18,21 @@ pub returns-in-Ok-clause-content : goal.returns-in-Ok-clause-content
 returns-in-Ok-clause-content g c = λ shelf shelf' o held loads.
     traced g.M.Machine.family g.met.M.Machine.stands.well g.met.M.Machine.stands.heads (g.M.Machine.family.number c.args.board.now.state) (event_lines c.args.events.now) (intake g.I.Source c.args.input.now) (intake g.I.Source c.restore.new.source)
     (outlet g.O.Sink c.args.out.now) (outlet g.O.Sink c.go_on.new.out) shelf shelf' c.restore.new.self.state c.restore.new.self.taken c.go_on.result o held
-    (g.met.I.Source.octets c.args.input.now) c.in-Ok.ensures.content c.in-Ok.ensures.given.0
+    (g.met.I.Source.octets c.args.input.now)
+    (content g.M.Machine.family (g.M.Machine.family.number c.args.board.now.state) c.restore.new.self (Ok tt) c.in-Ok.ensures.reads) (back_given g.M.Machine.family (g.M.Machine.family.number c.args.board.now.state) c.restore.new.self c.in-Ok.ensures.reads)
     (written_events g.M.Machine.family c.args.events.now c.restore.new.self.state (outlet g.O.Sink c.args.out.now) (outlet g.O.Sink c.go_on.new.out) c.go_on.result c.go_on.ensures) loads
 
 pub returns-in-Ok-clause-so : goal.returns-in-Ok-clause-so
 returns-in-Ok-clause-so g c = λ shelf.
-    traced_so shelf (draws_took c.in-Ok.ensures.takes.1) _ (outlet g.O.Sink c.args.out.now) (outlet g.O.Sink c.go_on.new.out) c.go_on.result c.go_on.ensures
+    traced_so shelf (draws_took c.in-Ok.ensures.reads.takes) _ (outlet g.O.Sink c.args.out.now) (outlet g.O.Sink c.go_on.new.out) c.go_on.result c.go_on.ensures
 
 pub returns-in-Err-Refused-clause-so : goal.returns-in-Err-Refused-clause-so
-returns-in-Err-Refused-clause-so g c = λ shelf. refused_so shelf (draws_took c.in-Err-Refused.ensures.takes.1) (outlet g.O.Sink c.args.out.now) c.refused_line.result
+returns-in-Err-Refused-clause-so g c = λ shelf. refused_so shelf (draws_took c.in-Err-Refused.ensures.reads.takes) (outlet g.O.Sink c.args.out.now) c.refused_line.result
 
 pub returns-in-Err-ReadFault-clause-so : goal.returns-in-Err-ReadFault-clause-so
 returns-in-Err-ReadFault-clause-so g c = λ shelf.
-    let cause = rw c.in-Err-ReadFault.field-0-is at c.in-Err-ReadFault.ensures.cause in
-    unread_so shelf (draws_took c.in-Err-ReadFault.ensures.takes.1) (outlet g.O.Sink c.args.out.now) cause.1
+    let reads = rw c.in-Err-ReadFault.field-0-is at c.in-Err-ReadFault.ensures.reads in
+    unread_so shelf (draws_took reads.takes) (outlet g.O.Sink c.args.out.now) reads.cause
 
 pub returns-in-Err-Refused-clause-content : goal.returns-in-Err-Refused-clause-content
 returns-in-Err-Refused-clause-content g c = λ shelf shelf' o held loads.
@@ -39,9 +41,9 @@ returns-in-Err-Refused-clause-content g c = λ shelf shelf' o held loads.
     let out = outlet g.O.Sink c.args.out.now in
     let left = g.I.Source.left c.restore.new.source in
     refused g.M.Machine.family g.met.M.Machine.stands.well g.met.M.Machine.stands.heads level (event_lines c.args.events.now) (intake g.I.Source c.args.input.now) (intake g.I.Source c.restore.new.source)
-    out out shelf shelf' r c.refused_line.result o (g.met.I.Source.octets c.args.input.now) c.in-Err-Refused.ensures.takes
+    out out shelf shelf' r c.refused_line.result o (g.met.I.Source.octets c.args.input.now) c.in-Err-Refused.ensures.reads.takes
     (subst (λ (e : RestoreFault). IfSome (g.I.Source.left c.args.input.now) (λ (b : List ℕ). ComesTo g.M.Machine.family level c.restore.new.self b left (Err e)))
-    c.in-Err-Refused.field-0-is c.in-Err-Refused.ensures.content)
+    c.in-Err-Refused.field-0-is (content g.M.Machine.family level c.restore.new.self (Err c.in-Err-Refused.field-0) c.in-Err-Refused.ensures.reads))
     (c.refused_line.ensures ∙ ap (λ (s : Set). refused_line s r.at r.section r.reason) c.set.ensures) loads
 
 pub returns-in-Err-ReadFault-clause-content : goal.returns-in-Err-ReadFault-clause-content
@@ -54,7 +56,8 @@ returns-in-Err-ReadFault-clause-content g c = λ shelf shelf' o held loads.
 pub returns-in-Ok-clause-heard : goal.returns-in-Ok-clause-heard
 returns-in-Ok-clause-heard g c = λ held.
     trace_heard g.M.Machine.family (g.M.Machine.family.number c.args.board.now.state) (event_lines c.args.events.now) held (g.I.Source.given c.args.input.now) (g.I.Source.given c.restore.new.source)
-    (outlet g.O.Sink c.args.out.now) (outlet g.O.Sink c.go_on.new.out) c.restore.new.self c.go_on.result c.in-Ok.ensures.heard
+    (outlet g.O.Sink c.args.out.now) (outlet g.O.Sink c.go_on.new.out) c.restore.new.self c.go_on.result
+    (heard g.M.Machine.family (g.M.Machine.family.number c.args.board.now.state) c.restore.new.self (Ok tt) c.in-Ok.ensures.reads)
     (written_events g.M.Machine.family c.args.events.now c.restore.new.self.state (outlet g.O.Sink c.args.out.now) (outlet g.O.Sink c.go_on.new.out) c.go_on.result c.go_on.ensures)
 
 pub returns-in-Err-Refused-clause-heard : goal.returns-in-Err-Refused-clause-heard
@@ -62,4 +65,18 @@ returns-in-Err-Refused-clause-heard g c = λ held.
     let r = c.in-Err-Refused.refusal in
     restore_heard g.M.Machine.family (g.M.Machine.family.number c.args.board.now.state) (event_lines c.args.events.now) held (g.I.Source.given c.args.input.now) (g.I.Source.given c.restore.new.source) r c.refused_line.result
     (c.refused_line.ensures ∙ ap (λ (s : Set). refused_line s r.at r.section r.reason) c.set.ensures)
-    c.restore.new.self c.in-Err-Refused.field-0 c.in-Err-Refused.field-0-is c.in-Err-Refused.ensures.heard
+    c.restore.new.self c.in-Err-Refused.field-0 c.in-Err-Refused.field-0-is
+    (heard g.M.Machine.family (g.M.Machine.family.number c.args.board.now.state) c.restore.new.self (Err c.in-Err-Refused.field-0) c.in-Err-Refused.ensures.reads)
+
+-- ---- how many bytes are given
+
+pub returns-in-Ok-clause-given : goal.returns-in-Ok-clause-given
+returns-in-Ok-clause-given g c = within g.M.Machine.family (g.M.Machine.family.number c.args.board.now.state) c.restore.new.self (Ok tt) c.in-Ok.ensures.reads
+
+pub returns-in-Err-Refused-clause-given : goal.returns-in-Err-Refused-clause-given
+returns-in-Err-Refused-clause-given g c =
+    within g.M.Machine.family (g.M.Machine.family.number c.args.board.now.state) c.restore.new.self (Err c.in-Err-Refused.field-0) c.in-Err-Refused.ensures.reads
+
+pub returns-in-Err-ReadFault-clause-given : goal.returns-in-Err-ReadFault-clause-given
+returns-in-Err-ReadFault-clause-given g c =
+    within g.M.Machine.family (g.M.Machine.family.number c.args.board.now.state) c.restore.new.self (Err c.in-Err-ReadFault.field-0) c.in-Err-ReadFault.ensures.reads
