@@ -1,7 +1,6 @@
 -- How the commands of boards end, told or not.
 use Rattle.std.specs.Prelude.{true, false, [], ◌∷◌, Result, Ok, Err}
 use Rattle.vms_io.specs.Causes.{Rose}
-use Rattle.vms_io.specs.Shelving.{Looks}
 use Rattle.vms_io.specs.Told.{Stock}
 use Rattle.vms_commands.specs.Courses.{Course, of_shelf, text_course}
 use Rattle.vms_commands.specs.declared.ending.Ending.{Ending}
@@ -26,11 +25,6 @@ NoScript shelf shelf' ending = ⊥
 abbrev pub ScriptCause : {T : Type 0} → (shelf shelf' : Stock) → Result T Ending → Type 0
 ScriptCause shelf shelf' (Ok lines) = Unit {0}
 ScriptCause shelf shelf' (Err ending) = NoScript shelf shelf' ending
-
--- the shelf was asked for a script, or how the command ends
-pub record AsksScript {T : Type 0} (shelf shelf' : Stock) (result : Result T Ending) : Type 0 where
-  pub looks : Looks shelf shelf'
-  pub cause : ScriptCause shelf shelf' result
 
 -- ---- how the commands end
 

@@ -2,12 +2,12 @@
 ghost use Rattle.std.specs.Prelude.{◌≡◌, List, None, Ok, Some, IfOk, string_bytes};
 ghost use Rattle.dev_board.specs.Laws.{AreEvents};
 ghost use Rattle.vms_io.specs.Told.{stock};
-ghost use Rattle.vms_commands.specs.StepEndings.{StepAs};
+ghost use Rattle.vms_commands.specs.StepEndings.{Asks, StepAs};
 ghost use Rattle.vms_script.specs.Grammar.{AreLines};
 ghost use Rattle.vms_script.specs.Lines.{ScriptLine};
 ghost use Rattle.vms_script.specs.Script.{Reading};
 ghost use Rattle.vms_script.specs.Views.{event_lines, lines_view, ReadsLines};
-ghost use Rattle.vms_board_commands.specs.Causes.{AsksScript, ReadCause};
+ghost use Rattle.vms_board_commands.specs.Causes.{ReadCause, ScriptCause};
 ghost use Rattle.vms_board_commands.specs.Scripts.{said_lines, script_line, script_reason_text, scripted};
 
 use dev_board::Event;
@@ -29,7 +29,7 @@ pub(crate) fn session_of<H: Shelf>(
     ensures read { StepAs (λ lines. lines_view lines.items)
         (scripted (Some level) (H.held shelf.old) name.now) result }
     ensures good { IfOk result (λ lines. AreLines (Some level) (lines_view lines.items)) }
-    ensures asks { AsksScript (stock H.Shelf shelf.old) (stock H.Shelf shelf.new) result }
+    ensures asks { Asks ScriptCause (stock H.Shelf shelf.old) (stock H.Shelf shelf.new) result }
 {
     match fetch(alloc, name, LONGEST_SCRIPT, shelf) {
         Ok(text) => had(alloc, read_script(alloc, &text, Some(level))),
@@ -46,7 +46,7 @@ pub(crate) fn events_of<H: Shelf>(
     ensures read { StepAs (λ events. event_lines events.items)
         (scripted None (H.held shelf.old) name.now) result }
     ensures good { IfOk result (λ events. AreEvents events.items) }
-    ensures asks { AsksScript (stock H.Shelf shelf.old) (stock H.Shelf shelf.new) result }
+    ensures asks { Asks ScriptCause (stock H.Shelf shelf.old) (stock H.Shelf shelf.new) result }
 {
     match fetch(alloc, name, LONGEST_SCRIPT, shelf) {
         Ok(text) => had(alloc, read_events(alloc, &text)),
@@ -59,7 +59,7 @@ fn had<T: Drop>(alloc: Global, read: Result<T, ScriptFault>) -> Result<T, Ending
     ensures read { (lines : T → List ScriptLine) (reading : Reading) → ReadsLines lines reading read
         → StepAs lines (said_lines reading) result }
     ensures same { IfOk result (λ t. read ≡ Ok t) }
-    ensures cause { ReadCause result }
+    ensures ends { ReadCause result }
 {
     match read {
         Ok(lines) => Ok(lines),

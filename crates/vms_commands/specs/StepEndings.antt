@@ -1,9 +1,10 @@
 -- How the code's steps end, beside what is meant by them.
-use Rattle.std.specs.Prelude.{◌≡◌, ℕ, Bool, true, List, Result, Ok, Err, string_bytes}
+use Rattle.std.specs.Prelude.{◌≡◌, ℕ, Bool, true, false, List, Result, Ok, Err, string_bytes}
 use Rattle.std.specs.Io.KnownBytes.{Appends}
 use Rattle.std.specs.declared.string.String.{String}
 use Rattle.std.specs.declared.alloc.Global.{Global}
 use Rattle.vms_io.specs.Causes.{Rose, AppendsPrefix}
+use Rattle.vms_io.specs.Shelving.{Looks}
 use Rattle.vms_io.specs.Told.{Outlet, Stock}
 use Rattle.vms_commands.specs.declared.ending.Ending.{Ending}
 use Rattle.vms_commands.specs.declared.ending.Ending.TheVariants.{Done, BadText, NotCompatible, WriteFault, ShelfFault, NotThere, TooLarge, NoMemory}
@@ -53,6 +54,17 @@ TextEnds (Gives text) out out' ending = WrittenAs text out out' ending
 TextEnds (Ends status line) out out' ending = EndedAs status line ending
 
 -- ---- causes, told or not
+
+-- the shelf was asked, and holds what it held; or the command ends, and this is why
+pub record Asks {T : Type 0} (Cause : Stock → Stock → Result T Ending → Type 0) (shelf shelf' : Stock) (result : Result T Ending) : Type 0 where
+  pub looks : Looks shelf shelf'
+  pub cause : Cause shelf shelf' result
+
+-- the same where it may not be asked at all, and then is untouched
+pub record AsksIf {T : Type 0} (Cause : Bool → Stock → Stock → Result T Ending → Type 0) (asks : Bool) (shelf shelf' : Stock) (result : Result T Ending) : Type 0 where
+  pub looks : Looks shelf shelf'
+  pub unasked : asks ≡ false → shelf' ≡ shelf
+  pub cause : Cause asks shelf shelf' result
 
 -- of a fetch
 abbrev pub FetchCause : {T : Type 0} → Stock → Stock → Result T Ending → Type 0

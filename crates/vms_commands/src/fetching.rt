@@ -1,5 +1,5 @@
 // Sets that the words name: fetched from the shelf, and then read.
-ghost use Rattle.std.specs.Prelude.{◌≡◌, ◌≤◌, true, false, IfOk, vec_len};
+ghost use Rattle.std.specs.Prelude.{◌≡◌, ◌≤◌, true, IfOk, vec_len};
 ghost use Rattle.vms_io.specs.Told.{stock};
 ghost use Rattle.vms_desc.specs.Described.{described};
 ghost use Rattle.vms_descfile.specs.Files.{file_said};
@@ -7,7 +7,7 @@ ghost use Rattle.vms_commands.specs.Asks.{set_asked, shipped_asked};
 ghost use Rattle.vms_commands.specs.SetWords.{shipped};
 ghost use Rattle.vms_load.specs.Kept.{loads};
 ghost use Rattle.vms_commands.specs.Fetching.{fetched, fetched_set, is_on_shelf, is_text, said_set, set_in, word_set};
-ghost use Rattle.vms_commands.specs.StepEndings.{FetchCause, HadCause, IsBad, ReadCause, StepAs, WordCause, text_of};
+ghost use Rattle.vms_commands.specs.StepEndings.{Asks, AsksIf, FetchCause, HadCause, IsBad, ReadCause, StepAs, WordCause, text_of};
 
 use crate::ending::Ending;
 use crate::notes::{not_there_line, too_large_line};
@@ -42,10 +42,7 @@ pub fn fetch<H: Shelf>(
     ensures fetched { StepAs (λ text. text.items) (fetched limit (H.held shelf.old) name.now)
         result }
     ensures within { IfOk result (λ text. vec_len text ≤ limit) }
-    ensures cause { FetchCause (stock H.Shelf shelf.old) (stock H.Shelf shelf.new) result }
-    ensures held { H.held shelf.new ≡ H.held shelf.old }
-    ensures count { H.faults shelf.old ≤ H.faults shelf.new }
-    ensures promise { H.promise shelf.new ≡ H.promise shelf.old }
+    ensures asks { Asks FetchCause (stock H.Shelf shelf.old) (stock H.Shelf shelf.new) result }
 {
     match shelf.fetch(alloc, name, limit) {
         Ok(text) => Ok(text),
@@ -72,13 +69,8 @@ pub fn fetch_set<'a, H: Shelf>(
         result }
     ensures text { IfOk result (λ text. is_text (text_of text)
         ≡ is_on_shelf (set_asked word.entry)) }
-    ensures cause { WordCause (is_on_shelf (set_asked word.entry)) (stock H.Shelf shelf.old)
-        (stock H.Shelf shelf.new) result }
-    ensures unasked { is_on_shelf (set_asked word.entry) ≡ false → stock H.Shelf shelf.new
-        ≡ stock H.Shelf shelf.old }
-    ensures held { H.held shelf.new ≡ H.held shelf.old }
-    ensures count { H.faults shelf.old ≤ H.faults shelf.new }
-    ensures promise { H.promise shelf.new ≡ H.promise shelf.old }
+    ensures asks { AsksIf WordCause (is_on_shelf (set_asked word.entry))
+        (stock H.Shelf shelf.old) (stock H.Shelf shelf.new) result }
 {
     match word {
         SetWord::Shipped(set) => Ok(SetText::Shipped(set)),
@@ -92,7 +84,7 @@ pub fn fetch_set<'a, H: Shelf>(
 /// The set that was fetched, or how the command ends where its file is no set.
 pub fn read_fetched(alloc: Global, text: &SetText) -> Result<DescSet, Ending>
     ensures read { StepAs described (set_in (text_of text.now)) result }
-    ensures cause { ReadCause (is_text (text_of text.now)) result }
+    ensures ends { ReadCause (is_text (text_of text.now)) result }
 {
     match text {
         SetText::Shipped(set) => match make_shipped(alloc, *set) {
@@ -116,13 +108,8 @@ fn make_shipped(alloc: Global, set: ShippedSet) -> Result<DescSet, NoMemory>
 /// A loader of the set that a word names, or how the command ends where it can't be had.
 pub fn loader_of<H: Shelf>(alloc: Global, word: SetWord, shelf: &mut H) -> Result<Loader, Ending>
     ensures had { StepAs loads (word_set (H.held shelf.old) (set_asked word.entry)) result }
-    ensures cause { HadCause (is_on_shelf (set_asked word.entry)) (stock H.Shelf shelf.old)
-        (stock H.Shelf shelf.new) result }
-    ensures unasked { is_on_shelf (set_asked word.entry) ≡ false → stock H.Shelf shelf.new
-        ≡ stock H.Shelf shelf.old }
-    ensures held { H.held shelf.new ≡ H.held shelf.old }
-    ensures count { H.faults shelf.old ≤ H.faults shelf.new }
-    ensures promise { H.promise shelf.new ≡ H.promise shelf.old }
+    ensures asks { AsksIf HadCause (is_on_shelf (set_asked word.entry))
+        (stock H.Shelf shelf.old) (stock H.Shelf shelf.new) result }
 {
     let text = fetch_set(alloc, word, shelf)?;
     let set = read_fetched(alloc, &text)?;
@@ -135,7 +122,7 @@ pub fn loader_of<H: Shelf>(alloc: Global, word: SetWord, shelf: &mut H) -> Resul
 // The set that a description file says.
 fn read_file(alloc: Global, name: &str, text: &[u8]) -> Result<DescSet, Ending>
     ensures read { StepAs described (said_set name.now (file_said text.now)) result }
-    ensures cause { ReadCause true result }
+    ensures ends { ReadCause true result }
 {
     match read_set(alloc, text) {
         Ok(set) => Ok(set),

@@ -33,12 +33,12 @@ returns-in-Err-clause-read g c =
 
 pub returns-in-Ok-clause-asks : goal.returns-in-Ok-clause-asks
 returns-in-Ok-clause-asks g c = record {
-  looks = record { held = c.in-Ok.ensures.held; later = c.in-Ok.ensures.count; promise = c.in-Ok.ensures.promise };
-  cause = read_caused (Vec Event Global) (stock g.H.Shelf c.args.shelf.now) (stock g.H.Shelf c.fetch.new.shelf) c.had.result c.had.ensures.cause;
+  looks = c.in-Ok.ensures.asks.looks;
+  cause = read_caused (Vec Event Global) (stock g.H.Shelf c.args.shelf.now) (stock g.H.Shelf c.fetch.new.shelf) c.had.result c.had.ensures.ends;
 }
 
 pub returns-in-Err-clause-asks : goal.returns-in-Err-clause-asks
 returns-in-Err-clause-asks g c = record {
-  looks = record { held = c.in-Err.ensures.held; later = c.in-Err.ensures.count; promise = c.in-Err.ensures.promise };
-  cause = no_script (stock g.H.Shelf c.args.shelf.now) (stock g.H.Shelf c.fetch.new.shelf) c.in-Err.ending c.in-Err.ensures.cause;
+  looks = c.in-Err.ensures.asks.looks;
+  cause = no_script (stock g.H.Shelf c.args.shelf.now) (stock g.H.Shelf c.fetch.new.shelf) c.in-Err.ending c.in-Err.ensures.asks.cause;
 }

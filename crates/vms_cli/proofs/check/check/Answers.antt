@@ -21,9 +21,9 @@ returns-clause-content g c = λ input o few has.
     let out = outlet g.O.Sink c.args.out.now in
     let out' = outlet g.O.Sink c.check_texts.new.out in
     let second : StepAs text_of (fetched_set held new) (Ok c.in-Ok-fetch_set.text) =
-    subst (λ (h : Option Held). StepAs text_of (fetched_set h new) (Ok c.in-Ok-fetch_set.text)) c.in-Ok.ensures.held c.in-Ok-fetch_set.ensures.fetched in
+    subst (λ (h : Option Held). StepAs text_of (fetched_set h new) (Ok c.in-Ok-fetch_set.text)) c.in-Ok.ensures.asks.looks.held c.in-Ok-fetch_set.ensures.fetched in
     text_ends (checked held old new) input out out' (stock g.H.Shelf c.args.shelf.now) (stock g.H.Shelf c.fetch_set-2.new.shelf) c.check_texts.result o few
-    (c.in-Ok-fetch_set.ensures.held ∙ c.in-Ok.ensures.held)
+    (c.in-Ok-fetch_set.ensures.asks.looks.held ∙ c.in-Ok.ensures.asks.looks.held)
     (compare_quiet _ out out' c.check_texts.result c.check_texts.ensures.so.cause)
     (regroup (both (fetched_set held old) (fetched_set held new)) sets_in compared out out' c.check_texts.result
     (both_give text_of (λ texts. next (sets_in texts) compared) out out' c.check_texts.result (fetched_set held old) (fetched_set held new)
@@ -37,9 +37,9 @@ returns-in-Err-fetch_set-clause-content g c = λ input o few has.
     let out = outlet g.O.Sink c.args.out.now in
     let ending = c.in-Err-fetch_set.ending in
     let second : StepAs text_of (fetched_set held new) (Err ending) =
-    subst (λ (h : Option Held). StepAs text_of (fetched_set h new) (Err ending)) c.in-Ok.ensures.held c.in-Err-fetch_set.ensures.fetched in
+    subst (λ (h : Option Held). StepAs text_of (fetched_set h new) (Err ending)) c.in-Ok.ensures.asks.looks.held c.in-Err-fetch_set.ensures.fetched in
     text_ends (checked held old new) input out out (stock g.H.Shelf c.args.shelf.now) (stock g.H.Shelf c.fetch_set-2.new.shelf) ending o few
-    (c.in-Err-fetch_set.ensures.held ∙ c.in-Ok.ensures.held) (quiet_same out ending)
+    (c.in-Err-fetch_set.ensures.asks.looks.held ∙ c.in-Ok.ensures.asks.looks.held) (quiet_same out ending)
     (regroup (both (fetched_set held old) (fetched_set held new)) sets_in compared out out ending
     (second_ends text_of (λ texts. next (sets_in texts) compared) out out ending (fetched_set held old) (fetched_set held new)
     c.in-Ok.text c.in-Ok.ensures.fetched second)) has
@@ -52,7 +52,7 @@ returns-in-Err-clause-content g c = λ input o few has.
     let out = outlet g.O.Sink c.args.out.now in
     let ending = c.in-Err.ending in
     text_ends (checked held old new) input out out (stock g.H.Shelf c.args.shelf.now) (stock g.H.Shelf c.fetch_set.new.shelf) ending o few
-    c.in-Err.ensures.held (quiet_same out ending)
+    c.in-Err.ensures.asks.looks.held (quiet_same out ending)
     (regroup (both (fetched_set held old) (fetched_set held new)) sets_in compared out out ending
     (first_ends text_of (λ texts. next (sets_in texts) compared) out out ending (fetched_set held old) (fetched_set held new) c.in-Err.ensures.fetched)) has
 

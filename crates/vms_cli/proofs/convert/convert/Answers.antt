@@ -17,7 +17,7 @@ returns-in-Ok-read_fetched-clause-content g c = λ o has.
     let word = set_asked c.args.set in
     let set = c.in-Ok-read_fetched.set in
     let had = then_as text_of described set_in (fetched_set held word) c.in-Ok.text (Ok set) c.in-Ok.ensures.fetched c.in-Ok-read_fetched.ensures.read in
-    c.convert_to.ensures.content (stock g.H.Shelf c.args.shelf.now) (stock g.H.Shelf c.fetch_set.new.shelf) o c.in-Ok.ensures.held
+    c.convert_to.ensures.content (stock g.H.Shelf c.args.shelf.now) (stock g.H.Shelf c.fetch_set.new.shelf) o c.in-Ok.ensures.asks.looks.held
     (had_by described (converts_after left held) (word_set held word) set o had (converts_next left held (word_set held word) o has))
 
 pub returns-in-Ok-read_fetched-clause-given : goal.returns-in-Ok-read_fetched-clause-given
@@ -45,7 +45,7 @@ returns-in-Err-clause-content g c = λ o has.
     let out = outlet g.O.Sink c.args.out.now in
     let ending = c.in-Err.ending in
     ended_by described (converts_after left held) (word_set held word) (intake g.I.Source c.args.input.now) out out (stock g.H.Shelf c.args.shelf.now)
-    (stock g.H.Shelf c.fetch_set.new.shelf) ending o (g.met.I.Source.counted c.args.input.now) c.in-Err.ensures.held (quiet_same out ending)
+    (stock g.H.Shelf c.fetch_set.new.shelf) ending o (g.met.I.Source.counted c.args.input.now) c.in-Err.ensures.asks.looks.held (quiet_same out ending)
     (first_err text_of described set_in (fetched_set held word) ending c.in-Err.ensures.fetched) (converts_next left held (word_set held word) o has)
 
 pub returns-clause-content : goal.returns-clause-content
@@ -57,7 +57,7 @@ returns-clause-content g c = λ o has.
     let ending = c.in-Err-read_fetched.ending in
     let had = then_as text_of described set_in (fetched_set held word) c.in-Ok.text (Err ending) c.in-Ok.ensures.fetched c.in-Err-read_fetched.ensures.read in
     ended_by described (converts_after left held) (word_set held word) (intake g.I.Source c.args.input.now) out out (stock g.H.Shelf c.args.shelf.now)
-    (stock g.H.Shelf c.fetch_set.new.shelf) ending o (g.met.I.Source.counted c.args.input.now) c.in-Ok.ensures.held (quiet_same out ending) had
+    (stock g.H.Shelf c.fetch_set.new.shelf) ending o (g.met.I.Source.counted c.args.input.now) c.in-Ok.ensures.asks.looks.held (quiet_same out ending) had
     (converts_next left held (word_set held word) o has)
 
 -- ---- what it touches
@@ -66,7 +66,7 @@ pub returns-in-Ok-read_fetched-clause-so : goal.returns-in-Ok-read_fetched-claus
 returns-in-Ok-read_fetched-clause-so g c =
     let fetched = c.in-Ok.ensures in
     let b = is_on_shelf (set_asked c.args.set) in
-    behind_so b c.convert_to.result fetched.unasked (record { held = fetched.held; later = fetched.count; promise = fetched.promise })
+    behind_so b c.convert_to.result fetched.asks.unasked fetched.asks.looks
     (c.convert_to.ensures.so (stock g.H.Shelf c.fetch_set.new.shelf) b)
 
 pub returns-in-Err-clause-so : goal.returns-in-Err-clause-so
@@ -75,8 +75,8 @@ returns-in-Err-clause-so g c =
     let b = is_on_shelf (set_asked c.args.set) in
     let s = stock g.H.Shelf c.args.shelf.now in
     let s' = stock g.H.Shelf c.fetch_set.new.shelf in
-    unset_so (intake g.I.Source c.args.input.now) (outlet g.O.Sink c.args.out.now) s s' (record { held = fetched.held; later = fetched.count; promise = fetched.promise })
-    b fetched.unasked c.in-Err.ending (unfetched b s s' c.in-Err.ending fetched.cause)
+    unset_so (intake g.I.Source c.args.input.now) (outlet g.O.Sink c.args.out.now) s s' fetched.asks.looks
+    b fetched.asks.unasked c.in-Err.ending (unfetched b s s' c.in-Err.ending fetched.asks.cause)
 
 pub returns-clause-so : goal.returns-clause-so
 returns-clause-so g c =
@@ -85,5 +85,5 @@ returns-clause-so g c =
     let s = stock g.H.Shelf c.args.shelf.now in
     let s' = stock g.H.Shelf c.fetch_set.new.shelf in
     let ending = c.in-Err-read_fetched.ending in
-    unset_so (intake g.I.Source c.args.input.now) (outlet g.O.Sink c.args.out.now) s s' (record { held = fetched.held; later = fetched.count; promise = fetched.promise })
-    b fetched.unasked ending (unread b s s' ending (subst (λ (x : Bool). ReadCause {T = ℕ} x (Err ending)) fetched.text c.in-Err-read_fetched.ensures.cause))
+    unset_so (intake g.I.Source c.args.input.now) (outlet g.O.Sink c.args.out.now) s s' fetched.asks.looks
+    b fetched.asks.unasked ending (unread b s s' ending (subst (λ (x : Bool). ReadCause {T = ℕ} x (Err ending)) fetched.text c.in-Err-read_fetched.ensures.ends))

@@ -26,9 +26,9 @@ returns-in-Ok-fetch-clause-content g c = λ input o few has.
     let out' = outlet g.O.Sink c.pack_texts.new.out in
     let ending = c.pack_texts.result in
     let second : StepAs bytes (fetched longest_file held name) (Ok c.in-Ok-fetch.text) =
-    subst (λ (h : Option Held). StepAs bytes (fetched longest_file h name) (Ok c.in-Ok-fetch.text)) c.in-Ok.ensures.held c.in-Ok-fetch.ensures.fetched in
+    subst (λ (h : Option Held). StepAs bytes (fetched longest_file h name) (Ok c.in-Ok-fetch.text)) c.in-Ok.ensures.asks.looks.held c.in-Ok-fetch.ensures.fetched in
     text_ends (packs held word name) input out out' (stock g.H.Shelf c.args.shelf.now) (stock g.H.Shelf c.fetch.new.shelf) ending o few
-    (c.in-Ok-fetch.ensures.held ∙ c.in-Ok.ensures.held) (write_quiet out out' ending c.pack_texts.ensures.so.cause)
+    (c.in-Ok-fetch.ensures.asks.looks.held ∙ c.in-Ok.ensures.asks.looks.held) (write_quiet out out' ending c.pack_texts.ensures.so.cause)
     (texts_end held word name out out' ending text_of bytes c.in-Ok.text c.in-Ok-fetch.text c.in-Ok.ensures.fetched second
     (subst (λ (l : List ℕ). TextEnds (packed_texts (record { set = text_of c.in-Ok.text; values = l })) out out' ending) c.deref.ensures.value
     c.pack_texts.ensures.ends)) has
@@ -41,7 +41,7 @@ returns-in-Err-clause-content g c = λ input o few has.
     let out = outlet g.O.Sink c.args.out.now in
     let ending = c.in-Err.ending in
     text_ends (packs held word name) input out out (stock g.H.Shelf c.args.shelf.now) (stock g.H.Shelf c.fetch_set.new.shelf) ending o few
-    c.in-Err.ensures.held (quiet_same out ending) (set_ends held word name out out ending text_of c.in-Err.ensures.fetched) has
+    c.in-Err.ensures.asks.looks.held (quiet_same out ending) (set_ends held word name out out ending text_of c.in-Err.ensures.fetched) has
 
 pub returns-clause-content : goal.returns-clause-content
 returns-clause-content g c = λ input o few has.
@@ -51,9 +51,9 @@ returns-clause-content g c = λ input o few has.
     let out = outlet g.O.Sink c.args.out.now in
     let ending = c.in-Err-fetch.ending in
     let second : StepAs bytes (fetched longest_file held name) (Err ending) =
-    subst (λ (h : Option Held). StepAs bytes (fetched longest_file h name) (Err ending)) c.in-Ok.ensures.held c.in-Err-fetch.ensures.fetched in
+    subst (λ (h : Option Held). StepAs bytes (fetched longest_file h name) (Err ending)) c.in-Ok.ensures.asks.looks.held c.in-Err-fetch.ensures.fetched in
     text_ends (packs held word name) input out out (stock g.H.Shelf c.args.shelf.now) (stock g.H.Shelf c.fetch.new.shelf) ending o few
-    (c.in-Err-fetch.ensures.held ∙ c.in-Ok.ensures.held) (quiet_same out ending)
+    (c.in-Err-fetch.ensures.asks.looks.held ∙ c.in-Ok.ensures.asks.looks.held) (quiet_same out ending)
     (values_end held word name out out ending text_of bytes c.in-Ok.text c.in-Ok.ensures.fetched second) has
 
 pub returns-in-Ok-fetch-clause-so : goal.returns-in-Ok-fetch-clause-so

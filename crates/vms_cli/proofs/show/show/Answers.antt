@@ -5,7 +5,7 @@ use Rattle.vms_load.specs.Kept.{loads}
 use Rattle.vms_commands.specs.Asks.{set_asked}
 use Rattle.vms_commands.specs.Fetching.{is_on_shelf, word_set}
 use Rattle.vms_io.proofs.WritingLemmas.{serves_none}
-use Rattle.vms_commands.proofs.CourseLemmas.{draws_none}
+use Rattle.vms_commands.proofs.CourseLemmas.{draws_none, looks_reach}
 use Rattle.vms_commands.proofs.EndLemmas.{quiet_same}
 use Rattle.vms_commands.proofs.StepLemmas.{ended_by, had_by}
 use Rattle.vms_board_commands.proofs.HeardLemmas.{given_so, heard_so, other_heard}
@@ -20,21 +20,21 @@ use Rattle.vms_cli.proofs.show.show.Goals as goal
 pub returns-in-Ok-clause-content : goal.returns-in-Ok-clause-content
 returns-in-Ok-clause-content g c = λ o has.
     let held = g.H.Shelf.held c.args.shelf.now in
-    c.show_stream.ensures.content (stock g.H.Shelf c.args.shelf.now) (stock g.H.Shelf c.loader_of.new.shelf) o c.in-Ok.ensures.held
+    c.show_stream.ensures.content (stock g.H.Shelf c.args.shelf.now) (stock g.H.Shelf c.loader_of.new.shelf) o c.in-Ok.ensures.asks.looks.held
     (had_by loads (shows_under (g.I.Source.left c.args.input.now) held) (word_set held (set_asked c.args.set)) c.in-Ok.loader o c.in-Ok.ensures.had has)
 
 pub returns-in-Ok-clause-so : goal.returns-in-Ok-clause-so
 returns-in-Ok-clause-so g c =
     let e = c.show_stream.ensures in
-    let had = c.in-Ok.ensures in
+    let had = c.in-Ok.ensures.asks in
     show_ends (intake g.I.Source c.args.input.now) (intake g.I.Source c.show_stream.new.input) (outlet g.O.Sink c.args.out.now) (outlet g.O.Sink c.show_stream.new.out)
     (stock g.H.Shelf c.args.shelf.now) (stock g.H.Shelf c.loader_of.new.shelf) (is_on_shelf (set_asked c.args.set)) c.show_stream.result (inr e.so.cause)
     (record {
-      held = had.held;
+      held = had.looks.held;
       unasked = had.unasked;
       draws = e.so.draws;
       serves = e.so.serves;
-      reaches = record { later = had.count; promise = had.promise };
+      reaches = looks_reach had.looks;
     })
 
 pub returns-in-Ok-clause-given : goal.returns-in-Ok-clause-given
@@ -49,21 +49,21 @@ returns-in-Err-clause-content g c = λ o has.
     let out = outlet g.O.Sink c.args.out.now in
     ended_by loads (shows_under (g.I.Source.left c.args.input.now) held) (word_set held (set_asked c.args.set))
     (intake g.I.Source c.args.input.now) out out (stock g.H.Shelf c.args.shelf.now) (stock g.H.Shelf c.loader_of.new.shelf)
-    c.in-Err.ending o (g.met.I.Source.counted c.args.input.now) c.in-Err.ensures.held (quiet_same out c.in-Err.ending) c.in-Err.ensures.had has
+    c.in-Err.ending o (g.met.I.Source.counted c.args.input.now) c.in-Err.ensures.asks.looks.held (quiet_same out c.in-Err.ending) c.in-Err.ensures.had has
 
 pub returns-in-Err-clause-so : goal.returns-in-Err-clause-so
 returns-in-Err-clause-so g c =
-    let had = c.in-Err.ensures in
+    let had = c.in-Err.ensures.asks in
     let input = intake g.I.Source c.args.input.now in
     let out = outlet g.O.Sink c.args.out.now in
     show_ends input input out out (stock g.H.Shelf c.args.shelf.now) (stock g.H.Shelf c.loader_of.new.shelf) (is_on_shelf (set_asked c.args.set)) c.in-Err.ending
     (inl (had.cause, refl, Keeps-refl out.written))
     (record {
-      held = had.held;
+      held = had.looks.held;
       unasked = had.unasked;
       draws = draws_none input;
       serves = serves_none out;
-      reaches = record { later = had.count; promise = had.promise };
+      reaches = looks_reach had.looks;
     })
 
 pub returns-in-Err-clause-given : goal.returns-in-Err-clause-given
@@ -86,4 +86,4 @@ returns-in-Err-clause-heard g c =
     let given = g.I.Source.given c.args.input.now in
     let out = outlet g.O.Sink c.args.out.now in
     other_heard Set (word_set held (set_asked c.args.set)) (ShowsWell held) held given given out out c.in-Err.ending
-    (set_other (is_on_shelf (set_asked c.args.set)) (stock g.H.Shelf c.args.shelf.now) (stock g.H.Shelf c.loader_of.new.shelf) c.in-Err.ending c.in-Err.ensures.cause)
+    (set_other (is_on_shelf (set_asked c.args.set)) (stock g.H.Shelf c.args.shelf.now) (stock g.H.Shelf c.loader_of.new.shelf) c.in-Err.ending c.in-Err.ensures.asks.cause)
