@@ -1,6 +1,7 @@
 // The top call.
-ghost use Rattle.std.specs.Prelude.{◌≡◌, ◌≤◌, None};
+ghost use Rattle.std.specs.Prelude.{◌≡◌, None};
 ghost use Rattle.vms_io.specs.Told.{intake, outlet, stock};
+ghost use Rattle.vms_io.specs.Writing.{Serves};
 ghost use Rattle.vms_cli.specs.Answers.{HasOutcome, Answers};
 ghost use Rattle.vms_cli.specs.Commands.{asked_of};
 ghost use Rattle.vms_commands.specs.Endings.{EndsAs, Tells};
@@ -74,8 +75,7 @@ pub fn vmstate<I: Source, O: Sink, N: Sink, H: Shelf>(
 /// told.
 pub fn tell<N: Sink>(notes: &mut N, ending: &Ending) -> u8
     ensures tells { Tells (outlet N.Sink notes.old) (outlet N.Sink notes.new) ending.now result }
-    ensures count { N.faults notes.old ≤ N.faults notes.new }
-    ensures promise { N.promise notes.new ≡ N.promise notes.old }
+    ensures serves { Serves (outlet N.Sink notes.old) (outlet N.Sink notes.new) }
 {
     if let Ending::Done = ending {
         return 0;
