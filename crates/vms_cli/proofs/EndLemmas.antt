@@ -1,6 +1,7 @@
 -- From how a call ends and why to what it answers.
-use Rattle.std.proofs.Common.{◌≡◌, ℕ, ◌≤◌, List}
+use Rattle.std.proofs.Common.{ℕ, List}
 use Rattle.vms_io.specs.Told.{Intake, Outlet, Stock}
+use Rattle.vms_io.specs.Writing.{Serves}
 use Rattle.vms_commands.specs.declared.ending.Ending.{Ending}
 use Rattle.vms_commands.specs.Endings.{EndsAs, Tells}
 use Rattle.vms_commands.specs.Outcomes.{Outcome, DoesOrStops}
@@ -16,8 +17,8 @@ use Rattle.vms_cli.proofs.VerdictLaws.{verdict_so}
 module _ (i i' : Intake) (o o' n n' : Outlet) (s s' : Stock) where
   -- what the call answers
   pub answers : (words : List (List ℕ)) (e : Ending) (status : ℕ) → ((x : Outcome) → HasOutcome (asked_of words) i.left s.held x → EndsAs i i' o o' s s' e x)
-      → RunsSo i i' o o' s s' (asked_of words) e → Tells n n' e status → n.faults ≤ n'.faults → n'.promise ≡ n.promise → Answers words status (around i o n s) (around i' o' n' s')
-  answers words e status content run t count promise =
+      → RunsSo i i' o o' s s' (asked_of words) e → Tells n n' e status → Serves n n' → Answers words status (around i o n s) (around i' o' n' s')
+  answers words e status content run t serves =
       let so = run.so in
       let outcome : (x : Outcome) → HasOutcome (asked_of words) i.left s.held x → DoesOrStops status (around i o n s) (around i' o' n' s') x =
       λ x has. outcome_so i i' o o' n n' s s' e status x (content x has) (caused_so i i' o o' s s' (asked_of words) e so) t in
@@ -27,6 +28,5 @@ module _ (i i' : Intake) (o o' n n' : Outlet) (s s' : Stock) where
         verdict = verdict_so (asked_of words) i.left s.held status (around i o n s) (around i' o' n' s') outcome;
         upgrade = upgrade_so (asked_of words) status (around i o n s) (around i' o' n' s') outcome;
         continuation = continues_so (asked_of words) status (around i o n s) (around i' o' n' s') outcome;
-        counts = record { input = so.draws.later; out = so.serves.later; notes = count; shelf = so.reaches.later };
-        promises = record { input = so.draws.promise; out = so.serves.promise; notes = promise; shelf = so.reaches.promise };
+        stands = record { input = so.draws; out = so.serves; notes = serves; shelf = so.reaches };
       }

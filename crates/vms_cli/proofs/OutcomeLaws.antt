@@ -18,7 +18,8 @@ use Rattle.vms_check.specs.declared.mismatch.Mismatch.{Mismatch}
 use Rattle.vms_spec.specs.Sets.{Set}
 use Rattle.vms_commands.specs.Fetching.{longest_file, named_sets, word_set}
 use Rattle.vms_commands.specs.Lines.{bad_words, read_fault, write_fault, shelf_fault, out_of_memory, refused_line}
-use Rattle.vms_commands.specs.Outcomes.{Part, Outcome, ComesTo, FailsToStore, TellsShelfFault, DoesOrStops, PromisesStay, done, ended, text_of, text_begun, Outside, HasPart}
+use Rattle.vms_commands.specs.Courses.{Stands}
+use Rattle.vms_commands.specs.Outcomes.{Part, Outcome, ComesTo, FailsToStore, TellsShelfFault, DoesOrStops, done, ended, text_of, text_begun, Outside, HasPart}
 use Rattle.vms_commands.specs.SetWords.{SetWord}
 use Rattle.vms_commands.specs.Steps.{Step, Untold, Gives, Ends, Both, HasText, next}
 use Rattle.vms_commands.proofs.FileSets.{FitStep, fit_word}
@@ -296,10 +297,10 @@ notes_short status old new o none room same keeps why = by why
     by (inr (inr (inr (inl shelf)))) = line shelf_fault (omega arith) shelf.2
     by (inr (inr (inr (inr memory)))) = line out_of_memory (omega arith) memory.1
 
-module _ (status : ℕ) (old new : Outside) (o : Outcome) (none : o.note ≡ []) (ample : IsAmple old o) (kept : PromisesKept new) (stay : PromisesStay old new) where
+module _ (status : ℕ) (old new : Outside) (o : Outcome) (none : o.note ≡ []) (ample : IsAmple old o) (kept : PromisesKept new) (stay : Stands old new) where
   out_short : (text : List ℕ) → length text ≤ length (text_of o.parts) → Appends old.out.written new.out.written text → new.out.faults ≡ 0
   out_short text short appends =
-      room_kept old.out.promise new.out.promise old.out.written new.out.written new.out.faults (length (text_of o.parts)) text ample.out short appends stay.out kept.out
+      room_kept old.out.promise new.out.promise old.out.written new.out.written new.out.faults (length (text_of o.parts)) text ample.out short appends stay.out.promise kept.out
 
   come_short : ComesTo old.out new.out old.shelf new.shelf o.parts ⊎ (TellsShelfFault status old new × FailsToStore old.out new.out old.shelf new.shelf o.parts) → new.out.faults ≡ 0
   come_short (inl comes) = out_short (text_begun o.parts comes.begun comes.bytes) (begun_short o.parts comes.begun comes.bytes) comes.text
@@ -307,23 +308,23 @@ module _ (status : ℕ) (old new : Outside) (o : Outcome) (none : o.note ≡ [])
 
   none-rises : new.out.faults ≡ 0 → new.notes.faults ≡ 0 → NoneRises old new
   none-rises out notes = record {
-    input = never_rose _ _ (kept.input (stay.input ∙ ample.input));
+    input = never_rose _ _ (kept.input (stay.input.promise ∙ ample.input));
     out = never_rose _ _ out;
     notes = never_rose _ _ notes;
-    shelf = never_rose _ _ (kept.shelf (stay.shelf ∙ ample.shelf));
+    shelf = never_rose _ _ (kept.shelf (stay.shelf.promise ∙ ample.shelf));
   }
 
   rises_never : DoesOrStops status old new o → NoneRises old new
   rises_never (inl does) =
       none-rises (out_short (text_of o.parts) (omega arith) does.text)
-      (room_kept old.notes.promise new.notes.promise old.notes.written new.notes.written new.notes.faults 14 o.note ample.notes (omega (arith, ap length none)) does.note stay.notes kept.notes)
+      (room_kept old.notes.promise new.notes.promise old.notes.written new.notes.written new.notes.faults 14 o.note ample.notes (omega (arith, ap length none)) does.note stay.notes.promise kept.notes)
   rises_never (inr stops) =
-      none-rises (come_short stops.come) (notes_short status old new o none ample.notes stay.notes kept.notes stops.why)
+      none-rises (come_short stops.come) (notes_short status old new o none ample.notes stay.notes.promise kept.notes stops.why)
 
 pub ample_holds : AmpleLaw
 ample_holds words status old new can ample kept a =
     let d = can_be (asked_of words) old.input.left old.shelf.held (words_ask words) can in
-    rises_never status old new d.outcome d.note (ample d.outcome d.is) kept a.promises (a.outcome d.outcome d.is)
+    rises_never status old new d.outcome d.note (ample d.outcome d.is) kept a.stands (a.outcome d.outcome d.is)
 
 comes : (status : ℕ) (old new : Outside) (o : Outcome) → o.status ≡ 0 → NoneRises old new → DoesOrStops status old new o → (status ≡ 0) ⊎ (status ≡ 10)
 comes status old new o done_so never (inl does) = inl (does.same ∙ done_so)

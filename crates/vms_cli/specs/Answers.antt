@@ -1,9 +1,10 @@
 -- What a call answers.
 use Rattle.std.specs.Prelude.{◌≡◌, ℕ, List, Option, Some, None, IsSomeAnd}
 use Rattle.vms_io.specs.Shelves.{Held}
+use Rattle.vms_commands.specs.Courses.{Stands}
 use Rattle.vms_commands.specs.Fetching.{named_sets, word_set}
 use Rattle.vms_commands.specs.Lines.{bad_words}
-use Rattle.vms_commands.specs.Outcomes.{Outcome, done, ended, Outside, DoesOrStops, CountsStand, PromisesStay}
+use Rattle.vms_commands.specs.Outcomes.{Outcome, done, ended, Outside, DoesOrStops}
 use Rattle.vms_commands.specs.Steps.{Step, HasText}
 use Rattle.vms_board.specs.Clock.{clock}
 use Rattle.vms_board.specs.Isa.{isa}
@@ -55,5 +56,5 @@ pub record Answers (words : List (List ℕ)) (status : ℕ) (old new : Outside) 
   pub upgrade : Upgrade (asked_of words) status old new
   -- and the stream of a board is loaded as that board going on
   pub continuation : Continuation (asked_of words) status old new
-  pub counts : CountsStand old new
-  pub promises : PromisesStay old new
+  -- and no fault is forgotten, and each promise stays
+  pub stands : Stands old new

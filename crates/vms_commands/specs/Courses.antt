@@ -9,6 +9,7 @@ use Rattle.vms_io.specs.Writing.{Serves}
 use Rattle.vms_commands.specs.declared.ending.Ending.{Ending}
 use Rattle.vms_commands.specs.declared.ending.Ending.TheVariants.{ReadFault, WriteFault, ShelfFault}
 use Rattle.vms_commands.specs.Endings.{status_of}
+use Rattle.vms_commands.specs.Outcomes.{Outside}
 
 -- the status is one of these
 abbrev pub is_among : List ℕ → ℕ → Bool
@@ -36,6 +37,13 @@ text_course own takes asks = record { statuses = own ++ of_shelf asks; writes = 
 pub record Draws (old new : Intake) : Type 0 where
   pub later : old.faults ≤ new.faults
   pub promise : new.promise ≡ old.promise
+
+-- of the whole outside: no fault is forgotten, and each promise stays
+pub record Stands (old new : Outside) : Type 0 where
+  pub input : Draws old.input new.input
+  pub out : Serves old.out new.out
+  pub notes : Serves old.notes new.notes
+  pub shelf : Reaches old.shelf new.shelf
 
 module _ (i i' : Intake) (o o' : Outlet) (s s' : Stock) where
   -- a fault only where its count rose

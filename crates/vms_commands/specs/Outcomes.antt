@@ -140,17 +140,3 @@ pub record Stops (status : ℕ) (old new : Outside) (o : Outcome) : Type 0 where
 -- the call does the outcome, or stops on the way
 abbrev pub DoesOrStops : ℕ → Outside → Outside → Outcome → Type 0
 DoesOrStops status old new o = Does status old new o ⊎ Stops status old new o
-
--- counts of faults never fall
-pub record CountsStand (old new : Outside) : Type 0 where
-  pub input : old.input.faults ≤ new.input.faults
-  pub out : old.out.faults ≤ new.out.faults
-  pub notes : old.notes.faults ≤ new.notes.faults
-  pub shelf : old.shelf.faults ≤ new.shelf.faults
-
--- promises stay
-pub record PromisesStay (old new : Outside) : Type 0 where
-  pub input : new.input.promise ≡ old.input.promise
-  pub out : new.out.promise ≡ old.out.promise
-  pub notes : new.notes.promise ≡ old.notes.promise
-  pub shelf : new.shelf.promise ≡ old.shelf.promise
