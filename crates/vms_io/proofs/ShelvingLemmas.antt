@@ -1,7 +1,7 @@
 -- Calls over a shelf, one after the other, and where what it holds is told.
 use Rattle.std.proofs.Common.{◌≡◌, List, ℕ, Option, Some, None, refl, ◌∙◌, subst, arith}
 use Rattle.vms_io.specs.Shelves.{Held, IfToldBoth, PutsUnder}
-use Rattle.vms_io.specs.Shelving.{Looks, Reaches, Stores}
+use Rattle.vms_io.specs.Shelving.{Reaches, Stores}
 use Rattle.vms_io.specs.Told.{Stock}
 
 pub reaches_none : (a : Stock) → Reaches a a
@@ -9,12 +9,6 @@ reaches_none a = record { later = omega arith; promise = refl }
 
 pub reaches_both : {a b c : Stock} → Reaches a b → Reaches b c → Reaches a c
 reaches_both {a} {b} {c} p q = record { later = omega (arith, p.later, q.later); promise = q.promise ∙ p.promise }
-
-pub looks_none : (a : Stock) → Looks a a
-looks_none a = record { held = refl; later = omega arith; promise = refl }
-
-pub looks_both : {a b c : Stock} → Looks a b → Looks b c → Looks a c
-looks_both {a} {b} {c} p q = record { held = q.held ∙ p.held; later = omega (arith, p.later, q.later); promise = q.promise ∙ p.promise }
 
 pub looks_reaches : {a b : Stock} → Looks a b → Reaches a b
 looks_reaches p = record { later = p.later; promise = p.promise }

@@ -29,4 +29,4 @@ returns-in-Ok g c =
     let machines = set.machines in
     subst (λ (k : Option (List ℕ)). Wrote a d (head ++ values_text set k states) r)
     (sym (named set c.args.machine (λ m e. subst (λ (x : Option ℕ). IfSome x (λ k. k < length machines)) e c.requires.machine)))
-    (wrote_behind r d (values_text set (machine_of set c.args.machine) states) c.in-Ok.ensures.wrote c.print_values.ensures)
+    (wrote_behind r d (values_text set (machine_of set c.args.machine) states) c.in-Ok.ensures c.print_values.ensures)

@@ -10,7 +10,7 @@ returns-in_err-write_path-in-Field g t c =
     rw (c.in-Field.is, p.1) (stops_front _ c.in_err-write_path-in-Field.ensures)
 
 pub returns-in_ok-write_path-in-Field : goal.returns-in_ok-write_path-in-Field
-returns-in_ok-write_path-in-Field g t c = rw c.in-Field.is (wrote_behind c.write_all_of.result _ _ c.in_ok-write_path-in-Field.ensures c.write_all_of.ensures.wrote)
+returns-in_ok-write_path-in-Field g t c = rw c.in-Field.is (wrote_behind c.write_all_of.result _ _ c.in_ok-write_path-in-Field.ensures c.write_all_of.ensures)
 
 pub returns-in_err-write_path-in-Element : goal.returns-in_err-write_path-in-Element
 returns-in_err-write_path-in-Element g t c =
@@ -27,4 +27,4 @@ returns-in_err-write_path-in-Inside g t c =
     rw (c.in-Inside.is, p.1) (stops_front _ c.in_err-write_path-in-Inside.ensures)
 
 pub returns-in_ok-write_path-in-Inside : goal.returns-in_ok-write_path-in-Inside
-returns-in_ok-write_path-in-Inside g t c = rw c.in-Inside.is (wrote_behind c.write_all_of-in-Inside.result _ _ c.in_ok-write_path-in-Inside.ensures c.write_all_of-in-Inside.ensures.wrote)
+returns-in_ok-write_path-in-Inside g t c = rw c.in-Inside.is (wrote_behind c.write_all_of-in-Inside.result _ _ c.in_ok-write_path-in-Inside.ensures c.write_all_of-in-Inside.ensures)

@@ -16,7 +16,7 @@ pieced path a b d line e f is g h =
 pub returns-clause-written : goal.returns-clause-written
 returns-clause-written g c =
     let line = pieced c.args.line.now _ _ (signed_decimal c.args.number) c.push-3.new.self _ c.push.ensures (c.as_bytes.ensures.value ∙ c.format.ensures.text ∙ ap signed_decimal (to_z-of_z {w = w128} c.ranges.number)) c.push-2.ensures c.push-3.ensures in
-    wrote_as c.write_all_of.result _ _ (c.text.ensures ∙ line) c.write_all_of.ensures.wrote
+    wrote_as c.write_all_of.result _ _ (c.text.ensures ∙ line) c.write_all_of.ensures
 
 pub returns-clause-line : goal.returns-clause-line
 returns-clause-line g c =
