@@ -9,7 +9,7 @@ pub mod GoingLemmas
 pub mod ItemsRead
 pub mod LoadReads
 pub mod OpenedReads
-pub mod OldClauses
+pub mod Loaded
 pub mod PartReads
 pub mod PartTaken
 pub mod ReadLemmas

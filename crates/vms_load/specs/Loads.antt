@@ -1,18 +1,12 @@
 -- What a load answers.
 use Rattle.std.specs.Prelude.{◌≡◌, ℕ, ◌+◌, ◌≤◌, List, drop, Option, Some, Result, Ok, Err}
-use Rattle.vms_io.specs.Causes.{Rose, capped}
 use Rattle.vms_spec.specs.Sets.{Set}
 use Rattle.vms_spec.specs.Images.{Image}
 use Rattle.vms_stream.specs.Streams.{Takes}
 use Rattle.vms_stream.specs.Faults.{Fault}
-use Rattle.vms_load.specs.Staging.{name_of, most_given}
+use Rattle.vms_load.specs.Staging.{name_of}
 use Rattle.vms_load.specs.declared.fault.LoadFault.{LoadFault}
 use Rattle.vms_load.specs.declared.fault.LoadFault.TheVariants as faults
-
--- the count of faults doesn't fall, a read fault comes only where it rose
-abbrev pub HasCause : {T : Type 0} → ℕ → ℕ → Result T LoadFault → Type 0
-HasCause before now (Err faults.ReadFault) = (before ≤ now) × Rose before now
-HasCause before now _ = before ≤ now
 
 -- At Ok the input takes a stream of so many bytes, with this machine and these images, and exactly these bytes are taken. A
 -- refusal is the fault of the input, and exactly the bytes up to the end of the unit at fault are taken. `names` are the machines that are accepted.
@@ -20,8 +14,3 @@ abbrev pub Loads : Set → List (List ℕ) → List ℕ → Option (List ℕ) �
 Loads set names input left images taken (Ok machine) = Takes set names input taken (name_of set machine) images × (left ≡ Some (drop taken input))
 Loads set names input left images taken (Err (faults.Refused r)) = (size : ℕ) × Fault set names input r.at r.section r.reason size × (left ≡ Some (drop (r.at + size) input))
 Loads set names input left images taken (Err faults.ReadFault) = Unit {0}
-
--- at Ok as many bytes are given as were taken, and never more than any stream of the set may have with a unit at fault
-abbrev pub GivesWithin : {T : Type 0} → Set → ℕ → ℕ → ℕ → Result T LoadFault → Type 0
-GivesWithin set before now taken (Ok x) = (now ≡ capped (before + taken)) × (taken ≤ most_given set)
-GivesWithin set before now taken (Err e) = now ≤ before + most_given set

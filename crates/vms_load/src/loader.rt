@@ -40,7 +40,6 @@ impl Loader {
     ghost use Rattle.vms_io.specs.Told.{intake};
     ghost use Rattle.vms_load.specs.Going.{LoadReads};
     ghost use Rattle.vms_load.specs.Hearing.{HearsLoad};
-    ghost use Rattle.vms_load.specs.Loads.{HasCause, Loads, GivesWithin};
     ghost use Rattle.vms_load.specs.Staging.{IsMachine, accepted_of};
 
     /// A loader that has taken no stream yet: each image is at its defaults. All memory that a load needs is
@@ -75,20 +74,11 @@ impl Loader {
         ensures reads { LoadReads (intake S.Source source.old) (intake S.Source source.new)
             (loads self.old) (accepted_of (loads self.old) only) (kept self.new)
             (taken_by self.new) result }
-        ensures content { IfSome (S.left source.old) (λ input.
-            Loads (loads self.old) (accepted_of (loads self.old) only) input (S.left source.new)
-            (kept self.new) (taken_by self.new) result) }
         ensures machine { IfOk result (IsMachine (loads self.old).machines) }
         ensures whole { OnOk result (AreKept (loads self.old) (kept self.new)) }
         ensures images { OnErr result (kept self.new ≡ kept self.old) }
         ensures taken { OnErr result (taken_by self.new ≡ taken_by self.old) }
         ensures set { loads self.new ≡ loads self.old }
-        ensures given { GivesWithin (loads self.old) (S.given source.old) (S.given source.new)
-            (taken_by self.new) result }
-        ensures heard { HearsLoad (loads self.old) (accepted_of (loads self.old) only)
-            (S.given source.old) (S.given source.new) (kept self.new) (taken_by self.new) result }
-        ensures cause { HasCause (S.faults source.old) (S.faults source.new) result }
-        ensures promise { S.promise source.new ≡ S.promise source.old }
     {
         let taken = stream(&self.set, only, &mut self.staged, source)?;
         swap(&mut self.images, &mut self.staged.images);

@@ -1,11 +1,10 @@
 use Rattle.std.proofs.lemmas.Result.{err_from_is_err_and}
-use Rattle.std.proofs.Common.{map, Ok}
+use Rattle.std.proofs.Common.{map}
 use Rattle.vms_desc.specs.Described.{described}
 use Rattle.vms_image.specs.Typed.{state_of as untyped}
 use Rattle.vms_load.specs.Staging.{accepted_of}
 use Rattle.vms_load.proofs.SetFacts.{well_of}
 use Rattle.vms_load.proofs.LoadReads.{loads_taken, loads_refused, loads_kept}
-use Rattle.vms_load.proofs.OldClauses.{content, heard, given, cause}
 use Rattle.vms_load.proofs.loader.Loader.load.Goals as goal
 
 pub returns-in_err-taken-clause-reads : goal.returns-in_err-taken-clause-reads
@@ -21,52 +20,6 @@ returns-clause-reads g c =
     let set = described c.args.self.now.set in
     rw c.swap.ensures.x_after
     (loads_taken set (accepted_of set c.args.only) (well_of set c.args.self.now.set.well_formed) c.args.self.now.set.heads c.stream.new.staged (g.met.S.Source.octets c.stream.new.source) c.in_ok-taken.taken c.in_ok-taken.ensures.reads)
-
-pub returns-in_err-taken-clause-content : goal.returns-in_err-taken-clause-content
-returns-in_err-taken-clause-content g c =
-    let set = described c.args.self.now.set in
-    content set (accepted_of set c.args.only) (map untyped c.args.self.now.images.items) c.args.self.now.taken c.from_residual.result (returns-in_err-taken-clause-reads g c)
-
-pub returns-clause-content : goal.returns-clause-content
-returns-clause-content g c =
-    let set = described c.args.self.now.set in
-    content set (accepted_of set c.args.only) (map untyped c.swap.new.x.items) c.in_ok-taken.taken (Ok c.stream.new.staged.machine) (returns-clause-reads g c)
-
-pub returns-in_err-taken-clause-heard : goal.returns-in_err-taken-clause-heard
-returns-in_err-taken-clause-heard g c =
-    let set = described c.args.self.now.set in
-    heard set (accepted_of set c.args.only) (map untyped c.args.self.now.images.items) c.args.self.now.taken c.from_residual.result (returns-in_err-taken-clause-reads g c)
-
-pub returns-clause-heard : goal.returns-clause-heard
-returns-clause-heard g c =
-    let set = described c.args.self.now.set in
-    heard set (accepted_of set c.args.only) (map untyped c.swap.new.x.items) c.in_ok-taken.taken (Ok c.stream.new.staged.machine) (returns-clause-reads g c)
-
-pub returns-in_err-taken-clause-given : goal.returns-in_err-taken-clause-given
-returns-in_err-taken-clause-given g c =
-    let set = described c.args.self.now.set in
-    given set (accepted_of set c.args.only) (map untyped c.args.self.now.images.items) c.args.self.now.taken c.from_residual.result (returns-in_err-taken-clause-reads g c)
-
-pub returns-clause-given : goal.returns-clause-given
-returns-clause-given g c =
-    let set = described c.args.self.now.set in
-    given set (accepted_of set c.args.only) (map untyped c.swap.new.x.items) c.in_ok-taken.taken (Ok c.stream.new.staged.machine) (returns-clause-reads g c)
-
-pub returns-in_err-taken-clause-cause : goal.returns-in_err-taken-clause-cause
-returns-in_err-taken-clause-cause g c =
-    let set = described c.args.self.now.set in
-    cause set (accepted_of set c.args.only) (map untyped c.args.self.now.images.items) c.args.self.now.taken c.from_residual.result (returns-in_err-taken-clause-reads g c)
-
-pub returns-clause-cause : goal.returns-clause-cause
-returns-clause-cause g c =
-    let set = described c.args.self.now.set in
-    cause set (accepted_of set c.args.only) (map untyped c.swap.new.x.items) c.in_ok-taken.taken (Ok c.stream.new.staged.machine) (returns-clause-reads g c)
-
-pub returns-in_err-taken-clause-promise : goal.returns-in_err-taken-clause-promise
-returns-in_err-taken-clause-promise g c = (returns-in_err-taken-clause-reads g c).takes.promise
-
-pub returns-clause-promise : goal.returns-clause-promise
-returns-clause-promise g c = (returns-clause-reads g c).takes.promise
 
 pub returns-clause-whole : goal.returns-clause-whole
 returns-clause-whole g c =

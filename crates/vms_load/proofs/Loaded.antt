@@ -1,16 +1,18 @@
--- What else a load says of its source, as consequences of what it reads.
-use Rattle.std.proofs.Common.{ℕ, List, Option, Some, None, Result, Ok, Err, IfSome, inl, arith}
+-- What a load says of what is told, and of what is heard.
+use Rattle.std.proofs.Common.{◌≡◌, ◌≤◌, ℕ, ◌+◌, List, Option, Some, None, Result, Ok, Err, IfSome, inl, arith}
+use Rattle.vms_io.specs.Causes.{capped}
 use Rattle.vms_io.specs.Told.{Intake}
 use Rattle.vms_io.proofs.ReadingLemmas.{reads_told}
 use Rattle.vms_spec.specs.Sets.{Set}
 use Rattle.vms_spec.specs.Images.{Image}
 use Rattle.vms_load.specs.Going.{LoadReads}
 use Rattle.vms_load.specs.Hearing.{HearsLoad}
-use Rattle.vms_load.specs.Loads.{Loads, HasCause, GivesWithin}
+use Rattle.vms_load.specs.Loads.{Loads}
+use Rattle.vms_load.specs.Staging.{most_given}
 use Rattle.vms_load.specs.declared.fault.LoadFault.{LoadFault}
 use Rattle.vms_load.specs.declared.fault.LoadFault.TheVariants as faults
 
-module _ {a b : Intake} (set : Set) (names : List (List ℕ)) (images : List Image) (taken : ℕ) where
+module _ (set : Set) (names : List (List ℕ)) (images : List Image) (taken : ℕ) {a b : Intake} where
   pub content : (r : Result (Option ℕ) LoadFault) → LoadReads a b set names images taken r → IfSome a.left (λ input. Loads set names input b.left images taken r)
   content (Ok machine) p = reads_told (λ input left. Loads set names input left images taken (Ok machine)) tt p
   content (Err (faults.Refused e)) p = reads_told (λ input left. Loads set names input left images taken (Err (faults.Refused e))) tt p
@@ -25,11 +27,9 @@ module _ {a b : Intake} (set : Set) (names : List (List ℕ)) (images : List Ima
   heard (Err (faults.Refused e)) p = record { bytes = p.bytes; octets = p.takes.octets; given = p.takes.given; says = λ more f. p.says more (inl f) }
   heard (Err faults.ReadFault) p = tt
 
-  pub given : (r : Result (Option ℕ) LoadFault) → LoadReads a b set names images taken r → GivesWithin set a.given b.given taken r
-  given (Ok machine) p = (omega (arith, p.takes.given, p.long.0), p.long.1)
-  given (Err fault) p = omega (arith, p.takes.given, p.long)
+  pub given : (machine : Option ℕ) → LoadReads a b set names images taken (Ok machine) → b.given ≡ capped (a.given + taken)
+  given machine p = omega (arith, p.takes.given, p.long.0)
 
-  pub cause : (r : Result (Option ℕ) LoadFault) → LoadReads a b set names images taken r → HasCause a.faults b.faults r
-  cause (Ok machine) p = p.takes.later
-  cause (Err (faults.Refused e)) p = p.takes.later
-  cause (Err faults.ReadFault) p = (p.takes.later, p.cause)
+  pub within : (r : Result (Option ℕ) LoadFault) → LoadReads a b set names images taken r → b.given ≤ a.given + most_given set
+  within (Ok machine) p = omega (arith, p.takes.given, p.long.0, p.long.1)
+  within (Err fault) p = omega (arith, p.takes.given, p.long)
