@@ -1,7 +1,8 @@
 -- Each ending of a command, by what it touches.
-use Rattle.std.proofs.Common.{◌≡◌, ℕ, Bool, true, false, ◌||◌, ◌==◌, List, [], ◌∷◌, ◌++◌, Option, inl, inr, refl, ap, ◌∙◌}
+use Rattle.std.proofs.Common.{◌≡◌, ◌⊎◌, ℕ, Bool, true, false, ◌||◌, ◌==◌, List, [], ◌∷◌, ◌++◌, Option, inl, inr, refl, ap, ◌∙◌}
 use Rattle.std.proofs.lemmas.Bool.{or_right}
 use Rattle.std.specs.Io.KnownBytes.{Keeps}
+use Rattle.vms_io.specs.Causes.{Rose}
 use Rattle.vms_io.specs.Shelving.{Reaches}
 use Rattle.vms_io.specs.Told.{Intake, Outlet, Stock}
 use Rattle.vms_io.specs.Writing.{Serves}
@@ -13,10 +14,45 @@ use Rattle.vms_commands.specs.Courses.{Draws, EndsSo, Risen, is_among, of_shelf,
 use Rattle.vms_commands.specs.Texts.{TextCause}
 use Rattle.vms_commands.proofs.CourseLemmas.{wrong}
 use Rattle.vms_cli.specs.Analyze.{ListCause}
-use Rattle.vms_cli.specs.Causes.{CheckCause, CounterCause, ShowCause, StreamCause}
+use Rattle.vms_cli.specs.Causes.{StreamCause}
 use Rattle.vms_cli.specs.Commands.{Asked}
 use Rattle.vms_cli.specs.Statuses.{analyze_course, check_course, counter_course, course_of, show_course, stores_at, writes_at}
 use Rattle.vms_cli.proofs.RowTables.{stores_one, writes_one}
+
+-- ---- the causes of commands, by those of their steps
+
+-- of `show`: the set wasn't had, and input and out weren't touched; or it was
+abbrev ShowCause : Bool → (input input' : Intake) (out out' : Outlet) (shelf shelf' : Stock) → Ending → Type 0
+ShowCause asks input input' out out' shelf shelf' ending =
+    (SetCause asks shelf shelf' ending × (input' ≡ input) × Keeps out.written out'.written)
+    ⊎ StreamCause input input' out out' ending
+
+-- of `check`, where `asks` says whether the shelf is asked
+abbrev CheckCause : Bool → (out out' : Outlet) (shelf shelf' : Stock) → Ending → Type 0
+CheckCause asks out out' shelf shelf' Done = Unit {0}
+CheckCause asks out out' shelf shelf' (BadText line) = (asks ≡ true) × Keeps out.written out'.written
+CheckCause asks out out' shelf shelf' (NotCompatible line) = Keeps out.written out'.written
+CheckCause asks out out' shelf shelf' WriteFault = Rose out.faults out'.faults
+CheckCause asks out out' shelf shelf' ShelfFault =
+    (asks ≡ true) × Rose shelf.faults shelf'.faults × Keeps out.written out'.written
+CheckCause asks out out' shelf shelf' (NotThere line) = (asks ≡ true) × Keeps out.written out'.written
+CheckCause asks out out' shelf shelf' (TooLarge line) = (asks ≡ true) × Keeps out.written out'.written
+CheckCause asks out out' shelf shelf' NoMemory = Keeps out.written out'.written
+CheckCause asks out out' shelf shelf' _ = ⊥
+
+-- of `counter`
+abbrev CounterCause : Bool → (out out' : Outlet) (shelf shelf' : Stock) → Ending → Type 0
+CounterCause asks out out' shelf shelf' Done = Unit {0}
+CounterCause asks out out' shelf shelf' (BadText line) = (asks ≡ true) × Keeps out.written out'.written
+CounterCause asks out out' shelf shelf' WriteFault = Rose out.faults out'.faults
+CounterCause asks out out' shelf shelf' ShelfFault =
+    (asks ≡ true) × Rose shelf.faults shelf'.faults × Keeps out.written out'.written
+CounterCause asks out out' shelf shelf' (NotThere line) = (asks ≡ true) × Keeps out.written out'.written
+CounterCause asks out out' shelf shelf' (TooLarge line) = (asks ≡ true) × Keeps out.written out'.written
+CounterCause asks out out' shelf shelf' NoMemory = Keeps out.written out'.written
+CounterCause asks out out' shelf shelf' _ = ⊥
+
+-- ---- lists of statuses
 
 or_here : (b c d : Bool) → b || c ≡ true → (c ≡ true → d ≡ true) → b || d ≡ true
 or_here true c d e f = refl

@@ -1,14 +1,13 @@
 -- The endings of the commands' steps with their causes, told or not.
-use Rattle.std.specs.Prelude.{◌≡◌, ◌⊎◌, ℕ, Bool, true, Option, Some, None}
+use Rattle.std.specs.Prelude.{◌≡◌, ℕ, Bool, true, Option, Some, None}
 use Rattle.std.specs.Io.KnownBytes.{Keeps}
 use Rattle.vms_io.specs.Causes.{Rose}
 use Rattle.vms_io.specs.Shelves.{Held}
-use Rattle.vms_io.specs.Told.{Intake, Outlet, Stock}
+use Rattle.vms_io.specs.Told.{Intake, Outlet}
 use Rattle.vms_io.specs.Writing.{Serves}
 use Rattle.vms_commands.specs.declared.ending.Ending.{Ending}
-use Rattle.vms_commands.specs.declared.ending.Ending.TheVariants.{Done, Refused, BadText, NotCompatible, ReadFault, WriteFault, ShelfFault, NotThere, TooLarge, NoMemory}
+use Rattle.vms_commands.specs.declared.ending.Ending.TheVariants.{Done, Refused, BadText, NotCompatible, ReadFault, WriteFault, NoMemory}
 use Rattle.vms_commands.specs.Courses.{Draws}
-use Rattle.vms_commands.specs.Endings.{SetCause}
 use Rattle.vms_commands.specs.Fetching.{word_set}
 use Rattle.vms_board.specs.Clock.{clock}
 use Rattle.vms_board.specs.Isa.{isa}
@@ -34,12 +33,6 @@ pub record StreamEnds (input input' : Intake) (out out' : Outlet) (ending : Endi
   pub draws : Draws input input'
   pub serves : Serves out out'
 
--- the set wasn't had, and input and out weren't touched; or it was
-abbrev pub ShowCause : Bool → (input input' : Intake) (out out' : Outlet) (shelf shelf' : Stock) → Ending → Type 0
-ShowCause asks input input' out out' shelf shelf' ending =
-    (SetCause asks shelf shelf' ending × (input' ≡ input) × Keeps out.written out'.written)
-    ⊎ StreamCause input input' out out' ending
-
 -- a step that writes on out alone ends with this cause; no fault of out is forgotten, and its promise stays
 pub record WritesBy (Cause : Outlet → Outlet → Ending → Type 0) (out out' : Outlet) (ending : Ending) : Type 0 where
   pub cause : Cause out out' ending
@@ -62,19 +55,6 @@ CompareCause asks out out' WriteFault = Rose out.faults out'.faults
 CompareCause asks out out' NoMemory = Keeps out.written out'.written
 CompareCause asks out out' ending = ⊥
 
--- `asks` says whether the shelf is asked
-abbrev pub CheckCause : Bool → (out out' : Outlet) (shelf shelf' : Stock) → Ending → Type 0
-CheckCause asks out out' shelf shelf' Done = Unit {0}
-CheckCause asks out out' shelf shelf' (BadText line) = (asks ≡ true) × Keeps out.written out'.written
-CheckCause asks out out' shelf shelf' (NotCompatible line) = Keeps out.written out'.written
-CheckCause asks out out' shelf shelf' WriteFault = Rose out.faults out'.faults
-CheckCause asks out out' shelf shelf' ShelfFault =
-    (asks ≡ true) × Rose shelf.faults shelf'.faults × Keeps out.written out'.written
-CheckCause asks out out' shelf shelf' (NotThere line) = (asks ≡ true) × Keeps out.written out'.written
-CheckCause asks out out' shelf shelf' (TooLarge line) = (asks ≡ true) × Keeps out.written out'.written
-CheckCause asks out out' shelf shelf' NoMemory = Keeps out.written out'.written
-CheckCause asks out out' shelf shelf' _ = ⊥
-
 -- once the sets of `counter` are fetched
 abbrev pub FindCause : Bool → Outlet → Outlet → Ending → Type 0
 FindCause asks out out' Done = Unit {0}
@@ -82,18 +62,6 @@ FindCause asks out out' (BadText line) = (asks ≡ true) × Keeps out.written ou
 FindCause asks out out' WriteFault = Rose out.faults out'.faults
 FindCause asks out out' NoMemory = Keeps out.written out'.written
 FindCause asks out out' ending = ⊥
-
--- `asks` says whether the shelf is asked
-abbrev pub CounterCause : Bool → (out out' : Outlet) (shelf shelf' : Stock) → Ending → Type 0
-CounterCause asks out out' shelf shelf' Done = Unit {0}
-CounterCause asks out out' shelf shelf' (BadText line) = (asks ≡ true) × Keeps out.written out'.written
-CounterCause asks out out' shelf shelf' WriteFault = Rose out.faults out'.faults
-CounterCause asks out out' shelf shelf' ShelfFault =
-    (asks ≡ true) × Rose shelf.faults shelf'.faults × Keeps out.written out'.written
-CounterCause asks out out' shelf shelf' (NotThere line) = (asks ≡ true) × Keeps out.written out'.written
-CounterCause asks out out' shelf shelf' (TooLarge line) = (asks ≡ true) × Keeps out.written out'.written
-CounterCause asks out out' shelf shelf' NoMemory = Keeps out.written out'.written
-CounterCause asks out out' shelf shelf' _ = ⊥
 
 -- ---- what is heard of the input, by what the command goes by
 
