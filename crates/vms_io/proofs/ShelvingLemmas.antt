@@ -1,7 +1,7 @@
 -- Calls over a shelf, one after the other, and where what it holds is told.
 use Rattle.std.proofs.Common.{◌≡◌, List, ℕ, Option, Some, None, refl, ◌∙◌, subst, arith}
 use Rattle.vms_io.specs.Shelves.{Held, IfToldBoth, PutsUnder}
-use Rattle.vms_io.specs.Shelving.{Reaches, Stores}
+use Rattle.vms_io.specs.Shelving.{Looks, Reaches, Stores}
 use Rattle.vms_io.specs.Told.{Stock}
 
 pub reaches_none : (a : Stock) → Reaches a a

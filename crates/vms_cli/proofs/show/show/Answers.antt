@@ -5,7 +5,8 @@ use Rattle.vms_load.specs.Kept.{loads}
 use Rattle.vms_commands.specs.Asks.{set_asked}
 use Rattle.vms_commands.specs.Fetching.{is_on_shelf, word_set}
 use Rattle.vms_io.proofs.WritingLemmas.{serves_none}
-use Rattle.vms_commands.proofs.CourseLemmas.{draws_none, looks_reach}
+use Rattle.vms_commands.proofs.CourseLemmas.{draws_none}
+use Rattle.vms_io.proofs.ShelvingLemmas.{looks_reaches}
 use Rattle.vms_commands.proofs.EndLemmas.{quiet_same}
 use Rattle.vms_commands.proofs.StepLemmas.{ended_by, had_by}
 use Rattle.vms_board_commands.proofs.HeardLemmas.{given_so, heard_so, other_heard}
@@ -34,7 +35,7 @@ returns-in-Ok-clause-so g c =
       unasked = had.unasked;
       draws = e.so.draws;
       serves = e.so.serves;
-      reaches = looks_reach had.looks;
+      reaches = looks_reaches had.looks;
     })
 
 pub returns-in-Ok-clause-given : goal.returns-in-Ok-clause-given
@@ -63,7 +64,7 @@ returns-in-Err-clause-so g c =
       unasked = had.unasked;
       draws = draws_none input;
       serves = serves_none out;
-      reaches = looks_reach had.looks;
+      reaches = looks_reaches had.looks;
     })
 
 pub returns-in-Err-clause-given : goal.returns-in-Err-clause-given
