@@ -4,18 +4,26 @@ use Rattle.arrayvec.specs.ArrayString.{ArrayString}
 use Rattle.dev_board.specs.declared.event.Event as board_events
 use Rattle.vms_script.specs.Lines.{ScriptLine, Happens, Saves, Restores, Read}
 use Rattle.vms_script.specs.Script.{Reading}
+use Rattle.vms_script.specs.declared.kept.Unkept.{Unkept}
+use Rattle.vms_script.specs.declared.kept.Unkept.TheVariants as unkept
 use Rattle.vms_script.specs.declared.line.Line.{Line}
-use Rattle.vms_script.specs.declared.line.Line.TheVariants.{Event, Save, Restore}
+use Rattle.vms_script.specs.declared.line.Line.TheVariants.{Event, Session}
+use Rattle.vms_script.specs.declared.line.SessionLine.{SessionLine}
+use Rattle.vms_script.specs.declared.line.SessionLine.TheVariants.{Save, Restore}
 use Rattle.vms_script.specs.declared.line.ScriptReason.{ScriptReason}
 use Rattle.vms_script.specs.declared.line.ScriptReason.TheVariants as reasons
 use Rattle.vms_script.specs.declared.line.ScriptFault.{ScriptFault}
 use Rattle.vms_script.specs.declared.line.ScriptFault.TheVariants.{Bad, NoMemory}
 
+-- a line that only a session has, with its name as bytes
+abbrev pub session_view : SessionLine → ScriptLine
+session_view (Save set name) = Saves set name.bytes
+session_view (Restore name) = Restores name.bytes
+
 -- a line, with its name as bytes
 abbrev pub line_view : Line → ScriptLine
 line_view (Event event) = Happens event
-line_view (Save set name) = Saves set name.bytes
-line_view (Restore name) = Restores name.bytes
+line_view (Session line) = session_view line.value
 
 abbrev pub lines_view : List Line → List ScriptLine
 lines_view lines = map line_view lines
@@ -24,14 +32,20 @@ lines_view lines = map line_view lines
 abbrev pub event_lines : List board_events.Event → List ScriptLine
 event_lines events = map Happens events
 
--- what was kept of a line, or its reason
-abbrev pub kept_view : {L : Type 0} → (L → ScriptLine) → Result L ScriptReason → Read
-kept_view said (Ok line) = Ok (said line)
-kept_view said (Err reason) = Err reason
+-- a line that only a session has, as it was read, or its reason
+abbrev pub read_view : Result SessionLine ScriptReason → Read
+read_view (Ok line) = Ok (session_view line)
+read_view (Err reason) = Err reason
 
--- a line that was read, or its reason
-abbrev pub read_view : Result Line ScriptReason → Read
-read_view read = kept_view line_view read
+-- nothing is kept of a line that is refused, for its reason; memory may be wanting in any case
+abbrev pub IsUnread : Read → Unkept → Type 0
+IsUnread read (unkept.Refused reason) = read ≡ Err reason
+IsUnread read unkept.NoMemory = Unit {0}
+
+-- what is kept of a line is what it says
+abbrev pub IsKept : {L : Type 0} → (L → ScriptLine) → Read → Result L Unkept → Type 0
+IsKept said read (Ok line) = read ≡ Ok (said line)
+IsKept said read (Err fault) = IsUnread read fault
 
 -- what is read of a line stands behind the lines before it
 abbrev pub IsPut : Read → List ScriptLine → List ScriptLine → Type 0
@@ -40,9 +54,9 @@ IsPut (Err reason) old new = ⊥
 
 -- the line of a number is refused for this reason; memory may be wanting in any case
 abbrev pub IsRefusal : Read → ℕ → ScriptFault → Type 0
+IsRefusal read number NoMemory = Unit {0}
 IsRefusal (Ok line) number (Bad n reason) = ⊥
 IsRefusal (Err why) number (Bad n reason) = (n ≡ number) × (reason ≡ why)
-IsRefusal read number NoMemory = Unit {0}
 
 -- an event that was read, or the reason of its line
 abbrev pub event_view : Result board_events.Event ScriptReason → Read

@@ -1,11 +1,21 @@
 // What is kept of the lines of a script.
 ghost use Rattle.std.specs.Prelude.{◌≡◌, ℕ, Option, None};
 ghost use Rattle.vms_script.specs.Lines.{Happens, ScriptLine, play_line};
-ghost use Rattle.vms_script.specs.Views.{kept_view};
+ghost use Rattle.vms_script.specs.Views.{IsKept};
 
 use crate::line::{Line, ScriptReason};
 use crate::session::read_session;
 use dev_board::Event;
+use std::alloc::Global;
+
+/// Why nothing is kept of a line.
+#[derive(Clone, Copy)]
+pub(crate) enum Unkept {
+    /// It is refused for this reason.
+    Refused(ScriptReason),
+    /// Memory is wanting.
+    NoMemory,
+}
 
 /// What is kept of a line.
 pub(crate) trait Kept: Drop {
@@ -20,9 +30,9 @@ pub(crate) trait Kept: Drop {
         ensures { said result ≡ Happens event };
 
     /// What is kept of a line that only a session has, by its first word and what stands behind it.
-    fn of_session(play: Option<u8>, word: &[u8], rest: &[u8]) -> Result<Self, ScriptReason>
+    fn of_session(alloc: Global, play: Option<u8>, word: &[u8], rest: &[u8]) -> Result<Self, Unkept>
         requires { keeps play }
-        ensures { kept_view said result ≡ play_line play word.now rest.now };
+        ensures { IsKept said (play_line play word.now rest.now) result };
 }
 
 /// Every line is kept.
@@ -37,10 +47,21 @@ impl Kept for Line {
         Line::Event(event)
     }
 
-    fn of_session(play: Option<u8>, word: &[u8], rest: &[u8]) -> Result<Self, ScriptReason> {
-        match play {
-            Some(level) => read_session(level, word, rest),
-            None => Err(ScriptReason::Form),
+    fn of_session(
+        alloc: Global,
+        play: Option<u8>,
+        word: &[u8],
+        rest: &[u8],
+    ) -> Result<Self, Unkept> {
+        let Some(level) = play else {
+            return Err(Unkept::Refused(ScriptReason::Form));
+        };
+        match read_session(level, word, rest) {
+            Ok(line) => match Box::new(alloc, line) {
+                Ok(line) => Ok(Line::Session(line)),
+                Err(_) => Err(Unkept::NoMemory),
+            },
+            Err(reason) => Err(Unkept::Refused(reason)),
         }
     }
 }
@@ -55,7 +76,7 @@ impl Kept for Event {
         event
     }
 
-    fn of_session(_: Option<u8>, _: &[u8], _: &[u8]) -> Result<Self, ScriptReason> {
-        Err(ScriptReason::Form)
+    fn of_session(_: Global, _: Option<u8>, _: &[u8], _: &[u8]) -> Result<Self, Unkept> {
+        Err(Unkept::Refused(ScriptReason::Form))
     }
 }

@@ -14,7 +14,7 @@ mod split;
 mod trace;
 
 pub use laws::{grammar_law, refusal_law};
-pub use line::{Line, ScriptFault, ScriptReason};
+pub use line::{Line, ScriptFault, ScriptReason, SessionLine};
 pub use name::is_shelf_name;
 pub use number::{LONGEST_WAIT, number_of};
 pub use script::{read_events, read_script};

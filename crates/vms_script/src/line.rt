@@ -7,6 +7,13 @@ use dev_board::Event;
 pub enum Line {
     /// Something happens to the board.
     Event(Event),
+    /// Something that only a session does. Few lines are such, and their names are long: they stand apart.
+    Session(Box<SessionLine>),
+}
+
+/// A line that only a session has.
+#[derive(Drop)]
+pub enum SessionLine {
     /// The board's stream is stored under a shipped set, at or above the board's level, and a name.
     Save { set: u8, name: ArrayString<64> },
     /// A stream of this name is loaded.

@@ -1,12 +1,12 @@
 // Reads scripts.
-ghost use Rattle.std.specs.Prelude.{◌≡◌, ◌<◌, ◌++◌, ◌∷◌, [], None, codes, length, map, IfErr, OnOk};
+ghost use Rattle.std.specs.Prelude.{◌≡◌, ◌<◌, ◌++◌, ◌∷◌, [], None, false, codes, length, map, IfErr, OnOk};
 ghost use Rattle.std.specs.Str.{bytes_eq};
 ghost use Rattle.vms_script.specs.Lines.{line_of_words, line_read};
 ghost use Rattle.vms_script.specs.Script.{script_read};
-ghost use Rattle.vms_script.specs.Views.{event_lines, IsPut, IsRefusal, ReadsAs, ReadsLines};
+ghost use Rattle.vms_script.specs.Views.{event_lines, IsPut, IsRefusal, IsUnread, ReadsAs, ReadsLines};
 
 use crate::event::read_event;
-use crate::kept::Kept;
+use crate::kept::{Kept, Unkept};
 use crate::line::{Line, ScriptFault, ScriptReason};
 use crate::split::split_word;
 use dev_board::Event;
@@ -42,7 +42,7 @@ fn read_lines<L: Kept>(alloc: Global, text: &[u8], play: Option<u8>) -> Result<V
     let mut rest = text;
     let mut number = 1;
     while let Some(next) = next_line(rest) {
-        match put_line(&mut lines, number, next.text, play) {
+        match put_line(alloc, &mut lines, number, next.text, play) {
             Ok(()) => {}
             Err(fault) => return Err(fault),
         }
@@ -52,7 +52,7 @@ fn read_lines<L: Kept>(alloc: Global, text: &[u8], play: Option<u8>) -> Result<V
     if rest.is_empty() {
         return Ok(lines);
     }
-    match put_line(&mut lines, number, rest, play) {
+    match put_line(alloc, &mut lines, number, rest, play) {
         Ok(()) => Err(bad(number, ScriptReason::NoEnd)),
         Err(fault) => Err(fault),
     }
@@ -61,6 +61,7 @@ fn read_lines<L: Kept>(alloc: Global, text: &[u8], play: Option<u8>) -> Result<V
 // Appends what a line without its line feed says, or tells that it says nothing.
 #[inline(always)]
 fn put_line<L: Kept>(
+    alloc: Global,
     lines: &mut Vec<L>,
     number: u32,
     text: &[u8],
@@ -72,13 +73,15 @@ fn put_line<L: Kept>(
     ensures refused { IfErr result (IsRefusal (line_read play text.now) number) }
     ensures long { OnOk result (0 < length text.now) }
 {
-    if is_ack(text) {
-        return push_line(lines, L::of_event(Event::Ack));
-    }
-    let split = split_word(text);
-    match split.rest {
-        Some(rest) => put_words(lines, number, play, split.word, rest),
-        None => Err(bad(number, ScriptReason::Form)),
+    let put = if is_ack(text) {
+        push_line(lines, L::of_event(Event::Ack))
+    } else {
+        put_other(alloc, lines, play, text)
+    };
+    match put {
+        Ok(()) => Ok(()),
+        Err(Unkept::Refused(reason)) => Err(bad(number, reason)),
+        Err(Unkept::NoMemory) => Err(ScriptFault::NoMemory),
     }
 }
 
@@ -92,38 +95,60 @@ fn is_ack(text: &[u8]) -> bool
     }
 }
 
+// Appends what a line says that isn't `ack`.
+#[inline(always)]
+fn put_other<L: Kept>(
+    alloc: Global,
+    lines: &mut Vec<L>,
+    play: Option<u8>,
+    text: &[u8],
+) -> Result<(), Unkept>
+    requires keeps { L.keeps play }
+    requires other { bytes_eq text.now (codes "ack") ≡ false }
+    ensures put { let read = line_read play text.now in
+        OnOk result (IsPut read (map L.said lines.old.items) (map L.said lines.new.items)) }
+    ensures refused { IfErr result (IsUnread (line_read play text.now)) }
+    ensures long { OnOk result (0 < length text.now) }
+{
+    let split = split_word(text);
+    match split.rest {
+        Some(rest) => put_words(alloc, lines, play, split.word, rest),
+        None => Err(Unkept::Refused(ScriptReason::Form)),
+    }
+}
+
 // Appends what a line says by its first word and what stands behind it.
 fn put_words<L: Kept>(
+    alloc: Global,
     lines: &mut Vec<L>,
-    number: u32,
     play: Option<u8>,
     word: &[u8],
     rest: &[u8],
-) -> Result<(), ScriptFault>
+) -> Result<(), Unkept>
     requires keeps { L.keeps play }
     ensures put { let read = line_of_words play word.now rest.now in
         OnOk result (IsPut read (map L.said lines.old.items) (map L.said lines.new.items)) }
-    ensures refused { IfErr result (IsRefusal (line_of_words play word.now rest.now) number) }
+    ensures refused { IfErr result (IsUnread (line_of_words play word.now rest.now)) }
 {
     match read_event(word, rest) {
         Some(Ok(event)) => push_line(lines, L::of_event(event)),
-        Some(Err(reason)) => Err(bad(number, reason)),
-        None => match L::of_session(play, word, rest) {
+        Some(Err(reason)) => Err(Unkept::Refused(reason)),
+        None => match L::of_session(alloc, play, word, rest) {
             Ok(line) => push_line(lines, line),
-            Err(reason) => Err(bad(number, reason)),
+            Err(unkept) => Err(unkept),
         },
     }
 }
 
 // Appends a line, or tells that memory is wanting.
-fn push_line<L: Kept>(lines: &mut Vec<L>, line: L) -> Result<(), ScriptFault>
+fn push_line<L: Kept>(lines: &mut Vec<L>, line: L) -> Result<(), Unkept>
     ensures put { let all = map L.said lines.old.items ++ L.said line ∷ [] in
         OnOk result (map L.said lines.new.items ≡ all) }
-    ensures wanting { IfErr result (λ fault. fault ≡ ScriptFault.NoMemory) }
+    ensures wanting { IfErr result (λ unkept. unkept ≡ Unkept.NoMemory) }
 {
     match lines.push(line) {
         Ok(()) => Ok(()),
-        Err(_) => Err(ScriptFault::NoMemory),
+        Err(_) => Err(Unkept::NoMemory),
     }
 }
 

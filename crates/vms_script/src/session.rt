@@ -4,14 +4,14 @@ ghost use Rattle.vms_script.specs.Lines.{save_line, restore_line, session_line, 
 ghost use Rattle.vms_script.specs.Views.{read_view};
 ghost use Rattle.vms_script.specs.Words.{first_word};
 
-use crate::line::{Line, ScriptReason};
+use crate::line::{ScriptReason, SessionLine};
 use crate::name::name_of;
 use crate::number::number_of;
 use crate::split::split_word;
 use dev_base::NEWEST;
 
 /// A line of a session on a board of this level, by its first word and what stands behind it.
-pub(crate) fn read_session(level: u8, word: &[u8], rest: &[u8]) -> Result<Line, ScriptReason>
+pub(crate) fn read_session(level: u8, word: &[u8], rest: &[u8]) -> Result<SessionLine, ScriptReason>
     ensures { read_view result ≡ session_line level word.now rest.now }
 {
     if word == b"save".as_slice() {
@@ -24,7 +24,7 @@ pub(crate) fn read_session(level: u8, word: &[u8], rest: &[u8]) -> Result<Line, 
 }
 
 // `save @N NAME`, with N a shipped set at or above the level.
-fn read_save(level: u8, words: &[u8]) -> Result<Line, ScriptReason>
+fn read_save(level: u8, words: &[u8]) -> Result<SessionLine, ScriptReason>
     ensures { read_view result ≡ save_line level (first_word words.now) }
 {
     let split = split_word(words);
@@ -41,7 +41,7 @@ fn read_save(level: u8, words: &[u8]) -> Result<Line, ScriptReason>
         Ok(set) => {
             if is_set_of(NEWEST, level, set) {
                 let set = set as u8;
-                Ok(Line::Save { set, name })
+                Ok(SessionLine::Save { set, name })
             } else {
                 Err(ScriptReason::Range)
             }
@@ -51,11 +51,11 @@ fn read_save(level: u8, words: &[u8]) -> Result<Line, ScriptReason>
 }
 
 // `restore NAME`.
-fn read_restore(name: &[u8]) -> Result<Line, ScriptReason>
+fn read_restore(name: &[u8]) -> Result<SessionLine, ScriptReason>
     ensures { read_view result ≡ restore_line name.now }
 {
     match name_of(name) {
-        Some(name) => Ok(Line::Restore { name }),
+        Some(name) => Ok(SessionLine::Restore { name }),
         None => Err(ScriptReason::Form),
     }
 }

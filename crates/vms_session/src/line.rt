@@ -4,7 +4,7 @@ ghost use Rattle.vms_io.specs.Shelves.{Held};
 ghost use Rattle.vms_io.specs.Told.{outlet, stock};
 ghost use Rattle.vms_script.specs.Grammar.{IsLine};
 ghost use Rattle.vms_script.specs.Trace.{trace_line};
-ghost use Rattle.vms_script.specs.Views.{line_view};
+ghost use Rattle.vms_script.specs.Views.{line_view, session_view};
 ghost use Rattle.vms_session.specs.Session.{Does, Session};
 ghost use Rattle.vms_session.specs.Playing.{Goes, LineEnds, WritesText, session_of};
 
@@ -14,7 +14,7 @@ use dev_board::Answer;
 use std::alloc::Global;
 use vms_board::Board;
 use vms_io::{Shelf, Sink, write_all_of};
-use vms_script::{Line, print_answer};
+use vms_script::{Line, SessionLine, print_answer};
 
 /// Why a session stopped.
 #[derive(Clone, Copy, Debug, PartialEq, Eq)]
@@ -47,11 +47,33 @@ pub(crate) fn play_line<K: Sink, H: Shelf>(
 {
     match line {
         Line::Event(event) => write_answer(&board.event(*event), out),
-        Line::Save { set, name } => {
+        Line::Session(line) => play_session(alloc, line, board, out, shelf),
+    }
+}
+
+// Does a line that only a session has, and appends its text.
+fn play_session<K: Sink, H: Shelf>(
+    alloc: Global,
+    line: &SessionLine,
+    board: &mut Board,
+    out: &mut K,
+    shelf: &mut H,
+) -> Result<(), PlayFault>
+    requires { IsLine (Some board.old.state.level) (session_view line.now) }
+    ensures content { (held : Held) (text : List ℕ) (new : Session) → H.held shelf.old ≡ Some held
+        → Does (session_view line.now) (session_of board.old.state held) text new
+        → LineEnds (session_view line.now) text new (outlet K.Sink out.old) (outlet K.Sink out.new)
+        (stock H.Shelf shelf.old) (stock H.Shelf shelf.new) board.new.state result }
+    ensures goes { Goes (outlet K.Sink out.old) (outlet K.Sink out.new)
+        (stock H.Shelf shelf.old) (stock H.Shelf shelf.new) result }
+    ensures level { board.new.state.level ≡ board.old.state.level }
+{
+    match line {
+        SessionLine::Save { set, name } => {
             let count = save(alloc, board, *set, name.as_str(), shelf)?;
             write(&saved_mark(count), out)
         }
-        Line::Restore { name } => {
+        SessionLine::Restore { name } => {
             let mark = restore(alloc, board, name.as_str(), shelf)?;
             write(&mark, out)
         }

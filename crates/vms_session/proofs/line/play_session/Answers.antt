@@ -1,0 +1,30 @@
+use Rattle.std.proofs.Common.{Some, sym, ap, subst, ◌∙◌}
+use Rattle.vms_board.specs.Isa.{isa}
+use Rattle.vms_board.specs.Saving.{saved_stream}
+use Rattle.vms_io.specs.Shelves.{Held, PutsUnder}
+use Rattle.vms_io.specs.Told.{outlet, stock}
+use Rattle.vms_io.proofs.ShelvingLemmas.{stores_told}
+use Rattle.vms_script.specs.Views.{session_view}
+use Rattle.vms_script.specs.declared.line.SessionLine.{SessionLine}
+use Rattle.vms_session.proofs.OneLaws.{one_map}
+use Rattle.vms_session.specs.Lines.{saved_line}
+use Rattle.vms_session.specs.Session.{Does}
+use Rattle.vms_session.specs.Playing.{session_of}
+use Rattle.vms_session.proofs.StreamLemmas.{line_ends}
+use Rattle.vms_session.proofs.line.play_session.Goals as goal
+
+pub returns-in_ok-count-in-Save-clause-content : goal.returns-in_ok-count-in-Save-clause-content
+returns-in_ok-count-in-Save-clause-content g c = λ held text new told does.
+    let board = c.args.board.now.state in
+    let stream = saved_stream isa c.in-Save.set board in
+    let done = subst (λ (l : SessionLine). Does (session_view l) (session_of board held) text new) c.in-Save.is does in
+    let saved = c.in_ok-count-in-Save.ensures in
+    let stored = stores_told held told saved.1 in
+    let under = subst (λ name. PutsUnder held stored.after name stream) c.as_str.ensures.value stored.puts in
+    let same = one_map held stored.after new.held c.in-Save.name.bytes stream under done.held in
+    line_ends (session_view c.args.line.now) text c.deref.result.now new (outlet g.K.Sink c.args.out.now) (outlet g.K.Sink c.write.new.out) (stock g.H.Shelf c.args.shelf.now) (stock g.H.Shelf c.save.new.shelf)
+    board c.write.result
+    (c.deref.ensures.0 ∙ c.saved_mark.ensures ∙ ap saved_line saved.0 ∙ sym done.text_is)
+    c.write.ensures
+    (stored.told ∙ ap (λ (h : Held). Some h) same)
+    (sym done.board)
