@@ -18,18 +18,18 @@ use Rattle.vms_stream.specs.SoFar.{Known}
 use Rattle.vms_stream.specs.Dues.{Due}
 use Rattle.vms_stream.specs.Table.{first_of, is_between, is_after_configuration, wants_foot, is_after_end, is_ram, test_some, is_none}
 
-abbrev Line : Type 0
+abbrev pub Line : Type 0
 Line = Option (Option ℕ × Reason)
 
 -- one row, and the rows after it
-abbrev row_or : Bool → Option ℕ → Reason → Line → Line
+abbrev pub row_or : Bool → Option ℕ → Reason → Line → Line
 row_or b section reason rest = if b then Some (section, reason) else rest
 
 not_taken : (b : Bool) (section : Option ℕ) (reason : Reason) (rest : Line) → row_or b section reason rest ≡ None → (b ≡ false) × (rest ≡ None)
 not_taken true section reason rest e = cc
 not_taken false section reason rest e = (refl, e)
 
-passed_by : (b : Bool) (section : Option ℕ) (reason : Reason) (rest : Line) → b ≡ false → row_or b section reason rest ≡ rest
+pub passed_by : (b : Bool) (section : Option ℕ) (reason : Reason) (rest : Line) → b ≡ false → row_or b section reason rest ≡ rest
 passed_by true section reason rest e = cc
 passed_by false section reason rest e = refl
 
