@@ -1,6 +1,5 @@
 // The entries of elements.
-ghost use Rattle.std.specs.Prelude.{◌≡◌, [], ◌∷◌, ◌++◌, true, false, pos, codes, OnOk, string_bytes};
-ghost use Rattle.serde_json.specs.Written.{comma_if};
+ghost use Rattle.std.specs.Prelude.{◌≡◌, [], ◌∷◌, true, false, pos, codes, OnOk, string_bytes};
 ghost use Rattle.vms_selfdesc.specs.Drafts.{Begins, IsPlain, PutsSize, cell_tail, absent_tail};
 ghost use Rattle.vms_selfdesc.specs.Entries.{cell_entry, sent_entry};
 ghost use Rattle.vms_selfdesc.specs.Listing.{Lists};
@@ -46,24 +45,16 @@ fn absent_tail(kind: Kind) -> &'static str
     }
 }
 
-// What begins an entry, after another or as the first.
-fn entry_front(later: bool) -> &'static str
-    ensures { result.now ≡ comma_if later ++ codes "{\"name\":\"" }
-{
-    if later {
-        ",{\"name\":\""
-    } else {
-        "{\"name\":\""
-    }
-}
-
-// Begins an entry, up to its path.
+// Begins an entry, after another or as the first, up to its path.
 #[inline(always)]
 fn begin_entry(draft: &mut Draft) -> Result<(), AllocError>
     ensures { OnOk result (Begins draft.old draft.new (codes "{\"name\":\"")) }
 {
-    draft.text.push_str(entry_front(draft.later))?;
-    Ok(())
+    if draft.later {
+        draft.text.push_str(",{\"name\":\"")
+    } else {
+        draft.text.push_str("{\"name\":\"")
+    }
 }
 
 // A cell that stands in the stream.
