@@ -14,7 +14,7 @@ use Rattle.vms_bodies.proofs.ReadyLaws.{counted_well}
 use Rattle.vms_bodies.proofs.SpellLaws.{rules_append}
 use Rattle.std.proofs.lemmas.Grind.{and_numeral}
 use Rattle.dev_serial.specs.Cells.{IsArray}
-use Rattle.dev_serial.specs.declared.limits.TheConstants.{FIFOS_SINCE}
+use Rattle.dev_serial.specs.declared.levels.TheConstants.{FIFOS_SINCE}
 use Rattle.vms_spec.specs.Sets.{Set, Device, Sub}
 use Rattle.vms_spec.specs.Shipped.{set_1, set_2, set_3, set_4, never, number, serial, serial_fields, fcr, thr_ipending, fifo, timeout, ring}
 use Rattle.dev_base.specs.Cells.{nat_of}
