@@ -2,7 +2,7 @@
 ghost use Rattle.std.specs.Prelude.{◌≡◌, ◌<◌, ◌≤◌, length, map};
 ghost use Rattle.dev_base.specs.declared.limits.TheConstants.{NEWEST as newest};
 ghost use Rattle.dev_clock_images.specs.Images.{cells_in as clock_cells_of};
-ghost use Rattle.dev_images.specs.Images.{cells_in as cells_of, numbers_at};
+ghost use Rattle.dev_images.specs.Images.{cells_in as cells_of, list_at, numbers_in};
 ghost use Rattle.vms_desc.specs.Formed.{clock_set, shipped_set};
 ghost use Rattle.vms_rtc.specs.declared.limits.TheConstants.{NEWEST_CLOCK as newest_clock};
 ghost use Rattle.vms_image.specs.Typed.{AreImagesOf, state_of};
@@ -43,7 +43,7 @@ pub(crate) fn clock_cells_in(images: &[Image]) -> ClockCells
 fn cells_at(images: &[Image], device: usize) -> DevCells
     requires of { AreImagesOf (shipped_set newest) images.now }
     requires device { device < 5 }
-    ensures { result ≡ numbers_at (map state_of images.now) device }
+    ensures { result ≡ list_at (numbers_in (map state_of images.now)) device }
 {
     numbers(&images[device])
 }
