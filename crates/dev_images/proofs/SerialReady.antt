@@ -14,7 +14,6 @@ use Rattle.vms_bodies.proofs.ReadyLaws.{counted_well}
 use Rattle.vms_bodies.proofs.SpellLaws.{rules_append}
 use Rattle.std.proofs.lemmas.Grind.{and_numeral}
 use Rattle.dev_serial.specs.Cells.{IsArray}
-use Rattle.dev_serial.specs.declared.levels.TheConstants.{FIFOS_SINCE}
 use Rattle.vms_spec.specs.Sets.{Set, Device, Sub}
 use Rattle.vms_spec.specs.Shipped.{set_1, set_2, set_3, set_4, never, number, serial, serial_fields, fcr, thr_ipending, fifo, timeout, ring}
 use Rattle.dev_base.specs.Cells.{nat_of}
@@ -192,7 +191,7 @@ well-rx numbers h = counted-well (get_or numbers 13 (pos 0)) h.rx_range h.rx.fit
 well-tx : (numbers : List ℤ) (h : HasFifo numbers) → counts_well (16 ∷ []) (get_or numbers 30 (pos 0)) ≡ true
 well-tx numbers h = counted-well (get_or numbers 30 (pos 0)) h.tx_range h.tx.fits
 
-pub has-fifo : (set : ℕ) → FIFOS_SINCE ≤ set → (numbers : List ℤ) → AreSaved set numbers → InRange U8 (get_or numbers 13 (pos 0)) → InRange U8 (get_or numbers 30 (pos 0)) → HasFifo numbers
+pub has-fifo : (set : ℕ) → 2 ≤ set → (numbers : List ℤ) → AreSaved set numbers → InRange U8 (get_or numbers 13 (pos 0)) → InRange U8 (get_or numbers 30 (pos 0)) → HasFifo numbers
 has-fifo set since numbers are rx tx = record { rx_range = rx; tx_range = tx; rx = are.rx since; tx = are.tx since; none = are.no_fifo since }
 
 -- the FIFOs of the sets that have them
