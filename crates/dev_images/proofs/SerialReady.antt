@@ -20,7 +20,7 @@ use Rattle.dev_base.specs.Cells.{nat_of}
 use Rattle.dev_serial.specs.Laws.{AreSaved}
 use Rattle.dev_images.specs.Laws.{ReadyOf, SerialIsReady, serial_at_1, serial_at_2, serial_at_3, serial_at_4}
 use Rattle.dev_images.proofs.Parts.{IsFineSub, ready-parts, zeros-kept, element, array-kept, rules-times}
-use Rattle.dev_images.proofs.ReadyOf.{are_kept, are_counted, counts-none, counts-by, kept-left, kept-right, kept-both}
+use Rattle.dev_images.proofs.ReadyOf.{are_kept, counts-none, counts-by, kept-left, kept-right, kept-both}
 
 -- whether a signed byte isn't -1, and whether a timer isn't never
 abbrev pub needs_sign : ℤ → Bool
