@@ -1,5 +1,5 @@
 -- A channel of the timer chip among an image's cells, by the place of its first: two of its cells may be absent.
-use Rattle.std.proofs.Common.{◌≡◌, ℕ, suc, ◌+◌, ◌==◌, Bool, true, false, not, ◌&&◌, ◌||◌, cond, List, [], ◌∷◌, ◌++◌, get_or, map, ℤ, pos, refl, sym, ap, ◌∙◌, subst}
+use Rattle.std.proofs.Common.{◌≡◌, ℕ, zero, suc, ◌==◌, Bool, true, false, not, ◌&&◌, ◌||◌, cond, List, [], ◌∷◌, ◌++◌, get_or, map, ℤ, pos, refl, sym, ap, ◌∙◌, subst}
 use Rattle.std.proofs.lemmas.Bool.{and_parts, and_from, eq-eqb, not-true, or_from}
 use Rattle.std.proofs.Math.Bool.{and-true}
 use Rattle.vms_bodies.proofs.ReadyLaws.{is_same}
@@ -61,6 +61,11 @@ run-none at ((false, cell) ∷ cells) rest k e out =
 
 -- ---- a channel
 
+-- the place so many cells behind one
+abbrev pub behind : ℕ → ℕ → ℕ
+behind zero at = at
+behind (suc n) at = behind n (suc at)
+
 abbrev plain : Kind → Cell
 plain kind = record { kind = kind; capacities = []; default = pos 0 }
 
@@ -68,13 +73,13 @@ plain kind = record { kind = kind; capacities = []; default = pos 0 }
 abbrev pub channel : List ℤ → ℕ → List (Bool × Cell)
 channel numbers at =
     (true, plain U16) ∷ (true, plain U8) ∷ (true, plain U8) ∷ (true, plain Truth) ∷ (true, plain Truth) ∷ (true, plain U64) ∷ (true, plain Truth)
-    ∷ (true, plain Truth) ∷ (needs (get_or numbers (7 + at) (pos 0)), plain U8)
-    ∷ (true, plain Truth) ∷ (needs (get_or numbers (9 + at) (pos 0)), plain U16) ∷ []
+    ∷ (true, plain Truth) ∷ (needs (get_or numbers (behind 7 at) (pos 0)), plain U8)
+    ∷ (true, plain Truth) ∷ (needs (get_or numbers (behind 9 at) (pos 0)), plain U16) ∷ []
 
 -- these two are 0 where their flags are clear
 pub record IsKeptAt (numbers : List ℤ) (at : ℕ) : Type 0 where
-  pub wlow : needs (get_or numbers (7 + at) (pos 0)) ≡ false → get_or numbers (8 + at) (pos 0) ≡ pos 0
-  pub latch : needs (get_or numbers (9 + at) (pos 0)) ≡ false → get_or numbers (10 + at) (pos 0) ≡ pos 0
+  pub wlow : needs (get_or numbers (behind 7 at) (pos 0)) ≡ false → get_or numbers (behind 8 at) (pos 0) ≡ pos 0
+  pub latch : needs (get_or numbers (behind 9 at) (pos 0)) ≡ false → get_or numbers (behind 10 at) (pos 0) ≡ pos 0
 
 -- its slots in a set
 abbrev pub slots_in : Set → List ℤ → ℕ → List Slot

@@ -95,14 +95,12 @@ module _ (image : Image) (n : IsNormal (shipped_set NEWEST) i8254_at_2 image) wh
   unfolding first
   pit-of = record { of_kinds = kinds; wlow = wlow; latch = latch } where
     wlow : (k : ℕ) → k < 3 → (nat_of (get_or numbers (11 * k + 7) (pos 0)) == 1) ≡ false → nat_of (get_or numbers (11 * k + 8) (pos 0)) ≡ 0
-    unfolding first
     wlow zero lt e = lacks 8 (omega arith) refl (rw (off 7 (omega arith) refl e) refl) refl refl
     wlow (suc zero) lt e = lacks 19 (omega arith) refl refl (rw (off 18 (omega arith) refl e) refl) refl
     wlow (suc (suc zero)) lt e = lacks 30 (omega arith) refl refl refl (rw (off 29 (omega arith) refl e) refl)
     wlow (suc (suc (suc k))) lt e = absurd (omega (arith, lt))
 
     latch : (k : ℕ) → k < 3 → (nat_of (get_or numbers (11 * k + 9) (pos 0)) == 1) ≡ false → nat_of (get_or numbers (11 * k + 10) (pos 0)) ≡ 0
-    unfolding first
     latch zero lt e = lacks 10 (omega arith) refl (rw (off 9 (omega arith) refl e) refl) refl refl
     latch (suc zero) lt e = lacks 21 (omega arith) refl refl (rw (off 20 (omega arith) refl e) refl) refl
     latch (suc (suc zero)) lt e = lacks 32 (omega arith) refl refl refl (rw (off 31 (omega arith) refl e) refl)

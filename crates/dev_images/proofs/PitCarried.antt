@@ -1,5 +1,5 @@
 -- The cells of the timer chip are carried as its own table says.
-use Rattle.std.proofs.Common.{◌≡◌, ℕ, ◌+◌, ◌==◌, Bool, true, false, cond, List, [], ◌∷◌, ◌++◌, get_or, ℤ, pos, negsuc, ◌≤ℤ◌, refl, sym, ap, ◌∙◌, arith}
+use Rattle.std.proofs.Common.{◌≡◌, ℕ, ◌==◌, Bool, true, false, cond, List, [], ◌∷◌, ◌++◌, get_or, ℤ, pos, negsuc, ◌≤ℤ◌, refl, sym, ap, ◌∙◌, arith}
 use Rattle.std.proofs.lemmas.Int.{ints}
 use Rattle.vms_kinds.specs.Codes.{InRange}
 use Rattle.vms_kinds.specs.declared.Item.TheVariants.{Num}
@@ -16,7 +16,7 @@ use Rattle.dev_pit.specs.Cells.{AreCellsOf, carried as pit_carried}
 use Rattle.dev_images.specs.Laws.{carried_numbers, PitIsCarried}
 use Rattle.vms_check.specs.Comparing.{same_kind}
 use Rattle.dev_images.proofs.ChipReady.{needs, unneeded}
-use Rattle.dev_images.proofs.Channels.{IsKeptAt}
+use Rattle.dev_images.proofs.Channels.{behind, IsKeptAt}
 
 -- a channel of the newest set from one of older sets
 abbrev channel_in : Set → List ℤ → ℕ → List ℤ
@@ -35,22 +35,22 @@ may_lack-is old numbers kind false at e off = ap (λ z. z ∷ []) (sym (off refl
 -- a channel that is carried number by number, but for these two
 abbrev lacking : List ℤ → ℕ → List ℤ → List ℤ → List ℤ
 lacking numbers at wlow latch =
-    get_or numbers at (pos 0) ∷ get_or numbers (1 + at) (pos 0) ∷ get_or numbers (2 + at) (pos 0) ∷ get_or numbers (3 + at) (pos 0)
-    ∷ get_or numbers (4 + at) (pos 0) ∷ get_or numbers (5 + at) (pos 0) ∷ get_or numbers (6 + at) (pos 0) ∷ get_or numbers (7 + at) (pos 0)
-    ∷ (wlow ++ (get_or numbers (9 + at) (pos 0) ∷ (latch ++ [])))
+    get_or numbers at (pos 0) ∷ get_or numbers (behind 1 at) (pos 0) ∷ get_or numbers (behind 2 at) (pos 0) ∷ get_or numbers (behind 3 at) (pos 0)
+    ∷ get_or numbers (behind 4 at) (pos 0) ∷ get_or numbers (behind 5 at) (pos 0) ∷ get_or numbers (behind 6 at) (pos 0) ∷ get_or numbers (behind 7 at) (pos 0)
+    ∷ (wlow ++ (get_or numbers (behind 9 at) (pos 0) ∷ (latch ++ [])))
 
 abbrev plain : List ℤ → ℕ → List ℤ
-plain numbers at = lacking numbers at (get_or numbers (8 + at) (pos 0) ∷ []) (get_or numbers (10 + at) (pos 0) ∷ [])
+plain numbers at = lacking numbers at (get_or numbers (behind 8 at) (pos 0) ∷ []) (get_or numbers (behind 10 at) (pos 0) ∷ [])
 
 abbrev IsLacking : Set → List ℤ → ℕ → Type 0
 IsLacking old numbers at =
-    channel_in old numbers at ≡ lacking numbers at (may_lack old numbers U8 (needs (get_or numbers (7 + at) (pos 0))) (8 + at)) (may_lack old numbers U16 (needs (get_or numbers (9 + at) (pos 0))) (10 + at))
+    channel_in old numbers at ≡ lacking numbers at (may_lack old numbers U8 (needs (get_or numbers (behind 7 at) (pos 0))) (behind 8 at)) (may_lack old numbers U16 (needs (get_or numbers (behind 9 at) (pos 0))) (behind 10 at))
 
 channel-carried : (old : Set) (numbers : List ℤ) (at : ℕ) → IsLacking old numbers at → IsKeptAt numbers at → channel_in old numbers at ≡ plain numbers at
 channel-carried old numbers at is k =
     is
-    ∙ ap (λ l. lacking numbers at l (may_lack old numbers U16 (needs (get_or numbers (9 + at) (pos 0))) (10 + at))) (may_lack-is old numbers U8 _ (8 + at) refl k.wlow)
-    ∙ ap (λ l. lacking numbers at (get_or numbers (8 + at) (pos 0) ∷ []) l) (may_lack-is old numbers U16 _ (10 + at) refl k.latch)
+    ∙ ap (λ l. lacking numbers at l (may_lack old numbers U16 (needs (get_or numbers (behind 9 at) (pos 0))) (behind 10 at))) (may_lack-is old numbers U8 _ (behind 8 at) refl k.wlow)
+    ∙ ap (λ l. lacking numbers at (get_or numbers (behind 8 at) (pos 0) ∷ []) l) (may_lack-is old numbers U16 _ (behind 10 at) refl k.latch)
 
 -- an absent number is 0 where its flag is clear
 off : (flag number : ℤ) → InRange Truth flag → pos 0 ≤ℤ number → ((nat_of flag == 1) ≡ false → nat_of number ≡ 0) → needs flag ≡ false → number ≡ pos 0
