@@ -1,12 +1,6 @@
 // Heads, footers and marks both ways, against bytes written down by hand.
 use std::test::Fail;
-use vms_marks::{Foot, Head, HeadFault, Mark, Name};
-
-fn name_of(text: &[u8]) -> Name {
-    let mut name = Name::new();
-    let _fits = name.try_extend_from_slice(text);
-    name
-}
+use vms_marks::{Configuration, Foot, Head, HeadFault, Mark, SubHead, name_of};
 
 // The head of a timer's section.
 const TIMER: [u8; 19] = *b"\x04\0\0\0\0\x05timer\0\0\0\0\0\0\0\x01";
@@ -68,6 +62,28 @@ fn a_footer_is_its_bytes_and_back(rt: HostRuntime) -> Result<(), Fail> {
     assert_eq!(rt; foot.bytes(), *b"\x7e\x01\x02\x03\x04");
     assert_eq!(rt; Foot::read(*b"\x7e\x01\x02\x03\x04"), Some(foot));
     assert_eq!(rt; Foot::read(*b"\x00\x01\x02\x03\x04"), None);
+    Ok(())
+}
+
+#[test]
+fn a_subsection_head_and_a_configuration_are_their_bytes_and_back(
+    rt: HostRuntime,
+) -> Result<(), Fail> {
+    let name = name_of(b"box/a");
+    let head = SubHead {
+        name,
+        version: 0x0102,
+    };
+    let bytes = b"\x05\x05box/a\0\0\x01\x02";
+    assert_eq!(rt; head.bytes().as_slice(), bytes.as_slice());
+    assert_eq!(rt; SubHead::name_length(bytes), 5);
+    assert_eq!(rt; SubHead::of(bytes), head);
+    let machine = name_of(b"isa");
+    let configuration = Configuration { machine };
+    let bytes = b"\x07\0\0\0\x03isa";
+    assert_eq!(rt; configuration.bytes().as_slice(), bytes.as_slice());
+    assert_eq!(rt; Configuration::name_length(bytes), 3);
+    assert_eq!(rt; Configuration::of(bytes), configuration);
     Ok(())
 }
 

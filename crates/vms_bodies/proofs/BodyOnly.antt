@@ -47,16 +47,23 @@ front_drop n xs ys rest e len = ap (drop n) e ∙ ap (λ (k : ℕ). drop k (xs +
 front_long : (n : ℕ) (xs ys rest : List ℕ) → rest ≡ xs ++ ys → length xs ≡ n → nat_lt (length rest) n ≡ false
 front_long n xs ys rest e len = le-ltb (length rest) n (omega (arith, ap length e, length-append xs ys))
 
+-- a number's code stands there, and is none that no number has
+code_stands : (kind : Kind) (z : ℤ) (p : Progress) (r : List ℕ) (t : Taken) → InRange kind z → p.rest ≡ code kind z ++ r
+    → (if nat_lt (length p.rest) (width kind) then refuse p reasons.Truncated (length p.rest)
+    else if is_bad_bool kind (take (width kind) p.rest) then refuse p reasons.BadBool (width kind) else t) ≡ t
+code_stands kind z p r t fits e =
+    let w = width kind in
+    if_false (nat_lt (length p.rest) w) (refuse p reasons.Truncated (length p.rest)) _ (front_long w (code kind z) r p.rest e (length-code kind z))
+    ∙ if_false (is_bad_bool kind (take w p.rest)) (refuse p reasons.BadBool w) t (ap (is_bad_bool kind) (front_take w (code kind z) r p.rest e (length-code kind z)) ∙ good_code kind z fits)
+
 -- a number's code is taken
 number_taken : (kind : Kind) (caps : List ℕ) (cell : ℕ) (z : ℤ) (p : Progress) (r : List ℕ) → InRange kind z → AllByRecursion (λ most. z ≤ℤ pos most) caps → p.rest ≡ code kind z ++ r
     → take_number kind caps cell p ≡ Ok (record { numbers = slice_set p.numbers cell z; place = p.place + width kind; rest = r })
 number_taken kind caps cell z p r fits low e =
     let w = width kind in
     let bytes = take w p.rest in
-    let is : bytes ≡ code kind z = front_take w (code kind z) r p.rest e (length-code kind z) in
-    let value : value_of kind bytes ≡ z = ap (value_of kind) is ∙ value_code kind z fits in
-    if_false (nat_lt (length p.rest) w) (refuse p reasons.Truncated (length p.rest)) _ (front_long w (code kind z) r p.rest e (length-code kind z))
-    ∙ if_false (is_bad_bool kind bytes) (refuse p reasons.BadBool w) _ (ap (is_bad_bool kind) is ∙ good_code kind z fits)
+    let value : value_of kind bytes ≡ z = ap (value_of kind) (front_take w (code kind z) r p.rest e (length-code kind z)) ∙ value_code kind z fits in
+    code_stands kind z p r _ fits e
     ∙ if_false (exceeds caps (value_of kind bytes)) (refuse p reasons.CountTooLarge w) (on w (slice_set p.numbers cell (value_of kind bytes)) p) (ap (exceeds caps) value ∙ not_exceeds caps z low)
     ∙ ap (λ (y : ℤ). on w (slice_set p.numbers cell y) p) value
     ∙ ap (λ (l : List ℕ). Ok (record { numbers = slice_set p.numbers cell z; place = p.place + w; rest = l })) (front_drop w (code kind z) r p.rest e (length-code kind z))
@@ -66,10 +73,8 @@ constant_taken : (kind : Kind) (z : ℤ) (p : Progress) (r : List ℕ) → InRan
 constant_taken kind z p r fits e =
     let w = width kind in
     let bytes = take w p.rest in
-    let is : bytes ≡ code kind z = front_take w (code kind z) r p.rest e (length-code kind z) in
-    let value : value_of kind bytes ≡ z = ap (value_of kind) is ∙ value_code kind z fits in
-    if_false (nat_lt (length p.rest) w) (refuse p reasons.Truncated (length p.rest)) _ (front_long w (code kind z) r p.rest e (length-code kind z))
-    ∙ if_false (is_bad_bool kind bytes) (refuse p reasons.BadBool w) _ (ap (is_bad_bool kind) is ∙ good_code kind z fits)
+    let value : value_of kind bytes ≡ z = ap (value_of kind) (front_take w (code kind z) r p.rest e (length-code kind z)) ∙ value_code kind z fits in
+    code_stands kind z p r _ fits e
     ∙ if_true (same_number (value_of kind bytes) z) (on w p.numbers p) (refuse p reasons.NotEqual w) (ap (λ (y : ℤ). same_number y z) value ∙ same_number_itself z)
     ∙ ap (λ (l : List ℕ). Ok (record { numbers = p.numbers; place = p.place + w; rest = l })) (front_drop w (code kind z) r p.rest e (length-code kind z))
 

@@ -40,16 +40,16 @@ places_apart set from (t ∷ subs) (suc i) (suc j) s e lt = places_apart set (fr
 
 -- ---- cells
 
-sub_stands_from : (set : Set) (all : List Cell) (from : ℕ) (subs : List Sub) (j : ℕ) (s : Sub) → slice_get subs j ≡ Some s
-    → Stands all from (flat_map (λ s. desc_cells (struct_cells set) s.desc) subs) → Stands all (sub_place set from subs j) (desc_cells (struct_cells set) s.desc)
-sub_stands_from set all from [] j s e h = cc
-sub_stands_from set all from (t ∷ subs) zero s e h =
+-- what holds of cells at a place, and so of their front and of the others behind it, holds of a subsection's at its place
+pub cells_of_sub : (P : ℕ → List Cell → Type 0) → ((at : ℕ) (xs ys : List Cell) → P at (xs ++ ys) → P at xs) → ((at : ℕ) (xs ys : List Cell) → P at (xs ++ ys) → P (at + length xs) ys)
+    → (set : Set) (from : ℕ) (subs : List Sub) (j : ℕ) (s : Sub) → slice_get subs j ≡ Some s
+    → P from (flat_map (λ s. desc_cells (struct_cells set) s.desc) subs) → P (sub_place set from subs j) (desc_cells (struct_cells set) s.desc)
+cells_of_sub P front rest set from [] j s e h = cc
+cells_of_sub P front rest set from (t ∷ subs) zero s e h =
     let same : t ≡ s = cc in
-    subst (λ (x : Sub). Stands all from (desc_cells (struct_cells set) x.desc)) same
-    (front_stands all from (desc_cells (struct_cells set) t.desc) (flat_map (λ s. desc_cells (struct_cells set) s.desc) subs) h)
-sub_stands_from set all from (t ∷ subs) (suc j) s e h =
-    sub_stands_from set all (from + length (desc_cells (struct_cells set) t.desc)) subs j s e
-    (rest_stands all from (desc_cells (struct_cells set) t.desc) (flat_map (λ s. desc_cells (struct_cells set) s.desc) subs) h)
+    subst (λ (x : Sub). P from (desc_cells (struct_cells set) x.desc)) same (front from (desc_cells (struct_cells set) t.desc) (flat_map (λ s. desc_cells (struct_cells set) s.desc) subs) h)
+cells_of_sub P front rest set from (t ∷ subs) (suc j) s e h =
+    cells_of_sub P front rest set (from + length (desc_cells (struct_cells set) t.desc)) subs j s e (rest from (desc_cells (struct_cells set) t.desc) (flat_map (λ s. desc_cells (struct_cells set) s.desc) subs) h)
 
 -- a subsection's slots stand in the device's cells
 pub sub_are : (set : Set) (d : Device) (j : ℕ) (s : Sub) (v : ℕ) (m : List ℤ) → slice_get d.subs j ≡ Some s
@@ -60,7 +60,7 @@ sub_are set d j s v m e =
     let others = flat_map (λ s. desc_cells (struct_cells set) s.desc) d.subs in
     let whole : Stands (device_cells set d) 0 (own ++ others) = record { more = []; is = sym (append-nil (own ++ others)) } in
     let rest : Stands (device_cells set d) (own_cells set d) others = subst (λ (i : ℕ). Stands (device_cells set d) i others) (zero_first (length own)) (rest_stands (device_cells set d) 0 own others whole) in
-    let here = sub_stands_from set (device_cells set d) (own_cells set d) d.subs j s e rest in
+    let here = cells_of_sub (Stands (device_cells set d)) (front_stands (device_cells set d)) (rest_stands (device_cells set d)) set (own_cells set d) d.subs j s e rest in
     desc_are (meanings set.structs k) (meanings_are set.structs k) s.desc v (sub_place set (own_cells set d) d.subs j) m (device_cells set d)
     (subst (λ (cs : List (List Cell)). Stands (device_cells set d) (sub_place set (own_cells set d) d.subs j) (desc_cells cs s.desc)) (sym (cells_first set.structs k)) here)
   where

@@ -1,9 +1,8 @@
 -- Bytes of both sides at one front: where slots of the newer set are spelled at the front of what the older wrote, they take
 -- the bytes that the older wrote for its own slots, and no others.
 use Rattle.std.proofs.Common.{◌≡◌, ℕ, ◌^◌, ◌<◌, Bool, List, [], ◌∷◌, ◌++◌, length, get_or, refl, sym, ap, ◌∙◌, arith, append_assoc, ℤ, pos, negsuc}
-use Rattle.std.proofs.lemmas.List.{length-append, append-nil}
-use Rattle.byteorder.specs.Endian.{big_number, big_bytes, big_from}
-use Rattle.byteorder.specs.Numbers.{big_number-reads_back}
+use Rattle.std.proofs.lemmas.List.{length-append}
+use Rattle.byteorder.specs.Endian.{big_number}
 use Rattle.vms_kinds.specs.declared.Kind.{Kind}
 use Rattle.vms_kinds.specs.declared.Kind.TheVariants.{U8, U16, U32, U64, I8, I16, I32, I64, Bool as Truth, Timer}
 use Rattle.vms_kinds.specs.Codes.{width, residue, code}

@@ -1,36 +1,44 @@
--- Descriptions at one front: position by position, then the structures by their numbers; and a position at which two constants
--- differ, which the newer set can't read.
-use Rattle.std.proofs.Common.{◌≡◌, ◌⊎◌, inl, inr, ℕ, zero, suc, ◌+◌, ◌<◌, ◌≤◌, Bool, true, false, nat_lt, List, [], ◌∷◌, ◌++◌, length, take, Option, Some, None, refl, sym, ap, ◌∙◌, subst, arith, ℤ, if◌then◌else◌}
+-- Fields and descriptions at one front: where no rule fails at two fields and the numbers of earlier fields agree, the newer set
+-- reads as many bytes for its field as the older wrote for its own, and a number that tests and counts may name is then the same;
+-- so position by position. A position at which two constants differ, which the newer set can't read.
+use Rattle.std.proofs.Common.{◌≡◌, inl, inr, ℕ, zero, suc, ◌+◌, ◌<◌, ◌≤◌, Bool, true, false, List, [], ◌∷◌, ◌++◌, length, get_or, Option, Some, None, sym, ap, ◌∙◌, subst, arith, replicate, ℤ, pos, if◌then◌else◌, ◌⊎◌, nat_lt, take, refl}
 use Rattle.std.specs.List.{slice_get}
-use Rattle.std.proofs.lemmas.Bool.{and_parts, ltb-true}
-use Rattle.std.proofs.Math.Nat.{eq-or-lt_of_le}
-use Rattle.std.proofs.lemmas.List.{take_all}
+use Rattle.std.proofs.lemmas.List.{length-append, length-replicate, take_all}
+use Rattle.std.proofs.lemmas.Bool.{eqb-true, and_parts, ltb-true}
 use Rattle.vms_kinds.specs.declared.Kind.{Kind}
 use Rattle.vms_kinds.specs.declared.Item.{Item}
-use Rattle.vms_kinds.specs.declared.Item.TheVariants.{Equal}
-use Rattle.vms_kinds.specs.Codes.{code}
+use Rattle.vms_kinds.specs.declared.Item.TheVariants.{Num, Equal, Unused, Struct}
+use Rattle.vms_kinds.specs.Codes.{width, residue, code}
 use Rattle.vms_spec.specs.declared.Count.{Count}
-use Rattle.vms_spec.specs.declared.Count.TheVariants.{One, Fixed, Counted}
+use Rattle.vms_spec.specs.declared.Count.TheVariants.{One}
 use Rattle.vms_spec.specs.declared.Part.{Part}
-use Rattle.vms_spec.specs.Rules.{is_steady_in, is_earlier_in, is_one}
-use Rattle.vms_spec.specs.Sets.{Formula, Field, Desc}
+use Rattle.vms_spec.specs.Sets.{Formula, Desc, Field}
 use Rattle.vms_spec.specs.Tests.{is_there}
-use Rattle.vms_spec.specs.Layout.{Slot, Constant, Meaning, no_parent, times, counted, elements_of, item_slots, item_size, numbers_of}
+use Rattle.vms_spec.specs.Rules.{is_steady_in, is_num, is_one, is_earlier_in}
+use Rattle.vms_spec.specs.Layout.{Slot, Number, Filler, Meaning, no_meaning, no_parent, times, counted, capacity_of, item_cells, field_cells, elements_of, item_slots, numbers_of, kind_of, Constant, item_size}
 use Rattle.vms_spec.specs.Images.{Spells, zeroed}
 use Rattle.vms_spec.proofs.KindLaws.{length-code}
-use Rattle.vms_check.specs.Comparing.{Entry, Comparer}
+use Rattle.vms_spec.proofs.Sizes.{size_same, elements_fit}
+use Rattle.vms_spec.proofs.Prefixes.{ItemBelow}
+use Rattle.vms_check.specs.Comparing.{Entry, same_rest, same_count, same_item, is_covered, Comparer, no_comparer, pair_structs}
 use Rattle.vms_check.specs.Carrying.{Carrier}
+use Rattle.vms_check_laws.specs.Segments.{FitsAt, Aligns}
 use Rattle.vms_check_laws.proofs.Presence.{there}
-use Rattle.vms_check_laws.proofs.SameTests.{Agree, presence_named}
-use Rattle.vms_check_laws.proofs.Pairing.{cells_in, entries_slots, IsKnown, AreKnown, FitEntries}
-use Rattle.vms_check_laws.proofs.Linking.{PairGood, Zip}
-use Rattle.vms_check_laws.proofs.Describing.{there_here}
-use Rattle.vms_check_laws.proofs.Premises.{Table, IsSingle, NewGood}
-use Rattle.vms_check_laws.proofs.FieldsCarry.{EntryGood, OldEntries}
-use Rattle.vms_check_laws.specs.Segments.{Aligns}
-use Rattle.vms_check_laws.proofs.Aligned.{apart, same_bytes, spells_split, behind_first, aligns_nil, aligns_constant}
-use Rattle.vms_check_laws.proofs.AlignedFields.{AlignTable, OldSlots, NewSlots, pair_aligns, pair_same}
+use Rattle.vms_check_laws.proofs.SameTests.{Agree, same_there, presence_named}
+use Rattle.vms_check_laws.proofs.Segments.{fits_left, fits_right, fits_at}
+use Rattle.vms_check_laws.proofs.Pairing.{kinds_same, cells_in, slots_at, IsKnown, entries_slots, AreKnown, FitEntries}
+use Rattle.vms_check_laws.proofs.Linking.{PairGood, Matched, decoded, Zip}
+use Rattle.vms_check_laws.proofs.Describing.{not_covered, steady, steady_rest, rest_none, there_here}
+use Rattle.vms_check_laws.proofs.Premises.{Table, IsSingle, OldGood, NewGood}
+use Rattle.vms_check_laws.proofs.FieldsCarry.{same_elements, EntryGood, OldEntries, covered_slots}
+use Rattle.vms_check_laws.proofs.Aligned.{apart, same_bytes, aligns_nil, aligns_append, aligns_number, aligns_constant, aligns_filler, same_code, spells_split, behind_first}
+use Rattle.std.proofs.Math.Nat.{eq-or-lt_of_le}
 use Rattle.vms_check_laws.proofs.Positioned.{same_some, Above, Upto, upto_next, upto_here, upto_earlier}
+
+-- the structures below so many, where no rule fails at two of them
+abbrev pub AlignTable : (ks : List Comparer) (ms ns : List Meaning) (numbers numbers' : List ℤ) (below below' : ℕ) → Type 0
+AlignTable ks ms ns numbers numbers' below below' = (i j : ℕ) → i < below → j < below' → get_or ks j no_comparer i ≡ None → (x y : ℕ) → FitsAt (get_or (cells_in ms) i []) numbers x
+    → Aligns numbers ((get_or ms i no_meaning).slots numbers x) numbers' ((get_or ns j no_meaning).slots numbers' y)
 
 -- each field names earlier ones alone
 abbrev pub NamesEarlier : ℕ → Desc → Type 0
@@ -85,11 +93,114 @@ module _ (ks : List Comparer) (cs : List Carrier) (ms ns : List Meaning) (a b : 
   abbrev own' : ℕ → ℕ
   own' k = numbers_of (cells_in ns) b numbers' at' k
 
-  abbrev old_slots : Entry → List Slot
-  old_slots e = OldSlots ks cs ms ns a b v w part part' o n numbers numbers' at at' below below' table rows e
+  abbrev pub SlotsAlign : List Slot → List Slot → Type 0
+  SlotsAlign xs ys = Aligns numbers xs numbers' ys
 
-  abbrev new_slots : Entry → List Slot
-  new_slots f = NewSlots ks cs ms ns a b v w part part' o n numbers numbers' at at' below below' table rows f
+  item_aligns : (i j : Item) (caps caps' : List ℕ) (d : ℤ) (x y : ℕ) → same_item i j ≡ true → pair_structs ks a b v w part part' o n i j ≡ None
+      → ItemBelow below i → ItemBelow below' j → FitsAt (item_cells (cells_in ms) i caps d) numbers x
+      → SlotsAlign (item_slots ms i caps numbers x) (item_slots ns j caps' numbers' y)
+  item_aligns (Num k) (Num l) caps caps' d x y same structs below_a below_b fits = aligns_number numbers numbers' x y k l caps caps' (kinds_same k l same)
+  item_aligns (Equal k z) (Equal l u) caps caps' d x y same structs below_a below_b fits = aligns_constant numbers numbers' k l z u (kinds_same k l same)
+  item_aligns (Unused m) (Unused r) caps caps' d x y same structs below_a below_b fits =
+      aligns_filler numbers numbers' (Filler m ∷ []) r (length-append (replicate m 0) [] ∙ ap (λ (k : ℕ). k + 0) (length-replicate m 0) ∙ omega (arith, eqb-true m r same))
+  item_aligns (Struct i) (Struct j) caps caps' d x y same structs below_a below_b fits = rows i j below_a below_b structs x y fits
+  item_aligns _ _ caps caps' d x y same structs below_a below_b fits = absurd (cc)
+
+  items_align : (i j : Item) (caps caps' : List ℕ) (d : ℤ) (m most p step x y step' : ℕ) → same_item i j ≡ true → pair_structs ks a b v w part part' o n i j ≡ None
+      → ItemBelow below i → ItemBelow below' j → m ≤ most → FitsAt (times most (λ _. item_cells (cells_in ms) i caps d) p step) numbers x
+      → SlotsAlign (times m (item_slots ms i caps numbers) x (length (item_cells (cells_in ms) i [] (pos 0)))) (times m (item_slots ns j caps' numbers') y step')
+  items_align i j caps caps' d zero most p step x y step' same structs below_a below_b le fits = aligns_nil numbers numbers'
+  items_align i j caps caps' d (suc m) zero p step x y step' same structs below_a below_b le fits = absurd (omega arith)
+  items_align i j caps caps' d (suc m) (suc most) p step x y step' same structs below_a below_b le fits =
+      let cells = item_cells (cells_in ms) i caps d in
+      let size = length (item_cells (cells_in ms) i [] (pos 0)) in
+      let more_cells = times most (λ _. item_cells (cells_in ms) i caps d) (p + step) step in
+      let e : x + length cells ≡ x + size = ap (λ (k : ℕ). x + k) (size_same (cells_in ms) i caps d) in
+      aligns_append numbers numbers' (item_slots ms i caps numbers x) (item_slots ns j caps' numbers' y)
+      (times m (item_slots ms i caps numbers) (x + size) size) (times m (item_slots ns j caps' numbers') (y + step') step')
+      (item_aligns i j caps caps' d x y same structs below_a below_b (fits_left cells more_cells numbers x fits))
+      (items_align i j caps caps' d m most (p + step) step (x + size) (y + step') step' same structs below_a below_b (omega arith) (fits_at more_cells numbers _ _ e (fits_right cells more_cells numbers x fits)))
+
+  covered_aligns : (i : Item) (c : Count) (j : Item) (d : Count) (caps caps' : List ℕ) (x y step step' : ℕ) → is_covered i c j ≡ true → IsSingle i c → IsSingle j d
+      → SlotsAlign (times (elements_of c own) (item_slots ms i caps numbers) x step) (times (elements_of d own') (item_slots ns j caps' numbers') y step')
+  covered_aligns i c j d caps caps' x y step step' covers single single' =
+      let slots = times (elements_of c own) (item_slots ms i caps numbers) x step in
+      let s = covered_slots ms ns numbers numbers' own own' i c j d caps caps' x y step step' covers single single' in
+      subst (λ (l : List Slot). SlotsAlign slots l) (sym s.1) (aligns_filler numbers numbers' slots s.0 s.2)
+
+  when_there : (s t : Bool) (xs ys : List Slot) → s ≡ t → SlotsAlign xs ys → SlotsAlign (if s then xs else []) (if t then ys else [])
+  when_there true true xs ys e h = h
+  when_there false false xs ys e h = aligns_nil numbers numbers'
+  when_there _ _ xs ys e h = absurd (cc)
+
+  abbrev pub OldSlots : Entry → List Slot
+  OldSlots e = slots_at ms a.fields v own numbers at e.index e.place e.field
+
+  abbrev pub NewSlots : Entry → List Slot
+  NewSlots f = slots_at ns b.fields w own' numbers' at' f.index f.place f.field
+
+  pub pair_aligns : (ok : ℕ → Bool) (e f : Entry) → Agree o n ok own own' → IsKnown ms a.fields v numbers at e → IsKnown ns b.fields w numbers' at' f → PairGood ks a b v w part part' o n e f
+      → OldGood below own e.field → EntryGood ks cs ms ns a b v w part part' o n numbers numbers' at at' below below' table ok f → FitsAt (field_cells (cells_in ms) a.fields e.index e.field) numbers (at + e.place)
+      → SlotsAlign (OldSlots e) (NewSlots f)
+  pair_aligns ok e f agree known known' good old new fits =
+      let step = length (item_cells (cells_in ms) e.field.item [] (pos 0)) in
+      let step' = length (item_cells (cells_in ns) f.field.item [] (pos 0)) in
+      let caps = counted e.index a.fields in
+      let caps' = counted f.index b.fields in
+      let slots = times (elements_of e.field.count own) (item_slots ms e.field.item caps numbers) (at + e.place) step in
+      let slots' = times (elements_of f.field.count own') (item_slots ns f.field.item caps' numbers') (at' + f.place) step' in
+      let same : same_rest o n e.rest f.rest ≡ true → is_there e.field.test e.field.since v own no_parent ≡ is_there f.field.test f.field.since w own' no_parent =
+      λ h. there_here v e.field.test e.field.since e.rest own no_parent known.left ∙ same_there o n ok own own' no_parent no_parent v w agree e.rest f.rest new.rest h
+      ∙ sym (there_here w f.field.test f.field.since f.rest own' no_parent known'.left) in
+      elim (decoded ks a b v w part part' o n e f good) [
+        | inl c ↦ when_there (is_there e.field.test e.field.since v own no_parent) (is_there f.field.test f.field.since w own' no_parent) slots slots' (same c.rest)
+            (covered_aligns e.field.item e.field.count f.field.item f.field.count caps caps' (at + e.place) (at' + f.place) step step' c.covers old.single new.single)
+        | inr m ↦ when_there (is_there e.field.test e.field.since v own no_parent) (is_there f.field.test f.field.since w own' no_parent) slots slots' (same m.rest)
+            (subst (λ (k : ℕ). SlotsAlign slots (times k (item_slots ns f.field.item caps' numbers') (at' + f.place) step'))
+            (same_elements ks cs ms ns a b v w part part' o n numbers numbers' at at' below below' table ok e.field.count f.field.count agree old.count new.count m.count m.room)
+            (items_align e.field.item f.field.item caps caps' e.field.default (elements_of e.field.count own) (capacity_of e.field.count) 0 0
+            (at + e.place) (at' + f.place) step' m.item good.structs old.item new.item (elements_fit e.field.count own) fits))
+      ]
+
+  -- ---- numbers that may be named
+
+  one_same : (k l : Kind) (caps caps' : List ℕ) (x y : ℕ) → k ≡ l → (body r r' : List ℕ) → Spells numbers' (Number y l caps' ∷ []) body → body ++ r' ≡ zeroed numbers (Number x k caps ∷ []) ++ r
+      → residue (width k) (get_or numbers x (pos 0)) ≡ residue (width l) (get_or numbers' y (pos 0))
+  one_same k l caps caps' x y e body r r' s h =
+      let z = get_or numbers x (pos 0) in
+      let u = get_or numbers' y (pos 0) in
+      let same = same_bytes numbers (Number x k caps ∷ []) numbers' (Number y l caps' ∷ []) (aligns_number numbers numbers' x y k l caps caps' e) body r r' s h in
+      let codes : code l u ≡ code k z = (apart (code l u) (code k z) [] s.0 (length-code l u ∙ ap width (sym e) ∙ sym (length-code k z)) (sym s.1 ∙ same)).0 in
+      same_code k z u (sym codes ∙ ap (λ (i : Kind). code i u) (sym e)) ∙ ap (λ (i : Kind). residue (width i) u) e
+
+  number_same : (j i : Item) (d c : Count) (t t' : Bool) (caps caps' : List ℕ) (x y step step' : ℕ) → is_num j ≡ true → is_one d ≡ true → same_item i j ≡ true → same_count o n c d ≡ true → t ≡ true → t' ≡ true
+      → (body r r' : List ℕ) → Spells numbers' (if t' then times (elements_of d own') (item_slots ns j caps' numbers') y step' else []) body
+      → body ++ r' ≡ zeroed numbers (if t then times (elements_of c own) (item_slots ms i caps numbers) x step else []) ++ r
+      → residue (width (kind_of i)) (get_or numbers x (pos 0)) ≡ residue (width (kind_of j)) (get_or numbers' y (pos 0))
+  number_same (Num l) (Num k) One One true true caps caps' x y step step' num one same counts is is' body r r' s h = one_same k l caps caps' x y (kinds_same k l same) body r r' s h
+  number_same _ _ _ _ _ _ caps caps' x y step step' num one same counts is is' body r r' s h = absurd (cc)
+
+  pub pair_same : (e f : Entry) → IsKnown ms a.fields v numbers at e → IsKnown ns b.fields w numbers' at' f → PairGood ks a b v w part part' o n e f → is_steady_in b f.index ≡ true
+      → (body r r' : List ℕ) → Spells numbers' (NewSlots f) body → body ++ r' ≡ zeroed numbers (OldSlots e) ++ r → own e.index ≡ own' f.index
+  pair_same e f known known' good named body r r' spells h =
+      let s = steady b.minimum (slice_get b.fields f.index) f.field known'.field named in
+      let m : Matched ks a b v w part part' o n e f = elim (decoded ks a b v w part part' o n e f good) [
+        | inl c ↦ absurd (not_covered e.field.item e.field.count f.field.item c.covers s.item)
+        | inr m ↦ m
+      ] in
+      let rest' : f.rest ≡ None = steady_rest w f.field.test f.field.since f.rest s.test known'.left in
+      let rest : e.rest ≡ None = rest_none o n e.rest f.rest rest' m.rest in
+      let there_is : is_there e.field.test e.field.since v own no_parent ≡ true =
+      there_here v e.field.test e.field.since e.rest own no_parent known.left ∙ ap (λ (r : Option Formula). there (Some r) v own no_parent) rest in
+      let there_is' : is_there f.field.test f.field.since w own' no_parent ≡ true =
+      there_here w f.field.test f.field.since f.rest own' no_parent known'.left ∙ ap (λ (r : Option Formula). there (Some r) w own' no_parent) rest' in
+      known.number
+      ∙ number_same f.field.item e.field.item f.field.count e.field.count (is_there e.field.test e.field.since v own no_parent) (is_there f.field.test f.field.since w own' no_parent)
+      (counted e.index a.fields) (counted f.index b.fields) (at + e.place) (at' + f.place) (length (item_cells (cells_in ms) e.field.item [] (pos 0))) (length (item_cells (cells_in ns) f.field.item [] (pos 0)))
+      s.item s.count m.item m.count there_is there_is' body r r' spells h
+      ∙ sym known'.number
+
+  -- ---- position by position
 
   abbrev olds : List Entry → List Slot
   olds es = entries_slots ms a.fields v own numbers at es
@@ -139,12 +250,12 @@ module _ (ks : List Comparer) (cs : List Carrier) (ms ns : List Meaning) (a b : 
       rests = λ body r r' s h.
           let more_old = olds (take k es) in
           let more_new = news (take k fs) in
-          let t = spells_split numbers' (new_slots f) more_new body s in
-          let split = behind_first numbers (old_slots e) more_old t.0 t.1 r r' (ap (λ (l : List ℕ). l ++ r') (sym t.2) ∙ h) in
-          let here = pair_aligns ks cs ms ns a b v w part part' o n numbers numbers' at at' below below' table rows (λ j. is_earlier_in b f.index j) e f (earlier_agree p i f fs up' above same)
+          let t = spells_split numbers' (NewSlots f) more_new body s in
+          let split = behind_first numbers (OldSlots e) more_old t.0 t.1 r r' (ap (λ (l : List ℕ). l ++ r') (sym t.2) ∙ h) in
+          let here = pair_aligns (λ j. is_earlier_in b f.index j) e f (earlier_agree p i f fs up' above same)
           known.0 known'.0 good.0 old.0 (good_at named f known'.0) fits.0 in
           let equal = λ (steady : is_steady_in b f.index ≡ true).
-          pair_same ks cs ms ns a b v w part part' o n numbers numbers' at at' below below' table rows e f known.0 known'.0 good.0 steady t.0 (zeroed numbers more_old ++ r) (t.1 ++ r') t.3 split in
+          pair_same e f known.0 known'.0 good.0 steady t.0 (zeroed numbers more_old ++ r) (t.1 ++ r') t.3 split in
           let more = front_aligns k es fs (suc p) (suc f.index) good.1 known.1 known'.1 old.1 fits.1 (upto_next o p e es up) (upto_next n p f fs up') above.1 (same_next p e f es fs up up' same equal) in
           more.rests t.1 r r' t.4 (here.rests t.0 (zeroed numbers more_old ++ r) (t.1 ++ r') t.3 split);
     }
@@ -165,15 +276,10 @@ module _ (ks : List Comparer) (cs : List Carrier) (ms ns : List Meaning) (a b : 
     constants_same k z u true true One One caps caps' x y step step' one one' is is' body r r' s h =
         let same = same_bytes numbers (Constant k z ∷ []) numbers' (Constant k u ∷ []) (aligns_constant numbers numbers' k k z u refl) body r r' s h in
         sym (apart (code k u) (code k z) [] s.0 (length-code k u ∙ sym (length-code k z)) (sym s.1 ∙ same)).0
-    constants_same k z u true true One (Fixed q) caps caps' x y step step' one one' is is' body r r' s h = absurd (cc)
-    constants_same k z u true true One (Counted by most) caps caps' x y step step' one one' is is' body r r' s h = absurd (cc)
-    constants_same k z u true true (Fixed q) d caps caps' x y step step' one one' is is' body r r' s h = absurd (cc)
-    constants_same k z u true true (Counted by most) d caps caps' x y step step' one one' is is' body r r' s h = absurd (cc)
-    constants_same k z u false t' c d caps caps' x y step step' one one' is is' body r r' s h = absurd (cc)
-    constants_same k z u true false c d caps caps' x y step step' one one' is is' body r r' s h = absurd (cc)
+    constants_same k z u _ _ _ _ caps caps' x y step step' one one' is is' body r r' s h = absurd (cc)
 
     clash_refuses : (e f : Entry) → Clash e f → IsKnown ms a.fields v numbers at e → IsKnown ns b.fields w numbers' at' f → IsSingle e.field.item e.field.count
-        → (body r r' : List ℕ) → Spells numbers' (new_slots f) body → body ++ r' ≡ zeroed numbers (old_slots e) ++ r → ⊥
+        → (body r r' : List ℕ) → Spells numbers' (NewSlots f) body → body ++ r' ≡ zeroed numbers (OldSlots e) ++ r → ⊥
     clash_refuses e f clash known known' single body r r' spells h =
         let differs = clash.constants in
         let t = is_there e.field.test e.field.since v own no_parent in
@@ -193,15 +299,15 @@ module _ (ks : List Comparer) (cs : List Carrier) (ms ns : List Meaning) (a b : 
     entries_clash [] fs p i clashes known known' old fits up up' above same body r r' s h = absurd clashes
     entries_clash (e ∷ es) [] p i clashes known known' old fits up up' above same body r r' s h = absurd clashes
     entries_clash (e ∷ es) (f ∷ fs) p i clashes known known' old fits up up' above same body r r' s h =
-        let t = spells_split numbers' (new_slots f) (news fs) body s in
-        let split = behind_first numbers (old_slots e) (olds es) t.0 t.1 r r' (ap (λ (l : List ℕ). l ++ r') (sym t.2) ∙ h) in
+        let t = spells_split numbers' (NewSlots f) (news fs) body s in
+        let split = behind_first numbers (OldSlots e) (olds es) t.0 t.1 r r' (ap (λ (l : List ℕ). l ++ r') (sym t.2) ∙ h) in
         elim clashes [
           | inl clash ↦ clash_refuses e f clash known.0 known'.0 old.0.single t.0 (zeroed numbers (olds es) ++ r) (t.1 ++ r') t.3 split
           | inr more ↦
-              let here = pair_aligns ks cs ms ns a b v w part part' o n numbers numbers' at at' below below' table rows (λ j. is_earlier_in b f.index j) e f (earlier_agree p i f fs up' above same)
+              let here = pair_aligns (λ j. is_earlier_in b f.index j) e f (earlier_agree p i f fs up' above same)
               known.0 known'.0 more.0 old.0 (good_at named f known'.0) fits.0 in
               let equal = λ (steady : is_steady_in b f.index ≡ true).
-              pair_same ks cs ms ns a b v w part part' o n numbers numbers' at at' below below' table rows e f known.0 known'.0 more.0 steady t.0 (zeroed numbers (olds es) ++ r) (t.1 ++ r') t.3 split in
+              pair_same e f known.0 known'.0 more.0 steady t.0 (zeroed numbers (olds es) ++ r) (t.1 ++ r') t.3 split in
               entries_clash es fs (suc p) (suc f.index) more.1 known.1 known'.1 old.1 fits.1 (upto_next o p e es up) (upto_next n p f fs up') above.1 (same_next p e f es fs up up' same equal)
               t.1 r r' t.4 (here.rests t.0 (zeroed numbers (olds es) ++ r) (t.1 ++ r') t.3 split)
         ]

@@ -6,7 +6,7 @@ use Rattle.std.proofs.lemmas.Int.{ints}
 use Rattle.vms_kinds.specs.declared.Kind.{Kind}
 use Rattle.vms_kinds.specs.declared.Kind.TheVariants.{U8, U16, U32, U64, I8, I16, I32, I64, Bool as Truth, Timer}
 use Rattle.vms_kinds.specs.declared.Item.{Item}
-use Rattle.vms_kinds.specs.declared.Item.TheVariants.{Num, Equal, Unused, Struct}
+use Rattle.vms_kinds.specs.declared.Item.TheVariants.{Num}
 use Rattle.vms_kinds.specs.Codes.{highest}
 use Rattle.vms_spec.specs.declared.Count.{Count}
 use Rattle.vms_spec.specs.declared.Count.TheVariants.{One, Fixed, Counted}
@@ -19,6 +19,7 @@ use Rattle.vms_check.specs.Comparing.{Entry, entry_of, present_from, position_fr
 use Rattle.vms_check_laws.proofs.Linking.{PairGood, Zip, Matched, decoded}
 use Rattle.vms_check_laws.proofs.Premises.{later_new, later_old, IsSingle}
 use Rattle.vms_check_laws.proofs.Counts.{HasArray, counted_has}
+use Rattle.vms_check_laws.proofs.Describing.{covers_unused}
 
 -- ---- positions
 
@@ -117,25 +118,7 @@ all_counted P by (g ∷ gs) h = head g.count refl (all_counted P by gs (λ most 
   head (Counted by' most) e rest = caps (by' == by) most (λ is. h most (inl (e ∙ ap (λ (k : ℕ). Counted k most) (eqb-true by' by is)))) rest
 
 pub covered_one : (i : Item) (c : Count) (j : Item) (d : Count) → is_covered i c j ≡ true → IsSingle j d → is_one d ≡ true
-covered_one i c (Unused r) d is_so single = single
-covered_one (Num k) One (Num l) d is_so single = absurd (cc)
-covered_one (Num k) (Fixed p) (Num l) d is_so single = absurd (cc)
-covered_one (Num k) (Counted by most) (Num l) d is_so single = absurd (cc)
-covered_one (Equal k z) c (Num l) d is_so single = absurd (cc)
-covered_one (Unused m) c (Num l) d is_so single = absurd (cc)
-covered_one (Struct i) c (Num l) d is_so single = absurd (cc)
-covered_one (Num k) One (Equal l u) d is_so single = absurd (cc)
-covered_one (Num k) (Fixed p) (Equal l u) d is_so single = absurd (cc)
-covered_one (Num k) (Counted by most) (Equal l u) d is_so single = absurd (cc)
-covered_one (Equal k z) c (Equal l u) d is_so single = absurd (cc)
-covered_one (Unused m) c (Equal l u) d is_so single = absurd (cc)
-covered_one (Struct i) c (Equal l u) d is_so single = absurd (cc)
-covered_one (Num k) One (Struct j) d is_so single = absurd (cc)
-covered_one (Num k) (Fixed p) (Struct j) d is_so single = absurd (cc)
-covered_one (Num k) (Counted by most) (Struct j) d is_so single = absurd (cc)
-covered_one (Equal k z) c (Struct j) d is_so single = absurd (cc)
-covered_one (Unused m) c (Struct j) d is_so single = absurd (cc)
-covered_one (Struct i) c (Struct j) d is_so single = absurd (cc)
+covered_one i c j d is_so single = subst (λ (x : Item). IsSingle x d) (covers_unused i c j is_so).1 single
 
 array_of : (fs : List Field) (i by most : ℕ) (f : Field) → slice_get fs i ≡ Some f → f.count ≡ Counted by most → HasArray by most fs
 array_of [] i by most f is e = absurd (cc)
@@ -153,9 +136,8 @@ paired : (o n : ℕ → Option ℕ) (c d : Count) (i most : ℕ) → d ≡ Count
 paired o n c d i most e same room =
     at_count c (subst (λ (x : Count). same_count o n c x ≡ true) e same) (subst (λ (x : Count). holds_as_much c x ≡ true) e room) where
       at_count : (c : Count) → same_count o n c (Counted i most) ≡ true → holds_as_much c (Counted i most) ≡ true → Paired o n c i most
-      at_count One h k = absurd (cc)
-      at_count (Fixed m) h k = absurd (cc)
       at_count (Counted by most') h k = record { by = by; most' = most'; is = refl; same = h; room = leb-true most' most k }
+      at_count _ h k = absurd (cc)
 
 module _ (ks : List Comparer) (a b : Desc) (v w : ℕ) (part part' : Part) (o n : ℕ → Option ℕ) where
   -- z fits each present array that field i counts

@@ -52,11 +52,7 @@ first_fits : (cs : List (List Cell)) (item : Item) (count : Count) (caps : List 
 first_fits cs (Num kind) One caps d more numbers at num one fits =
     let z : at + 0 ≡ at = omega arith in
     subst (λ (k : ℕ). FitsCell (record { kind = kind; capacities = caps; default = d }) (get_or numbers k (pos 0))) z (fits.each 0 (omega arith))
-first_fits cs (Num kind) (Fixed n) caps d more numbers at num one fits = absurd (cc)
-first_fits cs (Num kind) (Counted by most) caps d more numbers at num one fits = absurd (cc)
-first_fits cs (Equal kind z) count caps d more numbers at num one fits = absurd (cc)
-first_fits cs (Unused n) count caps d more numbers at num one fits = absurd (cc)
-first_fits cs (Struct j) count caps d more numbers at num one fits = absurd (cc)
+first_fits cs _ _ caps d more numbers at num one fits = absurd (cc)
 
 -- the number of a single field, and that it fits
 pub record Single (kind : Kind) (caps : List ℕ) (default : ℤ) (own : ℕ) : Type 0 where

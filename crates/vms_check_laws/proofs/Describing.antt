@@ -4,10 +4,10 @@ use Rattle.std.proofs.lemmas.List.{length-append}
 use Rattle.std.proofs.lemmas.Bool.{and_parts}
 use Rattle.vms_kinds.specs.declared.Kind.{Kind}
 use Rattle.vms_kinds.specs.declared.Item.{Item}
-use Rattle.vms_kinds.specs.declared.Item.TheVariants.{Num, Equal, Unused, Struct}
+use Rattle.vms_kinds.specs.declared.Item.TheVariants.{Num, Equal, Unused}
 use Rattle.vms_kinds.specs.Codes.{width, code}
 use Rattle.vms_spec.specs.declared.Count.{Count}
-use Rattle.vms_spec.specs.declared.Count.TheVariants.{One, Fixed, Counted}
+use Rattle.vms_spec.specs.declared.Count.TheVariants.{One, Fixed}
 use Rattle.vms_spec.specs.Sets.{Formula, Field}
 use Rattle.vms_spec.specs.Tests.{is_there}
 use Rattle.vms_spec.specs.Layout.{Number, Constant, times}
@@ -19,16 +19,17 @@ use Rattle.vms_check.specs.Comparing.{same_rest, is_covered}
 use Rattle.vms_check_laws.proofs.Presence.{there, presence_there}
 use Rattle.vms_check_laws.specs.Segments.{Holds}
 
+-- what covers is unused bytes
+pub covers_unused : (i : Item) (c : Count) (j : Item) → is_covered i c j ≡ true → (r : ℕ) × (j ≡ Unused r)
+covers_unused (Equal k z) c (Unused r) covers = (r, refl)
+covers_unused (Num k) One (Unused r) covers = (r, refl)
+covers_unused (Num k) (Fixed p) (Unused r) covers = (r, refl)
+covers_unused _ _ _ covers = absurd (cc)
+
 pub not_covered : (i : Item) (c : Count) (j : Item) → is_covered i c j ≡ true → is_num j ≡ true → ⊥
-not_covered (Num k) One (Num l) covers number = absurd (cc)
-not_covered (Num k) (Fixed p) (Num l) covers number = absurd (cc)
-not_covered (Num k) (Counted by most) (Num l) covers number = absurd (cc)
-not_covered (Equal k z) c (Num l) covers number = absurd (cc)
-not_covered (Unused m) c (Num l) covers number = absurd (cc)
-not_covered (Struct i) c (Num l) covers number = absurd (cc)
-not_covered i c (Equal l u) covers number = absurd (cc)
-not_covered i c (Unused r) covers number = absurd (cc)
-not_covered i c (Struct j) covers number = absurd (cc)
+not_covered i c j covers number =
+    let unused : is_num (Unused (covers_unused i c j covers).0) ≡ true = subst (λ (x : Item). is_num x ≡ true) (covers_unused i c j covers).1 number in
+    absurd (cc)
 
 -- the bytes of n numbers
 pub numbers_length : (numbers : List ℤ) (kind : Kind) (caps : List ℕ) (n at step : ℕ) → length (zeroed numbers (times n (λ c. Number c kind caps ∷ []) at step)) ≡ n * width kind
@@ -66,8 +67,7 @@ steady_rest w (Some t) since rest h k = absurd (cc)
 
 pub rest_none : (o n : ℕ → Option ℕ) (r s : Option Formula) → s ≡ None → same_rest o n r s ≡ true → r ≡ None
 rest_none o n None s h k = refl
-rest_none o n (Some t) None h k = absurd (cc)
-rest_none o n (Some t) (Some u) h k = absurd (cc)
+rest_none o n _ _ h k = absurd (cc)
 
 pub there_here : (v : ℕ) (test : Option Formula) (since : ℕ) (rest : Option Formula) (own parent : ℕ → ℕ) → presence v test since ≡ Some rest
     → is_there test since v own parent ≡ there (Some rest) v own parent

@@ -1,29 +1,45 @@
--- Fields: what the older set writes for a present field is bytes of the paired field with the carried numbers.
-use Rattle.std.proofs.Common.{◌≡◌, inl, inr, ℕ, zero, suc, ◌+◌, ◌*◌, ◌≤◌, Bool, true, false, List, ◌∷◌, length, get_or, Option, None, refl, sym, ap, ◌∙◌, subst, arith, replicate, ℤ, pos, if◌then◌else◌, []}
+-- Fields: what the older set writes for a present field is bytes of the paired field with the carried numbers. Validations that
+-- hold in the older set hold in the newer.
+use Rattle.std.proofs.Common.{◌≡◌, inl, inr, ℕ, zero, suc, ◌+◌, ◌*◌, ◌≤◌, Bool, true, false, List, ◌∷◌, length, get_or, Option, None, refl, sym, ap, ◌∙◌, subst, arith, replicate, ℤ, pos, if◌then◌else◌, [], ◌++◌, Some, IsTrue, ◌||◌}
 use Rattle.std.proofs.lemmas.List.{length-append, length-replicate}
-use Rattle.std.proofs.lemmas.Bool.{eqb-true, leb-true}
+use Rattle.std.proofs.lemmas.Bool.{eqb-true, leb-true, and_parts, and_from}
 use Rattle.vms_kinds.specs.declared.Kind.{Kind}
 use Rattle.vms_kinds.specs.declared.Item.{Item}
 use Rattle.vms_kinds.specs.declared.Item.TheVariants.{Num, Equal, Unused, Struct}
 use Rattle.vms_kinds.specs.Codes.{width}
 use Rattle.vms_spec.specs.declared.Count.{Count}
 use Rattle.vms_spec.specs.declared.Count.TheVariants.{One, Fixed, Counted}
-use Rattle.vms_spec.specs.Sets.{Desc}
-use Rattle.vms_spec.specs.Tests.{is_there}
-use Rattle.vms_spec.specs.Layout.{Slot, Number, Constant, Filler, Meaning, no_parent, times, counted, capacity_of, item_cells, field_cells, elements_of, item_slots, numbers_of}
+use Rattle.vms_spec.specs.Sets.{Desc, Formula, Field}
+use Rattle.vms_spec.specs.Tests.{is_there, truth}
+use Rattle.vms_spec.specs.Layout.{Slot, Number, Filler, Meaning, no_parent, times, counted, capacity_of, item_cells, field_cells, elements_of, item_slots, numbers_of, Rule, all_hold}
 use Rattle.vms_spec.specs.declared.Part.{Part}
-use Rattle.vms_check.specs.Comparing.{Entry, same_rest, same_count, same_item, same_kind, same_constant, is_covered, holds_as_much, Comparer, pair_structs}
+use Rattle.vms_check.specs.Comparing.{Entry, same_rest, same_count, same_item, same_kind, same_constant, is_covered, holds_as_much, Comparer, pair_structs, entry_of, present_from, compare_validations, is_kept, same_reduced}
 use Rattle.vms_check.specs.Carrying.{Carrier, defaults, carry_item, carry_items, carry_field}
-use Rattle.vms_check_laws.proofs.SameTests.{Agree, NamedRest, same_there}
+use Rattle.vms_check_laws.proofs.SameTests.{Agree, NamedRest, same_there, presence_named, Named, named_left, same_reduced_truth}
 use Rattle.vms_check_laws.specs.Segments.{Holds, FitsAt, Carries}
-use Rattle.vms_check_laws.proofs.Segments.{holds_left, holds_right, holds_at, fits_left, fits_right, fits_at, carries_nil, carries_append, carries_number, carries_constant, carries_filler}
+use Rattle.vms_check_laws.proofs.Segments.{holds_left, holds_right, holds_at, fits_left, fits_right, fits_at, carries_nil, carries_append, carries_number, carries_constant, carries_filler, carries_rule}
 use Rattle.vms_spec.proofs.Sizes.{size_same, elements_fit}
 use Rattle.vms_spec.proofs.Prefixes.{ItemBelow}
 use Rattle.vms_spec.proofs.NumberLaws.{same_number_is}
 use Rattle.vms_check_laws.proofs.Pairing.{kinds_same, cells_in, slots_at, entries_slots, IsKnown, AreKnown, FitEntries}
 use Rattle.vms_check_laws.proofs.Linking.{PairGood, decoded, Linked, linked, carry_item_size}
 use Rattle.vms_check_laws.proofs.Describing.{numbers_length, constant_length, there_here}
-use Rattle.vms_check_laws.proofs.Premises.{Table, IsSingle, CountFits, CountNamed, OldGood}
+use Rattle.vms_check_laws.proofs.Premises.{Table, IsSingle, CountFits, CountNamed, OldGood, NewGood, RulesNamed, OldFields, NewFields}
+use Rattle.std.specs.List.{list_all, list_any}
+use Rattle.vms_spec.specs.WellFormed.{here}
+use Rattle.vms_check.specs.Reducing.{presence, Reduced, Known, Open, reduced, truth_of}
+use Rattle.vms_check.proofs.ReducedLaws.{reduced_holds}
+use Rattle.vms_check.proofs.ListLaws.{passes}
+use Rattle.vms_spec.specs.Images.{zeroed}
+
+-- what is covered is one filler, as long as the slots that it stands over
+module _ (ms ns : List Meaning) (numbers numbers' : List ℤ) (own own' : ℕ → ℕ) where
+  pub covered_slots : (i : Item) (c : Count) (j : Item) (d : Count) (caps caps' : List ℕ) (x y step step' : ℕ) → is_covered i c j ≡ true → IsSingle i c → IsSingle j d
+      → (r : ℕ) × (times (elements_of d own') (item_slots ns j caps' numbers') y step' ≡ Filler r ∷ []) × (length (zeroed numbers (times (elements_of c own) (item_slots ms i caps numbers) x step)) ≡ r)
+  covered_slots (Equal k z) One (Unused r) One caps caps' x y step step' covers single single' = (r, refl, constant_length numbers k z ∙ eqb-true (width k) r covers)
+  covered_slots (Num k) One (Unused r) One caps caps' x y step step' covers single single' = (r, refl, numbers_length numbers k caps 1 x step ∙ omega (arith, eqb-true (width k) r covers))
+  covered_slots (Num k) (Fixed p) (Unused r) One caps caps' x y step step' covers single single' = (r, refl, numbers_length numbers k caps p x step ∙ eqb-true (p * width k) r covers)
+  covered_slots _ _ _ _ caps caps' x y step step' covers single single' = absurd (cc)
 
 module _ (ks : List Comparer) (cs : List Carrier) (ms ns : List Meaning) (a b : Desc) (v w : ℕ) (part part' : Part) (o n : ℕ → Option ℕ)
     (numbers numbers' : List ℤ) (at at' : ℕ) (below below' : ℕ) (table : Table ks cs ms ns numbers numbers' below below') (ok : ℕ → Bool) where
@@ -60,18 +76,7 @@ module _ (ks : List Comparer) (cs : List Carrier) (ms ns : List Meaning) (a b : 
   item_carries (Unused m) (Unused r) caps caps' d d' x y same constant structs below_a below_b fits held =
       carries_filler numbers numbers' (Filler m ∷ []) r (length-append (replicate m 0) [] ∙ ap (λ (k : ℕ). k + 0) (length-replicate m 0) ∙ omega (arith, eqb-true m r same))
   item_carries (Struct i) (Struct j) caps caps' d d' x y same constant structs below_a below_b fits held = table.carried i j below_a below_b structs x y fits held
-  item_carries (Num k) (Equal l u) caps caps' d d' x y same constant structs below_a below_b fits held = absurd (cc)
-  item_carries (Num k) (Unused r) caps caps' d d' x y same constant structs below_a below_b fits held = absurd (cc)
-  item_carries (Num k) (Struct j) caps caps' d d' x y same constant structs below_a below_b fits held = absurd (cc)
-  item_carries (Equal k z) (Num l) caps caps' d d' x y same constant structs below_a below_b fits held = absurd (cc)
-  item_carries (Equal k z) (Unused r) caps caps' d d' x y same constant structs below_a below_b fits held = absurd (cc)
-  item_carries (Equal k z) (Struct j) caps caps' d d' x y same constant structs below_a below_b fits held = absurd (cc)
-  item_carries (Unused m) (Num l) caps caps' d d' x y same constant structs below_a below_b fits held = absurd (cc)
-  item_carries (Unused m) (Equal l u) caps caps' d d' x y same constant structs below_a below_b fits held = absurd (cc)
-  item_carries (Unused m) (Struct j) caps caps' d d' x y same constant structs below_a below_b fits held = absurd (cc)
-  item_carries (Struct i) (Num l) caps caps' d d' x y same constant structs below_a below_b fits held = absurd (cc)
-  item_carries (Struct i) (Equal l u) caps caps' d d' x y same constant structs below_a below_b fits held = absurd (cc)
-  item_carries (Struct i) (Unused r) caps caps' d d' x y same constant structs below_a below_b fits held = absurd (cc)
+  item_carries _ _ caps caps' d d' x y same constant structs below_a below_b fits held = absurd (cc)
 
   items_carry : (i j : Item) (caps caps' : List ℕ) (d d' : ℤ) (m most most' p step x y : ℕ) → same_item i j ≡ true → same_constant i j ≡ true → pair_structs ks a b v w part part' o n i j ≡ None
       → ItemBelow below i → ItemBelow below' j → m ≤ most → m ≤ most' → FitsAt (times most (λ _. item_cells (cells_in ms) i caps d) p step) numbers x
@@ -102,64 +107,25 @@ module _ (ks : List Comparer) (cs : List Carrier) (ms ns : List Meaning) (a b : 
   same_elements One One agree fits named same room = refl
   same_elements (Fixed p) (Fixed q) agree fits named same room = eqb-true p q same
   same_elements (Counted by most) (Counted by' most') agree fits named same room = omega (arith, fits, agree by by' named same, leb-true most most' room)
-  same_elements One (Fixed q) agree fits named same room = absurd (cc)
-  same_elements One (Counted by' most') agree fits named same room = absurd (cc)
-  same_elements (Fixed p) One agree fits named same room = absurd (cc)
-  same_elements (Fixed p) (Counted by' most') agree fits named same room = absurd (cc)
-  same_elements (Counted by most) One agree fits named same room = absurd (cc)
-  same_elements (Counted by most) (Fixed q) agree fits named same room = absurd (cc)
+  same_elements _ _ agree fits named same room = absurd (cc)
 
   pub elements_room : (c d : Count) → same_count o n c d ≡ true → holds_as_much c d ≡ true → elements_of c own ≤ capacity_of d
   elements_room One One same room = omega arith
   elements_room (Fixed p) (Fixed q) same room = omega (arith, eqb-true p q same)
   elements_room (Counted by most) (Counted by' most') same room = omega (arith, leb-true most most' room)
-  elements_room One (Fixed q) same room = absurd (cc)
-  elements_room One (Counted by' most') same room = absurd (cc)
-  elements_room (Fixed p) One same room = absurd (cc)
-  elements_room (Fixed p) (Counted by' most') same room = absurd (cc)
-  elements_room (Counted by most) One same room = absurd (cc)
-  elements_room (Counted by most) (Fixed q) same room = absurd (cc)
+  elements_room _ _ same room = absurd (cc)
 
   covered_carries : (i : Item) (c : Count) (j : Item) (d : Count) (caps caps' : List ℕ) (x y step step' : ℕ) → is_covered i c j ≡ true → IsSingle i c → IsSingle j d
       → Carries numbers (times (elements_of c own) (item_slots ms i caps numbers) x step) numbers' (times (elements_of d own') (item_slots ns j caps' numbers') y step')
-  covered_carries (Equal k z) One (Unused r) One caps caps' x y step step' covers single single' = carries_filler numbers numbers' (Constant k z ∷ []) r (constant_length numbers k z ∙ eqb-true (width k) r covers)
-  covered_carries (Num k) One (Unused r) One caps caps' x y step step' covers single single' = carries_filler numbers numbers' (Number x k caps ∷ []) r (numbers_length numbers k caps 1 x step ∙ omega (arith, eqb-true (width k) r covers))
-  covered_carries (Num k) (Fixed p) (Unused r) One caps caps' x y step step' covers single single' = carries_filler numbers numbers' (times p (λ c. Number c k caps ∷ []) x step) r (numbers_length numbers k caps p x step ∙ eqb-true (p * width k) r covers)
-  covered_carries (Num k) One (Num l) d caps caps' x y step step' covers single single' = absurd (cc)
-  covered_carries (Num k) (Fixed p) (Num l) d caps caps' x y step step' covers single single' = absurd (cc)
-  covered_carries (Num k) (Counted by most) (Num l) d caps caps' x y step step' covers single single' = absurd (cc)
-  covered_carries (Equal k z) c (Num l) d caps caps' x y step step' covers single single' = absurd (cc)
-  covered_carries (Unused m) c (Num l) d caps caps' x y step step' covers single single' = absurd (cc)
-  covered_carries (Struct i) c (Num l) d caps caps' x y step step' covers single single' = absurd (cc)
-  covered_carries (Num k) One (Equal l u) d caps caps' x y step step' covers single single' = absurd (cc)
-  covered_carries (Num k) (Fixed p) (Equal l u) d caps caps' x y step step' covers single single' = absurd (cc)
-  covered_carries (Num k) (Counted by most) (Equal l u) d caps caps' x y step step' covers single single' = absurd (cc)
-  covered_carries (Equal k z) c (Equal l u) d caps caps' x y step step' covers single single' = absurd (cc)
-  covered_carries (Unused m) c (Equal l u) d caps caps' x y step step' covers single single' = absurd (cc)
-  covered_carries (Struct i) c (Equal l u) d caps caps' x y step step' covers single single' = absurd (cc)
-  covered_carries (Num k) One (Struct j) d caps caps' x y step step' covers single single' = absurd (cc)
-  covered_carries (Num k) (Fixed p) (Struct j) d caps caps' x y step step' covers single single' = absurd (cc)
-  covered_carries (Num k) (Counted by most) (Struct j) d caps caps' x y step step' covers single single' = absurd (cc)
-  covered_carries (Equal k z) c (Struct j) d caps caps' x y step step' covers single single' = absurd (cc)
-  covered_carries (Unused m) c (Struct j) d caps caps' x y step step' covers single single' = absurd (cc)
-  covered_carries (Struct i) c (Struct j) d caps caps' x y step step' covers single single' = absurd (cc)
-  covered_carries (Unused m) c (Unused r) d caps caps' x y step step' covers single single' = absurd (cc)
-  covered_carries (Struct i) c (Unused r) d caps caps' x y step step' covers single single' = absurd (cc)
-  covered_carries (Num k) (Counted by most) (Unused r) d caps caps' x y step step' covers single single' = absurd (cc)
-  covered_carries (Equal k z) (Fixed p) (Unused r) d caps caps' x y step step' covers single single' = absurd (cc)
-  covered_carries (Equal k z) (Counted by most) (Unused r) d caps caps' x y step step' covers single single' = absurd (cc)
-  covered_carries (Num k) One (Unused r) (Fixed q) caps caps' x y step step' covers single single' = absurd (cc)
-  covered_carries (Num k) One (Unused r) (Counted by' most') caps caps' x y step step' covers single single' = absurd (cc)
-  covered_carries (Num k) (Fixed p) (Unused r) (Fixed q) caps caps' x y step step' covers single single' = absurd (cc)
-  covered_carries (Num k) (Fixed p) (Unused r) (Counted by' most') caps caps' x y step step' covers single single' = absurd (cc)
-  covered_carries (Equal k z) One (Unused r) (Fixed q) caps caps' x y step step' covers single single' = absurd (cc)
-  covered_carries (Equal k z) One (Unused r) (Counted by' most') caps caps' x y step step' covers single single' = absurd (cc)
+  covered_carries i c j d caps caps' x y step step' covers single single' =
+      let slots = times (elements_of c own) (item_slots ms i caps numbers) x step in
+      let s = covered_slots ms ns numbers numbers' own own' i c j d caps caps' x y step step' covers single single' in
+      subst (λ (l : List Slot). Carries numbers slots numbers' l) (sym s.1) (carries_filler numbers numbers' slots s.0 s.2)
 
   when_there : (s t : Bool) (xs ys : List Slot) → s ≡ t → (s ≡ true → Carries numbers xs numbers' ys) → Carries numbers (if s then xs else []) numbers' (if t then ys else [])
   when_there true true xs ys e h = h refl
   when_there false false xs ys e h = carries_nil numbers numbers'
-  when_there true false xs ys e h = absurd (cc)
-  when_there false true xs ys e h = absurd (cc)
+  when_there _ _ xs ys e h = absurd (cc)
 
   -- a present field of new, with what is left of its test
   pub record EntryGood (f : Entry) : Type 0 where
@@ -211,3 +177,61 @@ module _ (ks : List Comparer) (cs : List Carrier) (ms ns : List Meaning) (a b : 
       (entries_slots ms a.fields v own numbers at es) (entries_slots ns b.fields w own' numbers' at' fs)
       (pair_carries e f agree known.0 known'.0 linked.0.0 linked.0.1 old.0 new.0 fits.0)
       (fields_carry es fs agree linked.1 known.1 known'.1 old.1 new.1 fits.1)
+
+  -- ---- validations
+
+  found_same : (r : Reduced) (c d : Bool) (s : Formula) → c ≡ same_reduced o n (reduced v s) r → Named ok r → Agree o n ok own own' → truth s v own no_parent ≡ true
+      → (d ≡ true → truth_of r w own' no_parent ≡ true) → (c || d) ≡ true → truth_of r w own' no_parent ≡ true
+  found_same r true d s e named agree holds go h = sym (same_reduced_truth o n ok own own' no_parent no_parent v w agree (reduced v s) r named (sym e)) ∙ reduced_holds s v own no_parent ∙ holds
+  found_same r false d s e named agree holds go h = go h
+
+  some_same : (r : Reduced) (ss : List Formula) → Named ok r → Agree o n ok own own' → all_hold ss v own ≡ true → list_any (λ s. same_reduced o n (reduced v s) r) ss ≡ true → truth_of r w own' no_parent ≡ true
+  some_same r [] named agree holds h = absurd (cc)
+  some_same r (s ∷ ss) named agree holds h =
+      let p = and_parts (truth s v own no_parent) (all_hold ss v own) holds in
+      found_same r (same_reduced o n (reduced v s) r) (list_any (λ s. same_reduced o n (reduced v s) r) ss) s refl named agree p.0 (λ k. some_same r ss named agree p.1 k) h
+
+  kept_holds : (r : Reduced) → Named ok r → Agree o n ok own own' → all_hold a.validate v own ≡ true → is_kept ks a b v w part part' o n r ≡ true → truth_of r w own' no_parent ≡ true
+  kept_holds (Known true) named agree holds h = refl
+  kept_holds (Known false) named agree holds h = some_same (Known false) a.validate named agree holds h
+  kept_holds (Open t) named agree holds h = some_same (Open t) a.validate named agree holds h
+
+  rules_hold : (ts : List Formula) → RulesNamed ok ts → Agree o n ok own own' → all_hold a.validate v own ≡ true
+      → list_all (λ t. is_kept ks a b v w part part' o n (reduced w t)) ts ≡ true → all_hold ts w own' ≡ true
+  rules_hold [] named agree holds h = refl
+  rules_hold (t ∷ ts) named agree holds h =
+      let p = and_parts (is_kept ks a b v w part part' o n (reduced w t)) (list_all (λ t. is_kept ks a b v w part part' o n (reduced w t)) ts) h in
+      and_from (truth t w own' no_parent) (all_hold ts w own')
+      (sym (reduced_holds t w own' no_parent) ∙ kept_holds (reduced w t) (named_left ok w t named.0) agree holds p.0)
+      (rules_hold ts named.1 agree holds p.1)
+
+  true_is : (c : Bool) → IsTrue c → c ≡ true
+  true_is c h = h
+
+  is_true : (c : Bool) → c ≡ true → IsTrue c
+  is_true c h = h
+
+  pub rule_carries : compare_validations ks a b v w part part' o n ≡ None → RulesNamed ok b.validate → Agree o n ok own own'
+      → Carries numbers (Rule (all_hold a.validate v own) ∷ []) numbers' (Rule (all_hold b.validate w own') ∷ [])
+  rule_carries h named agree =
+      let every_is = (passes 15 (list_all (λ t. is_kept ks a b v w part part' o n (reduced w t)) b.validate) [] (here part) (here part') h).0 in
+      carries_rule numbers numbers' (all_hold a.validate v own) (all_hold b.validate w own')
+      (λ r. is_true (all_hold b.validate w own') (rules_hold b.validate named agree (true_is (all_hold a.validate v own) r) every_is))
+
+  -- ---- premises over whole field lists
+
+  old_entry : (i p : ℕ) (f : Field) (pr : Option (Option Formula)) (es : List Entry) → OldGood below own f → OldEntries es → OldEntries (entry_of i p f pr ++ es)
+  old_entry i p f None es h more = more
+  old_entry i p f (Some rest) es h more = (h, more)
+
+  pub old_entries : (i p : ℕ) (fs : List Field) → OldFields below own fs → OldEntries (present_from (cells_in ms) a.fields v i p fs)
+  old_entries i p [] h = tt
+  old_entries i p (f ∷ fs) h = old_entry i p f (presence v f.test f.since) _ h.0 (old_entries (suc i) (p + length (field_cells (cells_in ms) a.fields i f)) fs h.1)
+
+  new_entry : (i p : ℕ) (f : Field) (pr : Option (Option Formula)) (fs : List Entry) → presence w f.test f.since ≡ pr → NewGood below' ok f → NewEntries fs → NewEntries (entry_of i p f pr ++ fs)
+  new_entry i p f None fs e h more = more
+  new_entry i p f (Some rest) fs e h more = (record { item = h.item; single = h.single; count = h.count; rest = presence_named ok w f.test f.since rest h.test e }, more)
+
+  pub new_entries : (i p : ℕ) (fs : List Field) → NewFields below' ok fs → NewEntries (present_from (cells_in ns) b.fields w i p fs)
+  new_entries i p [] h = tt
+  new_entries i p (f ∷ fs) h = new_entry i p f (presence w f.test f.since) _ refl h.0 (new_entries (suc i) (p + length (field_cells (cells_in ns) b.fields i f)) fs h.1)

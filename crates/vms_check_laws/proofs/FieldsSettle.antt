@@ -1,15 +1,16 @@
--- Fields: what doesn't stand in the newer set's bytes is at its default.
-use Rattle.std.proofs.Common.{◌≡◌, inl, inr, ℕ, zero, suc, ◌+◌, ◌*◌, ◌<◌, ◌≤◌, Bool, true, false, List, [], ◌∷◌, ◌++◌, length, get_or, Option, Some, None, refl, sym, ap, ◌∙◌, subst, arith, ℤ, pos, if◌then◌else◌}
+-- Fields: the numbers that tests and counts may name agree on both sides, and what doesn't stand in the newer set's bytes is
+-- at its default.
+use Rattle.std.proofs.Common.{◌≡◌, inl, inr, ℕ, zero, suc, ◌+◌, ◌*◌, ◌<◌, ◌≤◌, Bool, true, false, List, [], ◌∷◌, ◌++◌, length, get_or, Option, Some, None, refl, sym, ap, ◌∙◌, subst, arith, ℤ, pos, if◌then◌else◌, ◌==◌}
 use Rattle.vms_kinds.specs.declared.Kind.{Kind}
 use Rattle.vms_kinds.specs.declared.Item.{Item}
 use Rattle.vms_kinds.specs.declared.Item.TheVariants.{Num, Equal, Unused, Struct}
 use Rattle.vms_spec.specs.Sets.{Formula, Field, Desc}
 use Rattle.vms_spec.specs.Tests.{is_there}
-use Rattle.vms_spec.specs.Layout.{Cell, Slot, Number, Meaning, no_meaning, no_parent, times, counted, capacity_of, item_cells, field_cells, cells_from, elements_of, item_slots, slots_from, numbers_of}
+use Rattle.vms_spec.specs.Layout.{Cell, Slot, Number, Meaning, no_meaning, no_parent, times, counted, capacity_of, item_cells, field_cells, cells_from, elements_of, item_slots, slots_from, numbers_of, kind_of}
 use Rattle.vms_spec.specs.declared.Part.{Part}
-use Rattle.vms_spec.specs.Rules.{is_steady_in}
+use Rattle.vms_spec.specs.Rules.{is_steady_in, is_num, is_one}
 use Rattle.vms_check.specs.Reducing.{presence}
-use Rattle.vms_check.specs.Comparing.{Entry, entry_of, present_from, same_item, same_kind, Comparer, no_comparer, pair_structs}
+use Rattle.vms_check.specs.Comparing.{Entry, entry_of, present_from, same_item, same_kind, Comparer, no_comparer, pair_structs, position_from, same_place, same_count}
 use Rattle.vms_check.specs.Carrying.{Carrier, no_carrier, defaults, carry_item, carry_items, carry_field, carry_next, carry_from, entries_left, default_field}
 use Rattle.vms_spec.specs.Images.{has_cell}
 use Rattle.vms_check_laws.proofs.SameTests.{Agree, same_there}
@@ -17,12 +18,18 @@ use Rattle.vms_check_laws.specs.Segments.{Holds, FitsAt}
 use Rattle.vms_check_laws.proofs.Segments.{holds_left, holds_right, holds_at, fits_left, fits_right, fits_at}
 use Rattle.vms_spec.proofs.Sizes.{size_same, field_size, elements_fit}
 use Rattle.vms_spec.proofs.Prefixes.{ItemBelow, FieldsBelow}
-use Rattle.vms_check_laws.proofs.Pairing.{cells_in, slots_at, IsKnown, AreKnown, FitEntries}
-use Rattle.vms_check_laws.proofs.Linking.{defaults_size, PairGood, decoded, Linked, linked, carry_item_size, carry_field_size}
+use Rattle.vms_check_laws.proofs.Pairing.{cells_in, slots_at, IsKnown, AreKnown, FitEntries, kinds_same}
+use Rattle.vms_check_laws.proofs.Linking.{defaults_size, PairGood, decoded, Linked, linked, carry_item_size, carry_field_size, Matched}
 use Rattle.vms_check_laws.proofs.Settling.{Settled, settled_defaults, settled_empty, settled_append, settled_at, same_defaults, has_itself}
-use Rattle.vms_check_laws.proofs.Describing.{there_here}
-use Rattle.vms_check_laws.proofs.Premises.{covered_empty, Table, OldGood}
+use Rattle.vms_check_laws.proofs.Describing.{there_here, not_covered, steady, steady_rest, rest_none, one_number}
+use Rattle.vms_check_laws.proofs.Premises.{covered_empty, Table, OldGood, later_new, later_old}
 use Rattle.vms_check_laws.proofs.FieldsCarry.{same_elements, elements_room, EntryGood, OldEntries, NewEntries}
+use Rattle.std.specs.List.{slice_get}
+use Rattle.std.proofs.lemmas.Bool.{eqb-true}
+use Rattle.vms_kinds.specs.Codes.{width, residue}
+use Rattle.vms_spec.specs.declared.Count.{Count}
+use Rattle.vms_spec.specs.declared.Count.TheVariants.{One}
+use Rattle.vms_check_laws.proofs.Presence.{there}
 
 module _ (ks : List Comparer) (cs : List Carrier) (ms ns : List Meaning) (a b : Desc) (v w : ℕ) (part part' : Part) (o n : ℕ → Option ℕ)
     (numbers numbers' : List ℤ) (at at' : ℕ) (below below' : ℕ) (table : Table ks cs ms ns numbers numbers' below below') where
@@ -44,6 +51,58 @@ module _ (ks : List Comparer) (cs : List Carrier) (ms ns : List Meaning) (a b : 
   abbrev KnownNew : List Entry → Type 0
   KnownNew fs = AreKnown ns b.fields w numbers' at' fs
 
+  -- ---- numbers that may be named
+
+  number_pair : (j i : Item) (d c : Count) (z : ℤ) (t : Bool) (step x y : ℕ) → is_num j ≡ true → is_one d ≡ true → same_item i j ≡ true → same_count o n c d ≡ true → t ≡ true
+      → Holds numbers' y (carry_items cs (cells_in ms) (cells_in ns) numbers i j (defaults (item_cells (cells_in ns) j [] z)) step (if t then elements_of c own else 0) (capacity_of d) x)
+      → residue (width (kind_of i)) (get_or numbers x (pos 0)) ≡ residue (width (kind_of j)) (get_or numbers' y (pos 0))
+  number_pair (Num l) (Num k) One One z true step x y num one same counts there_is held =
+      let kinds : k ≡ l = kinds_same k l same in
+      let zero_more : y + 0 ≡ y = omega arith in
+      ap (λ (i : Kind). residue (width i) (get_or numbers x (pos 0))) kinds
+      ∙ ap (λ (u : ℤ). residue (width l) u) (sym (one_number (same_kind k l) numbers' y (get_or numbers x (pos 0)) z same held))
+      ∙ ap (λ (p : ℕ). residue (width l) (get_or numbers' p (pos 0))) zero_more
+  number_pair _ _ _ _ z _ step x y num one same counts there_is held = absurd (cc)
+
+  pair_agrees : (e f : Entry) → IsKnown ms a.fields v numbers at e → IsKnown ns b.fields w numbers' at' f → PairGood ks a b v w part part' o n e f
+      → Holds numbers' (at' + f.place) (carry_field cs (cells_in ms) (cells_in ns) numbers own v at e f.field) → ok f.index ≡ true → own e.index ≡ own' f.index
+  pair_agrees e f known known' good held named =
+      let s = steady b.minimum (slice_get b.fields f.index) f.field known'.field named in
+      let m : Matched ks a b v w part part' o n e f = elim (decoded ks a b v w part part' o n e f good) [
+        | inl c ↦ absurd (not_covered e.field.item e.field.count f.field.item c.covers s.item)
+        | inr m ↦ m
+      ] in
+      let rest : e.rest ≡ None = rest_none o n e.rest f.rest (steady_rest w f.field.test f.field.since f.rest s.test known'.left) m.rest in
+      let there_is : is_there e.field.test e.field.since v own no_parent ≡ true =
+      there_here v e.field.test e.field.since e.rest own no_parent known.left ∙ ap (λ (r : Option Formula). there (Some r) v own no_parent) rest in
+      known.number
+      ∙ number_pair f.field.item e.field.item f.field.count e.field.count f.field.default (is_there e.field.test e.field.since v own no_parent)
+      (length (item_cells (cells_in ms) e.field.item [] (pos 0))) (at + e.place) (at' + f.place) s.item s.count m.item m.count there_is held
+      ∙ sym known'.number
+
+  pub agree_from : (i j p : ℕ) (es fs : List Entry) → AllLinked es fs → KnownOld es → KnownNew fs → ok j ≡ true → same_place (position_from p es i) (position_from p fs j) ≡ true → own i ≡ own' j
+  agree_from i j p [] fs linked known known' named h = absurd (cc)
+  agree_from i j p (e ∷ es) [] linked known known' named h = absurd linked
+  agree_from i j p (e ∷ es) (f ∷ fs) linked known known' named h =
+      let choice : (c d : Bool) → (e.index == i) ≡ c → (f.index == j) ≡ d
+      → same_place (if c then Some p else position_from (suc p) es i) (if d then Some p else position_from (suc p) fs j) ≡ true → own i ≡ own' j = elim [
+        | true ↦ elim [
+          | true ↦ λ x y k.
+              let ei : e.index ≡ i = eqb-true e.index i x in
+              let fj : f.index ≡ j = eqb-true f.index j y in
+              let named_here : ok f.index ≡ true = ap (λ (q : ℕ). ok q) fj ∙ named in
+              ap (λ (q : ℕ). own q) (sym ei) ∙ pair_agrees e f known.0 known'.0 linked.0.0 linked.0.1 named_here ∙ ap (λ (q : ℕ). own' q) fj
+          | false ↦ λ x y k. absurd (later_new j p (suc p) fs (omega arith) k)
+        ]
+        | false ↦ elim [
+          | true ↦ λ x y k. absurd (later_old i p (suc p) es (omega arith) k)
+          | false ↦ λ x y k. agree_from i j (suc p) es fs linked.1 known.1 known'.1 named k
+        ]
+      ] in
+      choice (e.index == i) (f.index == j) refl refl h
+
+  -- ---- defaults
+
   abbrev pub SettledRow : Type 0
   SettledRow = (i j : ℕ) → i < below → j < below' → get_or ks j no_comparer i ≡ None → (x y : ℕ) → FitsAt (get_or (cells_in ms) i []) numbers x
       → Holds numbers' y (get_or cs j no_carrier i numbers x) → Settled ((get_or ns j no_meaning).slots numbers' y) y (get_or (cells_in ns) j []) (get_or cs j no_carrier i numbers x)
@@ -64,18 +123,7 @@ module _ (ks : List Comparer) (cs : List Carrier) (ms ns : List Meaning) (a b : 
   item_settles (Equal k z) (Equal l u) row caps caps' caps2 d d' x y same structs below_a below_b fits held = settled_empty _ y [] [] refl
   item_settles (Unused m) (Unused r) row caps caps' caps2 d d' x y same structs below_a below_b fits held = settled_empty _ y [] [] refl
   item_settles (Struct i) (Struct j) row caps caps' caps2 d d' x y same structs below_a below_b fits held = row i j below_a below_b structs x y fits held
-  item_settles (Num k) (Equal l u) row caps caps' caps2 d d' x y same structs below_a below_b fits held = absurd (cc)
-  item_settles (Num k) (Unused r) row caps caps' caps2 d d' x y same structs below_a below_b fits held = absurd (cc)
-  item_settles (Num k) (Struct j) row caps caps' caps2 d d' x y same structs below_a below_b fits held = absurd (cc)
-  item_settles (Equal k z) (Num l) row caps caps' caps2 d d' x y same structs below_a below_b fits held = absurd (cc)
-  item_settles (Equal k z) (Unused r) row caps caps' caps2 d d' x y same structs below_a below_b fits held = absurd (cc)
-  item_settles (Equal k z) (Struct j) row caps caps' caps2 d d' x y same structs below_a below_b fits held = absurd (cc)
-  item_settles (Unused m) (Num l) row caps caps' caps2 d d' x y same structs below_a below_b fits held = absurd (cc)
-  item_settles (Unused m) (Equal l u) row caps caps' caps2 d d' x y same structs below_a below_b fits held = absurd (cc)
-  item_settles (Unused m) (Struct j) row caps caps' caps2 d d' x y same structs below_a below_b fits held = absurd (cc)
-  item_settles (Struct i) (Num l) row caps caps' caps2 d d' x y same structs below_a below_b fits held = absurd (cc)
-  item_settles (Struct i) (Equal l u) row caps caps' caps2 d d' x y same structs below_a below_b fits held = absurd (cc)
-  item_settles (Struct i) (Unused r) row caps caps' caps2 d d' x y same structs below_a below_b fits held = absurd (cc)
+  item_settles _ _ row caps caps' caps2 d d' x y same structs below_a below_b fits held = absurd (cc)
 
   items_settle : (i j : Item) → SettledRow → (caps caps' caps2 : List ℕ) (d d' : ℤ) (m most most' p step p' step' x y : ℕ) → same_item i j ≡ true → pair_structs ks a b v w part part' o n i j ≡ None
       → ItemBelow below i → ItemBelow below' j → m ≤ most → m ≤ most' → FitsAt (times most (λ _. item_cells (cells_in ms) i caps d) p step) numbers x
@@ -126,8 +174,7 @@ module _ (ks : List Comparer) (cs : List Carrier) (ms ns : List Meaning) (a b : 
       (items_settle i j row caps caps' caps2 d d' m most most' 0 0 0 0 x y same structs below_a below_b le le' fits held)
   choice_settles i j row false false caps caps' caps2 d d' m m' most most' x y st mm same structs below_a below_b le le' fits held =
       items_settle i j row caps caps' caps2 d d' 0 most most' 0 0 0 0 x y same structs below_a below_b (omega arith) (omega arith) fits held
-  choice_settles i j row true false caps caps' caps2 d d' m m' most most' x y st mm same structs below_a below_b le le' fits held = absurd (cc)
-  choice_settles i j row false true caps caps' caps2 d d' m m' most most' x y st mm same structs below_a below_b le le' fits held = absurd (cc)
+  choice_settles i j row _ _ caps caps' caps2 d d' m m' most most' x y st mm same structs below_a below_b le le' fits held = absurd (cc)
 
   pair_settles : (e f : Entry) → SettledRow → Agree o n ok own own' → IsKnown ms a.fields v numbers at e → IsKnown ns b.fields w numbers' at' f → PairGood ks a b v w part part' o n e f
       → Holds numbers' (at' + f.place) (carry_field cs (cells_in ms) (cells_in ns) numbers own v at e f.field)

@@ -1,6 +1,5 @@
 -- The carried numbers fit new's cells: a description, and then structures by induction on new's number.
-use Rattle.std.proofs.Common.{◌≡◌, ◌⊎◌, inl, inr, ℕ, zero, suc, ◌+◌, ◌<◌, ◌≤◌, List, [], ◌∷◌, ◌++◌, length, get_or, Option, Some, None, sym, subst, arith, ℤ}
-use Rattle.std.proofs.Math.Nat.{eq-or-lt_of_le}
+use Rattle.std.proofs.Common.{◌≡◌, ℕ, zero, suc, ◌+◌, ◌<◌, ◌≤◌, List, [], ◌∷◌, ◌++◌, length, get_or, Option, Some, None, sym, subst, arith, ℤ}
 use Rattle.vms_spec.specs.Sets.{Formula, Field, Desc}
 use Rattle.vms_spec.specs.Layout.{no_desc, Cell, Meaning, meanings, field_cells, cells_from, desc_cells, numbers_of}
 use Rattle.vms_spec.specs.declared.Part.{Part}
@@ -15,9 +14,8 @@ use Rattle.vms_spec.proofs.Faultless.{or_else_none}
 use Rattle.vms_spec.proofs.Prefixes.{struct_cells_at}
 use Rattle.vms_check_laws.proofs.Pairing.{cells_in, AreKnown, all_known}
 use Rattle.vms_check_laws.proofs.Linking.{zip_of}
-use Rattle.vms_check_laws.proofs.Premises.{OldGood, OldFields, NewGood, NewFields}
-use Rattle.vms_check_laws.proofs.Counts.{old_fields}
-use Rattle.vms_check_laws.proofs.Structures.{OldStructs, NewStructs, new_below, plain_below, plains_further, comparer_last, comparer_earlier, carrier_last, carrier_earlier}
+use Rattle.vms_check_laws.proofs.Premises.{OldGood, OldFields, NewGood, NewFields, below_suc}
+use Rattle.vms_check_laws.proofs.Structures.{OldStructs, NewStructs, new_below, comparer_earlier, carrier_last, carrier_earlier, beside}
 use Rattle.vms_check_laws.proofs.Bounds.{indexed, present_increasing, OldStand, NewSingle}
 use Rattle.vms_check_laws.proofs.Fitting.{FitCells, GoodCells, good_fields, DefaultsGood, FitTable, OldReady, follow_all, fit_from}
 
@@ -124,14 +122,9 @@ module _ (olds news : List Desc) (numbers : List ℤ) (old : OldStructs olds) (n
   fits_last k lt table i lt_i none p fits =
       let a = old_at i in
       let b = new_at k in
-      let below_a = plain_below i a.fields a.fields (old i lt_i).fields in
-      let below_b = new_below k (is_steady_in b) b.fields (new k lt).fields in
-      let none' : compare_desc (ks k) xs ys a b a.version b.version (parts.Struct i) (parts.Struct k) ≡ None = subst (λ (c : Comparer). c i ≡ None) (comparer_last xs ys olds news k) none in
-      let fits' : FitsAt (desc_cells xs a) numbers p = subst (λ (l : List Cell). FitsAt l numbers p) (struct_cells_at olds (length olds) i lt_i below_a) fits in
-      let plain = plains_further i (length olds) a.fields a.fields (omega arith) (old i lt_i).fields in
-      let done = desc_fits (ks k) (cs k) ms ys a b a.version b.version (parts.Struct i) (parts.Struct k) numbers p (length olds) k table none'
-      (old_fields xs (length olds) a.fields numbers p fits' a.fields (λ by most h. h) plain) (new k lt).fields (defaults_good k lt) fits' in
-      subst (λ (l : List Cell). FitCells l (get_or (cs (suc k)) k no_carrier i numbers p)) (sym (struct_cells_at news (length news) k lt below_b))
+      let z = beside olds news numbers k i p old new lt lt_i none fits in
+      let done = desc_fits (ks k) (cs k) ms ys a b a.version b.version (parts.Struct i) (parts.Struct k) numbers p (length olds) k table z.none z.old (new k lt).fields (defaults_good k lt) z.fits in
+      subst (λ (l : List Cell). FitCells l (get_or (cs (suc k)) k no_carrier i numbers p)) (sym (struct_cells_at news (length news) k lt z.below'))
       (subst (λ (c : Carrier). FitCells (desc_cells ys b) (c i numbers p)) (sym (carrier_last xs ys olds news k)) done)
 
   fits_earlier : (k : ℕ) → KnownFits k → (i j : ℕ) → i < length olds → j < k → Fits (suc k) i j
@@ -141,21 +134,10 @@ module _ (olds news : List Desc) (numbers : List ℤ) (old : OldStructs olds) (n
 
   fits_next : (k : ℕ) → k < length news → KnownFits k → (i j : ℕ) → i < length olds → j < suc k → Fits (suc k) i j
   fits_next k lt table i j lt_i lt_j =
-      let le : j ≤ k = omega arith in
-      let go : (j ≡ k) ⊎ (j < k) → Fits (suc k) i j = elim [
-        | inl same ↦ subst (λ (q : ℕ). Fits (suc k) i q) (sym same) (fits_last k lt table i lt_i)
-        | inr less ↦ fits_earlier k table i j lt_i less
-      ] in
-      go (eq-or-lt_of_le le)
+      below_suc (λ (q : ℕ). Fits (suc k) i q) k (fits_last k lt table i lt_i) (λ q less. fits_earlier k table i q lt_i less) j lt_j
 
   good_next : (k : ℕ) → k < length news → KnownFits k → (j : ℕ) → j < suc k → GoodCells (get_or ys j [])
-  good_next k lt table j lt_j =
-      let le : j ≤ k = omega arith in
-      let go : (j ≡ k) ⊎ (j < k) → GoodCells (get_or ys j []) = elim [
-        | inl same ↦ subst (λ (q : ℕ). GoodCells (get_or ys q [])) (sym same) (good_last k lt table)
-        | inr less ↦ table.good j less
-      ] in
-      go (eq-or-lt_of_le le)
+  good_next k lt table j lt_j = below_suc (λ (q : ℕ). GoodCells (get_or ys q [])) k (good_last k lt table) (λ q less. table.good q less) j lt_j
 
   pub fit_tables : (k : ℕ) → k ≤ length news → KnownFits k
   fit_tables zero le = record { good = λ j lt. absurd (omega arith); fits = λ i j lt_i lt_j none p fits. absurd (omega arith) }

@@ -1,5 +1,5 @@
 -- What is carried of a description, cell by cell.
-use Rattle.std.proofs.Common.{◌≡◌, ◌⊎◌, inl, inr, ℕ, zero, suc, ◌+◌, ◌*◌, ◌<◌, ◌≤◌, Bool, true, false, List, [], ◌∷◌, ◌++◌, length, get_or, drop, replicate, Option, Some, None, ℤ, pos, refl, sym, ap, ◌∙◌, subst, arith, append-nil, if◌then◌else◌, ◌||◌}
+use Rattle.std.proofs.Common.{◌≡◌, ◌⊎◌, inl, inr, ℕ, zero, suc, ◌+◌, ◌*◌, ◌<◌, ◌≤◌, Bool, true, false, List, [], ◌∷◌, ◌++◌, length, get_or, replicate, Option, Some, None, ℤ, pos, refl, sym, ap, ◌∙◌, subst, arith, if◌then◌else◌, ◌||◌}
 use Rattle.std.specs.List.{slice_get}
 use Rattle.std.proofs.lemmas.Bool.{eq-eqb}
 use Rattle.std.proofs.Math.Bool.{or-false}
@@ -14,8 +14,8 @@ use Rattle.vms_spec.proofs.Sizes.{size_same, field_size, elements_fit}
 use Rattle.vms_spec.proofs.Prefixes.{ItemBelow, FieldsBelow}
 use Rattle.vms_bodies.specs.Cells.{AreCells}
 use Rattle.vms_bodies.proofs.AboveLaws.{MeanAbove, IsAbove, item_above, items_above, field_above}
-use Rattle.vms_bodies.proofs.CellLaws.{MeanCells, Stands, item_are, items_are, field_are}
-use Rattle.vms_bodies.proofs.AgreeLaws.{named_inside, skip, skip_long, stands_behind}
+use Rattle.vms_bodies.proofs.CellLaws.{MeanCells, item_are, items_are, field_are}
+use Rattle.vms_bodies.proofs.AgreeLaws.{named_inside, skip_long, stands_behind}
 use Rattle.vms_bodies.proofs.Names.{names_append}
 use Rattle.vms_bodies.proofs.SettledLaws.{cells_in}
 use Rattle.vms_check.specs.Reducing.{presence}

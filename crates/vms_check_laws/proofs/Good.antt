@@ -1,8 +1,8 @@
 -- What well-formedness gives to the laws on pairs of sets.
-use Rattle.std.proofs.Common.{◌≡◌, ℕ, zero, suc, ◌+◌, ◌<◌, Bool, true, List, [], ◌∷◌, length, get_or, Option, Some, None, refl, subst, arith, ℤ, nat_lt}
+use Rattle.std.proofs.Common.{◌≡◌, ℕ, suc, ◌+◌, ◌<◌, Bool, true, List, [], ◌∷◌, length, get_or, Option, Some, None, refl, subst, arith, ℤ, nat_lt}
 use Rattle.std.specs.List.{slice_get}
 use Rattle.std.proofs.lemmas.Bool.{and_parts, and_from}
-use Rattle.vms_kinds.specs.declared.Kind.TheVariants.{U8, U16, U32, U64, I8, I16, I32, I64, Bool as Truth, Timer}
+use Rattle.vms_kinds.specs.declared.Kind.TheVariants.{U8, U16, U32}
 use Rattle.vms_kinds.specs.declared.Item.{Item}
 use Rattle.vms_kinds.specs.declared.Item.TheVariants.{Num, Equal, Unused, Struct}
 use Rattle.vms_spec.specs.declared.Count.{Count}
@@ -62,16 +62,7 @@ counting : (g : Field) (i : Item) → is_counting (Some (record g { item = i }))
 counting g (Num U8) h = tt
 counting g (Num U16) h = tt
 counting g (Num U32) h = tt
-counting g (Num U64) h = absurd (cc)
-counting g (Num I8) h = absurd (cc)
-counting g (Num I16) h = absurd (cc)
-counting g (Num I32) h = absurd (cc)
-counting g (Num I64) h = absurd (cc)
-counting g (Num Truth) h = absurd (cc)
-counting g (Num Timer) h = absurd (cc)
-counting g (Equal kind z) h = absurd (cc)
-counting g (Unused n) h = absurd (cc)
-counting g (Struct j) h = absurd (cc)
+counting g _ h = absurd (cc)
 
 counter : (all : List Field) (by minimum : ℕ) (o : Option Field) → slice_get all by ≡ o → is_steady minimum o ≡ true → is_counting o ≡ true → Counter all by
 counter all by minimum None e h k = absurd (cc)

@@ -1,7 +1,5 @@
-pub mod Agreeing
 pub mod Aligned
 pub mod AlignedDescs
-pub mod AlignedFields
 pub mod AlignedWholes
 pub mod Bounds
 pub mod CarriedLaws
@@ -12,7 +10,6 @@ pub mod FieldsCarry
 pub mod FieldsSettle
 pub mod FitStructures
 pub mod Fitting
-pub mod FrontsRead
 pub mod Goes
 pub mod GoesDevices
 pub mod GoesFields
@@ -32,7 +29,6 @@ pub mod PositionRead
 pub mod Positioned
 pub mod Premises
 pub mod Presence
-pub mod RulesCarry
 pub mod SameTests
 pub mod Segments
 pub mod Settling

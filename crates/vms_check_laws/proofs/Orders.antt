@@ -22,6 +22,14 @@ at_set [] k x y h = cc
 at_set (z ∷ xs) zero x y h = refl
 at_set (z ∷ xs) (suc k) x y h = at_set xs k x y h
 
+-- two that are found back are one where their numbers are
+pub found_same : {A : Type 0} (xs : List A) (back : A → Option ℕ) (n n' i i' : ℕ) (x x' : A) → n ≡ n' → slice_get xs n ≡ Some x → slice_get xs n' ≡ Some x' → back x ≡ Some i → back x' ≡ Some i' → i ≡ i'
+found_same xs back n n' i i' x x' same e e' b b' =
+    let some_same : Some x ≡ Some x' = sym e ∙ ap (slice_get xs) same ∙ e' in
+    let one : x ≡ x' = cc in
+    let founds : Some i ≡ Some i' = sym b ∙ ap back one ∙ b' in
+    cc
+
 -- ---- subsections
 
 abbrev pub Come : List (Option ℕ) → List ℕ → Type 0

@@ -121,6 +121,11 @@ module _ (old new : Set) (good_old : WellFormed old) (good_new : WellFormed new)
           once = p.once;
         }))
 
+  -- of its older cell a pair says the kind alone
+  at_kind : (cells cells' : List Cell) (name : List ℕ) (c c' k : ℕ) → IsSubPair cells name c k → (get_or cells' c' no_cell).kind ≡ (get_or cells c no_cell).kind → IsSubPair cells' name c' k
+  at_kind cells cells' name c c' k x same =
+      record { l = x.l; t = x.t; there = x.there; name_is = x.name_is; r = x.r; is = x.is; inside = x.inside; kind = same ∙ x.kind }
+
   -- ---- all subsections from one on
 
   pub record SomeSub (subs : List Sub) (c k : ℕ) : Type 0 where
@@ -143,16 +148,10 @@ module _ (old new : Set) (good_old : WellFormed old) (good_new : WellFormed new)
     by_order : (x : Bool) → nat_lt p.l q.l ≡ x → (z : Bool) → nat_lt q.l p.l ≡ z → name ≡ name'
     by_order true x z h =
         let a = places_apart new (own_cells new e) e.subs p.l q.l p.t p.there (ltb-true p.l q.l x) in
-        let b = p.is in
-        let c = p.inside in
-        let d = q.is in
-        absurd (omega (arith, a, b, c, d))
+        absurd (omega (arith, a, p.is, p.inside, q.is))
     by_order false x true h =
         let a = places_apart new (own_cells new e) e.subs q.l p.l q.t q.there (ltb-true q.l p.l h) in
-        let b = q.is in
-        let c = q.inside in
-        let d = p.is in
-        absurd (omega (arith, a, b, c, d))
+        absurd (omega (arith, a, q.is, q.inside, p.is))
     by_order false x false h =
         let a : q.l ≤ p.l = ltb-false p.l q.l x in
         let b : p.l ≤ q.l = ltb-false q.l p.l h in
@@ -183,20 +182,11 @@ module _ (old new : Set) (good_old : WellFormed old) (good_new : WellFormed new)
           m = 0;
           sub = s;
           is = refl;
-          pair = record {
-            l = x.l;
-            t = x.t;
-            there = x.there;
-            name_is = x.name_is;
-            r = x.r;
-            is = x.is;
-            inside = x.inside;
-            kind = ap (λ (u : Cell). u.kind) (get_or_append_left (old_cells s) (flat_map old_cells subs) no_cell c (omega (arith, lt, long))) ∙ x.kind;
-          };
+          pair = at_kind (old_cells s) (old_cells s ++ flat_map old_cells subs) s.desc.name c c k x
+              (ap (λ (u : Cell). u.kind) (get_or_append_left (old_cells s) (flat_map old_cells subs) no_cell c (omega (arith, lt, long))));
         }
     pair_at c k f (inr behind) =
         let z = right c k behind f in
-        let x = z.pair in
         let long = h.long in
         let is = behind.is in
         let place : c ≡ length (old_cells s) + behind.more = omega (arith, is, long) in
@@ -204,17 +194,9 @@ module _ (old new : Set) (good_old : WellFormed old) (good_new : WellFormed new)
           m = suc z.m;
           sub = z.sub;
           is = z.is;
-          pair = record {
-            l = x.l;
-            t = x.t;
-            there = x.there;
-            name_is = x.name_is;
-            r = x.r;
-            is = x.is;
-            inside = x.inside;
-            kind = ap (λ (n : ℕ). (get_or (old_cells s ++ flat_map old_cells subs) n no_cell).kind) place
-                ∙ ap (λ (u : Cell). u.kind) (get_or-append-add (old_cells s) (flat_map old_cells subs) behind.more no_cell) ∙ x.kind;
-          };
+          pair = at_kind (flat_map old_cells subs) (old_cells s ++ flat_map old_cells subs) z.sub.desc.name behind.more c k z.pair
+              (ap (λ (n : ℕ). (get_or (old_cells s ++ flat_map old_cells subs) n no_cell).kind) place
+              ∙ ap (λ (u : Cell). u.kind) (get_or-append-add (old_cells s) (flat_map old_cells subs) behind.more no_cell));
         }
 
     joined : AllSubs (s ∷ subs) (p ++ q)
@@ -297,10 +279,7 @@ module _ (old new : Set) (good_old : WellFormed old) (good_new : WellFormed new)
   apart_own b c k lt behind f g =
       let p = own_pair b k lt f in
       let z = sub_pair c k behind g in
-      let a1 = p.is in
-      let a2 = p.inside in
-      let b1 = z.pair.is in
-      omega (arith, a1, a2, b1, sub_place_up new (own_cells new e) e.subs z.pair.l)
+      omega (arith, p.is, p.inside, z.pair.is, sub_place_up new (own_cells new e) e.subs z.pair.l)
 
   pub device_paired : ArePartners (device_cells old d) (device_cells new e) (device_partners old new d e)
   unfolding device_partners

@@ -74,8 +74,7 @@ module _ (structs : List Pairer) (x y : List (List Cell)) (k : ℕ) (table : Str
 
     both : (b c n : ℕ) → slice_get (Some at ∷ []) b ≡ Some (Some n) → slice_get (Some at ∷ []) c ≡ Some (Some n) → b ≡ c
     both zero zero n e f = refl
-    both zero (suc c) n e f = absurd (cc)
-    both (suc b) c n e f = absurd (cc)
+    both _ _ n e f = absurd (cc)
   one_pair l m caps caps' d d' at false same = paired_none _ _ at 1 refl
 
   pub item_paired : (a b : Item) (caps caps' : List ℕ) (d d' : ℤ) (at : ℕ) → ItemBelow k a → AreFrom (item_cells x a caps d) (item_cells y b caps' d') at (item_partners structs x y a b at)

@@ -116,10 +116,7 @@ module _ (xs ys us vs : List Cell) (at : ℕ) (p q : List (Option ℕ)) (h : Are
   apart b c k lt d e f =
       let i = pair_left b k lt e in
       let j = pair_right c k d f in
-      let a1 = i.is in
-      let a2 = i.inside in
-      let b1 = j.is in
-      omega (arith, a1, a2, b1)
+      omega (arith, i.is, i.inside, j.is)
 
   pub paired_append : AreFrom (xs ++ ys) (us ++ vs) at (p ++ q)
   paired_append =

@@ -12,11 +12,10 @@ use Rattle.vms_check_laws.specs.Segments.{Holds, FitsAt, Carries}
 use Rattle.vms_check_laws.proofs.Settling.{Settled}
 use Rattle.vms_check_laws.proofs.Descriptions.{desc_carries, desc_settles}
 use Rattle.vms_check_laws.proofs.Counts.{old_fields}
-use Rattle.vms_check_laws.proofs.Structures.{tables, settled_tables}
+use Rattle.vms_check_laws.proofs.Structures.{tables, settled_tables, new_below}
 use Rattle.vms_check_laws.proofs.Fitting.{FitCells, GoodCells, good_fields}
 use Rattle.vms_check_laws.proofs.FitStructures.{desc_fits, fit_tables}
 use Rattle.vms_check_laws.proofs.Good.{DescGood, old_structs, new_structs, default_structs}
-use Rattle.vms_check_laws.proofs.Structures.{new_below}
 use Rattle.vms_spec.specs.Rules.{is_steady_in}
 
 module _ (old new : Set) (good_old : WellFormed old) (good_new : WellFormed new) where
@@ -82,7 +81,7 @@ module _ (old new : Set) (good_old : WellFormed old) (good_new : WellFormed new)
             (tables old.structs new.structs numbers numbers' (old_structs old good_old) (new_structs new good_new) k (omega arith))
             same_in
             (old_fields (cells_in ms) (length old.structs) a.fields numbers at fits_in a.fields (λ by most h. h) good_a.old)
-            good_b.new good_b.rules fits_in held_in
+            good_b.new fits_in held_in good_b.rules
 
         -- what doesn't stand in new's bytes is at its default
         pub part_settles : Settled (desc_slots ns b v numbers' at') at' (desc_cells (struct_cells new) b) (carrying old new numbers v a b at)
@@ -93,7 +92,7 @@ module _ (old new : Set) (good_old : WellFormed old) (good_new : WellFormed new)
             to_cells (λ x y. Settled (desc_slots ns b v numbers' at') at' (desc_cells y b) (carry_desc (cs x y) x y numbers v v a b at))
             (desc_settles (ks (cells_in ms) (cells_in ns)) (cs (cells_in ms) (cells_in ns)) ms ns a b v v part part' numbers numbers' at at' (length old.structs) k
             (tables old.structs new.structs numbers numbers' os nss k (omega arith))
-            (settled_tables old.structs new.structs numbers numbers' os nss k (omega arith))
             same_in
             (old_fields (cells_in ms) (length old.structs) a.fields numbers at fits_in a.fields (λ by most h. h) good_a.old)
-            good_b.new fits_in held_in)
+            good_b.new fits_in held_in
+            (settled_tables old.structs new.structs numbers numbers' os nss k (omega arith)))

@@ -1,10 +1,11 @@
 -- What is asked of fields and structures on both sides, and positions that differ.
-use Rattle.std.proofs.Common.{◌≡◌, ℕ, suc, ◌<◌, ◌≤◌, Bool, true, false, ◌==◌, List, [], ◌∷◌, length, get_or, Some, None, refl, arith, ℤ, pos, if◌then◌else◌}
+use Rattle.std.proofs.Common.{◌≡◌, ◌⊎◌, inl, inr, sym, ap, subst, ℕ, suc, ◌<◌, ◌≤◌, Bool, true, false, ◌==◌, List, [], ◌∷◌, length, get_or, Some, None, arith, ℤ, pos, if◌then◌else◌}
 use Rattle.std.proofs.lemmas.Bool.{eqb-true}
+use Rattle.std.proofs.Math.Nat.{eq-or-lt_of_le}
 use Rattle.vms_kinds.specs.declared.Item.{Item}
-use Rattle.vms_kinds.specs.declared.Item.TheVariants.{Num, Equal, Unused, Struct}
+use Rattle.vms_kinds.specs.declared.Item.TheVariants.{Equal, Unused}
 use Rattle.vms_spec.specs.declared.Count.{Count}
-use Rattle.vms_spec.specs.declared.Count.TheVariants.{One, Fixed, Counted}
+use Rattle.vms_spec.specs.declared.Count.TheVariants.{Counted}
 use Rattle.vms_spec.specs.Sets.{Formula, Field}
 use Rattle.vms_spec.specs.Layout.{Cell, Meaning, no_meaning, item_cells}
 use Rattle.vms_spec.specs.Rules.{names_well, nobody, is_one}
@@ -12,6 +13,7 @@ use Rattle.vms_spec.proofs.Prefixes.{ItemBelow}
 use Rattle.vms_check.specs.Comparing.{Entry, position_from, same_place, is_covered, Comparer, no_comparer}
 use Rattle.vms_check.specs.Carrying.{Carrier, no_carrier}
 use Rattle.vms_check_laws.proofs.SameTests.{NamedRest}
+use Rattle.vms_check_laws.proofs.Describing.{covers_unused}
 use Rattle.vms_check_laws.specs.Segments.{Holds, FitsAt, Carries}
 use Rattle.vms_check_laws.proofs.Pairing.{cells_in}
 use Rattle.vms_check_laws.proofs.Settling.{Settled}
@@ -35,25 +37,17 @@ later_old i p q (e ∷ es) lt h =
     choice (e.index == i) h
 
 pub covered_empty : (y : List (List Cell)) (i : Item) (c : Count) (j : Item) → is_covered i c j ≡ true → length (item_cells y j [] (pos 0)) ≡ 0
-covered_empty y i c (Unused r) is_so = refl
-covered_empty y (Num k) One (Num l) is_so = absurd (cc)
-covered_empty y (Num k) (Fixed p) (Num l) is_so = absurd (cc)
-covered_empty y (Num k) (Counted by most) (Num l) is_so = absurd (cc)
-covered_empty y (Equal k z) c (Num l) is_so = absurd (cc)
-covered_empty y (Unused m) c (Num l) is_so = absurd (cc)
-covered_empty y (Struct i) c (Num l) is_so = absurd (cc)
-covered_empty y (Num k) One (Equal l u) is_so = absurd (cc)
-covered_empty y (Num k) (Fixed p) (Equal l u) is_so = absurd (cc)
-covered_empty y (Num k) (Counted by most) (Equal l u) is_so = absurd (cc)
-covered_empty y (Equal k z) c (Equal l u) is_so = absurd (cc)
-covered_empty y (Unused m) c (Equal l u) is_so = absurd (cc)
-covered_empty y (Struct i) c (Equal l u) is_so = absurd (cc)
-covered_empty y (Num k) One (Struct j) is_so = absurd (cc)
-covered_empty y (Num k) (Fixed p) (Struct j) is_so = absurd (cc)
-covered_empty y (Num k) (Counted by most) (Struct j) is_so = absurd (cc)
-covered_empty y (Equal k z) c (Struct j) is_so = absurd (cc)
-covered_empty y (Unused m) c (Struct j) is_so = absurd (cc)
-covered_empty y (Struct i) c (Struct j) is_so = absurd (cc)
+covered_empty y i c j covers = ap (λ (x : Item). length (item_cells y x [] (pos 0))) (covers_unused i c j covers).1
+
+-- what holds at k and below it holds below suc k
+pub below_suc : (P : ℕ → Type 0) (k : ℕ) → P k → ((j : ℕ) → j < k → P j) → (j : ℕ) → j < suc k → P j
+below_suc P k at_k before j lt =
+    let le : j ≤ k = omega arith in
+    let go : (j ≡ k) ⊎ (j < k) → P j = elim [
+      | inl same ↦ subst P (sym same) at_k
+      | inr less ↦ before j less
+    ] in
+    go (eq-or-lt_of_le le)
 
 -- what is known of the structures below so many: their cells, slots, comparers and carriers
 pub record Table (ks : List Comparer) (cs : List Carrier) (ms ns : List Meaning) (numbers numbers' : List ℤ) (below below' : ℕ) : Type 0 where

@@ -17,7 +17,7 @@ use Rattle.vms_spec.proofs.WellFormedLaws.{device_found}
 use Rattle.vms_check_laws.specs.Laws.{ArePaired, DeviceLaw}
 use Rattle.vms_spec.proofs.Faultless.{or_else_none}
 use Rattle.vms_check_laws.proofs.Partnered.{found_device, found_some, compared, Pair, pair, back}
-use Rattle.vms_check_laws.proofs.Orders.{Among, NotIn, Apart, Wait, each_comes}
+use Rattle.vms_check_laws.proofs.Orders.{Among, NotIn, Apart, Wait, each_comes, found_same}
 use Rattle.vms_check_laws.proofs.SubFacts.{none_at, saved}
 use Rattle.vms_check_laws.proofs.Wholes.{section_whole, at_map}
 
@@ -104,11 +104,8 @@ module _ (old new : Set) (good_old : WellFormed old) (good_new : WellFormed new)
   two_apart i i' d d' lt e e' same =
       let p = pair old new good_old all_in i d e in
       let q = pair old new good_old all_in i' d' e' in
-      let numbers : p.number ≡ q.number = sym (ap index p.found) ∙ same ∙ ap index q.found in
-      let some_same : Some p.device ≡ Some q.device = sym p.stands ∙ ap (λ (k : ℕ). slice_get new.devices k) numbers ∙ q.stands in
-      let devices_same : p.device ≡ q.device = cc in
-      let founds : Some i ≡ Some i' = sym (back old new good_old all_in i d e p) ∙ ap (λ (u : Device). find_device 0 old.devices u.desc.name u.instance) devices_same ∙ back old new good_old all_in i' d' e' q in
-      let indices : i ≡ i' = cc in
+      let indices : i ≡ i' = found_same new.devices (λ (u : Device). find_device 0 old.devices u.desc.name u.instance) p.number q.number i i' p.device q.device
+      (sym (ap index p.found) ∙ same ∙ ap index q.found) p.stands q.stands (back old new good_old all_in i d e p) (back old new good_old all_in i' d' e' q) in
       absurd (omega arith)
 
   one_apart : (i i' : ℕ) (d : Device) (ds : List Device) → i < i' → slice_get old.devices i ≡ Some d → ((j : ℕ) → slice_get old.devices (i' + j) ≡ slice_get ds j)

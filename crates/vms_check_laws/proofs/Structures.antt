@@ -1,7 +1,6 @@
 -- Structures on both sides, by induction on new's number.
-use Rattle.std.proofs.Common.{◌≡◌, ◌⊎◌, inl, inr, ℕ, zero, suc, ◌+◌, ◌<◌, ◌≤◌, Bool, List, [], ◌∷◌, length, get_or, Option, Some, None, refl, sym, ap, ◌∙◌, subst, arith, ℤ}
+use Rattle.std.proofs.Common.{◌≡◌, ℕ, zero, suc, ◌+◌, ◌<◌, ◌≤◌, Bool, List, [], ◌∷◌, length, get_or, Option, Some, None, refl, sym, ap, ◌∙◌, subst, arith, ℤ}
 use Rattle.std.proofs.lemmas.List.{length-append}
-use Rattle.std.proofs.Math.Nat.{eq-or-lt_of_le}
 use Rattle.vms_kinds.specs.declared.Item.{Item}
 use Rattle.vms_kinds.specs.declared.Item.TheVariants.{Num, Equal, Unused, Struct}
 use Rattle.vms_spec.specs.Sets.{Formula, Field, Desc}
@@ -17,7 +16,7 @@ use Rattle.vms_check_laws.proofs.Pairing.{cells_in}
 use Rattle.vms_check_laws.specs.Segments.{Holds, FitsAt, Carries}
 use Rattle.vms_check_laws.proofs.Settling.{Settled}
 use Rattle.vms_check_laws.proofs.Linking.{defaults_size, carry_field_size}
-use Rattle.vms_check_laws.proofs.Premises.{Table, NewFields, RulesNamed, SettledTable}
+use Rattle.vms_check_laws.proofs.Premises.{Table, NewFields, RulesNamed, SettledTable, below_suc, OldFields}
 use Rattle.vms_check_laws.proofs.Descriptions.{desc_carries, desc_settles}
 use Rattle.vms_check_laws.proofs.Counts.{OldPlains, old_fields}
 
@@ -73,6 +72,41 @@ module _ (x y : List (List Cell)) (olds news : List Desc) where
   carrier_earlier k j h =
       let row = λ (earlier : List Carrier) (d : Desc). carrier_of earlier x y olds d in
       first_at row news no_carrier (suc k) j (omega arith) ∙ sym (first_at row news no_carrier k j h)
+
+-- structure i of old beside structure k of new, the next, where no rule fails at them
+module _ (olds news : List Desc) (numbers : List ℤ) (k i p : ℕ) where
+  abbrev both_olds : List (List Cell)
+  both_olds = cells_in (meanings olds (length olds))
+
+  abbrev both_news : List (List Cell)
+  both_news = cells_in (meanings news (length news))
+
+  abbrev old_one : Desc
+  old_one = get_or olds i no_desc
+
+  abbrev new_one : Desc
+  new_one = get_or news k no_desc
+
+  pub record Beside : Type 0 where
+    pub below : FieldsBelow i old_one.fields
+    pub below' : FieldsBelow k new_one.fields
+    pub none : compare_desc (comparers both_olds both_news olds news k) both_olds both_news old_one new_one old_one.version new_one.version (parts.Struct i) (parts.Struct k) ≡ None
+    pub fits : FitsAt (desc_cells both_olds old_one) numbers p
+    pub old : OldFields (length olds) (λ j. numbers_of both_olds old_one numbers p j) old_one.fields
+
+  pub beside : OldStructs olds → NewStructs news → k < length news → i < length olds → get_or (comparers both_olds both_news olds news (suc k)) k no_comparer i ≡ None
+      → FitsAt (get_or both_olds i []) numbers p → Beside
+  beside old new lt lt_i none fits =
+      let below = plain_below i old_one.fields old_one.fields (old i lt_i).fields in
+      let fits' : FitsAt (desc_cells both_olds old_one) numbers p = subst (λ (l : List Cell). FitsAt l numbers p) (struct_cells_at olds (length olds) i lt_i below) fits in
+      let plain = plains_further i (length olds) old_one.fields old_one.fields (omega arith) (old i lt_i).fields in
+      record {
+        below = below;
+        below' = new_below k (is_steady_in new_one) new_one.fields (new k lt).fields;
+        none = subst (λ (c : Comparer). c i ≡ None) (comparer_last both_olds both_news olds news k) none;
+        fits = fits';
+        old = old_fields both_olds (length olds) old_one.fields numbers p fits' old_one.fields (λ by most h. h) plain;
+      }
 
 module _ (olds news : List Desc) (numbers numbers' : List ℤ) where
   abbrev ms : List Meaning
@@ -132,17 +166,13 @@ module _ (olds news : List Desc) (numbers numbers' : List ℤ) where
 
     sized_next : (k : ℕ) → k < length news → KnownTable k → (j i p : ℕ) → j < suc k → length (get_or (cs (suc k)) j no_carrier i numbers p) ≡ length (get_or y j [])
     sized_next k lt table j i p h =
-        let le : j ≤ k = omega arith in
         let below = new_below k (is_steady_in (new_at k)) (new_at k).fields (new k lt).fields in
         let last : length (get_or (cs (suc k)) k no_carrier i numbers p) ≡ length (get_or y k []) =
         ap (λ (c : Carrier). length (c i numbers p)) (carrier_last x y olds news k)
         ∙ carry_desc_size k table (old_at i) (new_at k) (old_at i).version (new_at k).version p below
         ∙ sym (ap (λ (l : List Cell). length l) (struct_cells_at news (length news) k lt below)) in
-        let go : (j ≡ k) ⊎ (j < k) → length (get_or (cs (suc k)) j no_carrier i numbers p) ≡ length (get_or y j []) = elim [
-          | inl same ↦ subst (λ (q : ℕ). length (get_or (cs (suc k)) q no_carrier i numbers p) ≡ length (get_or y q [])) (sym same) last
-          | inr less ↦ ap (λ (c : Carrier). length (c i numbers p)) (carrier_earlier x y olds news k j less) ∙ table.sized j i p less
-        ] in
-        go (eq-or-lt_of_le le)
+        below_suc (λ (q : ℕ). length (get_or (cs (suc k)) q no_carrier i numbers p) ≡ length (get_or y q [])) k last
+        (λ q less. ap (λ (c : Carrier). length (c i numbers p)) (carrier_earlier x y olds news k q less) ∙ table.sized q i p less) j h
 
     abbrev Carried : ℕ → ℕ → ℕ → Type 0
     Carried k i j = get_or (ks k) j no_comparer i ≡ None → (p q : ℕ) → FitsAt (get_or x i []) numbers p
@@ -152,17 +182,11 @@ module _ (olds news : List Desc) (numbers numbers' : List ℤ) where
     carried_last k lt table i lt_i none p q fits held =
         let a = old_at i in
         let b = new_at k in
-        let below_a = plain_below i a.fields a.fields (old i lt_i).fields in
-        let below_b = new_below k (is_steady_in b) b.fields (new k lt).fields in
-        let none' : compare_desc (ks k) x y a b a.version b.version (parts.Struct i) (parts.Struct k) ≡ None =
-        subst (λ (c : Comparer). c i ≡ None) (comparer_last x y olds news k) none in
-        let fits' : FitsAt (desc_cells x a) numbers p = subst (λ (l : List Cell). FitsAt l numbers p) (struct_cells_at olds (length olds) i lt_i below_a) fits in
+        let z = beside olds news numbers k i p old new lt lt_i none fits in
         let held' : Holds numbers' q (carry_desc (cs k) x y numbers a.version b.version a b p) = subst (λ (c : Carrier). Holds numbers' q (c i numbers p)) (carrier_last x y olds news k) held in
-        let plain = plains_further i (length olds) a.fields a.fields (omega arith) (old i lt_i).fields in
-        let done = desc_carries (ks k) (cs k) ms ns a b a.version b.version (parts.Struct i) (parts.Struct k) numbers numbers' p q (length olds) k table none'
-        (old_fields x (length olds) a.fields numbers p fits' a.fields (λ by most h. h) plain) (new k lt).fields (new k lt).rules fits' held' in
-        subst (λ (l : List Slot). Carries numbers l numbers' ((get_or ns k no_meaning).slots numbers' q)) (sym (struct_slots olds (length olds) i numbers p lt_i below_a))
-        (subst (λ (l : List Slot). Carries numbers (desc_slots ms a a.version numbers p) numbers' l) (sym (struct_slots news (length news) k numbers' q lt below_b)) done)
+        let done = desc_carries (ks k) (cs k) ms ns a b a.version b.version (parts.Struct i) (parts.Struct k) numbers numbers' p q (length olds) k table z.none z.old (new k lt).fields z.fits held' (new k lt).rules in
+        subst (λ (l : List Slot). Carries numbers l numbers' ((get_or ns k no_meaning).slots numbers' q)) (sym (struct_slots olds (length olds) i numbers p lt_i z.below))
+        (subst (λ (l : List Slot). Carries numbers (desc_slots ms a a.version numbers p) numbers' l) (sym (struct_slots news (length news) k numbers' q lt z.below')) done)
 
     carried_earlier : (k : ℕ) → KnownTable k → (i j : ℕ) → i < length olds → j < k → Carried (suc k) i j
     carried_earlier k table i j lt_i lt_j none p q fits held =
@@ -171,12 +195,7 @@ module _ (olds news : List Desc) (numbers numbers' : List ℤ) where
 
     carried_next : (k : ℕ) → k < length news → KnownTable k → (i j : ℕ) → i < length olds → j < suc k → Carried (suc k) i j
     carried_next k lt table i j lt_i lt_j =
-        let le : j ≤ k = omega arith in
-        let go : (j ≡ k) ⊎ (j < k) → Carried (suc k) i j = elim [
-          | inl same ↦ subst (λ (q : ℕ). Carried (suc k) i q) (sym same) (carried_last k lt table i lt_i)
-          | inr less ↦ carried_earlier k table i j lt_i less
-        ] in
-        go (eq-or-lt_of_le le)
+        below_suc (λ (q : ℕ). Carried (suc k) i q) k (carried_last k lt table i lt_i) (λ q less. carried_earlier k table i q lt_i less) j lt_j
 
     pub tables : (k : ℕ) → k ≤ length news → KnownTable k
     tables zero le = record { sized = λ j i p lt. absurd (omega arith); carried = λ i j lt_i lt_j none p q fits held. absurd (omega arith) }
@@ -197,19 +216,13 @@ module _ (olds news : List Desc) (numbers numbers' : List ℤ) where
     row_last k lt table rows i lt_i none p q fits held =
         let a = old_at i in
         let b = new_at k in
-        let below_a = plain_below i a.fields a.fields (old i lt_i).fields in
-        let below_b = new_below k (is_steady_in b) b.fields (new k lt).fields in
-        let none' : compare_desc (ks k) x y a b a.version b.version (parts.Struct i) (parts.Struct k) ≡ None =
-        subst (λ (c : Comparer). c i ≡ None) (comparer_last x y olds news k) none in
-        let fits' : FitsAt (desc_cells x a) numbers p = subst (λ (l : List Cell). FitsAt l numbers p) (struct_cells_at olds (length olds) i lt_i below_a) fits in
+        let z = beside olds news numbers k i p old new lt lt_i none fits in
         let carried = carry_desc (cs k) x y numbers a.version b.version a b p in
         let held' : Holds numbers' q carried = subst (λ (c : Carrier). Holds numbers' q (c i numbers p)) (carrier_last x y olds news k) held in
-        let plain = plains_further i (length olds) a.fields a.fields (omega arith) (old i lt_i).fields in
-        let done = desc_settles (ks k) (cs k) ms ns a b a.version b.version (parts.Struct i) (parts.Struct k) numbers numbers' p q (length olds) k table rows none'
-        (old_fields x (length olds) a.fields numbers p fits' a.fields (λ by most h. h) plain) (new k lt).fields fits' held' in
+        let done = desc_settles (ks k) (cs k) ms ns a b a.version b.version (parts.Struct i) (parts.Struct k) numbers numbers' p q (length olds) k table z.none z.old (new k lt).fields z.fits held' rows in
         subst (λ (c : Carrier). Settled ((get_or ns k no_meaning).slots numbers' q) q (get_or y k []) (c i numbers p)) (sym (carrier_last x y olds news k))
-        (subst (λ (l : List Cell). Settled ((get_or ns k no_meaning).slots numbers' q) q l carried) (sym (struct_cells_at news (length news) k lt below_b))
-        (subst (λ (l : List Slot). Settled l q (desc_cells y b) carried) (sym (struct_slots news (length news) k numbers' q lt below_b)) done))
+        (subst (λ (l : List Cell). Settled ((get_or ns k no_meaning).slots numbers' q) q l carried) (sym (struct_cells_at news (length news) k lt z.below'))
+        (subst (λ (l : List Slot). Settled l q (desc_cells y b) carried) (sym (struct_slots news (length news) k numbers' q lt z.below')) done))
 
     row_earlier : (k : ℕ) → KnownRows k → (i j : ℕ) → i < length olds → j < k → Row (suc k) i j
     row_earlier k rows i j lt_i lt_j none p q fits held =
@@ -219,12 +232,7 @@ module _ (olds news : List Desc) (numbers numbers' : List ℤ) where
 
     row_next : (k : ℕ) → k < length news → KnownTable k → KnownRows k → (i j : ℕ) → i < length olds → j < suc k → Row (suc k) i j
     row_next k lt table rows i j lt_i lt_j =
-        let le : j ≤ k = omega arith in
-        let go : (j ≡ k) ⊎ (j < k) → Row (suc k) i j = elim [
-          | inl same ↦ subst (λ (q : ℕ). Row (suc k) i q) (sym same) (row_last k lt table rows i lt_i)
-          | inr less ↦ row_earlier k rows i j lt_i less
-        ] in
-        go (eq-or-lt_of_le le)
+        below_suc (λ (q : ℕ). Row (suc k) i q) k (row_last k lt table rows i lt_i) (λ q less. row_earlier k rows i q lt_i less) j lt_j
 
     pub settled_tables : (k : ℕ) → k ≤ length news → KnownRows k
     settled_tables zero le i j lt_i lt_j none p q fits held = absurd (omega arith)

@@ -1,8 +1,6 @@
 -- What two well-formed sets without a mismatch give for each subsection of new.
-use Rattle.std.proofs.Common.{◌≡◌, ◌⊎◌, inl, inr, ℕ, zero, suc, ◌+◌, ◌≤◌, Bool, true, false, List, ◌∷◌, length, get_or, Option, Some, None, refl, sym, ap, ◌∙◌, subst, arith, ℤ, pos, if◌then◌else◌, nat_le, []}
-use Rattle.std.specs.Str.{bytes_eq}
+use Rattle.std.proofs.Common.{◌≡◌, ◌⊎◌, inl, inr, ℕ, zero, suc, ◌+◌, ◌≤◌, true, List, ◌∷◌, length, get_or, Option, Some, None, refl, sym, ap, ◌∙◌, subst, arith, ℤ, pos, nat_le, []}
 use Rattle.std.specs.List.{flat_map, slice_get}
-use Rattle.std.proofs.lemmas.Slice.Eq.{bytes_eq-Decides}
 use Rattle.std.proofs.lemmas.Bool.{and_parts, leb-true}
 use Rattle.vms_spec.specs.declared.Part.TheVariants as parts
 use Rattle.vms_spec.specs.Lists.{first_answer}
@@ -53,15 +51,14 @@ came_at (x ∷ subs) (Some v ∷ came) (suc j) s h e = came_at subs came j s h.1
 
 pub come_version : (set : Set) (d : Device) (image : Image) (k : ℕ) (subs : List Sub) (came : List (Option ℕ)) (j : ℕ) (s : Sub) (v : ℕ) → ComeAsNeeded set d image k subs came
     → slice_get subs j ≡ Some s → slice_get came j ≡ Some (Some v) → v ≡ s.desc.version
-come_version set d image k [] came j s v h e e' = absurd (cc)
 come_version set d image k (x ∷ subs) [] j s v h e e' = absurd h
-come_version set d image k (x ∷ subs) (None ∷ came) zero s v h e e' = absurd (cc)
 come_version set d image k (x ∷ subs) (Some u ∷ came) zero s v h e e' =
     let same : x ≡ s = cc in
     let same' : u ≡ v = cc in
     sym same' ∙ h.1 ∙ ap (λ (y : Sub). y.desc.version) same
 come_version set d image k (x ∷ subs) (None ∷ came) (suc j) s v h e e' = come_version set d image (suc k) subs came j s v h.1 e e'
 come_version set d image k (x ∷ subs) (Some u ∷ came) (suc j) s v h e e' = come_version set d image (suc k) subs came j s v h.2 e e'
+come_version set d image k _ _ _ s v h e e' = absurd (cc)
 
 -- a ready image is a saved one
 pub saved : (set : Set) (d : Device) (image : Image) → IsReady set d image → IsSaved set d image
@@ -85,9 +82,6 @@ sub_fits set numbers place (x ∷ subs) (suc j) s h e =
 
 pub sub_rules_hold : (set : Set) (d : Device) (numbers : List ℤ) (place : ℕ) (subs : List Sub) (came : List (Option ℕ)) (j : ℕ) (s : Sub) (v : ℕ) → RulesHold (came_slots set d numbers place subs came)
     → slice_get subs j ≡ Some s → slice_get came j ≡ Some (Some v) → RulesHold (sub_slots set s v numbers (sub_place set place subs j))
-sub_rules_hold set d numbers place [] came j s v h e e' = absurd (cc)
-sub_rules_hold set d numbers place (x ∷ subs) [] j s v h e e' = absurd (cc)
-sub_rules_hold set d numbers place (x ∷ subs) (None ∷ came) zero s v h e e' = absurd (cc)
 sub_rules_hold set d numbers place (x ∷ subs) (Some u ∷ came) zero s v h e e' =
     let same : x ≡ s = cc in
     let same' : u ≡ v = cc in
@@ -97,6 +91,7 @@ sub_rules_hold set d numbers place (x ∷ subs) (None ∷ came) (suc j) s v h e 
 sub_rules_hold set d numbers place (x ∷ subs) (Some u ∷ came) (suc j) s v h e e' =
     sub_rules_hold set d numbers (place + length (desc_cells (struct_cells set) x.desc)) subs came j s v
     (rules_right (sub_slots set x u numbers place) (came_slots set d numbers (place + length (desc_cells (struct_cells set) x.desc)) subs came) h) e e'
+sub_rules_hold set d numbers place _ _ _ s v h e e' = absurd (cc)
 
 module _ (old new : Set) (good_old : WellFormed old) (good_new : WellFormed new) (i k : ℕ) (d e : Device) (at_i : slice_get old.devices i ≡ Some d) (at_k : slice_get new.devices k ≡ Some e)
     (none : first_answer (compare_subs old new i k e) 0 d.subs ≡ None) (image : Image) (ready : IsSaved old d image) (numbers' : List ℤ) where

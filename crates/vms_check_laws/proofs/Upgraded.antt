@@ -5,7 +5,7 @@ use Rattle.std.proofs.lemmas.List.{length-map}
 use Rattle.vms_spec.specs.Sets.{Set}
 use Rattle.vms_spec.specs.Images.{Image}
 use Rattle.vms_stream.specs.Streams.{IsStream}
-use Rattle.vms_spec.specs.Streams.{IsConfiguration, IsTrailer, configuration, trailer, optional, longest_text, is_one_of, written, written_sections, AreReady}
+use Rattle.vms_spec.specs.Streams.{IsConfiguration, configuration, trailer, optional, longest_text, is_one_of, written, written_sections, AreReady}
 use Rattle.vms_spec.specs.WellFormed.{WellFormed}
 use Rattle.vms_check.specs.Comparing.{Compatible}
 use Rattle.vms_check.specs.Carrying.{carried, no_image}

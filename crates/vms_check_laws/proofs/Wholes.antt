@@ -24,7 +24,7 @@ use Rattle.vms_check_laws.proofs.Settling.{Settled, settled_append, settled_at}
 use Rattle.vms_check_laws.proofs.Fitting.{fit_append, fit_length, are_fit}
 use Rattle.vms_check_laws.proofs.Good.{device_good}
 use Rattle.vms_check_laws.proofs.Parts.{part_carries, part_fits, part_settles}
-use Rattle.vms_check_laws.proofs.Orders.{Among, NotIn, Apart, Come, comes_once}
+use Rattle.vms_check_laws.proofs.Orders.{Among, NotIn, Apart, Come, comes_once, found_same}
 use Rattle.vms_check_laws.proofs.Subsections.{Came, Facts, subs_fit, subs_versions, subs_rules, subs_settle, sub_held, sub_carries}
 use Rattle.vms_check_laws.proofs.SubFacts.{none_at, fits_whole, came_of, came_is, facts}
 use Rattle.vms_check_laws.proofs.PairDevices.{found as found_sub}
@@ -135,14 +135,12 @@ module _ (old new : Set) (good_old : WellFormed old) (good_new : WellFormed new)
   -- ---- each subsection that came stands once
 
   order_has : (subs : List Sub) (cs : List (Option ℕ)) (j l v : ℕ) (s : Sub) → slice_get subs j ≡ Some s → slice_get cs j ≡ Some (Some v) → index (find_sub 0 e.subs s.desc.name) ≡ l → Among l (sub_order e subs cs)
-  order_has [] cs j l v s h h' is = absurd (cc)
-  order_has (x ∷ subs) [] j l v s h h' is = absurd (cc)
-  order_has (x ∷ subs) (None ∷ cs) zero l v s h h' is = absurd (cc)
   order_has (x ∷ subs) (Some u ∷ cs) zero l v s h h' is =
       let same : x ≡ s = cc in
       inl (sym (ap (λ (y : Sub). index (find_sub 0 e.subs y.desc.name)) same ∙ is))
   order_has (x ∷ subs) (None ∷ cs) (suc j) l v s h h' is = order_has subs cs j l v s h h' is
   order_has (x ∷ subs) (Some u ∷ cs) (suc j) l v s h h' is = inr (order_has subs cs j l v s h h' is)
+  order_has _ _ _ l v s h h' is = absurd (cc)
 
   from_map : (ts : List Sub) (l v : ℕ) → slice_get (map came ts) l ≡ Some (Some v) → (t : Sub) × (slice_get ts l ≡ Some t) × (came t ≡ Some v)
   from_map [] l v h = absurd (cc)
@@ -196,11 +194,8 @@ module _ (old new : Set) (good_old : WellFormed old) (good_new : WellFormed new)
   two_apart j j' s s' lt h h' same =
       let p = sub_pair j s h in
       let q = sub_pair j' s' h' in
-      let numbers : p.number ≡ q.number = sym (ap index p.found) ∙ same ∙ ap index q.found in
-      let some_same : Some p.sub ≡ Some q.sub = sym p.stands ∙ ap (λ (n : ℕ). slice_get e.subs n) numbers ∙ q.stands in
-      let subs_same : p.sub ≡ q.sub = cc in
-      let founds : Some j ≡ Some j' = sym (back j s h p) ∙ ap (λ (u : Sub). find_sub 0 d.subs u.desc.name) subs_same ∙ back j' s' h' q in
-      let indices : j ≡ j' = cc in
+      let indices : j ≡ j' = found_same e.subs (λ (u : Sub). find_sub 0 d.subs u.desc.name) p.number q.number j j' p.sub q.sub
+      (sym (ap index p.found) ∙ same ∙ ap index q.found) p.stands q.stands (back j s h p) (back j' s' h' q) in
       absurd (omega arith)
 
   one_apart : (j j' : ℕ) (s : Sub) (subs : List Sub) (cs : List (Option ℕ)) → j < j' → slice_get d.subs j ≡ Some s → ((m : ℕ) → slice_get d.subs (j' + m) ≡ slice_get subs m) → NotIn (index (find_sub 0 e.subs s.desc.name)) (sub_order e subs cs)

@@ -1,6 +1,6 @@
 -- The first positions of two descriptions at one front: where no rule fails there, both sets read as many bytes, whatever rule
 -- fails behind them.
-use Rattle.std.specs.Prelude.{◌≡◌, ℕ, ◌<◌, ◌≤◌, List, length, take, Option, Some, None, ℤ}
+use Rattle.std.specs.Prelude.{◌≡◌, ℕ, ◌<◌, ◌≤◌, List, length, take, Some, None, ℤ}
 use Rattle.std.specs.List.{flat_map, slice_get}
 use Rattle.vms_spec.specs.declared.Part.{Part}
 use Rattle.vms_spec.specs.Sets.{Desc, Set}

@@ -4,4 +4,3 @@ pub mod ImageLemmas
 pub mod LackLemmas
 pub mod Lengths
 pub mod RoomLaws
-pub mod SumLaws

@@ -98,33 +98,37 @@ same_names ds (suc k) j n m a b =
 
 -- ---- a name from a cell
 
+-- element e of an array, whose cells have these names
+abbrev element_of : Field → Stand → ℕ → List Element → List Element
+element_of f stand e xs = map (behind (stand.number, e) (f.name ++ index_text f.count e) (nat_lt e stand.count) (stand.there && nat_lt e stand.count)) xs
+
+element_names : (f : Field) (stand : Stand) (e : ℕ) (xs : List Element) (names : List (List ℕ)) → names_of xs ≡ names → names_of (element_of f stand e xs) ≡ map (λ l. (f.name ++ index_text f.count e) ++ l) names
+element_names f stand e xs names h =
+    names_behind (stand.number, e) (f.name ++ index_text f.count e) (nat_lt e stand.count) (stand.there && nat_lt e stand.count) xs ∙ ap (map (λ l. (f.name ++ index_text f.count e) ++ l)) h
+
 -- element q of an array, and cell r in it
 pub array_name : (f : Field) (stand : Stand) (part : ℕ → List Element) (names : List (List ℕ)) (step : ℕ) → ((a : ℕ) → names_of (part a) ≡ names) → length names ≡ step
     → (q e n a r : ℕ) → q < n → r < step
     → get_or (names_of (array_elements f stand part step e n a)) (q * step + r) [] ≡ (f.name ++ index_text f.count (e + q)) ++ get_or names r []
 array_name f stand part names step h long q e zero a r lt small = absurd (omega arith)
 array_name f stand part names step h long zero e (suc n) a r lt small =
-    let text = f.name ++ index_text f.count e in
-    let c = nat_lt e stand.count in
-    let here = map (behind (stand.number, e) text c (stand.there && c)) (part a) in
+    let here = element_of f stand e (part a) in
     let later = array_elements f stand part step (suc e) n (a + step) in
-    let is : names_of here ≡ map (λ l. text ++ l) names = names_behind (stand.number, e) text c (stand.there && c) (part a) ∙ ap (map (λ l. text ++ l)) (h a) in
-    let many : length (names_of here) ≡ step = ap length is ∙ length-map names (λ l. text ++ l) ∙ long in
+    let is = element_names f stand e (part a) names (h a) in
+    let many : length (names_of here) ≡ step = ap length is ∙ length-map names (λ l. (f.name ++ index_text f.count e) ++ l) ∙ long in
     let index : 0 * step + r ≡ r = grind arith in
     let same : e + 0 ≡ e = omega arith in
     ap (λ (k : ℕ). get_or (names_of (here ++ later)) k []) index
     ∙ ap (λ (l : List (List ℕ)). get_or l r []) (names_append here later)
     ∙ get_or_append_left (names_of here) (names_of later) [] r (omega (arith, many))
     ∙ ap (λ (l : List (List ℕ)). get_or l r []) is
-    ∙ get_or-map (λ l. text ++ l) names r [] [] (omega (arith, long))
+    ∙ get_or-map (λ l. (f.name ++ index_text f.count e) ++ l) names r [] [] (omega (arith, long))
     ∙ ap (λ (k : ℕ). (f.name ++ index_text f.count k) ++ get_or names r []) (sym same)
 array_name f stand part names step h long (suc q) e (suc n) a r lt small =
-    let text = f.name ++ index_text f.count e in
-    let c = nat_lt e stand.count in
-    let here = map (behind (stand.number, e) text c (stand.there && c)) (part a) in
+    let here = element_of f stand e (part a) in
     let later = array_elements f stand part step (suc e) n (a + step) in
-    let is : names_of here ≡ map (λ l. text ++ l) names = names_behind (stand.number, e) text c (stand.there && c) (part a) ∙ ap (map (λ l. text ++ l)) (h a) in
-    let many : length (names_of here) ≡ step = ap length is ∙ length-map names (λ l. text ++ l) ∙ long in
+    let is = element_names f stand e (part a) names (h a) in
+    let many : length (names_of here) ≡ step = ap length is ∙ length-map names (λ l. (f.name ++ index_text f.count e) ++ l) ∙ long in
     let index : suc q * step + r ≡ step + (q * step + r) = grind arith in
     let past : length (names_of here) ≤ suc q * step + r = omega (arith, many, index) in
     let left : (suc q * step + r) - length (names_of here) ≡ q * step + r = omega (arith, many, index) in

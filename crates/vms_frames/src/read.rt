@@ -2,7 +2,7 @@
 ghost use Rattle.std.specs.Prelude.{◌≡◌, true, false, ◌∷◌, [], ◌≤◌, length, get_or, IfOk};
 ghost use Rattle.vms_kinds.specs.Codes.{InRange, width};
 ghost use Rattle.vms_marks.specs.Marks.{mark_of};
-ghost use Rattle.vms_frames.specs.Found.{magic_found, version_found, step_long, is_configuration, between_found, mark_found, head_found, start_found, start_reason as start_reason_of, sub_reason as sub_reason_of, configuration_found, number_found, behind_long, behind_found, behind_mark_found, begins as begins_of, sub_found, foot_found, trailer_found, description_found};
+ghost use Rattle.vms_frames.specs.Found.{magic_found, version_found, step_long, is_configuration, head_found, start_found, start_reason as start_reason_of, sub_reason as sub_reason_of, configuration_found, number_found, behind_long, behind_found, behind_mark_found, begins as begins_of, sub_found, foot_found, description_found};
 ghost use Rattle.vms_frames.specs.Calls.{IsNext};
 ghost use Rattle.vms_io.specs.Told.{intake};
 ghost use Rattle.vms_frames.specs.Reads.{ReadsUnit, ReadsStep, ReadsMarked, ReadsTrailer};
@@ -16,7 +16,9 @@ use crate::{Between, FrameFault, Step, Tail};
 use byteorder::{BigEndian, ByteOrder};
 use vms_io::{Source, read_exact_of};
 use vms_kinds::Kind;
-use vms_marks::{Head, Mark, Name};
+use vms_marks::{
+    CONFIGURATION_FRONT, Configuration, Foot, HEAD_FRONT, Head, MAGIC, Mark, SUB_FRONT, SubHead,
+};
 use vms_spec::Reason;
 
 /// A description has at most so many bytes of text.
@@ -32,7 +34,7 @@ pub(crate) fn magic<S: Source>(source: &mut S, at: u64) -> Result<(), FrameFault
 {
     let mut unit = Unit::new();
     grow(source, at, &mut unit, 4)?;
-    if unit.as_slice() != b"QEVM".as_slice() {
+    if unit.as_slice() != MAGIC.as_slice() {
         return Err(refused(at, Reason::BadMagic));
     }
     Ok(())
@@ -131,8 +133,8 @@ fn section<S: Source>(source: &mut S, at: u64, unit: Unit) -> Result<Step, Frame
     ensures section { IfOk result (λ step. is_configuration step ≡ false) }
 {
     let mut unit = unit;
-    grow(source, at, &mut unit, 5)?;
-    let ahead = 8 + unit[5] as usize;
+    grow(source, at, &mut unit, HEAD_FRONT - 1)?;
+    let ahead = Head::name_length(&unit) + 8;
     grow(source, at, &mut unit, ahead)?;
     Ok(Step::Section(Head::of(&unit)))
 }
@@ -144,13 +146,13 @@ fn configuration<S: Source>(source: &mut S, at: u64, unit: Unit) -> Result<Step,
         step_long LONGEST_HEAD configuration_found unit.items at result }
 {
     let mut unit = unit;
-    grow(source, at, &mut unit, 4)?;
-    let length = BigEndian::read_u32(&unit[1..]);
+    grow(source, at, &mut unit, CONFIGURATION_FRONT - 1)?;
+    let length = Configuration::name_length(&unit);
     if length > 255 {
         return Err(refused(at, Reason::WrongMachine));
     }
     grow(source, at, &mut unit, length as usize)?;
-    Ok(Step::Configuration(name_in(&unit[5..])))
+    Ok(Step::Configuration(Configuration::of(&unit).machine))
 }
 
 // A section that is sent in parts, of which the mark came.
@@ -161,10 +163,10 @@ fn start<S: Source>(source: &mut S, at: u64, unit: Unit) -> Result<Step, FrameFa
     ensures none { IfOk result (λ step. is_configuration step ≡ false) }
 {
     let mut unit = unit;
-    grow(source, at, &mut unit, 5)?;
-    let ahead = unit[5] as usize;
+    grow(source, at, &mut unit, HEAD_FRONT - 1)?;
+    let ahead = Head::name_length(&unit);
     grow(source, at, &mut unit, ahead)?;
-    Err(refused(at, start_reason(&unit[6..])))
+    Err(refused(at, start_reason(&unit[HEAD_FRONT..])))
 }
 
 // Why a section of this name, which is sent in parts, isn't read.
@@ -176,16 +178,6 @@ fn start_reason(name: &[u8]) -> Reason
     } else {
         Reason::Iterative
     }
-}
-
-// A name, which isn't longer than a name can be.
-fn name_in(bytes: &[u8]) -> Name
-    requires { length bytes.now ≤ 255 }
-    ensures { result.items ≡ bytes.now }
-{
-    let mut name = Name::new();
-    let _fits = name.try_extend_from_slice(bytes);
-    name
 }
 
 /// What stands behind the fields of the section with this id.
@@ -248,13 +240,11 @@ fn subsection<S: Source>(source: &mut S, at: u64, unit: Unit) -> Result<Behind, 
     ensures next { IfOk result (λ behind. IsNext behind → ⊥) }
 {
     let mut unit = unit;
-    grow(source, at, &mut unit, 1)?;
-    let end = 2 + unit[1] as usize;
-    grow(source, at, &mut unit, end + 2)?;
-    Ok(Behind::Sub {
-        name: name_in(&unit[2..end]),
-        version: BigEndian::read_u32(&unit[end..]),
-    })
+    grow(source, at, &mut unit, SUB_FRONT - 1)?;
+    let ahead = SubHead::name_length(&unit) + 4;
+    grow(source, at, &mut unit, ahead)?;
+    let SubHead { name, version } = SubHead::of(&unit);
+    Ok(Behind::Sub { name, version })
 }
 
 // The footer of the section with this id, of which the mark came.
@@ -266,7 +256,7 @@ fn footer<S: Source>(source: &mut S, at: u64, id: u32, unit: Unit) -> Result<Beh
 {
     let mut unit = unit;
     grow(source, at, &mut unit, 4)?;
-    if BigEndian::read_u32(&unit[1..]) != id {
+    if Foot::of(&unit).id != id {
         return Err(no_footer(at));
     }
     Ok(Behind::Done)

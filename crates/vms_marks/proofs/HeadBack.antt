@@ -1,14 +1,17 @@
--- The bytes of a head say that head.
-use Rattle.std.proofs.Common.{◌≡◌, ℕ, ◌+◌, ◌<◌, ◌^◌, List, ◌∷◌, ◌++◌, length, take, drop, refl, sym, ap, ◌∙◌, arith, append_assoc, []}
+-- The bytes of a head, of a configuration and of a footer say it again.
+use Rattle.std.proofs.Common.{◌≡◌, ℕ, ◌+◌, ◌<◌, ◌≤◌, ◌^◌, List, ◌∷◌, ◌++◌, length, take, drop, refl, sym, ap, ◌∙◌, arith, append_assoc, []}
 use Rattle.std.proofs.lemmas.List.{drop-drop}
 use Rattle.std.proofs.Math.Seq.{drop-append_seam}
 use Rattle.byteorder.specs.Endian.{big_number}
 use Rattle.vms_spec.specs.Streams.{be32}
+use Rattle.vms_marks.specs.declared.sub_head.SubHead.{SubHead}
+use Rattle.vms_marks.specs.declared.configuration.Configuration.{Configuration}
+use Rattle.vms_marks.specs.declared.foot.Foot.{Foot}
 use Rattle.vms_spec.specs.Lookup.{number_at, bytes_at}
 use Rattle.vms_spec.proofs.KindLaws.{be32_read}
 use Rattle.vms_marks.specs.declared.head.Head.{Head}
-use Rattle.vms_marks.specs.Heads.{head_bytes, head_in}
-use Rattle.vms_marks.specs.Laws.{HeadLaw}
+use Rattle.vms_marks.specs.Heads.{head_bytes, head_in, sub_head_in, configuration_in}
+use Rattle.vms_marks.specs.Laws.{HeadLaw, SubHeadLaw, ConfigurationLaw, FootLaw}
 
 take_front : (front rest : List ℕ) → take (length front) (front ++ rest) ≡ front
 take_front [] rest = refl
@@ -49,3 +52,49 @@ said id name more instance version rest i j v is =
 pub head_holds : HeadLaw
 head_holds head h rest =
     ap head_in (parts head rest) ∙ said head.id head.name.items (tail head rest) head.instance head.version rest h.id h.instance h.version refl
+
+-- ---- subsections
+
+sub_of : List ℕ → ℕ → SubHead
+sub_of name version = record { name = record { items = name }; version = version }
+
+said_sub : (name : List ℕ) (version : ℕ) (rest : List ℕ) → version < 2 ^ 32 → sub_head_in (0x05 ∷ (length name ∷ (name ++ (be32 version ++ rest)))) ≡ sub_of name version
+unfolding sub_of
+said_sub name version rest v =
+    let n = length name in
+    let more = be32 version ++ rest in
+    let r = 0x05 ∷ (n ∷ (name ++ more)) in
+    let two : drop (2 + n) r ≡ more = sym (drop-drop n 2 r) ∙ drop-append_seam name more in
+    let named : bytes_at n 2 r ≡ name = take_front name more in
+    let numbered : number_at 4 (2 + n) r ≡ version = ap (big_number 4) two ∙ be32_read version rest v in
+    ap (λ (l : List ℕ). sub_of l (number_at 4 (2 + n) r)) named ∙ ap (sub_of name) numbered
+
+pub sub_head_holds : SubHeadLaw
+unfolding sub_of
+sub_head_holds head v rest =
+    ap (λ (l : List ℕ). sub_head_in (0x05 ∷ (length head.name.items ∷ l))) (append_assoc head.name.items (be32 head.version) rest) ∙ said_sub head.name.items head.version rest v
+
+-- ---- configurations and footers
+
+configured : List ℕ → Configuration
+configured name = record { machine = record { items = name } }
+
+said_name : (name rest : List ℕ) → length name ≤ 255 → configuration_in (0x07 ∷ (be32 (length name) ++ (name ++ rest))) ≡ configured name
+unfolding configured
+said_name name rest few =
+    let n = length name in
+    let r = 0x07 ∷ (be32 n ++ (name ++ rest)) in
+    let long : number_at 4 1 r ≡ n = be32_read n (name ++ rest) (omega arith) in
+    ap (λ (k : ℕ). configured (bytes_at k 5 r)) long ∙ ap configured (take_front name rest)
+
+pub configuration_holds : ConfigurationLaw
+unfolding configured
+configuration_holds c few rest =
+    ap (λ (l : List ℕ). configuration_in (0x07 ∷ l)) (append_assoc (be32 (length c.machine.items)) c.machine.items rest) ∙ said_name c.machine.items rest few
+
+foot_of : ℕ → Foot
+foot_of id = record { id = id }
+
+pub foot_holds : FootLaw
+unfolding foot_of
+foot_holds f h rest = ap foot_of (be32_read f.id rest h)

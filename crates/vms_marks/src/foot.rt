@@ -1,8 +1,8 @@
 // The footer of a section.
-ghost use Rattle.std.specs.Prelude.{◌≡◌, ◌≢◌, ◌↔◌, slice_index, IfSome, IsNone};
+ghost use Rattle.std.specs.Prelude.{◌≡◌, ◌≢◌, ◌↔◌, length, slice_index, IfSome, IsNone};
 ghost use Rattle.vms_spec.specs.Streams.{foot};
 
-use crate::Mark;
+use crate::{Mark, marked};
 use byteorder::{BigEndian, ByteOrder};
 
 /// The footer of a section.
@@ -13,13 +13,13 @@ pub struct Foot {
 }
 
 impl Foot {
+    ghost use Rattle.vms_marks.specs.Heads.{foot_in};
+
     /// The bytes of the footer: its mark and the id.
     pub fn bytes(&self) -> [u8; 5]
         ensures { result ≡ foot self.now.id }
     {
-        let mut bytes = [Mark::Footer.byte(), 0, 0, 0, 0];
-        BigEndian::write_u32(&mut bytes[1..], self.id);
-        bytes
+        marked(Mark::Footer, self.id)
     }
 
     /// The footer whose bytes these are, or `None` exactly where the first byte is not the mark of a footer.
@@ -30,8 +30,16 @@ impl Foot {
         if bytes[0] != Mark::Footer.byte() {
             return None;
         }
-        Some(Foot {
+        Some(Foot::of(&bytes))
+    }
+
+    /// The footer that these five bytes, of which the first is its mark, say.
+    pub fn of(bytes: &[u8]) -> Foot
+        requires { length bytes.now ≡ 5 }
+        ensures { result ≡ foot_in bytes.now }
+    {
+        Foot {
             id: BigEndian::read_u32(&bytes[1..]),
-        })
+        }
     }
 }

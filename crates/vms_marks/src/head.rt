@@ -1,13 +1,13 @@
 // The head of a section.
-ghost use Rattle.std.specs.Prelude.{◌≡◌, ◌+◌, ◌↔◌, length, slice_index, IfOk, Err};
+ghost use Rattle.std.specs.Prelude.{◌≡◌, ◌+◌, ◌≤◌, ◌↔◌, length, slice_index, IfOk, Err};
 ghost use Rattle.vms_spec.specs.Streams.{section_head};
 
-use crate::Mark;
+use crate::{Mark, Name, name_of};
 use arrayvec::ArrayVec;
 use byteorder::{BigEndian, ByteOrder};
 
-/// The name of a section, a subsection or a machine, of at most 255 bytes, since one byte holds its length.
-pub type Name = ArrayVec<u8, 255>;
+/// A section's head begins with so many bytes: its mark, its id, and the length of its name.
+pub const HEAD_FRONT: usize = 6;
 
 /// The most bytes of a head: its mark, three numbers, and a name of 255 bytes with its length.
 pub const LONGEST_HEAD: usize = 269;
@@ -65,10 +65,18 @@ impl Head {
         {
             return Err(HeadFault::WrongMark);
         }
-        if bytes.len() < 6 || bytes.len() != 14 + bytes[5] as usize {
+        if bytes.len() < HEAD_FRONT || bytes.len() != 14 + bytes[5] as usize {
             return Err(HeadFault::WrongLength);
         }
         Ok(Head::of(bytes))
+    }
+
+    /// How long the name is in a head that begins with these bytes; its instance id and version follow the name.
+    pub fn name_length(front: &[u8]) -> usize
+        requires { HEAD_FRONT ≤ length front.now }
+        ensures { result ≡ slice_index front.now 5 }
+    {
+        front[5] as usize
     }
 
     /// The head that these bytes, of the right mark and length, say.
@@ -77,11 +85,9 @@ impl Head {
         ensures { result ≡ head_in bytes.now }
     {
         let end = bytes.len() - 8;
-        let mut name = Name::new();
-        let _fits = name.try_extend_from_slice(&bytes[6..end]);
         Head {
             id: BigEndian::read_u32(&bytes[1..5]),
-            name,
+            name: name_of(&bytes[HEAD_FRONT..end]),
             instance: BigEndian::read_u32(&bytes[end..end + 4]),
             version: BigEndian::read_u32(&bytes[end + 4..]),
         }

@@ -1,8 +1,26 @@
 //! Each law is the contract of a function without a body. The statements stand in `specs/Laws.antt`.
-ghost use Rattle.vms_marks.specs.Laws.{HeadLaw};
+ghost use Rattle.vms_marks.specs.Laws.{HeadLaw, SubHeadLaw, ConfigurationLaw, FootLaw};
 
 /// The bytes of a head say that head again, whatever follows them.
 #[tactic(auto, using(crate::proofs::HeadBack::head_holds))]
 pub fn head_law()
     ensures { HeadLaw }
+{}
+
+/// The bytes of a subsection's head say that head again, whatever follows them.
+#[tactic(auto, using(crate::proofs::HeadBack::sub_head_holds))]
+pub fn sub_head_law()
+    ensures { SubHeadLaw }
+{}
+
+/// The bytes of a configuration say that configuration again, whatever follows them.
+#[tactic(auto, using(crate::proofs::HeadBack::configuration_holds))]
+pub fn configuration_law()
+    ensures { ConfigurationLaw }
+{}
+
+/// The bytes of a footer say that footer again, whatever follows them.
+#[tactic(auto, using(crate::proofs::HeadBack::foot_holds))]
+pub fn foot_law()
+    ensures { FootLaw }
 {}

@@ -1,14 +1,23 @@
-//! The marks, section heads and footers of a migration stream.
+//! The marks, heads and footers of a migration stream, each with its bytes.
 //!
-//! A section begins with a head and ends with a footer that repeats its id. All numbers stand in the
-//! stream with their highest byte first. The form is that of QEMU's `savevm`, version 3.
+//! A stream begins with its head and may have a configuration behind it. A section begins with a head and ends
+//! with a footer that repeats its id; a subsection has a head of its own. All numbers stand in the stream with
+//! their highest byte first. The form is that of QEMU's `savevm`, version 3.
 #![tactic(auto)]
 
+mod configuration;
 mod foot;
 mod head;
 pub mod laws;
 mod mark;
+mod name;
+mod stream_head;
+mod sub_head;
 
+pub use configuration::{CONFIGURATION_FRONT, Configuration, LONGEST_CONFIGURATION};
 pub use foot::Foot;
-pub use head::{Head, HeadFault, LONGEST_HEAD, Name};
-pub use mark::Mark;
+pub use head::{HEAD_FRONT, Head, HeadFault, LONGEST_HEAD};
+pub use mark::{Mark, marked};
+pub use name::{Name, name_of};
+pub use stream_head::{MAGIC, STREAM_HEAD};
+pub use sub_head::{LONGEST_SUB_HEAD, SUB_FRONT, SubHead};

@@ -1,5 +1,6 @@
 // The first byte of each unit between fields.
-ghost use Rattle.std.specs.Prelude.{◌≡◌};
+ghost use Rattle.std.specs.Prelude.{◌≡◌, ◌∷◌};
+ghost use Rattle.vms_spec.specs.Streams.{be32};
 ghost use Rattle.vms_marks.specs.Marks.{byte_of, mark_of};
 
 /// The byte that begins a unit of a stream, as QEMU's `QEMU_VM_..` constants.
@@ -53,4 +54,13 @@ impl Mark {
     {
         self as u8
     }
+}
+
+/// A mark and a number, as a footer has its id, a configuration the length of its name and a description
+/// section that of its text.
+pub fn marked(mark: Mark, number: u32) -> [u8; 5]
+    ensures { result ≡ byte_of mark ∷ be32 number }
+{
+    let [a, b, c, d] = number.to_be_bytes();
+    [mark.byte(), a, b, c, d]
 }

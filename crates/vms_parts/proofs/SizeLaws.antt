@@ -6,42 +6,29 @@ use Rattle.vms_kinds.specs.declared.Item.TheVariants.{Num, Equal, Unused, Struct
 use Rattle.vms_spec.specs.Sets as sets
 use Rattle.vms_spec.specs.Layout.{capacity_of, first, no_desc}
 use Rattle.vms_parts.specs.declared.sizes.Measure.{Measure}
-use Rattle.vms_parts.specs.declared.types.Field.{Field}
 use Rattle.vms_parts.specs.declared.types.Desc.{Desc}
-use Rattle.vms_parts.specs.declared.types.Sub.{Sub}
 use Rattle.vms_parts.specs.Sizes.{in_u32, size_of, fields_size, subs_size, sizes_to}
-use Rattle.vms_parts.specs.Views.{field_of, sub_of, desc_of}
+use Rattle.vms_parts.specs.Views.{field_of, desc_of}
 use Rattle.vms_parts.proofs.Items.{drop_is, get_map_at}
 
-pub capped_sum : (s p r : ℕ) → in_u32 (in_u32 (s + in_u32 p) + r) ≡ in_u32 (s + (p + r))
+capped_sum : (s p r : ℕ) → in_u32 (in_u32 (s + in_u32 p) + r) ≡ in_u32 (s + (p + r))
 capped_sum s p r = omega arith
 
-pub sum_goes : (m : Measure) (sizes : List ℕ) (fields : List Field) (i sum whole : ℕ) (f : Field) → i < length fields → f ≡ get_or fields i f
-    → in_u32 (sum + fields_size m sizes (map field_of (drop i fields))) ≡ whole
-    → in_u32 (in_u32 (sum + in_u32 (capacity_of f.count * size_of m sizes f.item)) + fields_size m sizes (map field_of (drop (i + 1) fields))) ≡ whole
-sum_goes m sizes fields i sum whole f lt is e =
-    capped_sum sum (capacity_of f.count * size_of m sizes f.item) (fields_size m sizes (map field_of (drop (i + 1) fields)))
-    ∙ ap (λ (fs : List Field). in_u32 (sum + fields_size m sizes (map field_of fs))) (sym (drop_is fields i f lt is)) ∙ e
+-- sums over lists that a loop goes through: `whole` is the sum of what each has, `one`
+module _ {T : Type 0} (whole : List T → ℕ) (one : T → ℕ) (nothing : whole [] ≡ 0) (adds : (x : T) (xs : List T) → whole (x ∷ xs) ≡ one x + whole xs) where
+  pub sum_goes : (xs : List T) (i sum part all : ℕ) (x : T) → i < length xs → x ≡ get_or xs i x → part ≡ in_u32 (one x)
+      → in_u32 (sum + whole (drop i xs)) ≡ all → in_u32 (in_u32 (sum + part) + whole (drop (i + 1) xs)) ≡ all
+  sum_goes xs i sum part all x lt is has e =
+      let rest = drop (i + 1) xs in
+      ap (λ (n : ℕ). in_u32 (in_u32 (sum + n) + whole rest)) has
+      ∙ capped_sum sum (one x) (whole rest)
+      ∙ ap (λ (n : ℕ). in_u32 (sum + n)) (sym (adds x rest))
+      ∙ ap (λ (l : List T). in_u32 (sum + whole l)) (sym (drop_is xs i x lt is)) ∙ e
 
-pub sum_ends : (m : Measure) (sizes : List ℕ) (fields : List Field) (i sum whole : ℕ) → length fields ≤ i → sum < 2 ^ 32
-    → in_u32 (sum + fields_size m sizes (map field_of (drop i fields))) ≡ whole → sum ≡ whole
-sum_ends m sizes fields i sum whole all small e =
-    let s : sum ≡ in_u32 (sum + 0) = omega arith in
-    s ∙ ap (λ (fs : List Field). in_u32 (sum + fields_size m sizes (map field_of fs))) (sym (drop_all i fields all)) ∙ e
-
-pub subs_more : (m : Measure) (sizes : List ℕ) (subs : List Sub) (i sum own whole : ℕ) (s : Sub) → i < length subs → s ≡ get_or subs i s
-    → own ≡ in_u32 (fields_size m sizes (map field_of s.desc.fields)) → in_u32 (sum + subs_size m sizes (map sub_of (drop i subs))) ≡ whole
-    → in_u32 (in_u32 (sum + own) + subs_size m sizes (map sub_of (drop (i + 1) subs))) ≡ whole
-subs_more m sizes subs i sum own whole s lt is size e =
-    ap (λ (n : ℕ). in_u32 (in_u32 (sum + n) + subs_size m sizes (map sub_of (drop (i + 1) subs)))) size
-    ∙ capped_sum sum (fields_size m sizes (map field_of s.desc.fields)) (subs_size m sizes (map sub_of (drop (i + 1) subs)))
-    ∙ ap (λ (l : List Sub). in_u32 (sum + subs_size m sizes (map sub_of l))) (sym (drop_is subs i s lt is)) ∙ e
-
-pub subs_end : (m : Measure) (sizes : List ℕ) (subs : List Sub) (i sum whole : ℕ) → length subs ≤ i → sum < 2 ^ 32
-    → in_u32 (sum + subs_size m sizes (map sub_of (drop i subs))) ≡ whole → sum ≡ whole
-subs_end m sizes subs i sum whole all small e =
-    let s : sum ≡ in_u32 (sum + 0) = omega arith in
-    s ∙ ap (λ (l : List Sub). in_u32 (sum + subs_size m sizes (map sub_of l))) (sym (drop_all i subs all)) ∙ e
+  pub sum_ends : (xs : List T) (i sum all : ℕ) → length xs ≤ i → sum < 2 ^ 32 → in_u32 (sum + whole (drop i xs)) ≡ all → sum ≡ all
+  sum_ends xs i sum all over small e =
+      let s : sum ≡ in_u32 (sum + 0) = omega arith in
+      s ∙ ap (λ (n : ℕ). in_u32 (sum + n)) (sym nothing) ∙ ap (λ (l : List T). in_u32 (sum + whole l)) (sym (drop_all i xs over)) ∙ e
 
 -- sizes of structures that end at 2 ^ 32 - 1 serve as well
 pub capped_product : (c s : ℕ) → in_u32 (c * in_u32 s) ≡ in_u32 (c * s)

@@ -68,44 +68,44 @@ high-bytes : (k n : ℕ) → AreBytes (bytes_high_first k n)
 high-bytes zero n = tt
 high-bytes (suc k) n = (byte-small k n, high-bytes k n)
 
-be32-bytes : (n : ℕ) → AreBytes (be32 n)
-be32-bytes n = high-bytes 4 n
+pub be32_bytes : (n : ℕ) → AreBytes (be32 n)
+be32_bytes n = high-bytes 4 n
 
-code-bytes : (kind : Kind) (z : ℤ) → AreBytes (code kind z)
+pub code_bytes : (kind : Kind) (z : ℤ) → AreBytes (code kind z)
 unfolding code
-code-bytes kind z = high-bytes (width kind) (residue (width kind) z)
+code_bytes kind z = high-bytes (width kind) (residue (width kind) z)
 
-zeros-bytes : (n : ℕ) → AreBytes (replicate n 0)
-zeros-bytes zero = tt
-zeros-bytes (suc n) = (omega arith, zeros-bytes n)
+pub zeros_bytes : (n : ℕ) → AreBytes (replicate n 0)
+zeros_bytes zero = tt
+zeros_bytes (suc n) = (omega arith, zeros_bytes n)
 
 zeroed-bytes : (numbers : List ℤ) (slots : List Slot) → AreBytes (zeroed numbers slots)
 zeroed-bytes numbers [] = tt
 zeroed-bytes numbers (Number c kind capacities ∷ slots) =
-    bytes_append (code kind (get_or numbers c (pos 0))) (zeroed numbers slots) (code-bytes kind (get_or numbers c (pos 0))) (zeroed-bytes numbers slots)
-zeroed-bytes numbers (Constant kind z ∷ slots) = bytes_append (code kind z) (zeroed numbers slots) (code-bytes kind z) (zeroed-bytes numbers slots)
-zeroed-bytes numbers (Filler n ∷ slots) = bytes_append (replicate n 0) (zeroed numbers slots) (zeros-bytes n) (zeroed-bytes numbers slots)
+    bytes_append (code kind (get_or numbers c (pos 0))) (zeroed numbers slots) (code_bytes kind (get_or numbers c (pos 0))) (zeroed-bytes numbers slots)
+zeroed-bytes numbers (Constant kind z ∷ slots) = bytes_append (code kind z) (zeroed numbers slots) (code_bytes kind z) (zeroed-bytes numbers slots)
+zeroed-bytes numbers (Filler n ∷ slots) = bytes_append (replicate n 0) (zeroed numbers slots) (zeros_bytes n) (zeroed-bytes numbers slots)
 zeroed-bytes numbers (Rule b ∷ slots) = zeroed-bytes numbers slots
 
 -- ---- sections
 
-head-bytes : (id instance version : ℕ) (name : List ℕ) → AreBytes name → length name < 256 → AreBytes (section_head id name instance version)
-head-bytes id instance version name p short =
+pub head_bytes : (id instance version : ℕ) (name : List ℕ) → AreBytes name → length name < 256 → AreBytes (section_head id name instance version)
+head_bytes id instance version name p short =
     let named : AreBytes (length name ∷ name) = (short, p) in (
       omega arith,
       bytes_append (be32 id ++ (length name ∷ name) ++ be32 instance) (be32 version)
           (bytes_append (be32 id ++ (length name ∷ name)) (be32 instance)
-          (bytes_append (be32 id) (length name ∷ name) (be32-bytes id) named) (be32-bytes instance))
-          (be32-bytes version),
+          (bytes_append (be32 id) (length name ∷ name) (be32_bytes id) named) (be32_bytes instance))
+          (be32_bytes version),
     )
 
 sub-head-bytes : (name : List ℕ) (v : ℕ) → AreBytes name → length name < 256 → AreBytes (sub_head name v)
 sub-head-bytes name v p short =
     let named : AreBytes (length name ∷ name) = (short, p) in
-    (omega arith, bytes_append (length name ∷ name) (be32 v) named (be32-bytes v))
+    (omega arith, bytes_append (length name ∷ name) (be32 v) named (be32_bytes v))
 
-foot-bytes : (id : ℕ) → AreBytes (foot id)
-foot-bytes id = (omega arith, be32-bytes id)
+pub foot_bytes : (id : ℕ) → AreBytes (foot id)
+foot_bytes id = (omega arith, be32_bytes id)
 
 module _ (set : Set) where
   subs-bytes : (d : Device) (image : Image) (at : ℕ) (subs : List Sub) (came : List (Option ℕ)) → AreNamedSubs subs → AreBytes (written_subs set d image at subs came)
@@ -126,9 +126,9 @@ module _ (set : Set) where
       let after : List ℕ = written_subs set d image (own_cells set d) d.subs image.came in
       bytes_append (head ++ body ++ after) (foot id)
       (bytes_append (head ++ body) after
-      (bytes_append head body (head-bytes id d.instance image.version d.desc.name named.octets named.short) (zeroed-bytes image.numbers (own_slots set d image.version image.numbers)))
+      (bytes_append head body (head_bytes id d.instance image.version d.desc.name named.octets named.short) (zeroed-bytes image.numbers (own_slots set d image.version image.numbers)))
       (subs-bytes d image (own_cells set d) d.subs image.came subs))
-      (foot-bytes id)
+      (foot_bytes id)
 
   sections-bytes : (id : ℕ) (devices : List Device) (images : List Image) → AreNamed devices → AreBytes (written_sections set id devices images)
   sections-bytes id [] images named = tt
@@ -139,11 +139,11 @@ module _ (set : Set) where
 
   config-bytes : (machine : Option (List ℕ)) → IfSome machine AreBytes → AreBytes (optional configuration machine)
   config-bytes None p = tt
-  config-bytes (Some name) p = (omega arith, bytes_append (be32 (length name)) name (be32-bytes (length name)) p)
+  config-bytes (Some name) p = (omega arith, bytes_append (be32 (length name)) name (be32_bytes (length name)) p)
 
   text-bytes : (text : Option (List ℕ)) → IfSome text AreBytes → AreBytes (optional trailer text)
   text-bytes None p = tt
-  text-bytes (Some text) p = (omega arith, bytes_append (be32 (length text)) text (be32-bytes (length text)) p)
+  text-bytes (Some text) p = (omega arith, bytes_append (be32 (length text)) text (be32_bytes (length text)) p)
 
   written-bytes : (machine : Option (List ℕ)) (images : List Image) (text : Option (List ℕ)) → AreNamed set.devices → IfSome machine AreBytes → IfSome text AreBytes
       → AreBytes (written set machine images text)

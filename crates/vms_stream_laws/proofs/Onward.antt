@@ -8,7 +8,7 @@ use Rattle.std.proofs.lemmas.List.{length-map, length-replicate}
 use Rattle.std.proofs.lemmas.Option.{slice_get_within}
 use Rattle.vms_kinds.specs.Bytes.{IsBytes}
 use Rattle.vms_kinds.specs.declared.Kind.{Kind}
-use Rattle.vms_kinds.proofs.ByteLemmas.{bytes_both, bytes_more, no_bytes}
+use Rattle.vms_kinds.proofs.ByteLemmas.{bytes_both}
 use Rattle.vms_spec.specs.Good.{IsGood}
 use Rattle.vms_spec.specs.Heads.{FitsHeads}
 use Rattle.vms_spec.specs.Images.{Image, own_cells, sub_place}
@@ -29,9 +29,9 @@ use Rattle.vms_stream.specs.Judge.{owes}
 use Rattle.vms_stream.specs.SoFar.{Tail, Unknown, Footed, Bare, known, passed, skipped, tail}
 use Rattle.vms_stream.specs.Table.{first_of, reason_of}
 use Rattle.vms_stream.proofs.Streams.UnitRows.{end_passes, foot_passes, head_passes}
-use Rattle.vms_stream.proofs.WrittenBytes.{bytes_at, parts_named, spelled as spelled_bytes}
+use Rattle.vms_stream.proofs.WrittenBytes.{AreBytes, be32_bytes, bytes_at, code_bytes, foot_bytes, head_bytes, parts_named, spelled as spelled_bytes, zeros_bytes}
 use Rattle.vms_stream_laws.proofs.Bounds.{bounded}
-use Rattle.vms_stream_laws.proofs.Units.{AllPassed, ANumber, AConstant, AFiller, Next, NoneWaits, OneWaits, Waits, be32_bytes, code_bytes, constant_passes, constants_left, foot_bytes, head_bytes, next_of, number_passes, raw_in, waiting, waits, zero_in, zeros_bytes}
+use Rattle.vms_stream_laws.proofs.Units.{AllPassed, ANumber, AConstant, AFiller, Next, NoneWaits, OneWaits, Waits, constant_passes, constants_left, next_of, number_passes, raw_in, waiting, waits, zero_in}
 
 -- ---- units go on
 
@@ -56,7 +56,7 @@ module _ (set : Set) (names : List (List ℕ)) (well : WellFormed set) (heads : 
   over_here u front over = record { more = []; front = front; over = over; octets = λ ok. ok }
 
   -- by one more unit
-  on : (u : List Piece) (x : Piece) → Fine u → May (due set u) x → reason_of set names u x ≡ None → IsBytes (spell x) → (Fine (x ∷ u) → Goes (x ∷ u)) → Goes u
+  on : (u : List Piece) (x : Piece) → Fine u → May (due set u) x → reason_of set names u x ≡ None → AreBytes (spell x) → (Fine (x ∷ u) → Goes (x ∷ u)) → Goes u
   on u x front may none ok next =
       let e = next (front, holding u, may, none) in
       let is : e.more ++ (x ∷ u) ≡ (e.more ++ x ∷ []) ++ u = sym (append_assoc e.more (x ∷ []) u) in
@@ -64,7 +64,7 @@ module _ (set : Set) (names : List (List ℕ)) (well : WellFormed set) (heads : 
         more = e.more ++ x ∷ [];
         front = subst (Front set names) is e.front;
         over = subst (λ (w : List Piece). owes (due set w) [] ≡ false) is e.over;
-        octets = λ h. subst (λ (w : List Piece). IsBytes (spelled w)) is (e.octets (bytes_both (spelled u) (spell x) h ok));
+        octets = λ h. subst (λ (w : List Piece). IsBytes (spelled w)) is (e.octets (bytes_both (spelled u) (spell x) h (bytes_at (spell x) ok)));
       }
 
   -- ---- the fields of the open part
@@ -221,13 +221,13 @@ module _ (set : Set) (names : List (List ℕ)) (well : WellFormed set) (heads : 
       let low = leb-true d.desc.minimum v (device_parts set well k d there).0.own.1.1.0 in
       on u x front (opens.head 0 name d.instance v (omega arith) tops.0 tops.1)
       (head_passes set names (due set u) (known set u) 0 name d.instance v k d named there new (low, omega arith))
-      (head_bytes d.instance v name (parts_named set well k d there).0)
+      (let named = (parts_named set well k d there).0 in head_bytes 0 d.instance v name named.octets named.short)
       (λ f. part_on (x ∷ u) k f named (ap (λ (o : Option ℕ). due_field (tail set (x ∷ u)) o (left (x ∷ u))) named)
       (λ w g is same. close_on w k (tail set w) g is (λ y h may came. next y h may (came ∙ same ∙ ap (mark_come (come set u)) named))))
 
   end_on : (u : List Piece) → Fine u → Opens u → AllCame (come set u) → Goes u
   end_on u front opens all =
-      on u End front opens.end (end_passes set names (due set u) (known set u) (none_missing 0 (come set u) all)) (bytes_more 0x00 [] (omega arith) no_bytes)
+      on u End front opens.end (end_passes set names (due set u) (known set u) (none_missing 0 (come set u) all)) (omega arith, tt)
       (λ f. over_here (End ∷ u) f refl)
 
   come_long : (u : List Piece) → length (come set u) ≡ length set.devices
@@ -277,7 +277,7 @@ module _ (set : Set) (names : List (List ℕ)) (well : WellFormed set) (heads : 
 
   pub goes_on : (u : List Piece) → Fine u → Goes u
   goes_on [] front =
-      on [] (Magic magic) tt (AtMagic magic refl) refl (bytes_at magic (spelled_bytes magic refl)) (λ f. version_on (Magic magic ∷ []) f refl)
+      on [] (Magic magic) tt (AtMagic magic refl) refl (spelled_bytes magic refl) (λ f. version_on (Magic magic ∷ []) f refl)
   goes_on (Magic bytes ∷ u) front = version_on (Magic bytes ∷ u) front refl
   goes_on (Version v ∷ u) front = sections_on (Version v ∷ u) front (opens_between (Version v ∷ u) true false refl)
   goes_on (Configuration name ∷ u) front = sections_on (Configuration name ∷ u) front (opens_between (Configuration name ∷ u) false true refl)

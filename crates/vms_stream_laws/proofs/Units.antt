@@ -1,29 +1,24 @@
--- The units with which a stream can go on: no row takes them, and they are bytes; which slot is due; which devices have not come.
-use Rattle.std.proofs.Common.{◌≡◌, ℕ, zero, suc, ◌+◌, ◌<◌, ◌≤◌, Bool, true, false, not, ◌&&◌, ◌||◌, if◌then◌else◌, List, [], ◌∷◌, ◌++◌, length, drop, slice_set, ℤ, pos, negsuc, Option, Some, None, refl, ap, ◌∙◌, arith}
-use Rattle.std.specs.Int.{byte_at, bytes_high_first}
-use Rattle.std.specs.Prelude.{replicate}
+-- The units with which a stream can go on: no row takes them; which slot is due; which devices have not come.
+use Rattle.std.proofs.Common.{◌≡◌, ℕ, zero, suc, ◌+◌, ◌<◌, ◌≤◌, Bool, true, false, not, ◌&&◌, ◌||◌, List, [], ◌∷◌, ◌++◌, length, drop, slice_set, ℤ, pos, negsuc, Some, None, refl, ap, ◌∙◌, arith}
 use Rattle.std.specs.List.{slice_get}
 use Rattle.std.proofs.lemmas.Bool.{le-ltb, ltb-false}
-use Rattle.vms_kinds.specs.Bytes.{IsBytes}
-use Rattle.vms_kinds.specs.Codes.{InRange, code, residue, width}
+use Rattle.vms_kinds.specs.Codes.{InRange}
 use Rattle.vms_kinds.specs.declared.Kind.{Kind}
 use Rattle.vms_kinds.specs.declared.Kind.TheVariants.{U8, U16, U32, U64, I8, I16, I32, I64, Bool as Truth, Timer}
-use Rattle.vms_kinds.proofs.ByteLemmas.{bytes_both, bytes_more, no_bytes}
-use Rattle.vms_spec.specs.declared.Reason.{Reason}
 use Rattle.vms_spec.specs.declared.Reason.TheVariants as reasons
 use Rattle.vms_spec.specs.Layout.{Slot, Number as NumberSlot, Constant as ConstantSlot, Filler as FillerSlot, Rule as RuleSlot}
 use Rattle.vms_spec.specs.Lookup.{raw}
 use Rattle.vms_spec.specs.Numbers.{exceeds, is_above, is_truth, same_number}
 use Rattle.vms_spec.specs.Sets.{Set}
 use Rattle.vms_spec.specs.SoFar.{slots}
-use Rattle.vms_spec.specs.Streams.{AllCame, be32, foot, section_head}
+use Rattle.vms_spec.specs.Streams.{AllCame}
 use Rattle.vms_spec.specs.Units.{Number, Constant}
 use Rattle.vms_spec.proofs.NumberLaws.{is_below, not_above, same_number_itself}
 use Rattle.vms_bodies.proofs.SectionLaws.{AreConstants}
 use Rattle.vms_stream.specs.Dues.{Field, AfterFields, due_field}
 use Rattle.vms_stream.specs.SoFar.{Known, Tail, skipped}
 use Rattle.vms_stream.specs.Table.{first_of}
-use Rattle.vms_stream.proofs.WrittenBytes.{IsNamed, bytes_at}
+use Rattle.vms_stream.proofs.Streams.UnitRows.{passed_by}
 
 -- ---- units of a part that no row takes
 
@@ -53,16 +48,6 @@ zero_fits : (capacities : List ℕ) → exceeds capacities (pos 0) ≡ false
 zero_fits [] = refl
 zero_fits (most ∷ capacities) = ap (λ (b : Bool). b || exceeds capacities (pos 0)) (le-ltb most 0 (omega arith)) ∙ zero_fits capacities
 
-abbrev Line : Type 0
-Line = Option (Option ℕ × Reason)
-
-abbrev row_or : Bool → Option ℕ → Reason → Line → Line
-row_or b section reason rest = if b then Some (section, reason) else rest
-
-passed_by : (b : Bool) (section : Option ℕ) (reason : Reason) (rest : Line) → b ≡ false → row_or b section reason rest ≡ rest
-passed_by true section reason rest e = cc
-passed_by false section reason rest e = refl
-
 module _ (set : Set) (names : List (List ℕ)) (so_far : Known) where
   zero_kind : (kind : Kind) → (is_truth kind && is_above (pos 0) 1) ≡ false
   zero_kind Truth = refl
@@ -77,40 +62,6 @@ module _ (set : Set) (names : List (List ℕ)) (so_far : Known) where
   constant_passes k kind z r =
       passed_by (is_truth kind && is_above z 1) so_far.section reasons.BadBool _ (fits_truth kind z r)
       ∙ passed_by (not (same_number z z)) so_far.section reasons.NotEqual None (ap not (same_number_itself z))
-
--- ---- their bytes
-
-high-bytes : (k n : ℕ) → IsBytes (bytes_high_first k n)
-high-bytes zero n = no_bytes
-high-bytes (suc k) n = bytes_more (byte_at k n) (bytes_high_first k n) (small k n) (high-bytes k n)
-  where
-    small : (k n : ℕ) → byte_at k n < 256
-    small zero n = omega arith
-    small (suc k) n = omega arith
-
-pub be32_bytes : (n : ℕ) → IsBytes (be32 n)
-be32_bytes n = high-bytes 4 n
-
-pub code_bytes : (kind : Kind) (z : ℤ) → IsBytes (code kind z)
-unfolding code
-code_bytes kind z = high-bytes (width kind) (residue (width kind) z)
-
-pub zeros_bytes : (n : ℕ) → IsBytes (replicate n 0)
-zeros_bytes zero = no_bytes
-zeros_bytes (suc n) = bytes_more 0 (replicate n 0) (omega arith) (zeros_bytes n)
-
-pub foot_bytes : (id : ℕ) → IsBytes (foot id)
-foot_bytes id = bytes_more 0x7e (be32 id) (omega arith) (be32_bytes id)
-
-pub head_bytes : (instance version : ℕ) (name : List ℕ) → IsNamed name → IsBytes (section_head 0 name instance version)
-head_bytes instance version name named =
-    let front = 0x04 ∷ be32 0 in
-    let middle = front ++ (length name ∷ name) in
-    bytes_both (middle ++ be32 instance) (be32 version)
-    (bytes_both middle (be32 instance)
-    (bytes_both front (length name ∷ name) (bytes_more 0x04 (be32 0) (omega arith) (be32_bytes 0)) (bytes_more (length name) name named.short (bytes_at name named.octets)))
-    (be32_bytes instance))
-    (be32_bytes version)
 
 -- ---- the slot that is due
 

@@ -9,9 +9,10 @@ use Rattle.vms_kinds.specs.declared.Kind.{Kind}
 use Rattle.vms_kinds.specs.declared.Kind.TheVariants.{U8}
 use Rattle.vms_spec.specs.declared.Part.TheVariants as parts
 use Rattle.vms_spec.specs.Sets.{Set, Field, Device, Sub, AtLeast}
-use Rattle.vms_spec.specs.Images.{own_cells, sub_place}
+use Rattle.vms_spec.specs.Images.{own_cells}
 use Rattle.vms_spec.specs.Layout.{Cell, no_desc, item_cells, item_size, field_cells, cells_from, desc_cells, struct_cells, times, capacity_of, counted}
 use Rattle.vms_spec.proofs.Sizes.{size_same, field_size}
+use Rattle.vms_bodies.proofs.PartLaws.{cells_of_sub}
 use Rattle.vms_desc.specs.Asks.{first_cell}
 use Rattle.vms_desc.specs.Described.{device_at}
 use Rattle.vms_desc.specs.Formed.{is_well_formed}
@@ -105,17 +106,6 @@ struct_kinds set well j lt kinds at s =
 
 -- ---- the parts of a device
 
-subs_kinds : (set : Set) (kinds : List Kind) (from : ℕ) (subs : List Sub) (j : ℕ) (s : Sub) → slice_get subs j ≡ Some s
-    → AreKinds kinds from (flat_map (λ s. desc_cells (struct_cells set) s.desc) subs) → AreKinds kinds (sub_place set from subs j) (desc_cells (struct_cells set) s.desc)
-subs_kinds set kinds from [] j s e h = cc
-subs_kinds set kinds from (t ∷ subs) zero s e h =
-    let same : t ≡ s = cc in
-    subst (λ (x : Sub). AreKinds kinds from (desc_cells (struct_cells set) x.desc)) same
-    (front_kinds kinds from (desc_cells (struct_cells set) t.desc) (flat_map (λ s. desc_cells (struct_cells set) s.desc) subs) h)
-subs_kinds set kinds from (t ∷ subs) (suc j) s e h =
-    subs_kinds set kinds (from + length (desc_cells (struct_cells set) t.desc)) subs j s e
-    (rest_kinds kinds from (desc_cells (struct_cells set) t.desc) (flat_map (λ s. desc_cells (struct_cells set) s.desc) subs) h)
-
 module _ (set : Set) (i : ℕ) (kinds : List Kind) (are : kinds ≡ kinds_at set i) where
   abbrev d : Device
   d = device_at set i
@@ -139,4 +129,4 @@ module _ (set : Set) (i : ℕ) (kinds : List Kind) (are : kinds ≡ kinds_at set
       let rest : AreKinds kinds (own_cells set d) others = subst (λ (k : ℕ). AreKinds kinds k others) from (rest_kinds kinds 0 own others all_kinds) in
       let here : slice_get d.subs j ≡ Some (sub_at d j) = slice_get-get_or d.subs j none lt in
       subst (λ (cs : List (List Cell)). AreKinds kinds (first_cell set (parts.Sub i j)) (desc_cells cs (sub_at d j).desc)) (sym (cells_table set))
-      (subs_kinds set kinds (own_cells set d) d.subs j (sub_at d j) here rest)
+      (cells_of_sub (AreKinds kinds) (front_kinds kinds) (rest_kinds kinds) set (own_cells set d) d.subs j (sub_at d j) here rest)

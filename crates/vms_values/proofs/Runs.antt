@@ -1,5 +1,5 @@
 -- What is left of the elements of an array and of the fields of a part.
-use Rattle.std.proofs.Common.{◌≡◌, ℕ, suc, ◌+◌, ◌-◌, ◌*◌, ◌<◌, ◌≤◌, List, [], ◌∷◌, ◌++◌, length, drop, ℤ, refl, sym, ap, ◌∙◌, subst, arith, true, codes}
+use Rattle.std.proofs.Common.{◌≡◌, ℕ, suc, ◌+◌, ◌-◌, ◌*◌, ◌<◌, ◌≤◌, List, [], ◌∷◌, ◌++◌, length, get_or, drop, ℤ, refl, sym, ap, ◌∙◌, subst, arith, true, codes}
 use Rattle.std.proofs.lemmas.List.{drop_all}
 use Rattle.std.specs.Fmt.{decimal}
 use Rattle.vms_kinds.specs.declared.Item.{Item}
@@ -11,14 +11,19 @@ use Rattle.vms_spec.specs.Rules.{uses_below}
 use Rattle.vms_spec.specs.Layout.{Cell, item_size, field_cells, cells_from, struct_cells, numbers_of, elements_of, capacity_of}
 use Rattle.vms_spec.specs.Values.{Printer, printers, item_lines, element_lines, array_lines, field_lines}
 use Rattle.vms_spec.proofs.Sizes.{field_size, elements_fit, one_fits, room_for_less}
+use Rattle.vms_parts.specs.declared.types.Desc.{Desc as CodeDesc}
+use Rattle.vms_parts.specs.declared.types.Field.{Field as CodeField}
+use Rattle.vms_parts.specs.Sizes.{in_u32}
+use Rattle.vms_parts.specs.Views.{desc_of, field_of}
 use Rattle.vms_desc.specs.Asks.{field_at, own_numbers}
 use Rattle.vms_desc.specs.Formed.{is_well_formed}
 use Rattle.vms_desc.specs.Parts.{desc_at}
+use Rattle.vms_desc.proofs.AskLaws.{found_field, here_fields}
 use Rattle.vms_desc.proofs.Clean.{reach}
 use Rattle.vms_walk.specs.declared.fields.PartAt.{PartAt}
 use Rattle.vms_walk.specs.Steps.{HasSpot, size_in, table, cells_in}
 use Rattle.vms_desc.proofs.Ranks.{item_rank, part_rank, reach_whole, uses_more, rank_below}
-use Rattle.vms_walk.proofs.Spots.{next_field, cells_table}
+use Rattle.vms_walk.proofs.Spots.{next_field, cells_table, width_code}
 use Rattle.vms_walk.proofs.Walking.{fields_at}
 use Rattle.vms_values.specs.Printing.{IsRun, run_lines}
 use Rattle.vms_values.proofs.Printers.{cells_of, printers_cells}
@@ -109,6 +114,27 @@ module _ (set : Set) where
             ∙ ap (λ (w : ℕ). run_lines ps f f.count count path n cell ++ field_lines ps all own path n (suc k) (cell + w) (drop (k + 1) all)) width
             ∙ ap (λ (i : ℕ). run_lines ps f f.count count path n cell ++ field_lines ps all own path n i (cell + capacity_of f.count * size_in set f.item) (drop (k + 1) all)) one;
       }
+
+  -- the same of the field that the code found by its number
+  pub record FoundRun (spot : PartAt) (path : List ℕ) (n : List ℤ) (k cell count : ℕ) (f : CodeField) : Type 0 where
+    pub found : field_of f ≡ field_at set spot.part k
+    pub next : NextRun spot path n k cell count (field_of f)
+
+  pub found_run : is_well_formed set ≡ true → (spot : PartAt) (path : List ℕ) (n : List ℤ) → HasSpot set spot n → (k cell count : ℕ) (d : CodeDesc) (fields : List CodeField) (f : CodeField) → k < length (desc_at set spot.part).fields
+      → desc_of d ≡ desc_at set spot.part → fields ≡ d.fields → f ≡ get_or fields k f → count ≡ elements_of (field_at set spot.part k).count (own_numbers set spot.part n spot.base)
+      → cell + length (cells_from (cells_in (table set)) (desc_at set spot.part).fields k (drop k (desc_at set spot.part).fields)) ≤ length n → FoundRun spot path n k cell count f
+  found_run well spot path n h k cell count d fields f lt desc are is there room =
+      let found = found_field fields (desc_at set spot.part).fields k f (here_fields set spot.part d fields desc are) lt is in
+      let count_is = there ∙ ap (λ (x : Field). elements_of x.count (own_numbers set spot.part n spot.base)) (sym found) in
+      record { found = found; next = next_run well spot path n h k cell count (field_of f) lt found count_is room }
+
+  -- the code's width of it
+  pub found_width : (spot : PartAt) (path : List ℕ) (n : List ℤ) (k cell count width : ℕ) (f : CodeField) → FoundRun spot path n k cell count f → length n ≤ MOST_ITEMS
+      → width ≡ in_u32 (capacity_of (field_at set spot.part k).count * item_size (struct_cells set) (field_at set spot.part k).item) → width ≡ capacity_of f.count * size_in set f.item
+  found_width spot path n k cell count width f r few e =
+      let same = e ∙ ap (λ (x : Field). in_u32 (capacity_of x.count * item_size (struct_cells set) x.item)) (sym r.found) in
+      let room = r.next.room in
+      width_code set (field_of f) width same (omega (arith, room, few))
 
   pub no_fields : (all : List Field) (own : ℕ → ℕ) (path : List ℕ) (n : List ℤ) (k cell : ℕ) → k ≡ length all → field_lines (printers set) all own path n k cell (drop k all) ≡ []
   no_fields all own path n k cell e = ap (λ (l : List Field). field_lines (printers set) all own path n k cell l) (drop_all k all (omega arith))

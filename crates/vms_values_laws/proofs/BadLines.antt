@@ -143,44 +143,34 @@ parts_machine set None line images e = ap (λ (l : ℕ). parts_from set l (devic
 parts_machine set (Some name) line images e = ap (λ (l : ℕ). parts_from set l (devices_entries set set.devices images)) e
 
 module _ (set : Set) (text : List ℕ) (machine : Option (List ℕ)) (line : ℕ) (after : List ℕ) (head : Headed set text machine line after) where
-  pub stopped_first : (e : BadLine) → AllStop set set.devices line after e → FirstBad set text e.line e.reason
-  stopped_first e a =
-      let P : List Entry → Type 0 = λ es. front_reason es a.rest ≡ Some e.reason in
+  -- a line that is bad behind what was taken, where the entries to come are so
+  first_bad : (images : List Image) (taken : List Taken) (at : ℕ) (rest : List ℕ) (reason : ValuesReason) (Q : List Entry → Type 0) → AreShaped set set.devices images → AllShort images
+      → ((images : List Image) → AreShaped set set.devices images → AllShort images → Follows taken Q (devices_entries set set.devices images)) → Along taken Q (devices_entries set set.devices images)
+      → Moved line after taken at rest → ((es : List Entry) → Q es → front_reason es rest ≡ Some reason) → FirstBad set text at reason
+  first_bad images taken at rest reason Q shaped short follows along moved bad =
+      let P : List Entry → Type 0 = λ es. front_reason es rest ≡ Some reason in
       record {
         machine = machine;
-        images = a.images;
-        taken = machine_taken machine ++ a.taken;
-        rest = a.rest;
+        images = images;
+        taken = machine_taken machine ++ taken;
+        rest = rest;
         named = head.named;
-        shaped = a.shaped;
-        short = a.short;
-        follows = λ images shaped short.
-            follows_machine set machine images a.taken P
-            (follows_ends a.taken (λ es. Begins a.demand es) P (devices_entries set set.devices images) (a.follows images shaped short) (λ es b. front_of a.demand a.rest e.reason es a.wrong b));
-        along = along_machine set machine a.images a.taken P
-            (along_ends a.taken (λ es. Begins a.demand es) P (devices_entries set set.devices a.images) a.along (λ es b. front_of a.demand a.rest e.reason es a.wrong b));
-        moved = moved_then 1 line e.line text after a.rest (machine_taken machine) a.taken head.moved a.moved;
+        shaped = shaped;
+        short = short;
+        follows = λ images shaped short. follows_machine set machine images taken P (follows_ends taken Q P (devices_entries set set.devices images) (follows images shaped short) bad);
+        along = along_machine set machine images taken P (along_ends taken Q P (devices_entries set set.devices images) along bad);
+        moved = moved_then 1 line at text after rest (machine_taken machine) taken head.moved moved;
       }
+
+  pub stopped_first : (e : BadLine) → AllStop set set.devices line after e → FirstBad set text e.line e.reason
+  stopped_first e a =
+      first_bad a.images a.taken e.line a.rest e.reason (λ es. Begins a.demand es) a.shaped a.short a.follows a.along a.moved (λ es b. front_of a.demand a.rest e.reason es a.wrong b)
 
   -- something stands after the last line
   pub more_first : (all : ReadAll) (b : ℕ) (rest : List ℕ) → all.rest ≡ b ∷ rest → AllRead set set.devices line after all → FirstBad set text all.line reasons.Form
   more_first all b rest e a =
-      let P : List Entry → Type 0 = λ es. front_reason es all.rest ≡ Some reasons.Form in
-      let none : (es : List Entry) → es ≡ [] → P es = λ es is. ap (λ (l : List Entry). front_reason l all.rest) is ∙ ap (λ (l : List ℕ). front_reason [] l) e in
-      record {
-        machine = machine;
-        images = images_of all.devices;
-        taken = machine_taken machine ++ a.taken;
-        rest = all.rest;
-        named = head.named;
-        shaped = a.shaped;
-        short = a.short;
-        follows = λ images shaped short.
-            follows_machine set machine images a.taken P (follows_ends a.taken (λ es. es ≡ []) P (devices_entries set set.devices images) (a.follows images shaped short) none);
-        along = along_machine set machine (images_of all.devices) a.taken P
-            (along_ends a.taken (λ es. es ≡ []) P (devices_entries set set.devices (images_of all.devices)) a.along none);
-        moved = moved_then 1 line all.line text after all.rest (machine_taken machine) a.taken head.moved a.moved;
-      }
+      first_bad (images_of all.devices) a.taken all.line all.rest reasons.Form (λ es. es ≡ []) a.shaped a.short a.follows a.along a.moved
+      (λ es is. ap (λ (l : List Entry). front_reason l all.rest) is ∙ ap (λ (l : List ℕ). front_reason [] l) e)
 
   pub fine_first : (all : ReadAll) → AllRead set set.devices line after all → FirstFine set text machine all
   fine_first all a =

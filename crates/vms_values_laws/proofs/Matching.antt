@@ -1,5 +1,6 @@
 -- Two states that have the same lines, and their defaults where there is none, are the same.
 use Rattle.std.proofs.Common.{◌≡◌, ℕ, suc, ◌+◌, ◌<◌, Bool, true, false, ◌||◌, ◌==◌, List, [], ◌∷◌, ◌++◌, length, get_or, map, Option, Some, None, ℤ, pos, refl, sym, ap, ◌∙◌, subst, arith, codes}
+use Rattle.std.specs.List.{AllByRecursion}
 use Rattle.std.proofs.lemmas.Bool.{eqb-true}
 use Rattle.vms_spec.specs.Sets.{Sub, Device, Set}
 use Rattle.vms_spec.specs.Layout.{desc_cells, struct_cells}
@@ -54,9 +55,11 @@ for_section (ForSub s) = false
 for_section (ForNumber x) = false
 
 -- none of them is a section
+abbrev IsInside : Entry → Type 0
+IsInside e = for_section (demand_of e) ≡ false
+
 abbrev AreInside : List Entry → Type 0
-AreInside [] = Unit {0}
-AreInside (e ∷ es) = (for_section (demand_of e) ≡ false) × AreInside es
+AreInside = AllByRecursion IsInside
 
 -- the first of them is a section, if there is one
 abbrev BeginsNew : List Entry → Type 0
@@ -80,13 +83,32 @@ parted (e ∷ es) fs [] [] i i' n n' m = absurd m
 parted (e ∷ es) fs [] (f' ∷ fs') i i' n n' m = absurd (other e f' i.0 n' m.0)
 parted (e ∷ es) fs (e' ∷ es') fs' i i' n n' m = let p = parted es fs es' fs' i.1 i'.1 n n' m.2 in record { inside = (m.0, m.1, p.inside); rest = p.rest }
 
-inside_both : (es fs : List Entry) → AreInside es → AreInside fs → AreInside (es ++ fs)
-inside_both [] fs a b = b
-inside_both (e ∷ es) fs a b = (a.0, inside_both es fs a.1 b)
+-- the entries of a device behind its section's
+abbrev pub inside_of : Set → Device → Image → List Entry
+inside_of set d image = number_entries set d.desc image.numbers 0 ++ subs_entries set d image 0 (own_cells set d) d.subs image.came
 
-inside_numbers : (n : List ℤ) (xs : List Element) → AreInside (of_numbers n xs)
-inside_numbers n [] = tt
-inside_numbers n (x ∷ xs) = (refl, inside_numbers n xs)
+-- of entries of which each is so
+module _ (P : Entry → Type 0) where
+  all_both : (es fs : List Entry) → AllByRecursion P es → AllByRecursion P fs → AllByRecursion P (es ++ fs)
+  all_both [] fs a b = b
+  all_both (e ∷ es) fs a b = (a.0, all_both es fs a.1 b)
+
+  module _ (set : Set) (d : Device) (image : Image) (number : (x : Element) → P (OfNumber x image.numbers)) (sub : (j at : ℕ) (s : Sub) (o : Option ℕ) → IsAtVersion s o → P (OfSub d image j s at o)) where
+    numbers_all : (xs : List Element) → AllByRecursion P (of_numbers image.numbers xs)
+    numbers_all [] = tt
+    numbers_all (x ∷ xs) = (number x, numbers_all xs)
+
+    subs_all : (j at : ℕ) (subs : List Sub) (came : List (Option ℕ)) → AreAtVersions subs came → AllByRecursion P (subs_entries set d image j at subs came)
+    subs_all j at [] came h = tt
+    subs_all j at (s ∷ subs) [] h = tt
+    subs_all j at (s ∷ subs) (o ∷ came) h =
+        let next = at + length (desc_cells (struct_cells set) s.desc) in
+        (sub j at s o h.0, all_both (number_entries set s.desc image.numbers at) (subs_entries set d image (suc j) next subs came) (numbers_all (printed (elements_in set s.desc s.desc.version image.numbers at))) (subs_all (suc j) next subs came h.1))
+
+    device_all : AreAtVersions d.subs image.came → AllByRecursion P (inside_of set d image)
+    device_all h =
+        all_both (number_entries set d.desc image.numbers 0) (subs_entries set d image 0 (own_cells set d) d.subs image.came) (numbers_all (printed (elements_in set d.desc d.desc.version image.numbers 0)))
+        (subs_all 0 (own_cells set d) d.subs image.came h)
 
 -- ---- numbers
 
@@ -117,16 +139,7 @@ IsOf n (OfSub d image j s at o) = Unit {0}
 IsOf n (OfNumber x m) = m ≡ n
 
 abbrev AreOf : List ℤ → List Entry → Type 0
-AreOf n [] = Unit {0}
-AreOf n (e ∷ es) = IsOf n e × AreOf n es
-
-of_both : (n : List ℤ) (es fs : List Entry) → AreOf n es → AreOf n fs → AreOf n (es ++ fs)
-of_both n [] fs a b = b
-of_both n (e ∷ es) fs a b = (a.0, of_both n es fs a.1 b)
-
-numbers_are : (n : List ℤ) (xs : List Element) → AreOf n (of_numbers n xs)
-numbers_are n [] = tt
-numbers_are n (x ∷ xs) = (refl, numbers_are n xs)
+AreOf n = AllByRecursion (IsOf n)
 
 element_same : (x y : Element) → ForNumber x ≡ ForNumber y → x ≡ y
 element_same x y e = cc
@@ -173,16 +186,7 @@ IsAt (OfSub d image j s at o) = IsAtVersion s o
 IsAt (OfNumber x n) = Unit {0}
 
 abbrev AreAt : List Entry → Type 0
-AreAt [] = Unit {0}
-AreAt (e ∷ es) = IsAt e × AreAt es
-
-at_both : (es fs : List Entry) → AreAt es → AreAt fs → AreAt (es ++ fs)
-at_both [] fs a b = b
-at_both (e ∷ es) fs a b = (a.0, at_both es fs a.1 b)
-
-numbers_at : (n : List ℤ) (xs : List Element) → AreAt (of_numbers n xs)
-numbers_at n [] = tt
-numbers_at n (x ∷ xs) = (tt, numbers_at n xs)
+AreAt = AllByRecursion IsAt
 
 numbers_came : (n : List ℤ) (xs : List Element) (es : List Entry) → came_of (of_numbers n xs ++ es) ≡ came_of es
 numbers_came n [] es = refl
@@ -230,27 +234,6 @@ came_same (e ∷ es) (f ∷ fs) a b m = ap (came_with e) (came_same es fs a.1 b.
 -- ---- a device
 
 module _ (set : Set) (d : Device) (image : Image) where
-  subs_inside : (j at : ℕ) (subs : List Sub) (came : List (Option ℕ)) → AreInside (subs_entries set d image j at subs came)
-  subs_inside j at [] came = tt
-  subs_inside j at (s ∷ subs) [] = tt
-  subs_inside j at (s ∷ subs) (o ∷ came) =
-      let next = at + length (desc_cells (struct_cells set) s.desc) in
-      (refl, inside_both (number_entries set s.desc image.numbers at) (subs_entries set d image (suc j) next subs came) (inside_numbers image.numbers (printed (elements_in set s.desc s.desc.version image.numbers at))) (subs_inside (suc j) next subs came))
-
-  subs_of : (j at : ℕ) (subs : List Sub) (came : List (Option ℕ)) → AreOf image.numbers (subs_entries set d image j at subs came)
-  subs_of j at [] came = tt
-  subs_of j at (s ∷ subs) [] = tt
-  subs_of j at (s ∷ subs) (o ∷ came) =
-      let next = at + length (desc_cells (struct_cells set) s.desc) in
-      (tt, of_both image.numbers (number_entries set s.desc image.numbers at) (subs_entries set d image (suc j) next subs came) (numbers_are image.numbers (printed (elements_in set s.desc s.desc.version image.numbers at))) (subs_of (suc j) next subs came))
-
-  subs_at : (j at : ℕ) (subs : List Sub) (came : List (Option ℕ)) → AreAtVersions subs came → AreAt (subs_entries set d image j at subs came)
-  subs_at j at [] came h = tt
-  subs_at j at (s ∷ subs) [] h = tt
-  subs_at j at (s ∷ subs) (o ∷ came) h =
-      let next = at + length (desc_cells (struct_cells set) s.desc) in
-      (h.0, at_both (number_entries set s.desc image.numbers at) (subs_entries set d image (suc j) next subs came) (numbers_at image.numbers (printed (elements_in set s.desc s.desc.version image.numbers at))) (subs_at (suc j) next subs came h.1))
-
   subs_came : (j at : ℕ) (subs : List Sub) (came : List (Option ℕ)) → length came ≡ length subs → came_of (subs_entries set d image j at subs came) ≡ came
   subs_came j at [] [] long = refl
   subs_came j at [] (o ∷ came) long = absurd (omega (arith, long))
@@ -260,22 +243,19 @@ module _ (set : Set) (d : Device) (image : Image) where
       ap (λ (l : List (Option ℕ)). o ∷ l)
       (numbers_came image.numbers (printed (elements_in set s.desc s.desc.version image.numbers at)) (subs_entries set d image (suc j) next subs came) ∙ subs_came (suc j) next subs came (omega (arith, long)))
 
-  abbrev pub inside_of : List Entry
-  inside_of = number_entries set d.desc image.numbers 0 ++ subs_entries set d image 0 (own_cells set d) d.subs image.came
-
   abbrev own_elements : List Element
   own_elements = printed (elements_in set d.desc d.desc.version image.numbers 0)
 
-  whole_inside : AreInside inside_of
-  whole_inside = inside_both (number_entries set d.desc image.numbers 0) (subs_entries set d image 0 (own_cells set d) d.subs image.came) (inside_numbers image.numbers own_elements) (subs_inside 0 (own_cells set d) d.subs image.came)
+  whole_inside : AreAtVersions d.subs image.came → AreInside (inside_of set d image)
+  whole_inside = device_all IsInside set d image (λ x. refl) (λ j at s o h. refl)
 
-  whole_of : AreOf image.numbers inside_of
-  whole_of = of_both image.numbers (number_entries set d.desc image.numbers 0) (subs_entries set d image 0 (own_cells set d) d.subs image.came) (numbers_are image.numbers own_elements) (subs_of 0 (own_cells set d) d.subs image.came)
+  whole_of : AreAtVersions d.subs image.came → AreOf image.numbers (inside_of set d image)
+  whole_of = device_all (IsOf image.numbers) set d image (λ x. refl) (λ j at s o h. tt)
 
-  whole_at : AreAtVersions d.subs image.came → AreAt inside_of
-  whole_at h = at_both (number_entries set d.desc image.numbers 0) (subs_entries set d image 0 (own_cells set d) d.subs image.came) (numbers_at image.numbers own_elements) (subs_at 0 (own_cells set d) d.subs image.came h)
+  whole_at : AreAtVersions d.subs image.came → AreAt (inside_of set d image)
+  whole_at = device_all IsAt set d image (λ x. tt) (λ j at s o h. h)
 
-  whole_came : length image.came ≡ length d.subs → came_of inside_of ≡ image.came
+  whole_came : length image.came ≡ length d.subs → came_of (inside_of set d image) ≡ image.came
   whole_came long = numbers_came image.numbers own_elements (subs_entries set d image 0 (own_cells set d) d.subs image.came) ∙ subs_came 0 (own_cells set d) d.subs image.came long
 
 three_same : (v w : ℕ) (a b : List (Option ℕ)) (n m : List ℤ) → v ≡ w → a ≡ b → n ≡ m
@@ -295,7 +275,7 @@ device_same set d image image' a b short short' u u' m =
     (ext_get_or (pos 0) image.numbers image'.numbers long (λ c lt. by_line c lt (omega (arith, long)) (has_line (inside_of set d image) c) refl))
   where
     by_line : (c : ℕ) → c < length image.numbers → c < length image'.numbers → (t : Bool) → has_line (inside_of set d image) c ≡ t → get_or image.numbers c (pos 0) ≡ get_or image'.numbers c (pos 0)
-    by_line c lt lt' true t = agree image.numbers image'.numbers short short' (inside_of set d image) (inside_of set d image') (whole_of set d image) (whole_of set d image') m c t
+    by_line c lt lt' true t = agree image.numbers image'.numbers short short' (inside_of set d image) (inside_of set d image') (whole_of set d image a.versions) (whole_of set d image' b.versions) m c t
     by_line c lt lt' false t = u c lt t ∙ sym (u' c lt' (sym (line_same (inside_of set d image) (inside_of set d image') m c) ∙ t))
 
 -- ---- all of them
@@ -313,7 +293,7 @@ devices_same set [] [] (i ∷ images') a b s s' u u' m = absurd b
 devices_same set (d ∷ devices) [] images' a b s s' u u' m = absurd a
 devices_same set (d ∷ devices) (i ∷ images) [] a b s s' u u' m = absurd b
 devices_same set (d ∷ devices) (i ∷ images) (j ∷ images') a b s s' u u' m =
-    let p = parted (inside_of set d i) (devices_entries set devices images) (inside_of set d j) (devices_entries set devices images') (whole_inside set d i) (whole_inside set d j)
+    let p = parted (inside_of set d i) (devices_entries set devices images) (inside_of set d j) (devices_entries set devices images') (whole_inside set d i a.0.versions) (whole_inside set d j b.0.versions)
     (begins_new set devices images) (begins_new set devices images') m.2 in
     let first : i ≡ j = device_same set d i j a.0 b.0 s.0 s'.0 u.0 u'.0 p.inside in
     let rest : images ≡ images' = devices_same set devices images images' a.1 b.1 s.1 s'.1 u.1 u'.1 p.rest in

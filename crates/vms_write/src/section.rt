@@ -1,9 +1,9 @@
 // Sections.
-ghost use Rattle.std.specs.Prelude.{◌≡◌, ◌<◌, None, length, get_or, OnOk, OnErr};
+ghost use Rattle.std.specs.Prelude.{◌≡◌, ◌<◌, None, length, get_or};
 ghost use Rattle.vms_io.specs.Told.{outlet};
 ghost use Rattle.vms_io.specs.Writing.{Wrote};
 ghost use Rattle.vms_spec.specs.Images.{own_cells};
-ghost use Rattle.vms_spec.specs.Streams.{IsReady, written_section, written_subs};
+ghost use Rattle.vms_spec.specs.Streams.{IsReady, section_head, written_section, written_subs};
 ghost use Rattle.vms_desc.specs.Described.{described, device_at};
 ghost use Rattle.vms_desc.specs.Spots.{kinds_at};
 ghost use Rattle.vms_image.specs.Typed.{state_of};
@@ -35,14 +35,7 @@ pub fn write_section<K: Sink>(
         let bytes = written_section (described set.now) d (state_of image.now) device in
         Wrote (outlet K.Sink sink.old) (outlet K.Sink sink.new) bytes result }
 {
-    let described = set.device(device);
-    let head = section_head(
-        device,
-        described.desc.name.as_bytes(),
-        described.instance,
-        image.version(),
-    );
-    append(sink, head.as_slice())?;
+    write_head(set, device, image, sink)?;
     let own = PartAt {
         part: Part::Device(device),
         version: image.version(),
@@ -51,6 +44,28 @@ pub fn write_section<K: Sink>(
     write_fields(set, own, image, sink)?;
     write_subs(set, device, image, sink)?;
     append(sink, &Foot { id: device }.bytes())
+}
+
+// The head of a device's section, at the version of its image.
+fn write_head<K: Sink>(
+    set: &DescSet,
+    device: u32,
+    image: &Image,
+    sink: &mut K,
+) -> Result<(), WriteFault>
+    requires { device < length (described set.now).devices }
+    ensures { let d = device_at (described set.now) device in
+        let bytes = section_head device d.desc.name d.instance image.now.version in
+        Wrote (outlet K.Sink sink.old) (outlet K.Sink sink.new) bytes result }
+{
+    let described = set.device(device);
+    let head = section_head(
+        device,
+        described.desc.name.as_bytes(),
+        described.instance,
+        image.version(),
+    );
+    append(sink, head.as_slice())
 }
 
 // The subsections that came, in the description's order.

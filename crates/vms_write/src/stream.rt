@@ -9,13 +9,13 @@ ghost use Rattle.vms_desc.specs.Described.{described};
 ghost use Rattle.vms_image.specs.Typed.{state_of, AreImagesOf};
 
 use crate::WriteFault;
-use crate::heads::{STREAM_HEAD, configuration, marked};
+use crate::heads::configuration;
 use crate::pieces::append;
 use crate::section::write_section;
 use vms_desc::DescSet;
 use vms_image::Image;
 use vms_io::Sink;
-use vms_marks::Mark;
+use vms_marks::{Mark, STREAM_HEAD, marked};
 
 /// Appends the stream of these images, one for each device in the set's order: with a configuration where a
 /// machine of the set is named by its number, and with a description section where its text is given, of at

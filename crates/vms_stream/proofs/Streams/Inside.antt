@@ -109,7 +109,7 @@ module _ (set : Set) (names : List (List ℕ)) (machine : Option (List ℕ)) (im
   -- a mark that is neither of a subsection head nor of a footer
   other_never : (t : Tail) (so_far : Known) (b : ℕ) → is_foot t b ≡ true → (b == 0x7e) ≡ false → first_of set names (AfterFields k t) so_far (Mark b) ≡ None → ⊥
   other_never Unknown so_far b f e h = cc
-  other_never Footed so_far b f e h = foot_mark_never set names (AfterFields k Footed) so_far b refl refl h
+  other_never Footed so_far b f e h = foot_mark_never set names (AfterFields k Footed) so_far b refl h
   other_never Bare so_far b f e h = cc
 
   by_unit : (image : Image) (part : Option ℕ) (n place : ℕ) (rest more : List ℕ) (taken : ℕ) (end : State) → length came ≡ length set.devices → length image.came ≡ length d.subs

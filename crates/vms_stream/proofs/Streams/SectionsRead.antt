@@ -79,6 +79,21 @@ pub record ReadsTo (set : Set) (names : List (List ℕ)) (s : State) (machine : 
   pub free_spot : t ≡ Footed → state.spot ≡ Free false false
   pub reads : reading_on (judge (by_state set names)) s place (bytes ++ rest) ≡ reading_on (judge (by_state set names)) state (place + length bytes) rest
 
+-- what reads on from a state reads on from before it
+read_from : {set : Set} {names : List (List ℕ)} {s : State} {machine : Option (List ℕ)} {images : List Image} {came : List Bool} {t : Tail} {place : ℕ} {bytes rest : List ℕ} (earlier : State) (at : ℕ) (all : List ℕ)
+    → (r : ReadsTo set names s machine images came t place bytes rest) → reading_on (judge (by_state set names)) earlier at (all ++ rest) ≡ reading_on (judge (by_state set names)) r.state (at + length all) rest
+    → ReadsTo set names earlier machine images came t at all rest
+read_from earlier at all r reads = record {
+  state = r.state;
+  free = r.free;
+  machine_is = r.machine_is;
+  images_are = r.images_are;
+  came_is = r.came_is;
+  tail_is = r.tail_is;
+  free_spot = r.free_spot;
+  reads = reads;
+}
+
 module _ (set : Set) (names : List (List ℕ)) (good : IsGood set) (machine : Option (List ℕ)) (images : List Image) (came : List Bool) (t : Tail) (k id : ℕ) (d : Device) (here : slice_get set.devices k ≡ Some d) (room : k < length images)
     (image : Image) (normal : IsNormal set d image) (valid : IsValid set d image) (id_fits : id < 4294967296) (footed : Bool) (fits : Agrees t footed) where
   abbrev st : Image → Option ℕ → ℕ → State
@@ -173,23 +188,15 @@ module _ (set : Set) (names : List (List ℕ)) (good : IsGood set) (machine : Op
       ap (λ (l : List ℕ). (l ++ closing footed id) ++ rest) (spell.4 ∙ ap (λ (l : List ℕ). l ++ later) s.is)
       ∙ ap (λ (l : List ℕ). l ++ rest) (append_assoc (head ++ s.body) later (closing footed id))
       ∙ append_assoc (head ++ s.body) (later ++ closing footed id) rest ∙ append_assoc head s.body more in
-      record {
-        state = r.state;
-        free = r.free;
-        machine_is = r.machine_is;
-        images_are = r.images_are;
-        came_is = r.came_is;
-        tail_is = r.tail_is;
-        free_spot = r.free_spot;
-        reads = ap (reading_on J start place) is
-            ∙ unit_on set names start (SubHead name w) place (s.body ++ more) (held_is set names machine images came t k id d here room (so now) part i done)
-            (subst (λ (x : Due). May x (SubHead name w)) (sym due) (AtSubHead k t name w w_fits)) none
-            ∙ ap (λ (s : State). reading_on J s p.place p.rest) (sub_after set names machine images came t k id d here room (so now) part i j name w named)
-            ∙ reads.2
-            ∙ r.reads
-            ∙ ap (λ (x : ℕ). reading_on J r.state x rest)
-            (omega (arith, ap length spell.4, length-append front later, ap length s.is, length-append head s.body, length-append tail (closing footed id), length-append later (closing footed id)));
-      }
+      read_from start place (tail ++ closing footed id) r
+      (ap (reading_on J start place) is
+      ∙ unit_on set names start (SubHead name w) place (s.body ++ more) (held_is set names machine images came t k id d here room (so now) part i done)
+      (subst (λ (x : Due). May x (SubHead name w)) (sym due) (AtSubHead k t name w w_fits)) none
+      ∙ ap (λ (s : State). reading_on J s p.place p.rest) (sub_after set names machine images came t k id d here room (so now) part i j name w named)
+      ∙ reads.2
+      ∙ r.reads
+      ∙ ap (λ (x : ℕ). reading_on J r.state x rest)
+      (omega (arith, ap length spell.4, length-append front later, ap length s.is, length-append head s.body, length-append tail (closing footed id), length-append later (closing footed id))))
 
   -- a section behind its head
   section_read : (place : ℕ) (body tail rest : List ℕ) (order : List ℕ) → Spells image.numbers (own_slots set d image.version image.numbers) body → ComesOnce image.came order → SubsSpell set d image order tail
@@ -204,19 +211,11 @@ module _ (set : Set) (names : List (List ℕ)) (good : IsGood set) (machine : Op
       let reads = subst (λ (q : Taken). Reads set names state d fresh k id None here room 0 p q) (own_taken set names good k id d here image normal valid place body more spells)
       (body_read set names state d fresh k id None here room good.structs d.desc v 0 (good.devices k d here) (λ m. refl) p) in
       let r = subs_read order None reads.0 (none_of d.subs) image.came reads.1 (beside_first d.subs image.came normal.subs) once (place + length body) tail rest spell in
-      record {
-        state = r.state;
-        free = r.free;
-        machine_is = r.machine_is;
-        images_are = r.images_are;
-        came_is = r.came_is;
-        tail_is = r.tail_is;
-        free_spot = r.free_spot;
-        reads = ap (reading_on J (st fresh None 0) place) (append_assoc body (tail ++ closing footed id) rest)
-            ∙ reads.2
-            ∙ r.reads
-            ∙ ap (λ (x : ℕ). reading_on J r.state x rest) (omega (arith, length-append body (tail ++ closing footed id)));
-      }
+      read_from (st fresh None 0) place (body ++ (tail ++ closing footed id)) r
+      (ap (reading_on J (st fresh None 0) place) (append_assoc body (tail ++ closing footed id) rest)
+      ∙ reads.2
+      ∙ r.reads
+      ∙ ap (λ (x : ℕ). reading_on J r.state x rest) (omega (arith, length-append body (tail ++ closing footed id))))
 
 -- between sections, these devices' sections and the end mark are read
 pub record ReadsOn (set : Set) (names : List (List ℕ)) (s : State) (images : List Image) (place : ℕ) (sections after : List ℕ) : Type 0 where
@@ -274,23 +273,15 @@ module _ (set : Set) (names : List (List ℕ)) (good : IsGood set) where
       let r = section_read set names good s.machine s.images (slice_set s.came k true) t k id d there room image is.normal is.valid is.fits footed fits (place + length head) is.body is.tail rest is.order is.own is.each_once is.subs in
       let close = closing footed id in
       let whole : front ≡ head ++ (is.body ++ (is.tail ++ close)) = is.whole ∙ append_assoc (head ++ is.body) is.tail close ∙ append_assoc head is.body (is.tail ++ close) in
-      record {
-        state = r.state;
-        free = r.free;
-        machine_is = r.machine_is;
-        images_are = r.images_are;
-        came_is = r.came_is;
-        tail_is = r.tail_is;
-        free_spot = r.free_spot;
-        reads = ap (λ (l : List ℕ). reading_on J s place (l ++ rest)) whole
-            ∙ ap (reading_on J s place) (append_assoc head (is.body ++ (is.tail ++ close)) rest)
-            ∙ unit_on set names s (Head id d.desc.name d.instance image.version) place ((is.body ++ (is.tail ++ close)) ++ rest) free.held
-            (free.may (Head id d.desc.name d.instance image.version) (AtHead false false id d.desc.name d.instance image.version is.fits tops.0 (omega arith)) tt)
-            (head_passes set names ((g set names).due s) (known_at set s) id d.desc.name d.instance image.version k d named there new version)
-            ∙ ap (λ (s : State). reading_on J s (place + length head) ((is.body ++ (is.tail ++ close)) ++ rest)) (head_after set s id d.desc.name d.instance image.version k d named there)
-            ∙ r.reads
-            ∙ ap (λ (x : ℕ). reading_on J r.state x rest) (omega (arith, ap length whole, length-append head (is.body ++ (is.tail ++ close))));
-      }
+      read_from s place front r
+      (ap (λ (l : List ℕ). reading_on J s place (l ++ rest)) whole
+      ∙ ap (reading_on J s place) (append_assoc head (is.body ++ (is.tail ++ close)) rest)
+      ∙ unit_on set names s (Head id d.desc.name d.instance image.version) place ((is.body ++ (is.tail ++ close)) ++ rest) free.held
+      (free.may (Head id d.desc.name d.instance image.version) (AtHead false false id d.desc.name d.instance image.version is.fits tops.0 (omega arith)) tt)
+      (head_passes set names ((g set names).due s) (known_at set s) id d.desc.name d.instance image.version k d named there new version)
+      ∙ ap (λ (s : State). reading_on J s (place + length head) ((is.body ++ (is.tail ++ close)) ++ rest)) (head_after set s id d.desc.name d.instance image.version k d named there)
+      ∙ r.reads
+      ∙ ap (λ (x : ℕ). reading_on J r.state x rest) (omega (arith, ap length whole, length-append head (is.body ++ (is.tail ++ close)))))
 
   pub sections_read : (footed : Bool) (images : List Image) → length images ≡ length set.devices → (order : List ℕ) (s : State) → IsFree set names s → Agrees (behind set (open_at s.spot) s.tail) footed
       → length s.came ≡ length set.devices → length s.images ≡ length set.devices → ((k : ℕ) → slice_get s.came k ≡ Some true → slice_get s.images k ≡ slice_get images k) → EachOnce s.came order

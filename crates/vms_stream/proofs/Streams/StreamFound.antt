@@ -72,7 +72,7 @@ module _ (set : Set) (names : List (List ℕ)) where
       → first_of set names AfterEnd (known_at set (ended machine images came t)) x ≡ None → rest ≡ spell x ++ more
       → reading_on (judge (by_state set names)) (after set (ended machine images came t) x) (place + length (spell x)) more ≡ Some (Accepted n end) → Ending machine images place rest n end
   by_text machine images came t place rest more n end ok _ (AtLongText size lt f) none e goes = cc
-  by_text machine images came t place rest more n end ok _ (AtTrailing b f) none e goes = absurd (trailing_never set names AfterEnd (known_at set (ended machine images came t)) b refl refl refl refl none)
+  by_text machine images came t place rest more n end ok _ (AtTrailing b f) none e goes = absurd (trailing_never set names AfterEnd (known_at set (ended machine images came t)) b refl none)
   by_text machine images came t place rest more n end ok _ (AtDescription text le) none e goes =
       let okm : IsBytes more = bytes_rest (trailer text) more (subst (λ (l : List ℕ). IsBytes l) e ok) in
       let o = over_is (record (ended machine images came t) { spot = Over }) refl (place + length (trailer text)) more n end okm goes in
@@ -180,9 +180,6 @@ module _ (set : Set) (names : List (List ℕ)) (good : IsGood set) where
   without_name input rest n end ok e o =
       stream_of input [] rest n end Unknown None refl (λ footed a f. refl) e (rest_found None images_0 came_0 Unknown 8 rest n end (falses set.devices) (defaults_of set set.devices) ok o)
 
-  never_bare : (footed : Bool) → footed ≡ true → footed ≡ false → ⊥
-  never_bare footed e f = let g = sym e ∙ f in cc
-
   first_found : (input rest : List ℕ) (n : ℕ) (end : State) → IsBytes rest → input ≡ stream_head ++ rest
       → Opening set names true (record { machine = None; images = images_0; came = came_0; tail = Unknown; spot = Free true false }) Unknown 8 rest n end → Takes set names input n end.machine end.images
   first_found input rest n end ok e (Closes more f all goes) = without_name input rest n end ok e (Closed more f all goes)
@@ -192,7 +189,7 @@ module _ (set : Set) (names : List (List ℕ)) (good : IsGood set) where
       let place = 8 + length (configuration name) in
       let o = opens_at set names (record { machine = Some name; images = images_0; came = came_0; tail = Footed; spot = Free false true }) Footed place more n end
       (free_opens set names false true (Some name) images_0 came_0 Footed place more n end okm (falses set.devices) goes) in
-      stream_of input (configuration name) more n end Footed (Some name) (one, le, refl) (λ footed a b. absurd (never_bare footed a b)) (e ∙ ap (λ (l : List ℕ). stream_head ++ l) f)
+      stream_of input (configuration name) more n end Footed (Some name) (one, le, refl) (λ footed a b. let wrong = sym a ∙ b in cc) (e ∙ ap (λ (l : List ℕ). stream_head ++ l) f)
       (rest_found (Some name) images_0 came_0 Footed place more n end (falses set.devices) (defaults_of set set.devices) okm o)
 
   by_version : (input rest more : List ℕ) (n : ℕ) (end : State) → IsBytes rest → input ≡ magic ++ rest → (x : Piece) → May AVersion x

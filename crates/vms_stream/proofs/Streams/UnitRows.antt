@@ -18,18 +18,18 @@ use Rattle.vms_stream.specs.SoFar.{Known}
 use Rattle.vms_stream.specs.Dues.{Due}
 use Rattle.vms_stream.specs.Table.{first_of, is_between, is_after_configuration, wants_foot, is_after_end, is_ram, test_some, is_none}
 
-abbrev Line : Type 0
+abbrev pub Line : Type 0
 Line = Option (Option ℕ × Reason)
 
 -- one row, and the rows after it
-abbrev row_or : Bool → Option ℕ → Reason → Line → Line
+abbrev pub row_or : Bool → Option ℕ → Reason → Line → Line
 row_or b section reason rest = if b then Some (section, reason) else rest
 
 not_taken : (b : Bool) (section : Option ℕ) (reason : Reason) (rest : Line) → row_or b section reason rest ≡ None → (b ≡ false) × (rest ≡ None)
 not_taken true section reason rest e = cc
 not_taken false section reason rest e = (refl, e)
 
-passed_by : (b : Bool) (section : Option ℕ) (reason : Reason) (rest : Line) → b ≡ false → row_or b section reason rest ≡ rest
+pub passed_by : (b : Bool) (section : Option ℕ) (reason : Reason) (rest : Line) → b ≡ false → row_or b section reason rest ≡ rest
 passed_by true section reason rest e = cc
 passed_by false section reason rest e = refl
 
@@ -103,61 +103,29 @@ module _ (set : Set) (names : List (List ℕ)) (d : Due) (so_far : Known) where
   between_taken false wants ended false false false true e = cc
   between_taken configured wants ended false false false false e = cc
 
-  wanted_taken : (configured ended two three eight five : Bool) → mark_line false configured true ended two three eight five ≡ None → ⊥
-  wanted_taken configured ended two three eight five e = by two three eight five configured e
-    where
-      by : (two three eight five configured : Bool) → mark_line false configured true ended two three eight five ≡ None → ⊥
-      by true three true true true e = cc
-      by true three true true false e = cc
-      by true three true false c e = cc
-      by true three false true true e = cc
-      by true three false true false e = cc
-      by true three false false c e = cc
-      by false true true true true e = cc
-      by false true true true false e = cc
-      by false true true false c e = cc
-      by false true false true true e = cc
-      by false true false true false e = cc
-      by false true false false c e = cc
-      by false false true true true e = cc
-      by false false true true false e = cc
-      by false false true false c e = cc
-      by false false false true true e = cc
-      by false false false true false e = cc
-      by false false false false c e = cc
-
   pub mark_never : (b : ℕ) → is_between d ≡ true → row_of (Mark b) ≡ None → ⊥
   mark_never b s e =
       between_taken (is_after_configuration d) (wants_foot d) (is_after_end d) (b == 2) (b == 3) (b == 8) (b == 5)
       (ap (λ (a : Bool). mark_line a (is_after_configuration d) (wants_foot d) (is_after_end d) (b == 2) (b == 3) (b == 8) (b == 5)) (sym s) ∙ e)
 
-  pub foot_mark_never : (b : ℕ) → is_between d ≡ false → wants_foot d ≡ true → row_of (Mark b) ≡ None → ⊥
-  foot_mark_never b s w e =
-      wanted_taken (is_after_configuration d) (is_after_end d) (b == 2) (b == 3) (b == 8) (b == 5)
-      (ap (λ (a : Bool). mark_line a (is_after_configuration d) true (is_after_end d) (b == 2) (b == 3) (b == 8) (b == 5)) (sym s)
-      ∙ ap (λ (w : Bool). mark_line (is_between d) (is_after_configuration d) w (is_after_end d) (b == 2) (b == 3) (b == 8) (b == 5)) (sym w) ∙ e)
+  -- a mark that no row takes comes neither where a foot is due nor behind the end
+  mark_free : (b : ℕ) → row_of (Mark b) ≡ None → (wants_foot d ≡ false) × (is_after_end d ≡ false)
+  mark_free b e =
+      let trailing = row_or (is_after_end d) None reasons.Trailing None in
+      let foot = row_or (wants_foot d) so_far.section reasons.BadFooter trailing in
+      let extra = row_or (b == 5 && is_after_configuration d) None reasons.ConfigurationExtra foot in
+      let command = row_or (b == 8 && is_between d) None reasons.Command extra in
+      let iterative = row_or ((b == 2 || b == 3) && is_between d) None reasons.Iterative command in
+      let a = not_taken (is_between d && not (b == 2 || b == 3 || b == 8 || (b == 5 && is_after_configuration d))) None reasons.BadMark iterative e in
+      let c = not_taken (b == 8 && is_between d) None reasons.Command extra (not_taken ((b == 2 || b == 3) && is_between d) None reasons.Iterative command a.1).1 in
+      let w = not_taken (wants_foot d) so_far.section reasons.BadFooter trailing (not_taken (b == 5 && is_after_configuration d) None reasons.ConfigurationExtra foot c.1).1 in
+      (w.0, (not_taken (is_after_end d) None reasons.Trailing None w.1).0)
 
-  trailing_taken : (two three eight five : Bool) → mark_line false false false true two three eight five ≡ None → ⊥
-  trailing_taken true three true true e = cc
-  trailing_taken true three true false e = cc
-  trailing_taken true three false true e = cc
-  trailing_taken true three false false e = cc
-  trailing_taken false true true true e = cc
-  trailing_taken false true true false e = cc
-  trailing_taken false true false true e = cc
-  trailing_taken false true false false e = cc
-  trailing_taken false false true true e = cc
-  trailing_taken false false true false e = cc
-  trailing_taken false false false true e = cc
-  trailing_taken false false false false e = cc
+  pub foot_mark_never : (b : ℕ) → wants_foot d ≡ true → row_of (Mark b) ≡ None → ⊥
+  foot_mark_never b w e = let wrong = sym w ∙ (mark_free b e).0 in cc
 
-  pub trailing_never : (b : ℕ) → is_between d ≡ false → is_after_configuration d ≡ false → wants_foot d ≡ false → is_after_end d ≡ true → row_of (Mark b) ≡ None → ⊥
-  trailing_never b s c w l e =
-      trailing_taken (b == 2) (b == 3) (b == 8) (b == 5)
-      (ap (λ (a : Bool). mark_line a false false true (b == 2) (b == 3) (b == 8) (b == 5)) (sym s)
-      ∙ ap (λ (c : Bool). mark_line (is_between d) c false true (b == 2) (b == 3) (b == 8) (b == 5)) (sym c)
-      ∙ ap (λ (w : Bool). mark_line (is_between d) (is_after_configuration d) w true (b == 2) (b == 3) (b == 8) (b == 5)) (sym w)
-      ∙ ap (λ (l : Bool). mark_line (is_between d) (is_after_configuration d) (wants_foot d) l (b == 2) (b == 3) (b == 8) (b == 5)) (sym l) ∙ e)
+  pub trailing_never : (b : ℕ) → is_after_end d ≡ true → row_of (Mark b) ≡ None → ⊥
+  trailing_never b l e = let wrong = sym l ∙ (mark_free b e).1 in cc
 
   -- ---- heads
 

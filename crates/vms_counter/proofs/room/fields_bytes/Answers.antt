@@ -4,7 +4,7 @@ use Rattle.vms_parts.specs.declared.types.Field.{Field}
 use Rattle.vms_parts.specs.Sizes.{in_u32}
 use Rattle.vms_parts.specs.Views.{field_of}
 use Rattle.vms_load.specs.Bounds.{fields_bytes, item_bytes}
-use Rattle.vms_counter.proofs.SumLaws.{sum_ends, sum_goes}
+use Rattle.vms_parts.proofs.SizeLaws.{sum_ends, sum_goes}
 use Rattle.vms_counter.proofs.room.fields_bytes.Goals as goal
 
 pub loop-field-preserved : goal.loop-field-preserved

@@ -5,7 +5,7 @@ use Rattle.vms_parts.specs.Sizes.{in_u32}
 use Rattle.vms_parts.specs.Views.{field_of, sub_of}
 use Rattle.vms_load.specs.Bounds.{fields_bytes}
 use Rattle.vms_counter.specs.Room.{subs_in}
-use Rattle.vms_counter.proofs.SumLaws.{sum_ends, sum_goes}
+use Rattle.vms_parts.proofs.SizeLaws.{sum_ends, sum_goes}
 use Rattle.vms_counter.proofs.room.subs_bytes.Goals as goal
 
 pub loop-sub-preserved : goal.loop-sub-preserved

@@ -1,7 +1,10 @@
-use Rattle.std.proofs.Common.{rules, arith, ◌≡◌, ◌+◌, ◌<◌, ◌≤◌, length, Ok, Err}
+use Rattle.std.proofs.Common.{rules, arith, ap, sym, ◌∙◌, ◌≡◌, ◌+◌, ◌<◌, ◌≤◌, length, drop, length-drop, Ok, Err}
+use Rattle.std.proofs.lemmas.List.{length-take-le}
 use Rattle.std.proofs.lemmas.Result.{err_from_is_err_and}
 use Rattle.vms_spec.specs.declared.Reason.TheVariants as reasons
 use Rattle.vms_spec.specs.Lookup.{number_at, bytes_at}
+use Rattle.vms_marks.specs.Heads.{configuration_in}
+use Rattle.vms_marks.specs.declared.configuration.Configuration.{Configuration as AConfiguration}
 use Rattle.vms_frames.specs.declared.units.Step.TheVariants.{Configuration}
 use Rattle.vms_frames.specs.Found.{configuration_found, step_long}
 use Rattle.vms_frames.proofs.CutLemmas.{configuration_cut, configuration_above, configuration_whole}
@@ -12,8 +15,8 @@ pub returns-in_err-grow-2 : goal.returns-in_err-grow-2
 returns-in_err-grow-2 g c =
     let one = c.in_ok-grow.ensures.grown in
     let unit = c.grow.new.unit.items in
-    let same : c.read_u32-length.result ≡ number_at 4 1 unit = search rules in
-    let low : c.read_u32-length.result ≤ 255 = search rules in
+    let same : c.name_length-length.result ≡ number_at 4 1 unit = search rules in
+    let low : c.name_length-length.result ≤ 255 = search rules in
     let p = err_from_is_err_and c.from_residual-in_err-grow-2.result c.from_residual-in_err-grow-2.ensures.1 in
     rw (p.1, p.2) (record {
       reads =
@@ -39,13 +42,13 @@ returns g c =
     let one = c.in_ok-grow.ensures.grown in
     let two = c.in_ok-grow-2.ensures.grown in
     let unit = c.grow-2.new.unit.items in
-    let n = c.read_u32-length.result in
-    let name = c.name_in.result in
+    let n = c.name_length-length.result in
+    let name = c.of.result.machine in
     let same : n ≡ number_at 4 1 unit = search rules in
     let low : n ≤ 255 = search rules in
     let long : length unit ≡ 5 + n = omega (arith, c.requires, one.long, two.long) in
-    let named : name.items ≡ bytes_at (number_at 4 1 unit) 5 unit = search rules in
-    let few : length name.items ≡ n = search rules in
+    let named : name.items ≡ bytes_at (number_at 4 1 unit) 5 unit = ap (λ (x : AConfiguration). x.machine.items) (c.of.ensures ∙ ap configuration_in c.deref-2.ensures.0) in
+    let few : length name.items ≡ n = ap length named ∙ length-take-le (number_at 4 1 unit) (drop 5 unit) (omega (arith, long, same, length-drop 5 unit)) ∙ sym same in
     record {
       reads = unit_on step_long 269 configuration_found c.args.at (Ok (Configuration name)) one
           (unit_on step_long 269 configuration_found c.args.at (Ok (Configuration name)) two

@@ -15,7 +15,7 @@ of-requires g c =
     let two = c.in_ok-grow-2.ensures.grown in
     let unit = c.grow-2.new.unit.items in
     let byte : get_or unit 5 0 ≡ get_or c.grow.new.unit.items 5 0 = kept_byte 5 _ unit two.kept (omega (arith, c.requires, one.long)) in
-    let at5 : get_or c.deref.result.now 5 0 ≡ get_or c.grow.new.unit.items 5 0 = ap (λ (l : List ℕ). get_or l 5 0) c.deref.ensures.0 in
+    let at5 : c.name_length-ahead.result ≡ get_or c.grow.new.unit.items 5 0 = c.name_length-ahead.ensures ∙ ap (λ (l : List ℕ). get_or l 5 0) c.deref.ensures.0 in
     rw c.deref-2.ensures.0 (omega (arith, byte, at5, c.requires, one.long, two.long))
 
 pub returns-clause-reads : goal.returns-clause-reads
@@ -24,7 +24,7 @@ returns-clause-reads g c =
     let two = c.in_ok-grow-2.ensures.grown in
     let unit = c.grow-2.new.unit.items in
     let byte : get_or unit 5 0 ≡ get_or c.grow.new.unit.items 5 0 = kept_byte 5 _ unit two.kept (omega (arith, c.requires, one.long)) in
-    let at5 : get_or c.deref.result.now 5 0 ≡ get_or c.grow.new.unit.items 5 0 = ap (λ (l : List ℕ). get_or l 5 0) c.deref.ensures.0 in
+    let at5 : c.name_length-ahead.result ≡ get_or c.grow.new.unit.items 5 0 = c.name_length-ahead.ensures ∙ ap (λ (l : List ℕ). get_or l 5 0) c.deref.ensures.0 in
     let long : length unit ≡ 14 + get_or unit 5 0 = omega (arith, byte, at5, c.requires, one.long, two.long) in
     let same : c.of.result ≡ head_in unit = c.of.ensures ∙ ap head_in c.deref-2.ensures.0 in
     unit_on step_long 269 head_found c.args.at (Ok (Section c.of.result)) one
@@ -44,8 +44,8 @@ pub returns-in_err-grow-2-clause-reads : goal.returns-in_err-grow-2-clause-reads
 returns-in_err-grow-2-clause-reads g c =
     let one = c.in_ok-grow.ensures.grown in
     let unit = c.grow.new.unit.items in
-    let at5 : get_or c.deref.result.now 5 0 ≡ get_or unit 5 0 = ap (λ (l : List ℕ). get_or l 5 0) c.deref.ensures.0 in
-    let byte : get_or c.deref.result.now 5 0 < 256 = search rules in
+    let at5 : c.name_length-ahead.result ≡ get_or unit 5 0 = c.name_length-ahead.ensures ∙ ap (λ (l : List ℕ). get_or l 5 0) c.deref.ensures.0 in
+    let byte : c.name_length-ahead.result < 256 = search rules in
     let p = err_from_is_err_and c.from_residual-in_err-grow-2.result c.from_residual-in_err-grow-2.ensures.1 in
     rw (p.1, p.2)
     (unit_on step_long 269 head_found c.args.at (Err c.in_err-grow-2.field-0.0) one

@@ -1,5 +1,14 @@
+use Rattle.std.proofs.Common.{ℕ, List, map, refl, ◌*◌}
+use Rattle.vms_spec.specs.Layout.{capacity_of}
+use Rattle.vms_parts.specs.declared.types.Field.{Field}
+use Rattle.vms_parts.specs.Sizes.{size_of, fields_size}
+use Rattle.vms_parts.specs.Views.{field_of}
 use Rattle.vms_parts.proofs.SizeLaws.{sum_ends}
 use Rattle.vms_parts.proofs.sizes.size_of_fields.Goals as goal
 
 pub returns : goal.returns
-returns c = sum_ends c.args.measure c.args.sizes.now c.args.fields.now c.loop-field.field-index c.loop-field.sum _ c.loop-field-test.false c.loop-field.invariant.small c.loop-field.invariant.whole
+returns c =
+    let m = c.args.measure in
+    let sizes = c.args.sizes.now in
+    let whole : List Field → ℕ = λ l. fields_size m sizes (map field_of l) in
+    sum_ends whole (λ (f : Field). capacity_of f.count * size_of m sizes f.item) refl (λ x xs. refl) c.args.fields.now c.loop-field.field-index c.loop-field.sum _ c.loop-field-test.false c.loop-field.invariant.small c.loop-field.invariant.whole

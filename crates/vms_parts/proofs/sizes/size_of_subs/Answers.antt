@@ -1,8 +1,9 @@
-use Rattle.std.proofs.Common.{◌≡◌, ◌+◌, List, ℕ, map, drop, ap, ◌∙◌}
+use Rattle.std.proofs.Common.{◌≡◌, ◌+◌, List, ℕ, map, drop, refl, ap, ◌∙◌}
 use Rattle.vms_parts.specs.declared.types.Field.{Field}
+use Rattle.vms_parts.specs.declared.types.Sub.{Sub}
 use Rattle.vms_parts.specs.Sizes.{in_u32, fields_size, subs_size}
 use Rattle.vms_parts.specs.Views.{field_of, sub_of}
-use Rattle.vms_parts.proofs.SizeLaws.{subs_more, subs_end}
+use Rattle.vms_parts.proofs.SizeLaws.{sum_ends, sum_goes}
 use Rattle.vms_parts.proofs.sizes.size_of_subs.Goals as goal
 
 pub loop-sub-preserved : goal.loop-sub-preserved
@@ -12,13 +13,19 @@ loop-sub-preserved c =
     let subs = c.args.subs.now in
     let s = c.sub-item.result in
     let i = c.loop-sub.sub-index in
+    let whole : List Sub → ℕ = λ l. subs_size m sizes (map sub_of l) in
+    let one : Sub → ℕ = λ x. fields_size m sizes (map field_of x.desc.fields) in
     let own : c.size_of_fields-own.result ≡ in_u32 (fields_size m sizes (map field_of s.desc.fields)) =
     c.size_of_fields-own.ensures ∙ ap (λ (l : List Field). in_u32 (fields_size m sizes (map field_of l))) c.as_slice.ensures in
     record {
       small = c.saturating_add-sum.type_inv;
-      whole = ap (λ (n : ℕ). in_u32 (n + subs_size m sizes (map sub_of (drop (i + 1) subs)))) c.saturating_add-sum.ensures
-          ∙ subs_more m sizes subs i c.loop-sub.sum c.size_of_fields-own.result _ s c.loop-sub-test.true c.sub-item.is own c.loop-sub.invariant.whole;
+      whole = ap (λ (n : ℕ). in_u32 (n + whole (drop (i + 1) subs))) c.saturating_add-sum.ensures
+          ∙ sum_goes whole one refl (λ x xs. refl) subs i c.loop-sub.sum c.size_of_fields-own.result _ s c.loop-sub-test.true c.sub-item.is own c.loop-sub.invariant.whole;
     }
 
 pub returns : goal.returns
-returns c = subs_end c.args.measure c.args.sizes.now c.args.subs.now c.loop-sub.sub-index c.loop-sub.sum _ c.loop-sub-test.false c.loop-sub.invariant.small c.loop-sub.invariant.whole
+returns c =
+    let m = c.args.measure in
+    let sizes = c.args.sizes.now in
+    let whole : List Sub → ℕ = λ l. subs_size m sizes (map sub_of l) in
+    sum_ends whole (λ (x : Sub). fields_size m sizes (map field_of x.desc.fields)) refl (λ x xs. refl) c.args.subs.now c.loop-sub.sub-index c.loop-sub.sum _ c.loop-sub-test.false c.loop-sub.invariant.small c.loop-sub.invariant.whole

@@ -10,6 +10,7 @@ use Rattle.vms_values.proofs.ImageRead.{default_of, default_kinds, own_spot, ali
 use Rattle.vms_values.proofs.KindsAt.{own_kinds}
 use Rattle.vms_values.proofs.SubsReading.{of_alike, subs_alike}
 use Rattle.vms_values.proofs.devices.read_device.Goals as goal
+use Rattle.vms_values.proofs.devices.read_device.Goals.{In_ok-read_subs}
 
 pub read_part-requires-clause-spot : goal.read_part-requires-clause-spot
 read_part-requires-clause-spot c =
@@ -42,20 +43,17 @@ pub judge_device-reading-requires-clause-lines : goal.judge_device-reading-requi
 judge_device-reading-requires-clause-lines c = ap length c.deref.ensures.value ∙ c.in_ok-read_subs.ensures.count
 
 -- an image of the device, from its defaults on
-read_on : (set : Set) (i : ℕ) (a b c : Typed) → IsOfDevice set i (state_of a) → a.kinds ≡ kinds_at set i → IsKept a b → IsAlike b c → IsImageOf set i c
-read_on set i a b c of kinds kept subs =
-    image_of set i c (of_alike set i b c (of_alike set i a b of (alike_kept a b kept)) subs) (subs.kinds ∙ kept.kinds ∙ kinds)
+is_image : (c : goal.In_ok-read_subs) → IsImageOf (described c.args.set.now) c.args.device c.read_subs.new.taken.image
+is_image c =
+    let set = described c.args.set.now in
+    let image = c.args.taken.now.image in
+    let of = default_of set c.args.set.now.well_formed c.args.device c.requires.known image c.requires.defaults in
+    let kept = c.in_ok-read_part.ensures.kept in
+    let subs = subs_alike _ _ _ _ c.in_ok-read_subs.ensures.read in
+    image_of set c.args.device _ (of_alike set c.args.device _ _ (of_alike set c.args.device _ _ of (alike_kept _ _ kept)) subs) (subs.kinds ∙ kept.kinds ∙ default_kinds set c.args.device image c.requires.defaults)
 
 pub returns-then-is_none-clause-of : goal.returns-then-is_none-clause-of
-returns-then-is_none-clause-of c =
-    let set = described c.args.set.now in
-    let image = c.args.taken.now.image in
-    let of = default_of set c.args.set.now.well_formed c.args.device c.requires.known image c.requires.defaults in
-    read_on set c.args.device image _ _ of (default_kinds set c.args.device image c.requires.defaults) c.in_ok-read_part.ensures.kept (subs_alike _ _ _ _ c.in_ok-read_subs.ensures.read)
+returns-then-is_none-clause-of c = is_image (goal.at.returns-then-is_none-clause-of c).In_ok-read_subs
 
 pub returns-else-is_none-clause-of : goal.returns-else-is_none-clause-of
-returns-else-is_none-clause-of c =
-    let set = described c.args.set.now in
-    let image = c.args.taken.now.image in
-    let of = default_of set c.args.set.now.well_formed c.args.device c.requires.known image c.requires.defaults in
-    read_on set c.args.device image _ _ of (default_kinds set c.args.device image c.requires.defaults) c.in_ok-read_part.ensures.kept (subs_alike _ _ _ _ c.in_ok-read_subs.ensures.read)
+returns-else-is_none-clause-of c = is_image (goal.at.returns-else-is_none-clause-of c).In_ok-read_subs

@@ -6,42 +6,39 @@ use Rattle.vms_image.specs.Typed.{state_of}
 use Rattle.vms_values.specs.Judging.{read_of}
 use Rattle.vms_values.proofs.JudgeLemmas.{judged_go, judged_stop, judged_end, own_holds}
 use Rattle.vms_values.proofs.judge.judge_device.Goals as goal
+use Rattle.vms_values.proofs.judge.judge_device.Goals.{After-sub_count-sub-end, In-loop-sub}
+
+holds : (c : goal.After-sub_count-sub-end)
+    → rules_are_true (own_slots (described c.args.set.now) (device_at (described c.args.set.now) c.args.device) (state_of c.args.image.now).version (state_of c.args.image.now).numbers) ≡ true
+holds c =
+    ap (λ (v : ℕ). rules_are_true (own_slots (described c.args.set.now) (device_at (described c.args.set.now) c.args.device) v (state_of c.args.image.now).numbers)) (sym c.version.ensures)
+    ∙ sym c.hold_rules.ensures ∙ c.if-not-hold_rules.false
+
+-- the subsection whose turn it is is one of the device's, and there is something for it
+inside : (c : goal.In-loop-sub) → (let j = c.loop-sub.sub in (j < length (device_at (described c.args.set.now) c.args.device).subs) × (j < length (state_of c.args.image.now).came) × (j < length c.args.sub_lines.now))
+inside c =
+    let lt : c.loop-sub.sub < length (device_at (described c.args.set.now) c.args.device).subs = omega (arith, c.sub_count-sub-end.ensures, c.loop-sub-test.true) in
+    (lt, omega (arith, lt, c.requires.device.subs), omega (arith, lt, c.requires.lines))
 
 pub returns-in-Some : goal.returns-in-Some
 returns-in-Some c =
-    let set = described c.args.set.now in
-    let i = c.args.device in
     let image = state_of c.args.image.now in
     let lines = c.args.sub_lines.now in
-    let holds : rules_are_true (own_slots set (device_at set i) image.version image.numbers) ≡ true =
-    ap (λ (v : ℕ). rules_are_true (own_slots set (device_at set i) v image.numbers)) (sym c.version.ensures) ∙ sym c.hold_rules.ensures ∙ c.if-not-hold_rules.false in
-    let start = own_holds set i (read_of image c.args.line lines) holds in
-    let j = c.loop-sub.sub in
-    let lt : j < length (device_at set i).subs = omega (arith, c.sub_count-sub-end.ensures, c.loop-sub-test.true) in
-    let came : j < length image.came = omega (arith, lt, c.requires.device.subs) in
-    let line : j < length lines = omega (arith, lt, c.requires.lines) in
-    sym (start ∙ sym c.loop-sub.invariant ∙ judged_stop set i image lines j (get_or lines j 0) c.in-Some.reason lt came line refl (sym c.in-Some.ensures))
+    let h = goal.at.returns-in-Some c in
+    let i = inside h.In-loop-sub in
+    sym (own_holds (described c.args.set.now) c.args.device (read_of image c.args.line lines) (holds h.After-sub_count-sub-end) ∙ sym c.loop-sub.invariant
+    ∙ judged_stop (described c.args.set.now) c.args.device image lines c.loop-sub.sub (get_or lines c.loop-sub.sub 0) c.in-Some.reason i.0 i.1 i.2 refl (sym c.in-Some.ensures))
 
 pub loop-sub-preserved : goal.loop-sub-preserved
 loop-sub-preserved c =
-    let set = described c.args.set.now in
-    let i = c.args.device in
-    let image = state_of c.args.image.now in
     let lines = c.args.sub_lines.now in
-    let j = c.loop-sub.sub in
-    let lt : j < length (device_at set i).subs = omega (arith, c.sub_count-sub-end.ensures, c.loop-sub-test.true) in
-    let came : j < length image.came = omega (arith, lt, c.requires.device.subs) in
-    let line : j < length lines = omega (arith, lt, c.requires.lines) in
-    judged_go set i image lines j (get_or lines j 0) lt came line refl (sym c.in_default.ensures) ∙ c.loop-sub.invariant
+    let i = inside (goal.at.loop-sub-preserved c).In-loop-sub in
+    judged_go (described c.args.set.now) c.args.device (state_of c.args.image.now) lines c.loop-sub.sub (get_or lines c.loop-sub.sub 0) i.0 i.1 i.2 refl (sym c.in_default.ensures) ∙ c.loop-sub.invariant
 
 pub returns : goal.returns
 returns c =
     let set = described c.args.set.now in
-    let i = c.args.device in
     let image = state_of c.args.image.now in
     let lines = c.args.sub_lines.now in
-    let holds : rules_are_true (own_slots set (device_at set i) image.version image.numbers) ≡ true =
-    ap (λ (v : ℕ). rules_are_true (own_slots set (device_at set i) v image.numbers)) (sym c.version.ensures) ∙ sym c.hold_rules.ensures ∙ c.if-not-hold_rules.false in
-    let start = own_holds set i (read_of image c.args.line lines) holds in
-    let end : length (device_at set i).subs ≡ c.loop-sub.sub = omega (arith, c.sub_count-sub-end.ensures, c.loop-sub-test.false) in
-    sym (start ∙ sym c.loop-sub.invariant ∙ judged_end set i image lines c.loop-sub.sub end)
+    let end : length (device_at set c.args.device).subs ≡ c.loop-sub.sub = omega (arith, c.sub_count-sub-end.ensures, c.loop-sub-test.false) in
+    sym (own_holds set c.args.device (read_of image c.args.line lines) (holds (goal.at.returns c).After-sub_count-sub-end) ∙ sym c.loop-sub.invariant ∙ judged_end set c.args.device image lines c.loop-sub.sub end)

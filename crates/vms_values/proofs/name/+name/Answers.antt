@@ -9,7 +9,7 @@ use Rattle.vms_parts.specs.Views.{field_of}
 use Rattle.vms_desc.specs.Asks.{field_at}
 use Rattle.vms_desc.specs.Described.{described}
 use Rattle.vms_desc.specs.Parts.{desc_at}
-use Rattle.vms_desc.proofs.AskLaws.{found_field}
+use Rattle.vms_desc.proofs.AskLaws.{found_field, here_fields}
 use Rattle.vms_walk.specs.Steps.{size_in}
 use Rattle.vms_walk.proofs.Spots.{size_code, width_code, struct_size}
 use Rattle.vms_desc.proofs.Ranks.{item_rank, part_rank}
@@ -19,41 +19,36 @@ use Rattle.std.proofs.Math.Nat.{mod-lt}
 use Rattle.vms_values.specs.Paths.{path_text}
 use Rattle.vms_values.specs.Naming.{part_names, item_names, field_name}
 use Rattle.vms_io.proofs.WritingLemmas.{wrote_as}
-use Rattle.vms_values.proofs.Naming.{next_names, all_names, names_from, part_long, struct_name, positive, single_is, element_is}
+use Rattle.vms_values.proofs.Naming.{NextNames, next_names, all_names, names_from, part_long, struct_name, positive, single_is, element_is}
+use Rattle.vms_values.proofs.name.+name.Given.{Over}
 use Rattle.vms_values.proofs.name.+name.Goals as goal
+use Rattle.vms_values.proofs.name.+name.Goals.{print_element-After-item_cells-size, print_name-After-field_cells-size}
 
 -- ---- an element of a field
 
-pub print_element-nonzero_div-index : goal.print_element-nonzero_div-index
-print_element-nonzero_div-index g t c =
-    let set = described c.args.set.now in
-    let item = c.args.field.now.item in
-    let size = size_code set item c.item_cells-size.result c.item_cells-size.ensures c.requires.small in
-    omega (arith, size, positive (capacity_of c.args.field.now.count) (size_in set item) c.args.cell c.requires.cell)
-
-pub print_element-nonzero_rem-rest : goal.print_element-nonzero_rem-rest
-print_element-nonzero_rem-rest g t c =
-    let set = described c.args.set.now in
-    let item = c.args.field.now.item in
-    let size = size_code set item c.item_cells-size.result c.item_cells-size.ensures c.requires.small in
-    omega (arith, size, positive (capacity_of c.args.field.now.count) (size_in set item) c.args.cell c.requires.cell)
-
-pub print_element-print_inside-requires : goal.print_element-print_inside-requires
-print_element-print_inside-requires g t c =
+-- the element has cells, and the cell is one of its
+inside : (g : Over) (t : ℕ) (c : goal.print_element-After-item_cells-size g t) → (0 < c.item_cells-size.result) × (c.args.cell % c.item_cells-size.result < size_in (described c.args.set.now) c.args.field.now.item)
+inside g t c =
     let set = described c.args.set.now in
     let item = c.args.field.now.item in
     let size = size_code set item c.item_cells-size.result c.item_cells-size.ensures c.requires.small in
     let some = positive (capacity_of c.args.field.now.count) (size_in set item) c.args.cell c.requires.cell in
-    let rest : c.args.cell % c.item_cells-size.result < size_in set item = subst (λ (s : ℕ). c.args.cell % s < size_in set item) (sym size) (mod-lt c.args.cell some) in
+    (omega (arith, size, some), subst (λ (s : ℕ). c.args.cell % s < size_in set item) (sym size) (mod-lt c.args.cell some))
+
+pub print_element-nonzero_div-index : goal.print_element-nonzero_div-index
+print_element-nonzero_div-index g t c = omega (arith, (inside g t c).0)
+
+pub print_element-nonzero_rem-rest : goal.print_element-nonzero_rem-rest
+print_element-nonzero_rem-rest g t c = omega (arith, (inside g t (goal.at.print_element-nonzero_rem-rest g t c).After-item_cells-size).0)
+
+pub print_element-print_inside-requires : goal.print_element-print_inside-requires
+print_element-print_inside-requires g t c =
+    let rest = (inside g t (goal.at.print_element-print_inside-requires g t c).After-item_cells-size).1 in
     λ κs h. (search rules, (search rules, (c.requires.reaches, (c.requires.small, rest))))
 
 pub print_element-print_inside-requires-in_default : goal.print_element-print_inside-requires-in_default
 print_element-print_inside-requires-in_default g t c =
-    let set = described c.args.set.now in
-    let item = c.args.field.now.item in
-    let size = size_code set item c.item_cells-size.result c.item_cells-size.ensures c.requires.small in
-    let some = positive (capacity_of c.args.field.now.count) (size_in set item) c.args.cell c.requires.cell in
-    let rest : c.args.cell % c.item_cells-size.result < size_in set item = subst (λ (s : ℕ). c.args.cell % s < size_in set item) (sym size) (mod-lt c.args.cell some) in
+    let rest = (inside g t (goal.at.print_element-print_inside-requires-in_default g t c).After-item_cells-size).1 in
     λ κs h. (search rules, (search rules, (c.requires.reaches, (c.requires.small, rest))))
 
 pub print_element-returns-in-One : goal.print_element-returns-in-One
@@ -109,62 +104,55 @@ print_name-loop-field-init g t c =
       untouched = refl;
     }
 
+-- the field whose turn it is, and its width in the code
+record Turn (g : Over) (t : ℕ) (c : goal.print_name-After-field_cells-size g t) : Type 0 where
+  inside : c.loop-field.field < length (desc_at (described c.args.set.now) c.args.part).fields
+  next : NextNames (described c.args.set.now) c.args.part c.loop-field.field c.loop-field.left (field_at (described c.args.set.now) c.args.part c.loop-field.field)
+  small : (let f = field_at (described c.args.set.now) c.args.part c.loop-field.field in capacity_of f.count * size_in (described c.args.set.now) f.item ≤ MOST_ITEMS)
+  width : (let f = field_at (described c.args.set.now) c.args.part c.loop-field.field in c.field_cells-size.result ≡ capacity_of f.count * size_in (described c.args.set.now) f.item)
+
+turn : (g : Over) (t : ℕ) (c : goal.print_name-After-field_cells-size g t) → Turn g t c
+turn g t c =
+    let set = described c.args.set.now in
+    let k = c.loop-field.field in
+    let f = field_at set c.args.part k in
+    let lt : k < length (desc_at set c.args.part).fields = omega (arith, c.field_count-field-end.ensures, c.loop-field-test.true) in
+    let next = next_names set c.args.set.now.well_formed c.args.part c.requires.part k c.loop-field.left f lt refl in
+    let small : capacity_of f.count * size_in set f.item ≤ MOST_ITEMS = omega (arith, next.long, c.loop-field.invariant.few) in
+    record { inside = lt; next = next; small = small; width = width_code set f c.field_cells-size.result c.field_cells-size.ensures small }
+
 pub print_name-print_element-requires : goal.print_name-print_element-requires
 print_name-print_element-requires g t c =
     let set = described c.args.set.now in
-    let part = c.args.part in
-    let k = c.loop-field.field in
-    let left = c.loop-field.left in
-    let f = field_at set part k in
-    let lt : k < length (desc_at set part).fields = omega (arith, c.field_count-field-end.ensures, c.loop-field-test.true) in
-    let next = next_names set c.args.set.now.well_formed part c.requires.part k left f lt refl in
-    let small : capacity_of f.count * size_in set f.item ≤ MOST_ITEMS = omega (arith, next.long, c.loop-field.invariant.few) in
-    let width : c.field_cells-size.result ≡ capacity_of f.count * size_in set f.item = width_code set f c.field_cells-size.result c.field_cells-size.ensures small in
+    let f = field_at set c.args.part c.loop-field.field in
+    let s = turn g t (goal.at.print_name-print_element-requires g t c).After-field_cells-size in
     let code = c.index-as_slice-field.result in
-    let fields : map field_of c.as_slice.result.now ≡ (desc_at set part).fields = ap (map field_of) c.as_slice.ensures ∙ ap (λ (x : Desc). x.fields) c.desc.ensures in
-    let found : field_of code ≡ f = found_field c.as_slice.result.now (desc_at set part).fields k code fields lt c.index-as_slice-field.is in
-    let here : left < capacity_of f.count * size_in set f.item = omega (arith, width, c.if-left-size.true) in
+    let found : field_of code ≡ f = found_field c.as_slice.result.now (desc_at set c.args.part).fields c.loop-field.field code (here_fields set c.args.part c.desc.result.now c.as_slice.result.now c.desc.ensures c.as_slice.ensures) s.inside c.index-as_slice-field.is in
     let at = λ (P : Field → Type 0) (p : P f). subst P (sym found) p in
-    let uses = at (λ (x : Field). uses_below (length set.structs) x.item ≡ true) next.uses in
-    let lower = at (λ (x : Field). item_rank x.item + 1 < part_rank set part + 2) next.lower in
-    let one = at (λ (x : Field). size_in set x.item ≤ MOST_ITEMS) (one_fits (capacity_of f.count) (size_in set f.item) 0 MOST_ITEMS MOST_ITEMS next.some (omega (arith, small)) (omega arith)) in
-    let inside = at (λ (x : Field). left < capacity_of x.count * size_in set x.item) here in
+    let uses = at (λ (x : Field). uses_below (length set.structs) x.item ≡ true) s.next.uses in
+    let lower = at (λ (x : Field). item_rank x.item + 1 < part_rank set c.args.part + 2) s.next.lower in
+    let one = at (λ (x : Field). size_in set x.item ≤ MOST_ITEMS) (one_fits (capacity_of f.count) (size_in set f.item) 0 MOST_ITEMS MOST_ITEMS s.next.some (omega (arith, s.small)) (omega arith)) in
+    let inside = at (λ (x : Field). c.loop-field.left < capacity_of x.count * size_in set x.item) (omega (arith, s.width, c.if-left-size.true)) in
     λ κs h. (search rules, (search rules, (uses, (one, inside))))
 
 pub print_name-returns-then-left-size : goal.print_name-returns-then-left-size
 print_name-returns-then-left-size g t c =
     let set = described c.args.set.now in
-    let part = c.args.part in
-    let k = c.loop-field.field in
-    let left = c.loop-field.left in
-    let f = field_at set part k in
-    let lt : k < length (desc_at set part).fields = omega (arith, c.field_count-field-end.ensures, c.loop-field-test.true) in
-    let next = next_names set c.args.set.now.well_formed part c.requires.part k left f lt refl in
-    let small : capacity_of f.count * size_in set f.item ≤ MOST_ITEMS = omega (arith, next.long, c.loop-field.invariant.few) in
-    let width : c.field_cells-size.result ≡ capacity_of f.count * size_in set f.item = width_code set f c.field_cells-size.result c.field_cells-size.ensures small in
-    let code = c.index-as_slice-field.result in
-    let fields : map field_of c.as_slice.result.now ≡ (desc_at set part).fields = ap (map field_of) c.as_slice.ensures ∙ ap (λ (x : Desc). x.fields) c.desc.ensures in
-    let found : field_of code ≡ f = found_field c.as_slice.result.now (desc_at set part).fields k code fields lt c.index-as_slice-field.is in
-    let here : left < capacity_of f.count * size_in set f.item = omega (arith, width, c.if-left-size.true) in
     let path = path_text c.args.path.now in
+    let s = turn g t (goal.at.print_name-returns-then-left-size g t c).After-field_cells-size in
+    let found = found_field c.as_slice.result.now (desc_at set c.args.part).fields c.loop-field.field c.index-as_slice-field.result (here_fields set c.args.part c.desc.result.now c.as_slice.result.now c.desc.ensures c.as_slice.ensures) s.inside c.index-as_slice-field.is in
     wrote_as c.print_element.result _ _
-    (ap (λ (x : Field). path ++ field_name set x left) found ∙ ap (λ (l : List ℕ). path ++ l) (sym (c.loop-field.invariant.same ∙ next.here here))) (rw c.loop-field.invariant.untouched at c.print_element.ensures)
+    (ap (λ (x : Field). path ++ field_name set x c.loop-field.left) found ∙ ap (λ (l : List ℕ). path ++ l) (sym (c.loop-field.invariant.same ∙ s.next.here (omega (arith, s.width, c.if-left-size.true))))) (rw c.loop-field.invariant.untouched at c.print_element.ensures)
 
 pub print_name-loop-field-preserved : goal.print_name-loop-field-preserved
 print_name-loop-field-preserved g t c =
     let set = described c.args.set.now in
-    let part = c.args.part in
-    let k = c.loop-field.field in
-    let left = c.loop-field.left in
-    let f = field_at set part k in
-    let lt : k < length (desc_at set part).fields = omega (arith, c.field_count-field-end.ensures, c.loop-field-test.true) in
-    let next = next_names set c.args.set.now.well_formed part c.requires.part k left f lt refl in
-    let small : capacity_of f.count * size_in set f.item ≤ MOST_ITEMS = omega (arith, next.long, c.loop-field.invariant.few) in
-    let width : c.field_cells-size.result ≡ capacity_of f.count * size_in set f.item = width_code set f c.field_cells-size.result c.field_cells-size.ensures small in
-    let past : capacity_of f.count * size_in set f.item ≤ left = omega (arith, width, c.if-left-size.false) in
+    let f = field_at set c.args.part c.loop-field.field in
+    let s = turn g t (goal.at.print_name-loop-field-preserved g t c).After-field_cells-size in
+    let past : capacity_of f.count * size_in set f.item ≤ c.loop-field.left = omega (arith, s.width, c.if-left-size.false) in
     record {
-      same = c.loop-field.invariant.same ∙ next.later past ∙ ap (λ (n : ℕ). get_or (names_from set part (k + 1)) (left - n) []) (sym width);
-      room = omega (arith, width, next.long, c.loop-field.invariant.room, past);
-      few = omega (arith, next.long, c.loop-field.invariant.few);
+      same = c.loop-field.invariant.same ∙ s.next.later past ∙ ap (λ (n : ℕ). get_or (names_from set c.args.part (c.loop-field.field + 1)) (c.loop-field.left - n) []) (sym s.width);
+      room = omega (arith, s.width, s.next.long, c.loop-field.invariant.room, past);
+      few = omega (arith, s.next.long, c.loop-field.invariant.few);
       untouched = c.loop-field.invariant.untouched;
     }

@@ -9,19 +9,24 @@ use Rattle.vms_parts.specs.Views.{device_of}
 use Rattle.vms_image.specs.Typed.{state_of}
 use Rattle.vms_values.specs.Printing.{section_text}
 use Rattle.vms_values.proofs.Subs.{own_spot, device_is}
+use Rattle.vms_values.proofs.print.print_device.Given.{Over}
 use Rattle.vms_values.proofs.print.print_device.Goals as goal
+use Rattle.vms_values.proofs.print.print_device.Goals.{After-device}
+
+line_is : (g : Over) (c : goal.After-device g)
+    → section_text (device_of c.device.result.now) c.version-version.result ≡ section_text (device_at (described c.args.shown.set.now) c.args.device) (state_of c.args.shown.image.now).version
+line_is g c =
+    ap (λ (x : Device). section_text x c.version-version.result) c.device.ensures ∙ ap (section_text (device_at (described c.args.shown.set.now) c.args.device)) c.version-version.ensures
 
 pub returns-in_err-print_section : goal.returns-in_err-print_section
 returns-in_err-print_section g c =
     let set = described c.args.shown.set.now in
     let image = state_of c.args.shown.image.now in
     let d = device_at set c.args.device in
-    let line : section_text (device_of c.device.result.now) c.version-version.result ≡ section_text d image.version =
-    ap (λ (x : Device). section_text x c.version-version.result) c.device.ensures ∙ ap (section_text d) c.version-version.ensures in
     let own = desc_lines (printers set) d.desc [] image.numbers 0 in
     let subs = sub_lines set image.numbers (own_cells set d) d.subs image.came in
     let p = err_from_is_err_and c.from_residual.result c.from_residual.ensures.1 in
-    rw p.1 (stops_as (device_is set d image) (stops_front subs (stops_front own (stops_as line c.in_err-print_section.ensures))))
+    rw p.1 (stops_as (device_is set d image) (stops_front subs (stops_front own (stops_as (line_is g (goal.at.returns-in_err-print_section g c).After-device) c.in_err-print_section.ensures))))
 
 pub print_lines-requires : goal.print_lines-requires
 print_lines-requires g c =
@@ -33,19 +38,15 @@ returns-in_err-print_lines g c =
     let set = described c.args.shown.set.now in
     let image = state_of c.args.shown.image.now in
     let d = device_at set c.args.device in
-    let line : section_text (device_of c.device.result.now) c.version-version.result ≡ section_text d image.version =
-    ap (λ (x : Device). section_text x c.version-version.result) c.device.ensures ∙ ap (section_text d) c.version-version.ensures in
     let subs = sub_lines set image.numbers (own_cells set d) d.subs image.came in
     let p = err_from_is_err_and c.from_residual-in_err-print_lines.result c.from_residual-in_err-print_lines.ensures.1 in
-    rw p.1 (stops_as (device_is set d image) (stops_front subs (stops_behind (puts_as line c.in_ok-print_section.ensures) c.in_err-print_lines.ensures)))
+    rw p.1 (stops_as (device_is set d image) (stops_front subs (stops_behind (puts_as (line_is g (goal.at.returns-in_err-print_lines g c).After-device) c.in_ok-print_section.ensures) c.in_err-print_lines.ensures)))
 
 pub returns : goal.returns
 returns g c =
     let set = described c.args.shown.set.now in
     let image = state_of c.args.shown.image.now in
     let d = device_at set c.args.device in
-    let line : section_text (device_of c.device.result.now) c.version-version.result ≡ section_text d image.version =
-    ap (λ (x : Device). section_text x c.version-version.result) c.device.ensures ∙ ap (section_text d) c.version-version.ensures in
     let subs = sub_lines set image.numbers (own_cells set d) d.subs image.came in
     wrote_as c.print_subs.result _ _ (device_is set d image)
-    (wrote_behind c.print_subs.result _ subs (puts_both (puts_as line c.in_ok-print_section.ensures) c.in_ok-print_lines.ensures) c.print_subs.ensures)
+    (wrote_behind c.print_subs.result _ subs (puts_both (puts_as (line_is g (goal.at.returns g c).After-device) c.in_ok-print_section.ensures) c.in_ok-print_lines.ensures) c.print_subs.ensures)

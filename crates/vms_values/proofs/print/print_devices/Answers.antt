@@ -1,14 +1,18 @@
-use Rattle.std.proofs.Common.{◌≡◌, ◌<◌, length, sym, ap, ◌∙◌, arith, map}
+use Rattle.std.proofs.Common.{◌≡◌, ◌+◌, ◌<◌, ◌++◌, length, drop, sym, ap, ◌∙◌, arith, map}
 use Rattle.std.proofs.lemmas.Result.{err_from_is_err_and}
 use Rattle.std.proofs.lemmas.List.{length-map}
 use Rattle.vms_spec.specs.Sets.{Set}
+use Rattle.vms_spec.specs.Values.{device_lines, devices_lines}
 use Rattle.vms_parts.specs.Views.{device_of}
 use Rattle.vms_desc.specs.Described.{described, device_at}
 use Rattle.vms_image.specs.Typed.{state_of}
 use Rattle.vms_image.proofs.States.{states_long, state_at}
+use Rattle.vms_values.specs.Printing.{IsOf, AreOf}
 use Rattle.vms_values.proofs.PrintLemmas.{device_left, images_at, of_next, of_room, devices_next}
 use Rattle.vms_io.proofs.WritingLemmas.{leaves_rest, leaves_stop}
+use Rattle.vms_values.proofs.print.print_devices.Given.{Over}
 use Rattle.vms_values.proofs.print.print_devices.Goals as goal
+use Rattle.vms_values.proofs.print.print_devices.Goals.{After-print_device-arg-1}
 
 pub bounds-images-device : goal.bounds-images-device
 bounds-images-device g c =
@@ -17,39 +21,30 @@ bounds-images-device g c =
     let lt : c.loop-device.device < length set.devices = omega (arith, long, c.loop-device-test.true) in
     omega (arith, of_room set c.loop-device.device set.devices (map state_of c.args.images.now) c.loop-device.invariant.of lt, states_long c.args.images.now)
 
-pub print_device-requires-clause-of : goal.print_device-requires-clause-of
-print_device-requires-clause-of g c =
+-- the image of the device whose turn it is, and its lines
+here : (g : Over) (c : goal.After-print_device-arg-1 g) → (let set = described c.args.set.now in let k = c.loop-device.device in let states = map state_of c.args.images.now in
+    (IsOf set (device_at set k) (state_of c.index-images-device.result) × AreOf set (drop (k + 1) set.devices) (drop (k + 1) states))
+    × (devices_lines set (drop k set.devices) (drop k states) ≡ device_lines set (device_at set k) (state_of c.index-images-device.result) ++ devices_lines set (drop (k + 1) set.devices) (drop (k + 1) states)))
+here g c =
     let set = described c.args.set.now in
     let k = c.loop-device.device in
+    let states = map state_of c.args.images.now in
+    let image = state_of c.index-images-device.result in
     let long : length c.as_slice.result.now ≡ length set.devices = ap length c.as_slice.ensures ∙ sym (length-map c.parts.result.now.devices device_of) ∙ ap (λ (s : Set). length s.devices) c.parts.ensures in
     let lt : k < length set.devices = omega (arith, long, c.loop-device-test.true) in
-    let more : k < length (map state_of c.args.images.now) = of_room set k set.devices (map state_of c.args.images.now) c.loop-device.invariant.of lt in
-    let here : k < length c.args.images.now = omega (arith, more, states_long c.args.images.now) in
-    (of_next set k set.devices (map state_of c.args.images.now) (device_at set k) (state_of c.index-images-device.result) (device_left set k lt) (images_at (map state_of c.args.images.now) k (state_of c.index-images-device.result) more (state_at c.args.images.now k c.index-images-device.result here c.index-images-device.is)) c.loop-device.invariant.of).0
+    let more : k < length states = of_room set k set.devices states c.loop-device.invariant.of lt in
+    let at = images_at states k image more (state_at c.args.images.now k c.index-images-device.result (omega (arith, more, states_long c.args.images.now)) c.index-images-device.is) in
+    (of_next set k set.devices states (device_at set k) image (device_left set k lt) at c.loop-device.invariant.of, devices_next set k set.devices states (device_at set k) image (device_left set k lt) at)
+
+pub print_device-requires-clause-of : goal.print_device-requires-clause-of
+print_device-requires-clause-of g c = (here g c).0.0
 
 pub returns-in_err-print_device : goal.returns-in_err-print_device
 returns-in_err-print_device g c =
-    let set = described c.args.set.now in
-    let k = c.loop-device.device in
-    let long : length c.as_slice.result.now ≡ length set.devices = ap length c.as_slice.ensures ∙ sym (length-map c.parts.result.now.devices device_of) ∙ ap (λ (s : Set). length s.devices) c.parts.ensures in
-    let lt : k < length set.devices = omega (arith, long, c.loop-device-test.true) in
-    let more : k < length (map state_of c.args.images.now) = of_room set k set.devices (map state_of c.args.images.now) c.loop-device.invariant.of lt in
-    let here : k < length c.args.images.now = omega (arith, more, states_long c.args.images.now) in
     let p = err_from_is_err_and c.from_residual.result c.from_residual.ensures.1 in
-    rw p.1 (leaves_stop _
-    (devices_next set k set.devices (map state_of c.args.images.now) (device_at set k) (state_of c.index-images-device.result) (device_left set k lt) (images_at (map state_of c.args.images.now) k (state_of c.index-images-device.result) more (state_at c.args.images.now k c.index-images-device.result here c.index-images-device.is)))
-    c.loop-device.invariant.owes c.in_err-print_device.ensures)
+    rw p.1 (leaves_stop _ (here g (goal.at.returns-in_err-print_device g c).After-print_device-arg-1).1 c.loop-device.invariant.owes c.in_err-print_device.ensures)
 
 pub loop-device-preserved : goal.loop-device-preserved
 loop-device-preserved g c =
-    let set = described c.args.set.now in
-    let k = c.loop-device.device in
-    let long : length c.as_slice.result.now ≡ length set.devices = ap length c.as_slice.ensures ∙ sym (length-map c.parts.result.now.devices device_of) ∙ ap (λ (s : Set). length s.devices) c.parts.ensures in
-    let lt : k < length set.devices = omega (arith, long, c.loop-device-test.true) in
-    let more : k < length (map state_of c.args.images.now) = of_room set k set.devices (map state_of c.args.images.now) c.loop-device.invariant.of lt in
-    let here : k < length c.args.images.now = omega (arith, more, states_long c.args.images.now) in
-    let image = images_at (map state_of c.args.images.now) k (state_of c.index-images-device.result) more (state_at c.args.images.now k c.index-images-device.result here c.index-images-device.is) in
-    record {
-      owes = leaves_rest _ (devices_next set k set.devices (map state_of c.args.images.now) (device_at set k) (state_of c.index-images-device.result) (device_left set k lt) image) c.loop-device.invariant.owes c.in_ok-print_device.ensures;
-      of = (of_next set k set.devices (map state_of c.args.images.now) (device_at set k) (state_of c.index-images-device.result) (device_left set k lt) image c.loop-device.invariant.of).1;
-    }
+    let next = here g (goal.at.loop-device-preserved g c).After-print_device-arg-1 in
+    record { owes = leaves_rest _ next.1 c.loop-device.invariant.owes c.in_ok-print_device.ensures; of = next.0.1 }

@@ -6,7 +6,9 @@ use Rattle.vms_desc.specs.Described.{described, device_at}
 use Rattle.vms_image.specs.Typed.{state_of}
 use Rattle.vms_values.proofs.Subs.{subs_left, no_subs, first_sub}
 use Rattle.vms_io.proofs.WritingLemmas.{leaves_all, leaves_rest, leaves_stop, leaves_none}
+use Rattle.vms_values.proofs.print.print_subs.Given.{Over}
 use Rattle.vms_values.proofs.print.print_subs.Goals as goal
+use Rattle.vms_values.proofs.print.print_subs.Goals.{In-loop-sub}
 
 pub loop-sub-init : goal.loop-sub-init
 loop-sub-init g c =
@@ -14,22 +16,24 @@ loop-sub-init g c =
     let image = state_of c.args.shown.image.now in
     leaves_all _ _ _ (first_sub set c.args.device image.numbers image.came)
 
+-- the subsection whose turn it is is one of the device's, and the image says whether it came
+inside : (g : Over) (c : goal.In-loop-sub g) → (c.loop-sub.sub < length (device_at (described c.args.shown.set.now) c.args.device).subs) × (c.loop-sub.sub < length (state_of c.args.shown.image.now).came)
+inside g c =
+    let lt : c.loop-sub.sub < length (device_at (described c.args.shown.set.now) c.args.device).subs = omega (arith, c.sub_count-sub-end.ensures, c.loop-sub-test.true) in
+    (lt, omega (arith, lt, c.requires.of.subs))
+
 pub returns-in_err-print_sub : goal.returns-in_err-print_sub
 returns-in_err-print_sub g c =
-    let set = described c.args.shown.set.now in
     let image = state_of c.args.shown.image.now in
-    let lt : c.loop-sub.sub < length (device_at set c.args.device).subs = omega (arith, c.sub_count-sub-end.ensures, c.loop-sub-test.true) in
-    let lt' : c.loop-sub.sub < length image.came = omega (arith, lt, c.requires.of.subs) in
+    let i = inside g (goal.at.returns-in_err-print_sub g c).In-loop-sub in
     let p = err_from_is_err_and c.from_residual.result c.from_residual.ensures.1 in
-    rw p.1 (leaves_stop _ (subs_left set c.args.device image.numbers image.came c.loop-sub.sub lt lt') c.loop-sub.invariant c.in_err-print_sub.ensures)
+    rw p.1 (leaves_stop _ (subs_left (described c.args.shown.set.now) c.args.device image.numbers image.came c.loop-sub.sub i.0 i.1) c.loop-sub.invariant c.in_err-print_sub.ensures)
 
 pub loop-sub-preserved : goal.loop-sub-preserved
 loop-sub-preserved g c =
-    let set = described c.args.shown.set.now in
     let image = state_of c.args.shown.image.now in
-    let lt : c.loop-sub.sub < length (device_at set c.args.device).subs = omega (arith, c.sub_count-sub-end.ensures, c.loop-sub-test.true) in
-    let lt' : c.loop-sub.sub < length image.came = omega (arith, lt, c.requires.of.subs) in
-    leaves_rest _ (subs_left set c.args.device image.numbers image.came c.loop-sub.sub lt lt') c.loop-sub.invariant c.in_ok-print_sub.ensures
+    let i = inside g (goal.at.loop-sub-preserved g c).In-loop-sub in
+    leaves_rest _ (subs_left (described c.args.shown.set.now) c.args.device image.numbers image.came c.loop-sub.sub i.0 i.1) c.loop-sub.invariant c.in_ok-print_sub.ensures
 
 pub returns : goal.returns
 returns g c =

@@ -19,10 +19,12 @@ use Rattle.vms_walk.proofs.Walking.{room_at}
 use Rattle.vms_values.specs.Printing.{run_lines, below, Stays}
 use Rattle.vms_values.proofs.Printers.{cells_of, struct_lines}
 use Rattle.vms_io.proofs.WritingLemmas.{wrote_as, leaves_all, leaves_rest, leaves_stop, leaves_none}
-use Rattle.vms_values.proofs.Runs.{array_run, elements_left, no_elements, no_fields, next_run}
+use Rattle.vms_values.proofs.Runs.{FoundRun, array_run, elements_left, no_elements, no_fields, found_run, found_width}
 use Rattle.vms_values.proofs.Fronts.{stays, stays_is, stays_then, stays_element, cut_is, field_short}
 use Rattle.vms_values.specs.declared.line.TheConstants.{LONGEST}
+use Rattle.vms_values.proofs.shown.+print.Given.{Over}
 use Rattle.vms_values.proofs.shown.+print.Goals as goal
+use Rattle.vms_values.proofs.shown.+print.Goals.{print_elements-After-print_item-arg-in-loop-index-1, print_part-After-field_cells-cell, print_part-After-print_field-arg-in-loop-field-1}
 
 -- ---- elements
 
@@ -36,12 +38,17 @@ print_elements-loop-index-init g t c =
       here = grind arith;
     }
 
+-- the path of the element whose turn it is
+element : (g : Over) (t : ℕ) (c : goal.print_elements-After-print_item-arg-in-loop-index-1 g t) → (c.push_index.new.self ≡ c.args.line.now ++ codes "[" ++ decimal c.loop-index.index ++ codes "]") × (length c.push_index.new.self ≤ length c.args.line.now + 42)
+element g t c =
+    let kept = cut_is c.args.line.now c.loop-index.line c.cut.new.self c.len-kept.result c.cut.ensures c.len-kept.ensures c.loop-index.invariant.line in
+    (c.push_index.ensures.text ∙ ap (λ (l : List ℕ). l ++ codes "[" ++ decimal c.loop-index.index ++ codes "]") kept, omega (arith, ap length kept, c.push_index.ensures.long))
+
 pub print_elements-print_item-requires : goal.print_elements-print_item-requires
 print_elements-print_item-requires g t c =
     let set = described c.args.shown.set.now in
     let room = room_at c.loop-index.index c.args.run.count (size_in set c.args.item.now) c.args.run.first c.loop-index.cell (length c.args.shown.image.now.numbers) c.loop-index-test.true c.loop-index.invariant.here c.requires.room in
-    let kept = cut_is c.args.line.now c.loop-index.line c.cut.new.self c.len-kept.result c.cut.ensures c.len-kept.ensures c.loop-index.invariant.line in
-    let short : length c.push_index.new.self + 54 + below c.args.item.now ≤ LONGEST = omega (arith, ap length kept, c.push_index.ensures.long, c.requires.short) in
+    let short : length c.push_index.new.self + 54 + below c.args.item.now ≤ LONGEST = omega (arith, (element g t c).1, c.requires.short) in
     λ κs h. (search rules, (search rules, (c.requires.reaches, (room, (c.requires.few, short)))))
 
 pub print_elements-returns-in_err-print_item-clause-written :
@@ -52,8 +59,7 @@ print_elements-returns-in_err-print_item-clause-written g t c =
     let item = c.args.item.now in
     let n = c.args.shown.image.now.numbers in
     let i = c.loop-index.index in
-    let kept = cut_is c.args.line.now c.loop-index.line c.cut.new.self c.len-kept.result c.cut.ensures c.len-kept.ensures c.loop-index.invariant.line in
-    let path : c.push_index.new.self ≡ c.args.line.now ++ codes "[" ++ decimal i ++ codes "]" = c.push_index.ensures.text ∙ ap (λ (l : List ℕ). l ++ codes "[" ++ decimal i ++ codes "]") kept in
+    let path = (element g t (goal.at.print_elements-returns-in_err-print_item-clause-written g t c).After-print_item-arg-in-loop-index-1).0 in
     let rest = element_lines ps item c.args.line.now n (c.loop-index.cell + size_in set item) (size_in set item) (i + 1) (c.args.run.count - (i + 1)) in
     let p = err_from_is_err_and c.from_residual.result c.from_residual.ensures.1 in
     rw p.1 (leaves_stop _
@@ -64,8 +70,7 @@ print_elements-returns-in_err-print_item-clause-written g t c =
 pub print_elements-returns-in_err-print_item-clause-line :
     goal.print_elements-returns-in_err-print_item-clause-line
 print_elements-returns-in_err-print_item-clause-line g t c =
-    let kept = cut_is c.args.line.now c.loop-index.line c.cut.new.self c.len-kept.result c.cut.ensures c.len-kept.ensures c.loop-index.invariant.line in
-    let path = c.push_index.ensures.text ∙ ap (λ (l : List ℕ). l ++ codes "[" ++ decimal c.loop-index.index ++ codes "]") kept in
+    let path = (element g t (goal.at.print_elements-returns-in_err-print_item-clause-line g t c).After-print_item-arg-in-loop-index-1).0 in
     stays_then _ _ _ (stays_element c.args.line.now (decimal c.loop-index.index) c.push_index.new.self path) c.in_err-print_item.ensures.line
 
 pub print_elements-overflow_add-cell : goal.print_elements-overflow_add-cell
@@ -87,15 +92,14 @@ print_elements-loop-index-preserved g t c =
     let size : c.item_cells-size.result ≡ size_in set item = size_code set item c.item_cells-size.result c.item_cells-size.ensures c.requires.small in
     let one : (i + 1) * size_in set item ≡ i * size_in set item + size_in set item = grind arith in
     let rest = λ (s : ℕ). element_lines ps item path n (cell + s) (size_in set item) (i + 1) (c.args.run.count - (i + 1)) in
-    let kept = cut_is c.args.line.now c.loop-index.line c.cut.new.self c.len-kept.result c.cut.ensures c.len-kept.ensures c.loop-index.invariant.line in
-    let element : c.push_index.new.self ≡ path ++ codes "[" ++ decimal i ++ codes "]" = c.push_index.ensures.text ∙ ap (λ (l : List ℕ). l ++ codes "[" ++ decimal i ++ codes "]") kept in
+    let named = (element g t (goal.at.print_elements-loop-index-preserved g t c).After-print_item-arg-in-loop-index-1).0 in
     record {
       owes = leaves_rest _
           (elements_left ps item path n cell (size_in set item) i c.args.run.count c.loop-index-test.true
           ∙ ap (λ (s : ℕ). item_lines ps item (path ++ codes "[" ++ decimal i ++ codes "]") n cell ++ rest s) (sym size)
-          ∙ ap (λ (l : List ℕ). item_lines ps item l n cell ++ rest c.item_cells-size.result) (sym element))
+          ∙ ap (λ (l : List ℕ). item_lines ps item l n cell ++ rest c.item_cells-size.result) (sym named))
           c.loop-index.invariant.owes c.in_ok-print_item.ensures.written;
-      line = stays_then _ _ _ (stays_element path (decimal i) c.push_index.new.self element) c.in_ok-print_item.ensures.line;
+      line = stays_then _ _ _ (stays_element path (decimal i) c.push_index.new.self named) c.in_ok-print_item.ensures.line;
       here = omega (arith, one, size, c.loop-index.invariant.here);
     }
 
@@ -188,99 +192,80 @@ print_part-loop-field-init g t c =
       room = spot_room (described c.args.shown.set.now) c.args.spot c.args.shown.image.now.numbers c.requires.spot;
     }
 
+-- the field whose turn it is
+record Turn (g : Over) (t : ℕ) (c : goal.print_part-After-print_field-arg-in-loop-field-1 g t) : Type 0 where
+  inside : c.loop-field.field < length (desc_at (described c.args.shown.set.now) c.args.spot.part).fields
+  run : FoundRun (described c.args.shown.set.now) c.args.spot c.args.line.now c.args.shown.image.now.numbers c.loop-field.field c.loop-field.cell c.elements.result c.index-as_slice-field.result
+  kept : c.cut.new.self ≡ c.args.line.now
+
+turn : (g : Over) (t : ℕ) (c : goal.print_part-After-print_field-arg-in-loop-field-1 g t) → Turn g t c
+turn g t c =
+    let lt : c.loop-field.field < length (desc_at (described c.args.shown.set.now) c.args.spot.part).fields = omega (arith, c.field_count-field-end.ensures, c.loop-field-test.true) in
+    record {
+      inside = lt;
+      run = found_run (described c.args.shown.set.now) c.args.shown.set.now.well_formed c.args.spot c.args.line.now c.args.shown.image.now.numbers c.requires.spot c.loop-field.field c.loop-field.cell c.elements.result
+          c.desc.result.now c.as_slice.result.now c.index-as_slice-field.result lt c.desc.ensures c.as_slice.ensures c.index-as_slice-field.is c.elements.ensures c.loop-field.invariant.room;
+      kept = cut_is c.args.line.now c.loop-field.line c.cut.new.self c.len-kept.result c.cut.ensures c.len-kept.ensures c.loop-field.invariant.line;
+    }
+
+wide : (g : Over) (t : ℕ) (c : goal.print_part-After-field_cells-cell g t)
+    → c.field_cells-cell.result ≡ capacity_of c.index-as_slice-field.result.count * size_in (described c.args.shown.set.now) c.index-as_slice-field.result.item
+wide g t c =
+    found_width (described c.args.shown.set.now) c.args.spot c.args.line.now c.args.shown.image.now.numbers c.loop-field.field c.loop-field.cell c.elements.result c.field_cells-cell.result c.index-as_slice-field.result
+    (turn g t (goal.at.print_part-overflow_add-cell g t c).After-print_field-arg-in-loop-field-1).run c.requires.spot.few c.field_cells-cell.ensures
+
 pub print_part-print_field-requires : goal.print_part-print_field-requires
 print_part-print_field-requires g t c =
-    let set = described c.args.shown.set.now in
-    let spot = c.args.spot in
-    let n = c.args.shown.image.now.numbers in
-    let k = c.loop-field.field in
-    let cell = c.loop-field.cell in
-    let f = c.index-as_slice-field.result in
-    let d = desc_at set spot.part in
-    let lt : k < length d.fields = omega (arith, c.field_count-field-end.ensures, c.loop-field-test.true) in
-    let fields : map field_of c.as_slice.result.now ≡ d.fields = ap (map field_of) c.as_slice.ensures ∙ ap (λ (x : Desc). x.fields) c.desc.ensures in
-    let found : field_of f ≡ field_at set spot.part k = found_field c.as_slice.result.now d.fields k f fields lt c.index-as_slice-field.is in
-    let count : c.elements.result ≡ elements_of f.count (own_numbers set spot.part n spot.base) = c.elements.ensures ∙ ap (λ (x : Field). elements_of x.count (own_numbers set spot.part n spot.base)) (sym found) in
-    let next = next_run set c.args.shown.set.now.well_formed spot c.args.line.now n c.requires.spot k cell c.elements.result (field_of f) lt found count c.loop-field.invariant.room in
-    let lower = next.lower in
-    let kept = cut_is c.args.line.now c.loop-field.line c.cut.new.self c.len-kept.result c.cut.ensures c.len-kept.ensures c.loop-field.invariant.line in
-    let short = field_short set c.args.shown.set.now.well_formed spot.part c.requires.spot.part k lt (field_of f) found in
-    λ κs h. (search rules, (search rules, (next.run, (short.0, omega (arith, ap length kept, short.1, c.requires.short)))))
+    let s = turn g t c in
+    let lower = s.run.next.lower in
+    let short = field_short (described c.args.shown.set.now) c.args.shown.set.now.well_formed c.args.spot.part c.requires.spot.part c.loop-field.field s.inside (field_of c.index-as_slice-field.result) s.run.found in
+    λ κs h. (search rules, (search rules, (s.run.next.run, (short.0, omega (arith, ap length s.kept, short.1, c.requires.short)))))
 
 pub print_part-returns-in_err-print_field-clause-written :
     goal.print_part-returns-in_err-print_field-clause-written
 print_part-returns-in_err-print_field-clause-written g t c =
     let set = described c.args.shown.set.now in
-    let spot = c.args.spot in
     let n = c.args.shown.image.now.numbers in
     let k = c.loop-field.field in
-    let cell = c.loop-field.cell in
     let f = c.index-as_slice-field.result in
-    let d = desc_at set spot.part in
-    let lt : k < length d.fields = omega (arith, c.field_count-field-end.ensures, c.loop-field-test.true) in
-    let fields : map field_of c.as_slice.result.now ≡ d.fields = ap (map field_of) c.as_slice.ensures ∙ ap (λ (x : Desc). x.fields) c.desc.ensures in
-    let found : field_of f ≡ field_at set spot.part k = found_field c.as_slice.result.now d.fields k f fields lt c.index-as_slice-field.is in
-    let count : c.elements.result ≡ elements_of f.count (own_numbers set spot.part n spot.base) = c.elements.ensures ∙ ap (λ (x : Field). elements_of x.count (own_numbers set spot.part n spot.base)) (sym found) in
-    let next = next_run set c.args.shown.set.now.well_formed spot c.args.line.now n c.requires.spot k cell c.elements.result (field_of f) lt found count c.loop-field.invariant.room in
-    let kept = cut_is c.args.line.now c.loop-field.line c.cut.new.self c.len-kept.result c.cut.ensures c.len-kept.ensures c.loop-field.invariant.line in
-    let own = numbers_of (cells_of (printers set)) d n spot.base in
-    let rest = field_lines (printers set) d.fields own c.args.line.now n (k + 1) (cell + capacity_of f.count * size_in set f.item) (drop (k + 1) d.fields) in
+    let d = desc_at set c.args.spot.part in
+    let s = turn g t (goal.at.print_part-returns-in_err-print_field-clause-written g t c).After-print_field-arg-in-loop-field-1 in
+    let own = numbers_of (cells_of (printers set)) d n c.args.spot.base in
+    let rest = field_lines (printers set) d.fields own c.args.line.now n (k + 1) (c.loop-field.cell + capacity_of f.count * size_in set f.item) (drop (k + 1) d.fields) in
     let p = err_from_is_err_and c.from_residual.result c.from_residual.ensures.1 in
     rw p.1 (leaves_stop _
-    (next.lines ∙ ap (λ (l : List ℕ). run_lines (printers set) (field_of f) f.count c.elements.result l n cell ++ rest) (sym kept)) c.loop-field.invariant.owes c.in_err-print_field.ensures.written)
+    (s.run.next.lines ∙ ap (λ (l : List ℕ). run_lines (printers set) (field_of f) f.count c.elements.result l n c.loop-field.cell ++ rest) (sym s.kept)) c.loop-field.invariant.owes c.in_err-print_field.ensures.written)
 
 pub print_part-returns-in_err-print_field-clause-line :
     goal.print_part-returns-in_err-print_field-clause-line
 print_part-returns-in_err-print_field-clause-line g t c =
-    let kept = cut_is c.args.line.now c.loop-field.line c.cut.new.self c.len-kept.result c.cut.ensures c.len-kept.ensures c.loop-field.invariant.line in
-    stays_then _ _ _ (subst (Stays c.args.line.now) (sym kept) (stays c.args.line.now)) c.in_err-print_field.ensures.line
+    let s = turn g t (goal.at.print_part-returns-in_err-print_field-clause-line g t c).After-print_field-arg-in-loop-field-1 in
+    stays_then _ _ _ (subst (Stays c.args.line.now) (sym s.kept) (stays c.args.line.now)) c.in_err-print_field.ensures.line
 
 pub print_part-overflow_add-cell : goal.print_part-overflow_add-cell
 print_part-overflow_add-cell g t c =
-    let set = described c.args.shown.set.now in
-    let spot = c.args.spot in
-    let n = c.args.shown.image.now.numbers in
-    let k = c.loop-field.field in
-    let cell = c.loop-field.cell in
-    let f = c.index-as_slice-field.result in
-    let d = desc_at set spot.part in
-    let lt : k < length d.fields = omega (arith, c.field_count-field-end.ensures, c.loop-field-test.true) in
-    let fields : map field_of c.as_slice.result.now ≡ d.fields = ap (map field_of) c.as_slice.ensures ∙ ap (λ (x : Desc). x.fields) c.desc.ensures in
-    let found : field_of f ≡ field_at set spot.part k = found_field c.as_slice.result.now d.fields k f fields lt c.index-as_slice-field.is in
-    let count : c.elements.result ≡ elements_of f.count (own_numbers set spot.part n spot.base) = c.elements.ensures ∙ ap (λ (x : Field). elements_of x.count (own_numbers set spot.part n spot.base)) (sym found) in
-    let next = next_run set c.args.shown.set.now.well_formed spot c.args.line.now n c.requires.spot k cell c.elements.result (field_of f) lt found count c.loop-field.invariant.room in
-    let small : capacity_of f.count * size_in set f.item ≤ MOST_ITEMS = omega (arith, next.room, c.requires.spot.few) in
-    let width : c.field_cells-cell.result ≡ capacity_of f.count * size_in set f.item =
-    width_code set (field_of f) c.field_cells-cell.result (c.field_cells-cell.ensures ∙ ap (λ (x : Field). in_u32 (capacity_of x.count * item_size (struct_cells set) x.item)) (sym found)) small in
-    omega (arith, width, next.room, c.requires.spot.few)
+    let s = turn g t (goal.at.print_part-overflow_add-cell g t c).After-print_field-arg-in-loop-field-1 in
+    omega (arith, wide g t c, s.run.next.room, c.requires.spot.few)
 
 pub print_part-loop-field-preserved : goal.print_part-loop-field-preserved
 print_part-loop-field-preserved g t c =
     let set = described c.args.shown.set.now in
-    let spot = c.args.spot in
     let n = c.args.shown.image.now.numbers in
     let k = c.loop-field.field in
     let cell = c.loop-field.cell in
     let f = c.index-as_slice-field.result in
-    let d = desc_at set spot.part in
-    let lt : k < length d.fields = omega (arith, c.field_count-field-end.ensures, c.loop-field-test.true) in
-    let fields : map field_of c.as_slice.result.now ≡ d.fields = ap (map field_of) c.as_slice.ensures ∙ ap (λ (x : Desc). x.fields) c.desc.ensures in
-    let found : field_of f ≡ field_at set spot.part k = found_field c.as_slice.result.now d.fields k f fields lt c.index-as_slice-field.is in
-    let count : c.elements.result ≡ elements_of f.count (own_numbers set spot.part n spot.base) = c.elements.ensures ∙ ap (λ (x : Field). elements_of x.count (own_numbers set spot.part n spot.base)) (sym found) in
-    let next = next_run set c.args.shown.set.now.well_formed spot c.args.line.now n c.requires.spot k cell c.elements.result (field_of f) lt found count c.loop-field.invariant.room in
-    let small : capacity_of f.count * size_in set f.item ≤ MOST_ITEMS = omega (arith, next.room, c.requires.spot.few) in
-    let width : c.field_cells-cell.result ≡ capacity_of f.count * size_in set f.item =
-    width_code set (field_of f) c.field_cells-cell.result (c.field_cells-cell.ensures ∙ ap (λ (x : Field). in_u32 (capacity_of x.count * item_size (struct_cells set) x.item)) (sym found)) small in
+    let d = desc_at set c.args.spot.part in
     let path = c.args.line.now in
-    let own = numbers_of (cells_of (printers set)) d n spot.base in
+    let s = turn g t (goal.at.print_part-loop-field-preserved g t c).After-print_field-arg-in-loop-field-1 in
+    let width = wide g t (goal.at.print_part-loop-field-preserved g t c).After-field_cells-cell in
+    let own = numbers_of (cells_of (printers set)) d n c.args.spot.base in
     let rest = λ (w : ℕ). field_lines (printers set) d.fields own path n (k + 1) (cell + w) (drop (k + 1) d.fields) in
-    let kept = cut_is path c.loop-field.line c.cut.new.self c.len-kept.result c.cut.ensures c.len-kept.ensures c.loop-field.invariant.line in
     record {
       owes = leaves_rest _
-          (next.lines ∙ ap (λ (w : ℕ). run_lines (printers set) (field_of f) f.count c.elements.result path n cell ++ rest w) (sym width)
-          ∙ ap (λ (l : List ℕ). run_lines (printers set) (field_of f) f.count c.elements.result l n cell ++ rest c.field_cells-cell.result) (sym kept)) c.loop-field.invariant.owes c.in_ok-print_field.ensures.written;
-      line = stays_then _ _ _ (subst (Stays path) (sym kept) (stays path)) c.in_ok-print_field.ensures.line;
-      room = subst (λ (w : ℕ). (cell + w) + length (cells_from (cells_in (table set)) d.fields (k + 1) (drop (k + 1) d.fields)) ≤ length n) (sym width) next.later;
+          (s.run.next.lines ∙ ap (λ (w : ℕ). run_lines (printers set) (field_of f) f.count c.elements.result path n cell ++ rest w) (sym width)
+          ∙ ap (λ (l : List ℕ). run_lines (printers set) (field_of f) f.count c.elements.result l n cell ++ rest c.field_cells-cell.result) (sym s.kept)) c.loop-field.invariant.owes c.in_ok-print_field.ensures.written;
+      line = stays_then _ _ _ (subst (Stays path) (sym s.kept) (stays path)) c.in_ok-print_field.ensures.line;
+      room = subst (λ (w : ℕ). (cell + w) + length (cells_from (cells_in (table set)) d.fields (k + 1) (drop (k + 1) d.fields)) ≤ length n) (sym width) s.run.next.later;
     }
 
 pub print_part-returns-clause-written : goal.print_part-returns-clause-written

@@ -24,24 +24,29 @@ use Rattle.vms_values.specs.Printing.{below, Stays}
 use Rattle.vms_values.specs.Reading.{Reaches}
 use Rattle.vms_values.specs.Taken.{AreKinds, ElementKinds, element_cells, place_of}
 use Rattle.vms_values.proofs.Fronts.{stays, stays_is, stays_then, stays_element, cut_is, field_short}
-use Rattle.vms_values.proofs.KindsAt.{field_kinds, number_kind, struct_kinds}
+use Rattle.vms_values.proofs.KindsAt.{FieldKinds, field_kinds, number_kind, struct_kinds}
 use Rattle.vms_values.proofs.Kept.{kept_none, kept_more}
 use Rattle.vms_values.proofs.ReadLemmas.{reached, stopped}
 use Rattle.vms_values.proofs.Readers.{struct_reads}
-use Rattle.vms_values.proofs.Runs.{next_run}
+use Rattle.vms_values.proofs.Runs.{FoundRun, found_run, found_width}
 use Rattle.vms_values.proofs.Takes.{elements_go, elements_stop, array_read, IsNext, fields_go, fields_stop}
 use Rattle.vms_values.specs.declared.line.TheConstants.{LONGEST}
 use Rattle.vms_values.proofs.taken.+read.Goals as goal
+use Rattle.vms_values.proofs.taken.+read.Goals.{read_elements-After-read_item-arg-in-loop-index-1, read_under-After-field_cells-cell, read_under-After-read_field-arg-in-loop-field-1}
 
 -- ---- the elements of an array
+
+-- the path of the element whose turn it is
+element : (t : ℕ) (c : goal.read_elements-After-read_item-arg-in-loop-index-1 t) → (c.push_index.new.self ≡ c.args.path.now ++ codes "[" ++ decimal c.loop-index.index ++ codes "]") × (length c.push_index.new.self ≤ length c.args.path.now + 42)
+element t c =
+    let front = cut_is c.args.path.now c.loop-index.path c.cut.new.self c.len-kept.result c.cut.ensures c.len-kept.ensures c.loop-index.invariant.path in
+    (c.push_index.ensures.text ∙ ap (λ (l : List ℕ). l ++ codes "[" ++ decimal c.loop-index.index ++ codes "]") front, omega (arith, ap length front, c.push_index.ensures.long))
 
 pub read_elements-returns-in_err-read_item-clause-read : goal.read_elements-returns-in_err-read_item-clause-read
 read_elements-returns-in_err-read_item-clause-read t c =
     let set = described c.args.set.now in
     let f = field_of c.args.run.field.now in
-    let front = cut_is c.args.path.now c.loop-index.path c.cut.new.self c.len-kept.result c.cut.ensures c.len-kept.ensures c.loop-index.invariant.path in
-    let path : c.push_index.new.self ≡ c.args.path.now ++ codes "[" ++ decimal c.loop-index.index ++ codes "]" =
-    c.push_index.ensures.text ∙ ap (λ (l : List ℕ). l ++ codes "[" ++ decimal c.loop-index.index ++ codes "]") front in
+    let path = (element t (goal.at.read_elements-returns-in_err-read_item-clause-read t c).After-read_item-arg-in-loop-index-1).0 in
     let p = err_from_is_err_and c.from_residual.result c.from_residual.ensures.1 in
     rw (p.1, p.2) (stopped _ _ _ _ _
     (λ b same. sym c.loop-index.invariant.reads ∙ elements_stop (readers set) f (capacities_of c.args.run.most) c.args.path.now c.args.run.present (size_in set f.item)
@@ -51,9 +56,7 @@ read_elements-returns-in_err-read_item-clause-read t c =
 
 pub read_elements-returns-in_err-read_item-clause-path : goal.read_elements-returns-in_err-read_item-clause-path
 read_elements-returns-in_err-read_item-clause-path t c =
-    let front = cut_is c.args.path.now c.loop-index.path c.cut.new.self c.len-kept.result c.cut.ensures c.len-kept.ensures c.loop-index.invariant.path in
-    let path : c.push_index.new.self ≡ c.args.path.now ++ codes "[" ++ decimal c.loop-index.index ++ codes "]" =
-    c.push_index.ensures.text ∙ ap (λ (l : List ℕ). l ++ codes "[" ++ decimal c.loop-index.index ++ codes "]") front in
+    let path = (element t (goal.at.read_elements-returns-in_err-read_item-clause-path t c).After-read_item-arg-in-loop-index-1).0 in
     stays_then _ _ _ (stays_element c.args.path.now (decimal c.loop-index.index) c.push_index.new.self path) c.in_err-read_item.ensures.path
 
 pub read_elements-overflow_add-first : goal.read_elements-overflow_add-first
@@ -72,19 +75,17 @@ read_elements-loop-index-preserved t c =
     let size = size_code set f.item c.item_cells-size.result c.item_cells-size.ensures c.requires.small in
     let one : (i + 1) * size_in set f.item ≡ i * size_in set f.item + size_in set f.item = grind arith in
     let caps = capacities_of c.args.run.most in
-    let front = cut_is c.args.path.now c.loop-index.path c.cut.new.self c.len-kept.result c.cut.ensures c.len-kept.ensures c.loop-index.invariant.path in
-    let element : c.push_index.new.self ≡ c.args.path.now ++ codes "[" ++ decimal c.loop-index.index ++ codes "]" =
-    c.push_index.ensures.text ∙ ap (λ (l : List ℕ). l ++ codes "[" ++ decimal c.loop-index.index ++ codes "]") front in
+    let named = (element t (goal.at.read_elements-loop-index-preserved t c).After-read_item-arg-in-loop-index-1).0 in
     let path = c.args.path.now in
     record {
       reads = ap (λ (s : ℕ). read_elements (readers set) f caps path c.args.run.present (c.loop-index.first + s) (size_in set f.item) (i + 1) (c.args.run.count - (i + 1)) (place_of c.read_item.new.taken)) size
           ∙ elements_go (readers set) f caps path c.args.run.present (size_in set f.item) c.loop-index.first i c.args.run.count (place_of c.loop-index.taken) _ c.loop-index-test.true
-          (ap (λ (l : List ℕ). read_item (readers set) f caps l c.args.run.present c.loop-index.first f.item (place_of c.loop-index.taken)) (sym element)
+          (ap (λ (l : List ℕ). read_item (readers set) f caps l c.args.run.present c.loop-index.first f.item (place_of c.loop-index.taken)) (sym named)
           ∙ reached _ _ c.in_ok-read_item.ensures.read)
           ∙ c.loop-index.invariant.reads;
       here = omega (arith, one, size, c.loop-index.invariant.here);
       kept = kept_more _ _ _ c.loop-index.invariant.kept c.in_ok-read_item.ensures.kept;
-      path = stays_then _ _ _ (stays_element c.args.path.now (decimal i) c.push_index.new.self element) c.in_ok-read_item.ensures.path;
+      path = stays_then _ _ _ (stays_element path (decimal i) c.push_index.new.self named) c.in_ok-read_item.ensures.path;
     }
 
 pub read_elements-read_item-requires : goal.read_elements-read_item-requires
@@ -98,8 +99,7 @@ read_elements-read_item-requires t c =
     subst (λ (p : ℕ). AreKinds c.args.taken.now.image.kinds p (element_cells cs item)) (sym c.loop-index.invariant.here) (c.requires.kinds c.loop-index.index (omega (arith, c.loop-index-test.true))) in
     let fits : c.loop-index.first + size_in set item ≤ length c.loop-index.taken.image.numbers = omega (arith, room, kept.long) in
     let few : length c.loop-index.taken.image.numbers ≤ MOST_ITEMS = omega (arith, kept.long, c.requires.few) in
-    let front = cut_is c.args.path.now c.loop-index.path c.cut.new.self c.len-kept.result c.cut.ensures c.len-kept.ensures c.loop-index.invariant.path in
-    let short : length c.push_index.new.self + 54 + below item ≤ LONGEST = omega (arith, ap length front, c.push_index.ensures.long, c.requires.short) in
+    let short : length c.push_index.new.self + 54 + below item ≤ LONGEST = omega (arith, (element t c).1, c.requires.short) in
     (omega arith, (c.requires.reaches, (fits, (few, (subst (λ (ks : List Kind). AreKinds ks c.loop-index.first (element_cells cs item)) (sym kept.kinds) here, short)))))
 
 -- ---- a field
@@ -191,135 +191,95 @@ read_under-loop-field-init t c =
       path = stays c.args.path.now;
     }
 
-pub read_under-read_field-requires : goal.read_under-read_field-requires
-read_under-read_field-requires t c =
+-- the field whose turn it is, with the numbers so far
+record Turn (t : ℕ) (c : goal.read_under-After-read_field-arg-in-loop-field-1 t) : Type 0 where
+  run : FoundRun (described c.args.set.now) c.args.spot c.args.path.now c.loop-field.taken.image.numbers c.loop-field.field c.loop-field.cell c.elements.result c.index-as_slice-field.result
+  comes : IsNext (described c.args.set.now) (desc_at (described c.args.set.now) c.args.spot.part) c.args.spot.version c.args.present c.args.spot.base c.loop-field.field c.elements.result c.most.result c.is_present.result (field_of c.index-as_slice-field.result)
+      (place_of c.loop-field.taken)
+  kinds : FieldKinds (cells_in (table (described c.args.set.now))) (desc_at (described c.args.set.now) c.args.spot.part).fields c.loop-field.taken.image.kinds c.loop-field.field c.loop-field.cell (field_of c.index-as_slice-field.result)
+      (drop (c.loop-field.field + 1) (desc_at (described c.args.set.now) c.args.spot.part).fields)
+  few : length c.loop-field.taken.image.numbers ≤ MOST_ITEMS
+  front : c.cut.new.self ≡ c.args.path.now
+
+turn : (t : ℕ) (c : goal.read_under-After-read_field-arg-in-loop-field-1 t) → Turn t c
+turn t c =
     let set = described c.args.set.now in
     let spot = c.args.spot in
-    let n = c.loop-field.taken.image.numbers in
     let k = c.loop-field.field in
     let cell = c.loop-field.cell in
-    let f = c.index-as_slice-field.result in
     let d = desc_at set spot.part in
     let lt : k < length d.fields = omega (arith, c.field_count-field-end.ensures, c.loop-field-test.true) in
-    let fields : map field_of c.as_slice.result.now ≡ d.fields = ap (map field_of) c.as_slice.ensures ∙ ap (λ (x : Desc). x.fields) c.desc.ensures in
-    let found : field_of f ≡ field_at set spot.part k = found_field c.as_slice.result.now d.fields k f fields lt c.index-as_slice-field.is in
     let long = c.loop-field.invariant.kept.long in
-    let has : HasSpot set spot n = record {
+    let has : HasSpot set spot c.loop-field.taken.image.numbers = record {
       part = c.requires.spot.part;
       few = subst (λ (x : ℕ). x ≤ MOST_ITEMS) (sym long) c.requires.spot.few;
       room = subst (λ (x : ℕ). spot.base + own_cell_count set d ≤ x) (sym long) c.requires.spot.room;
     } in
-    let count : c.elements.result ≡ elements_of f.count (own_numbers set spot.part n spot.base) = c.elements.ensures ∙ ap (λ (x : Field). elements_of x.count (own_numbers set spot.part n spot.base)) (sym found) in
-    let next = next_run set c.args.set.now.well_formed spot c.args.path.now n has k cell c.elements.result (field_of f) lt found count c.loop-field.invariant.room in
-    let comes : IsNext set d spot.version c.args.present spot.base k c.elements.result c.most.result c.is_present.result (field_of f) (place_of c.loop-field.taken) =
-    record { inside = lt; found = found; counts = c.elements.ensures; least = c.most.ensures; is = c.is_present.ensures } in
-    let lower = next.lower in
-    let cs = cells_in (table set) in
-    let kinds = c.loop-field.taken.image.kinds in
-    let left = field_kinds cs d.fields kinds k cell (field_at set spot.part k) (drop k d.fields) (drop (k + 1) d.fields) (fields_at d.fields k lt) c.loop-field.invariant.kinds in
-    let here : ElementKinds cs (field_of f).item kinds cell (capacity_of f.count) = subst (λ (x : Field). ElementKinds cs x.item kinds cell (capacity_of x.count)) (sym found) left.here in
-    let fewer : c.elements.result ≤ capacity_of f.count = omega (arith, count, elements_fit f.count (own_numbers set spot.part n spot.base)) in
-    let front = cut_is c.args.path.now c.loop-field.path c.cut.new.self c.len-kept.result c.cut.ensures c.len-kept.ensures c.loop-field.invariant.path in
-    let short = field_short set c.args.set.now.well_formed spot.part c.requires.spot.part k lt (field_of f) found in
-    (omega (arith, lower), (next.run, ((λ i inside. here i (omega (arith, inside, fewer))), (short.0, omega (arith, ap length front, short.1, c.requires.short)))))
+    let run = found_run set c.args.set.now.well_formed spot c.args.path.now c.loop-field.taken.image.numbers has k cell c.elements.result c.desc.result.now c.as_slice.result.now c.index-as_slice-field.result
+    lt c.desc.ensures c.as_slice.ensures c.index-as_slice-field.is c.elements.ensures c.loop-field.invariant.room in
+    record {
+      run = run;
+      comes = record { inside = lt; found = run.found; counts = c.elements.ensures; least = c.most.ensures; is = c.is_present.ensures };
+      kinds = subst (λ (x : Field). FieldKinds (cells_in (table set)) d.fields c.loop-field.taken.image.kinds k cell x (drop (k + 1) d.fields)) (sym run.found)
+          (field_kinds (cells_in (table set)) d.fields c.loop-field.taken.image.kinds k cell (field_at set spot.part k) (drop k d.fields) (drop (k + 1) d.fields) (fields_at d.fields k lt) c.loop-field.invariant.kinds);
+      few = has.few;
+      front = cut_is c.args.path.now c.loop-field.path c.cut.new.self c.len-kept.result c.cut.ensures c.len-kept.ensures c.loop-field.invariant.path;
+    }
+
+wide : (t : ℕ) (c : goal.read_under-After-field_cells-cell t) → c.field_cells-cell.result ≡ capacity_of c.index-as_slice-field.result.count * size_in (described c.args.set.now) c.index-as_slice-field.result.item
+wide t c =
+    let s = turn t (goal.at.read_under-overflow_add-cell t c).After-read_field-arg-in-loop-field-1 in
+    found_width (described c.args.set.now) c.args.spot c.args.path.now c.loop-field.taken.image.numbers c.loop-field.field c.loop-field.cell c.elements.result c.field_cells-cell.result c.index-as_slice-field.result
+    s.run s.few c.field_cells-cell.ensures
+
+pub read_under-read_field-requires : goal.read_under-read_field-requires
+read_under-read_field-requires t c =
+    let s = turn t c in
+    let lower = s.run.next.lower in
+    let fewer : c.elements.result ≤ capacity_of c.index-as_slice-field.result.count = omega (arith, s.comes.counts, ap (λ (x : Field). capacity_of x.count) s.run.found, elements_fit (field_at (described c.args.set.now) c.args.spot.part c.loop-field.field).count (own_numbers (described c.args.set.now) c.args.spot.part c.loop-field.taken.image.numbers c.args.spot.base)) in
+    let short = field_short (described c.args.set.now) c.args.set.now.well_formed c.args.spot.part c.requires.spot.part c.loop-field.field s.comes.inside (field_of c.index-as_slice-field.result) s.run.found in
+    (omega (arith, lower), (s.run.next.run, ((λ i inside. s.kinds.here i (omega (arith, inside, fewer))), (short.0, omega (arith, ap length s.front, short.1, c.requires.short)))))
 
 pub read_under-returns-in_err-read_field-clause-read : goal.read_under-returns-in_err-read_field-clause-read
 read_under-returns-in_err-read_field-clause-read t c =
-    let front = cut_is c.args.path.now c.loop-field.path c.cut.new.self c.len-kept.result c.cut.ensures c.len-kept.ensures c.loop-field.invariant.path in
     let set = described c.args.set.now in
     let spot = c.args.spot in
-    let n = c.loop-field.taken.image.numbers in
-    let k = c.loop-field.field in
-    let cell = c.loop-field.cell in
-    let f = c.index-as_slice-field.result in
-    let d = desc_at set spot.part in
-    let lt : k < length d.fields = omega (arith, c.field_count-field-end.ensures, c.loop-field-test.true) in
-    let fields : map field_of c.as_slice.result.now ≡ d.fields = ap (map field_of) c.as_slice.ensures ∙ ap (λ (x : Desc). x.fields) c.desc.ensures in
-    let found : field_of f ≡ field_at set spot.part k = found_field c.as_slice.result.now d.fields k f fields lt c.index-as_slice-field.is in
-    let long = c.loop-field.invariant.kept.long in
-    let has : HasSpot set spot n = record {
-      part = c.requires.spot.part;
-      few = subst (λ (x : ℕ). x ≤ MOST_ITEMS) (sym long) c.requires.spot.few;
-      room = subst (λ (x : ℕ). spot.base + own_cell_count set d ≤ x) (sym long) c.requires.spot.room;
-    } in
-    let count : c.elements.result ≡ elements_of f.count (own_numbers set spot.part n spot.base) = c.elements.ensures ∙ ap (λ (x : Field). elements_of x.count (own_numbers set spot.part n spot.base)) (sym found) in
-    let next = next_run set c.args.set.now.well_formed spot c.args.path.now n has k cell c.elements.result (field_of f) lt found count c.loop-field.invariant.room in
-    let comes : IsNext set d spot.version c.args.present spot.base k c.elements.result c.most.result c.is_present.result (field_of f) (place_of c.loop-field.taken) =
-    record { inside = lt; found = found; counts = c.elements.ensures; least = c.most.ensures; is = c.is_present.ensures } in
+    let s = turn t (goal.at.read_under-returns-in_err-read_field-clause-read t c).After-read_field-arg-in-loop-field-1 in
     let p = err_from_is_err_and c.from_residual.result c.from_residual.ensures.1 in
     rw (p.1, p.2) (stopped _ _ _ _ _
-    (λ b same. sym c.loop-field.invariant.reads ∙ fields_stop set d spot.version c.args.path.now c.args.present spot.base k cell c.elements.result c.most.result c.is_present.result (field_of f)
-    (place_of c.loop-field.taken) b comes same)
-    (rw front at c.in_err-read_field.ensures.read))
+    (λ b same. sym c.loop-field.invariant.reads ∙ fields_stop set (desc_at set spot.part) spot.version c.args.path.now c.args.present spot.base c.loop-field.field c.loop-field.cell c.elements.result c.most.result c.is_present.result
+    (field_of c.index-as_slice-field.result) (place_of c.loop-field.taken) b s.comes same)
+    (rw s.front at c.in_err-read_field.ensures.read))
 
 pub read_under-returns-in_err-read_field-clause-path : goal.read_under-returns-in_err-read_field-clause-path
 read_under-returns-in_err-read_field-clause-path t c =
-    let front = cut_is c.args.path.now c.loop-field.path c.cut.new.self c.len-kept.result c.cut.ensures c.len-kept.ensures c.loop-field.invariant.path in
-    stays_then _ _ _ (subst (Stays c.args.path.now) (sym front) (stays c.args.path.now)) c.in_err-read_field.ensures.path
+    let s = turn t (goal.at.read_under-returns-in_err-read_field-clause-path t c).After-read_field-arg-in-loop-field-1 in
+    stays_then _ _ _ (subst (Stays c.args.path.now) (sym s.front) (stays c.args.path.now)) c.in_err-read_field.ensures.path
 
 pub read_under-overflow_add-cell : goal.read_under-overflow_add-cell
 read_under-overflow_add-cell t c =
-    let set = described c.args.set.now in
-    let spot = c.args.spot in
-    let n = c.loop-field.taken.image.numbers in
-    let k = c.loop-field.field in
-    let cell = c.loop-field.cell in
-    let f = c.index-as_slice-field.result in
-    let d = desc_at set spot.part in
-    let lt : k < length d.fields = omega (arith, c.field_count-field-end.ensures, c.loop-field-test.true) in
-    let fields : map field_of c.as_slice.result.now ≡ d.fields = ap (map field_of) c.as_slice.ensures ∙ ap (λ (x : Desc). x.fields) c.desc.ensures in
-    let found : field_of f ≡ field_at set spot.part k = found_field c.as_slice.result.now d.fields k f fields lt c.index-as_slice-field.is in
-    let long = c.loop-field.invariant.kept.long in
-    let has : HasSpot set spot n = record {
-      part = c.requires.spot.part;
-      few = subst (λ (x : ℕ). x ≤ MOST_ITEMS) (sym long) c.requires.spot.few;
-      room = subst (λ (x : ℕ). spot.base + own_cell_count set d ≤ x) (sym long) c.requires.spot.room;
-    } in
-    let count : c.elements.result ≡ elements_of f.count (own_numbers set spot.part n spot.base) = c.elements.ensures ∙ ap (λ (x : Field). elements_of x.count (own_numbers set spot.part n spot.base)) (sym found) in
-    let next = next_run set c.args.set.now.well_formed spot c.args.path.now n has k cell c.elements.result (field_of f) lt found count c.loop-field.invariant.room in
-    let comes : IsNext set d spot.version c.args.present spot.base k c.elements.result c.most.result c.is_present.result (field_of f) (place_of c.loop-field.taken) =
-    record { inside = lt; found = found; counts = c.elements.ensures; least = c.most.ensures; is = c.is_present.ensures } in
-    let small : capacity_of f.count * size_in set f.item ≤ MOST_ITEMS = omega (arith, next.room, has.few) in
-    let width : c.field_cells-cell.result ≡ capacity_of f.count * size_in set f.item =
-    width_code set (field_of f) c.field_cells-cell.result (c.field_cells-cell.ensures ∙ ap (λ (x : Field). in_u32 (capacity_of x.count * item_size (struct_cells set) x.item)) (sym found)) small in
-    omega (arith, width, next.room, has.few)
+    let s = turn t (goal.at.read_under-overflow_add-cell t c).After-read_field-arg-in-loop-field-1 in
+    omega (arith, wide t c, s.run.next.room, s.few)
 
 pub read_under-loop-field-preserved : goal.read_under-loop-field-preserved
 read_under-loop-field-preserved t c =
-    let front = cut_is c.args.path.now c.loop-field.path c.cut.new.self c.len-kept.result c.cut.ensures c.len-kept.ensures c.loop-field.invariant.path in
     let set = described c.args.set.now in
     let spot = c.args.spot in
-    let n = c.loop-field.taken.image.numbers in
     let k = c.loop-field.field in
     let cell = c.loop-field.cell in
-    let f = c.index-as_slice-field.result in
     let d = desc_at set spot.part in
-    let lt : k < length d.fields = omega (arith, c.field_count-field-end.ensures, c.loop-field-test.true) in
-    let fields : map field_of c.as_slice.result.now ≡ d.fields = ap (map field_of) c.as_slice.ensures ∙ ap (λ (x : Desc). x.fields) c.desc.ensures in
-    let found : field_of f ≡ field_at set spot.part k = found_field c.as_slice.result.now d.fields k f fields lt c.index-as_slice-field.is in
-    let long = c.loop-field.invariant.kept.long in
-    let has : HasSpot set spot n = record {
-      part = c.requires.spot.part;
-      few = subst (λ (x : ℕ). x ≤ MOST_ITEMS) (sym long) c.requires.spot.few;
-      room = subst (λ (x : ℕ). spot.base + own_cell_count set d ≤ x) (sym long) c.requires.spot.room;
-    } in
-    let count : c.elements.result ≡ elements_of f.count (own_numbers set spot.part n spot.base) = c.elements.ensures ∙ ap (λ (x : Field). elements_of x.count (own_numbers set spot.part n spot.base)) (sym found) in
-    let next = next_run set c.args.set.now.well_formed spot c.args.path.now n has k cell c.elements.result (field_of f) lt found count c.loop-field.invariant.room in
-    let comes : IsNext set d spot.version c.args.present spot.base k c.elements.result c.most.result c.is_present.result (field_of f) (place_of c.loop-field.taken) =
-    record { inside = lt; found = found; counts = c.elements.ensures; least = c.most.ensures; is = c.is_present.ensures } in
-    let small : capacity_of f.count * size_in set f.item ≤ MOST_ITEMS = omega (arith, next.room, has.few) in
-    let width : c.field_cells-cell.result ≡ capacity_of f.count * size_in set f.item =
-    width_code set (field_of f) c.field_cells-cell.result (c.field_cells-cell.ensures ∙ ap (λ (x : Field). in_u32 (capacity_of x.count * item_size (struct_cells set) x.item)) (sym found)) small in
-    let left = field_kinds (cells_in (table set)) d.fields c.loop-field.taken.image.kinds k cell (field_at set spot.part k) (drop k d.fields) (drop (k + 1) d.fields) (fields_at d.fields k lt) c.loop-field.invariant.kinds in
+    let left = cells_from (cells_in (table set)) d.fields (k + 1) (drop (k + 1) d.fields) in
+    let s = turn t (goal.at.read_under-loop-field-preserved t c).After-read_field-arg-in-loop-field-1 in
+    let width = wide t (goal.at.read_under-loop-field-preserved t c).After-field_cells-cell in
+    let kept = c.in_ok-read_field.ensures.kept in
     record {
-      reads = fields_go set d spot.version c.args.path.now c.args.present spot.base k cell c.elements.result c.most.result c.is_present.result (field_of f)
-          (place_of c.loop-field.taken) _ c.field_cells-cell.result comes width (reached _ _ (rw front at c.in_ok-read_field.ensures.read))
+      reads = fields_go set d spot.version c.args.path.now c.args.present spot.base k cell c.elements.result c.most.result c.is_present.result (field_of c.index-as_slice-field.result)
+          (place_of c.loop-field.taken) _ c.field_cells-cell.result s.comes width (reached _ _ (rw s.front at c.in_ok-read_field.ensures.read))
           ∙ c.loop-field.invariant.reads;
-      room = subst (λ (x : ℕ). (cell + c.field_cells-cell.result) + length (cells_from (cells_in (table set)) d.fields (k + 1) (drop (k + 1) d.fields)) ≤ x) (sym c.in_ok-read_field.ensures.kept.long)
-          (subst (λ (w : ℕ). (cell + w) + length (cells_from (cells_in (table set)) d.fields (k + 1) (drop (k + 1) d.fields)) ≤ length n) (sym width) next.later);
-      kinds = subst (λ (ks : List Kind). AreKinds ks (cell + c.field_cells-cell.result) (cells_from (cells_in (table set)) d.fields (k + 1) (drop (k + 1) d.fields))) (sym c.in_ok-read_field.ensures.kept.kinds)
-          (subst (λ (w : ℕ). AreKinds c.loop-field.taken.image.kinds (cell + w) (cells_from (cells_in (table set)) d.fields (k + 1) (drop (k + 1) d.fields))) (sym width)
-          (subst (λ (x : Field). AreKinds c.loop-field.taken.image.kinds (cell + capacity_of x.count * size_in set x.item) (cells_from (cells_in (table set)) d.fields (k + 1) (drop (k + 1) d.fields))) (sym found) left.later));
-      kept = kept_more _ _ _ c.loop-field.invariant.kept c.in_ok-read_field.ensures.kept;
-      path = stays_then _ _ _ (subst (Stays c.args.path.now) (sym front) (stays c.args.path.now)) c.in_ok-read_field.ensures.path;
+      room = subst (λ (x : ℕ). (cell + c.field_cells-cell.result) + length left ≤ x) (sym kept.long)
+          (subst (λ (w : ℕ). (cell + w) + length left ≤ length c.loop-field.taken.image.numbers) (sym width) s.run.next.later);
+      kinds = subst (λ (ks : List Kind). AreKinds ks (cell + c.field_cells-cell.result) left) (sym kept.kinds)
+          (subst (λ (w : ℕ). AreKinds c.loop-field.taken.image.kinds (cell + w) left) (sym width) s.kinds.later);
+      kept = kept_more _ _ _ c.loop-field.invariant.kept kept;
+      path = stays_then _ _ _ (subst (Stays c.args.path.now) (sym s.front) (stays c.args.path.now)) c.in_ok-read_field.ensures.path;
     }

@@ -4,20 +4,21 @@ use Rattle.std.proofs.lemmas.Result.{IfErr-weaker}
 use Rattle.vms_kinds.specs.declared.Item.{Item}
 use Rattle.vms_spec.specs.declared.TheConstants.{MOST_ITEMS}
 use Rattle.vms_spec.specs.declared.Part.TheVariants as parts
-use Rattle.vms_spec.specs.Sets.{Field, Desc}
+use Rattle.vms_spec.specs.Sets.{Field, Desc, Set}
 use Rattle.vms_spec.specs.Rules.{uses_below}
 use Rattle.vms_spec.specs.Layout.{Slot, no_desc, item_slots, cells_from, capacity_of, all_hold}
 use Rattle.vms_spec.specs.Places.{own_cell_count}
 use Rattle.vms_bodies.proofs.Places.{SameBelow}
 use Rattle.vms_spec.proofs.Sizes.{field_size}
 use Rattle.vms_bodies.proofs.WalkLaws.{place_first}
-use Rattle.vms_bodies.proofs.AboveLaws.{items_above, meanings_above}
+use Rattle.vms_bodies.proofs.AboveLaws.{IsAbove, items_above, meanings_above}
 use Rattle.vms_parts.specs.Views.{field_of}
 use Rattle.vms_desc.specs.Asks.{field_at}
 use Rattle.vms_desc.specs.Described.{described}
 use Rattle.vms_desc.specs.Parts.{desc_at}
-use Rattle.vms_desc.proofs.AskLaws.{found_field}
+use Rattle.vms_desc.proofs.AskLaws.{found_field, here_fields}
 use Rattle.vms_desc.proofs.Bounds.{good_of}
+use Rattle.vms_walk.specs.declared.fields.PartAt.{PartAt}
 use Rattle.vms_walk.specs.declared.step.WalkStep.{WalkStep}
 use Rattle.vms_walk.specs.declared.step.WalkStep.TheVariants as steps
 use Rattle.vms_walk.specs.Steps.{steps_of, table, cells_in, spot_numbers, holds_at, spot_slots, slots_at, size_in, capacities_of, elements_slots, HasSpot, MayCome}
@@ -26,11 +27,12 @@ use Rattle.std.proofs.lemmas.Result.{on_ok_weaker}
 use Rattle.vms_walk.proofs.Results.{err_is}
 use Rattle.vms_walk.proofs.Runs.{run_steps}
 use Rattle.vms_walk.proofs.Walking.{room_at, least_again}
-use Rattle.vms_walk.proofs.Spots.{next_field, field_needs, size_code, width_code, spot_room, struct_spot, struct_size, own_is}
+use Rattle.vms_walk.proofs.Spots.{Next, next_field, field_needs, size_code, width_code, spot_room, struct_spot, struct_size, own_is}
 use Rattle.vms_walk.proofs.Local.{keeps_below, keeps_first, next_place, set_settled, part_sound}
 use Rattle.vms_walk.proofs.Going.{Laws, items_next, items_stop, items_may, field_slots_are, fields_next, fields_stop, fields_may, rule_next, rule_stop, rule_may, same_rule}
 use Rattle.vms_walk.proofs.fields.+walk.Given.{Over}
 use Rattle.vms_walk.proofs.fields.+walk.Goals as goal
+use Rattle.vms_walk.proofs.fields.+walk.Goals.{walk-After-field_cells-cell, walk-After-rules-arg-1, walk-After-walk_field-arg-1, walk_field-After-walk_items-arg-1}
 
 laws_of : (g : Over) → Laws g.W.Cells.numbers g.W.Walker.goes g.W.Walker.stops
 laws_of g = record { more = g.met.W.Walker.more; after = g.met.W.Walker.stops_after; before = g.met.W.Walker.stops_before; keeps = g.met.W.Walker.keeps; stopped = g.met.W.Walker.keeps_stopped }
@@ -128,74 +130,65 @@ walk_items-returns-in-Num-None-clause-err g t c =
 
 -- ---- one field
 
+item_is : (g : Over) (t : ℕ) (c : goal.walk_field-After-walk_items-arg-1 g t) → c.index-as_slice-field.result.item ≡ (field_at (described c.args.set.now) c.args.spot.part c.args.field).item
+item_is g t c =
+    let set = described c.args.set.now in
+    ap (λ (x : Field). x.item)
+    (found_field c.as_slice.result.now (desc_at set c.args.spot.part).fields c.args.field c.index-as_slice-field.result (here_fields set c.args.spot.part c.desc.result.now c.as_slice.result.now c.desc.ensures c.as_slice.ensures)
+    c.requires.field c.index-as_slice-field.is)
+
+-- the steps of the field are those of its elements
+steps_are : (g : Over) (t : ℕ) (c : goal.walk_field-After-walk_items-arg-1 g t) (m : List ℤ) → length m ≡ length (g.W.Cells.numbers c.args.walker.now) → SameBelow c.args.cell (g.W.Cells.numbers c.args.walker.now) m
+    → steps_of (slots_at (described c.args.set.now) c.args.spot m c.args.field c.args.cell) ≡ steps_of (elements_slots (described c.args.set.now) c.index-as_slice-field.result.item c.most-most.result m c.present-count.result c.args.cell)
+steps_are g t c m long s =
+    let set = described c.args.set.now in
+    field_slots_are _ _ _ g.W.Walker.may (laws_of g) set (good_of set c.args.set.now.well_formed c.args.set.now.heads) c.args.spot c.requires.spot.part c.args.field c.args.cell c.requires.here c.args.set.now.well_formed
+    (g.W.Cells.numbers c.args.walker.now) m long c.requires.spot c.present-count.result c.index-as_slice-field.result.item c.most-most.result c.requires.field (item_is g t c) c.present-count.ensures c.most-most.ensures c.requires.room s
+
+-- they begin no cell below the field
+above : (g : Over) (t : ℕ) (c : goal.walk_field-After-walk_items-arg-1 g t) (m : List ℤ) → IsAbove c.args.cell (elements_slots (described c.args.set.now) c.index-as_slice-field.result.item c.most-most.result m c.present-count.result c.args.cell)
+above g t c m =
+    let set = described c.args.set.now in
+    let item = c.index-as_slice-field.result.item in
+    items_above (table set) (meanings_above set.structs (length set.structs)) item (capacities_of c.most-most.result) m c.present-count.result c.args.cell (size_in set item)
+
 pub walk_field-walk_items-requires : goal.walk_field-walk_items-requires
 walk_field-walk_items-requires g t c =
     let N = g.W.Cells.numbers in
-    let laws = laws_of g in
     let set = described c.args.set.now in
-    let n = N c.args.walker.now in
-    let spot = c.args.spot in
-    let k = c.args.field in
+    let a = c.args.walker.now in
     let cell = c.args.cell in
-    let f = c.index-as_slice-field.result in
-    let count = c.present-count.result in
-    let most = c.most-most.result in
-    let fields : map field_of c.as_slice.result.now ≡ (desc_at set spot.part).fields = ap (map field_of) c.as_slice.ensures ∙ ap (λ (d : Desc). d.fields) c.desc.ensures in
-    let item : f.item ≡ (field_at set spot.part k).item = ap (λ (x : Field). x.item) (found_field c.as_slice.result.now (desc_at set spot.part).fields k f fields c.requires.field c.index-as_slice-field.is) in
-    let well = c.args.set.now.well_formed in
-    let are = λ (m : List ℤ) (long : length m ≡ length n) (s : SameBelow cell n m). field_slots_are _ _ _ g.W.Walker.may laws set (good_of set c.args.set.now.well_formed c.args.set.now.heads) spot c.requires.spot.part k cell c.requires.here well n m long c.requires.spot count f.item most c.requires.field item c.present-count.ensures c.most-most.ensures c.requires.room s in
-    let needs = field_needs set well spot n c.requires.spot k cell count f.item most c.requires.field item c.present-count.ensures c.most-most.ensures c.requires.room in
-    let above = λ (m : List ℤ). items_above (table set) (meanings_above set.structs (length set.structs)) f.item (capacities_of most) m count cell (size_in set f.item) in
-    let come : MayCome g.W.Walker.goes N g.W.Walker.may (λ n. elements_slots set f.item most n count cell) c.args.walker.now = λ ys ws zs x d h e.
-    let kept = laws.keeps ys c.args.walker.now d h in
-    c.requires.may ys ws zs x d h (are (N d) kept.long (keeps_first cell (elements_slots set f.item most (N d) count cell) ys (ws ++ (x ∷ zs)) n (N d) e (above (N d)) kept) ∙ e) in
+    let slots = λ (m : List ℤ). elements_slots set c.index-as_slice-field.result.item c.most-most.result m c.present-count.result cell in
+    let needs = field_needs set c.args.set.now.well_formed c.args.spot (N a) c.requires.spot c.args.field cell c.present-count.result c.index-as_slice-field.result.item c.most-most.result c.requires.field (item_is g t c) c.present-count.ensures c.most-most.ensures c.requires.room in
+    let come : MayCome g.W.Walker.goes N g.W.Walker.may slots a = λ ys ws zs x d h e.
+    let kept = (laws_of g).keeps ys a d h in
+    c.requires.may ys ws zs x d h (steps_are g t c (N d) kept.long (keeps_first cell (slots (N d)) ys (ws ++ (x ∷ zs)) (N a) (N d) e (above g t c (N d)) kept) ∙ e) in
     λ κs h. (search rules, (search rules, (search rules, (needs.uses, (come, (needs.small, (needs.room, c.requires.spot.few)))))))
 
 pub walk_field-returns-clause-ok : goal.walk_field-returns-clause-ok
 walk_field-returns-clause-ok g t c =
     let N = g.W.Cells.numbers in
-    let laws = laws_of g in
-    let set = described c.args.set.now in
-    let n = N c.args.walker.now in
-    let spot = c.args.spot in
-    let k = c.args.field in
-    let cell = c.args.cell in
-    let f = c.index-as_slice-field.result in
-    let count = c.present-count.result in
-    let most = c.most-most.result in
-    let fields : map field_of c.as_slice.result.now ≡ (desc_at set spot.part).fields = ap (map field_of) c.as_slice.ensures ∙ ap (λ (d : Desc). d.fields) c.desc.ensures in
-    let item : f.item ≡ (field_at set spot.part k).item = ap (λ (x : Field). x.item) (found_field c.as_slice.result.now (desc_at set spot.part).fields k f fields c.requires.field c.index-as_slice-field.is) in
-    let are = λ (m : List ℤ) (long : length m ≡ length n) (s : SameBelow cell n m). field_slots_are _ _ _ g.W.Walker.may laws set (good_of set c.args.set.now.well_formed c.args.set.now.heads) spot c.requires.spot.part k cell c.requires.here c.args.set.now.well_formed n m long c.requires.spot count f.item most c.requires.field item c.present-count.ensures c.most-most.ensures c.requires.room s in
     let a = c.args.walker.now in
     let b = c.walk_items.new.walker in
+    let at = (goal.at.walk_field-returns-clause-ok g t c).After-walk_items-arg-1 in
     on_ok_weaker c.walk_items.result
     (λ h.
-    let kept = laws.keeps _ a b h in
-    subst (λ (l : List WalkStep). g.W.Walker.goes l a b) (sym (are (N b) kept.long (keeps_below cell (elements_slots set f.item most (N b) count cell) n (N b) (items_above (table set) (meanings_above set.structs (length set.structs)) f.item (capacities_of most) (N b) count cell (size_in set f.item)) kept))) h)
+    let kept = (laws_of g).keeps _ a b h in
+    subst (λ (l : List WalkStep). g.W.Walker.goes l a b) (sym (steps_are g t at (N b) kept.long (keeps_below c.args.cell _ (N a) (N b) (above g t at (N b)) kept))) h)
     c.walk_items.ensures.ok
 
 pub walk_field-returns-clause-err : goal.walk_field-returns-clause-err
 walk_field-returns-clause-err g t c =
     let N = g.W.Cells.numbers in
-    let laws = laws_of g in
     let set = described c.args.set.now in
-    let n = N c.args.walker.now in
-    let spot = c.args.spot in
-    let k = c.args.field in
-    let cell = c.args.cell in
-    let f = c.index-as_slice-field.result in
-    let count = c.present-count.result in
-    let most = c.most-most.result in
-    let fields : map field_of c.as_slice.result.now ≡ (desc_at set spot.part).fields = ap (map field_of) c.as_slice.ensures ∙ ap (λ (d : Desc). d.fields) c.desc.ensures in
-    let item : f.item ≡ (field_at set spot.part k).item = ap (λ (x : Field). x.item) (found_field c.as_slice.result.now (desc_at set spot.part).fields k f fields c.requires.field c.index-as_slice-field.is) in
-    let are = λ (m : List ℤ) (long : length m ≡ length n) (s : SameBelow cell n m). field_slots_are _ _ _ g.W.Walker.may laws set (good_of set c.args.set.now.well_formed c.args.set.now.heads) spot c.requires.spot.part k cell c.requires.here c.args.set.now.well_formed n m long c.requires.spot count f.item most c.requires.field item c.present-count.ensures c.most-most.ensures c.requires.room s in
     let a = c.args.walker.now in
     let b = c.walk_items.new.walker in
-    let slots = elements_slots set f.item most (N b) count cell in
-    IfErr-weaker c.walk_items.result (λ fault. g.W.Walker.stops (steps_of slots) a fault b) (λ fault. g.W.Walker.stops (steps_of (slots_at set spot (N b) k cell)) a fault b)
+    let at = (goal.at.walk_field-returns-clause-err g t c).After-walk_items-arg-1 in
+    let slots = elements_slots set c.index-as_slice-field.result.item c.most-most.result (N b) c.present-count.result c.args.cell in
+    IfErr-weaker c.walk_items.result (λ fault. g.W.Walker.stops (steps_of slots) a fault b) (λ fault. g.W.Walker.stops (steps_of (slots_at set c.args.spot (N b) c.args.field c.args.cell)) a fault b)
     (λ fault h.
-    let kept = laws.stopped _ a b fault h in
-    subst (λ (l : List WalkStep). g.W.Walker.stops l a fault b) (sym (are (N b) kept.long (keeps_below cell slots n (N b) (items_above (table set) (meanings_above set.structs (length set.structs)) f.item (capacities_of most) (N b) count cell (size_in set f.item)) kept))) h)
+    let kept = (laws_of g).stopped _ a b fault h in
+    subst (λ (l : List WalkStep). g.W.Walker.stops l a fault b) (sym (steps_are g t at (N b) kept.long (keeps_below c.args.cell slots (N a) (N b) (above g t at (N b)) kept))) h)
     c.walk_items.ensures.err
 
 -- ---- the fields of a description
@@ -211,10 +204,36 @@ walk-loop-field-init g t c =
       room = spot_room set spot (g.W.Cells.numbers c.args.walker.now) c.requires.spot;
     }
 
+-- the field whose turn it is, with the numbers so far
+record Turn (g : Over) (t : ℕ) (c : goal.walk-After-walk_field-arg-1 g t) : Type 0 where
+  inside : c.loop-field.field < length (desc_at (described c.args.set.now) c.args.spot.part).fields
+  behind : c.loop-field.field ≤ length (desc_at (described c.args.set.now) c.args.spot.part).fields
+  has : HasSpot (described c.args.set.now) c.args.spot (g.W.Cells.numbers c.loop-field.walker)
+  next : Next (described c.args.set.now) c.args.spot (g.W.Cells.numbers c.loop-field.walker) c.loop-field.field c.loop-field.cell
+
+turn : (g : Over) (t : ℕ) (c : goal.walk-After-walk_field-arg-1 g t) → Turn g t c
+turn g t c =
+    let set = described c.args.set.now in
+    let spot = c.args.spot in
+    let inv = c.loop-field.invariant in
+    let lt : c.loop-field.field < length (desc_at set spot.part).fields = omega (arith, c.field_count-field-end.ensures) in
+    let has : HasSpot set spot (g.W.Cells.numbers c.loop-field.walker) = record {
+      part = c.requires.spot.part;
+      few = subst (λ (x : ℕ). x ≤ MOST_ITEMS) (sym inv.long) c.requires.spot.few;
+      room = subst (λ (x : ℕ). spot.base + own_cell_count set (desc_at set spot.part) ≤ x) (sym inv.long) c.requires.spot.room;
+    } in
+    record { inside = lt; behind = omega (arith, lt); has = has; next = next_field set c.args.set.now.well_formed spot (g.W.Cells.numbers c.loop-field.walker) has c.loop-field.field c.loop-field.cell lt inv.room }
+
+-- the code's width of it
+wide : (g : Over) (t : ℕ) (c : goal.walk-After-field_cells-cell g t)
+    → (let f = field_at (described c.args.set.now) c.args.spot.part c.loop-field.field in c.field_cells-cell.result ≡ capacity_of f.count * size_in (described c.args.set.now) f.item)
+wide g t c =
+    let s = turn g t (goal.at.walk-overflow_add-cell g t c).After-walk_field-arg-1 in
+    width_code (described c.args.set.now) (field_at (described c.args.set.now) c.args.spot.part c.loop-field.field) c.field_cells-cell.result c.field_cells-cell.ensures (omega (arith, s.next.room, s.has.few))
+
 pub walk-loop-field-preserved : goal.walk-loop-field-preserved
 walk-loop-field-preserved g t c =
     let N = g.W.Cells.numbers in
-    let laws = laws_of g in
     let set = described c.args.set.now in
     let fine = good_of set c.args.set.now.well_formed c.args.set.now.heads in
     let spot = c.args.spot in
@@ -223,125 +242,79 @@ walk-loop-field-preserved g t c =
     let cell = c.loop-field.cell in
     let b = c.loop-field.walker in
     let inv = c.loop-field.invariant in
-    let part = c.requires.spot.part in
-    let le : i ≤ length all = omega (arith, c.field_count-field-end.ensures) in
-    let lt : i < length all = omega (arith, c.field_count-field-end.ensures) in
-    let has : HasSpot set spot (N b) =
-    record { part = part; few = subst (λ (x : ℕ). x ≤ MOST_ITEMS) (sym inv.long) c.requires.spot.few; room = subst (λ (x : ℕ). spot.base + own_cell_count set (desc_at set spot.part) ≤ x) (sym inv.long) c.requires.spot.room } in
-    let next = next_field set c.args.set.now.well_formed spot (N b) has i cell lt inv.room in
-    let f = field_at set spot.part i in
+    let s = turn g t (goal.at.walk-loop-field-preserved g t c).After-walk_field-arg-1 in
     let d = c.walk_field.new.walker in
-    let width : (capacity_of f.count * size_in set f.item) ≡ c.field_cells-cell.result = sym (width_code set f c.field_cells-cell.result c.field_cells-cell.ensures (omega (arith, next.room, has.few))) in
-    let kept = laws.keeps _ b d c.in_ok-walk_field.ensures.ok in
-    let place = next_place (table set) (set_settled set fine) (desc_at set spot.part) (part_sound set fine spot.part part) spot.version spot.base i lt in
+    let width = sym (wide g t (goal.at.walk-loop-field-preserved g t c).After-field_cells-cell) in
+    let kept = (laws_of g).keeps _ b d c.in_ok-walk_field.ensures.ok in
+    let place = next_place (table set) (set_settled set fine) (desc_at set spot.part) (part_sound set fine spot.part c.requires.spot.part) spot.version spot.base i s.inside in
     record {
-      way = fields_next _ _ _ g.W.Walker.may laws set fine spot part i cell inv.here c.args.walker.now b le inv.way lt d c.in_ok-walk_field.ensures.ok;
+      way = fields_next _ _ _ g.W.Walker.may (laws_of g) set fine spot c.requires.spot.part i cell inv.here c.args.walker.now b s.behind inv.way s.inside d c.in_ok-walk_field.ensures.ok;
       long = kept.long ∙ inv.long;
-      here = omega (arith, place, inv.here, width, field_size (cells_in (table set)) all i f);
+      here = omega (arith, place, inv.here, width, field_size (cells_in (table set)) all i (field_at set spot.part i));
       room = subst (λ (x : ℕ). (cell + c.field_cells-cell.result) + length (cells_from (cells_in (table set)) all (i + 1) (drop (i + 1) all)) ≤ x) (sym kept.long)
-          (subst (λ (x : ℕ). (cell + x) + length (cells_from (cells_in (table set)) all (i + 1) (drop (i + 1) all)) ≤ length (N b)) width next.later);
+          (subst (λ (x : ℕ). (cell + x) + length (cells_from (cells_in (table set)) all (i + 1) (drop (i + 1) all)) ≤ length (N b)) width s.next.later);
     }
 
 pub walk-returns-in_err-walk_field-clause-err : goal.walk-returns-in_err-walk_field-clause-err
 walk-returns-in_err-walk_field-clause-err g t c =
-    let N = g.W.Cells.numbers in
     let set = described c.args.set.now in
-    let spot = c.args.spot in
-    let all = (desc_at set spot.part).fields in
-    let i = c.loop-field.field in
     let a = c.args.walker.now in
     let inv = c.loop-field.invariant in
-    let le : i ≤ length all = omega (arith, c.field_count-field-end.ensures) in
-    let lt : i < length all = omega (arith, c.field_count-field-end.ensures) in
+    let s = turn g t (goal.at.walk-returns-in_err-walk_field-clause-err g t c).After-walk_field-arg-1 in
     let d = c.walk_field.new.walker in
     let fault = c.in_err-walk_field.field-0.0 in
-    err_is (λ fault. g.W.Walker.stops (steps_of (spot_slots set spot (N d))) a fault d) c.from_residual.result fault c.from_residual.ensures.1
-    (fields_stop _ _ _ g.W.Walker.may (laws_of g) set (good_of set c.args.set.now.well_formed c.args.set.now.heads) spot c.requires.spot.part i c.loop-field.cell inv.here a c.loop-field.walker le inv.way lt d fault c.in_err-walk_field.ensures.err)
+    err_is (λ fault. g.W.Walker.stops (steps_of (spot_slots set c.args.spot (g.W.Cells.numbers d))) a fault d) c.from_residual.result fault c.from_residual.ensures.1
+    (fields_stop _ _ _ g.W.Walker.may (laws_of g) set (good_of set c.args.set.now.well_formed c.args.set.now.heads) c.args.spot c.requires.spot.part c.loop-field.field c.loop-field.cell inv.here a c.loop-field.walker s.behind inv.way s.inside d fault c.in_err-walk_field.ensures.err)
 
 pub walk-walk_field-requires : goal.walk-walk_field-requires
 walk-walk_field-requires g t c =
-    let N = g.W.Cells.numbers in
     let set = described c.args.set.now in
-    let spot = c.args.spot in
-    let all = (desc_at set spot.part).fields in
-    let i = c.loop-field.field in
-    let cell = c.loop-field.cell in
-    let b = c.loop-field.walker in
     let inv = c.loop-field.invariant in
-    let part = c.requires.spot.part in
-    let le : i ≤ length all = omega (arith, c.field_count-field-end.ensures) in
-    let lt : i < length all = omega (arith, c.field_count-field-end.ensures) in
-    let has : HasSpot set spot (N b) =
-    record { part = part; few = subst (λ (x : ℕ). x ≤ MOST_ITEMS) (sym inv.long) c.requires.spot.few; room = subst (λ (x : ℕ). spot.base + own_cell_count set (desc_at set spot.part) ≤ x) (sym inv.long) c.requires.spot.room } in
-    λ κs h. (search rules, (search rules, (search rules, (has, (lt, (inv.here, (fields_may _ _ _ g.W.Walker.may (laws_of g) set (good_of set c.args.set.now.well_formed c.args.set.now.heads) spot part i cell inv.here c.args.walker.now b le inv.way lt c.requires.may, (next_field set c.args.set.now.well_formed spot (N b) has i cell lt inv.room).room)))))))
+    let s = turn g t c in
+    λ κs h. (search rules, (search rules, (search rules, (s.has, (s.inside, (inv.here, (fields_may _ _ _ g.W.Walker.may (laws_of g) set (good_of set c.args.set.now.well_formed c.args.set.now.heads) c.args.spot c.requires.spot.part c.loop-field.field c.loop-field.cell inv.here c.args.walker.now c.loop-field.walker s.behind inv.way s.inside c.requires.may, s.next.room)))))))
 
 pub walk-overflow_add-cell : goal.walk-overflow_add-cell
 walk-overflow_add-cell g t c =
-    let N = g.W.Cells.numbers in
-    let set = described c.args.set.now in
-    let spot = c.args.spot in
-    let all = (desc_at set spot.part).fields in
-    let i = c.loop-field.field in
-    let b = c.loop-field.walker in
-    let inv = c.loop-field.invariant in
-    let part = c.requires.spot.part in
-    let le : i ≤ length all = omega (arith, c.field_count-field-end.ensures) in
-    let lt : i < length all = omega (arith, c.field_count-field-end.ensures) in
-    let has : HasSpot set spot (N b) =
-    record { part = part; few = subst (λ (x : ℕ). x ≤ MOST_ITEMS) (sym inv.long) c.requires.spot.few; room = subst (λ (x : ℕ). spot.base + own_cell_count set (desc_at set spot.part) ≤ x) (sym inv.long) c.requires.spot.room } in
-    let next = next_field set c.args.set.now.well_formed spot (N b) has i c.loop-field.cell lt inv.room in
-    omega (arith, width_code set (field_at set spot.part i) c.field_cells-cell.result c.field_cells-cell.ensures (omega (arith, next.room, has.few)), next.room, has.few)
+    let s = turn g t (goal.at.walk-overflow_add-cell g t c).After-walk_field-arg-1 in
+    omega (arith, wide g t c, s.next.room, s.has.few)
+
+-- behind the last field
+end_of : (g : Over) (t : ℕ) (c : goal.walk-After-rules-arg-1 g t) → c.loop-field.field ≡ length (desc_at (described c.args.set.now) c.args.spot.part).fields
+end_of g t c = omega (arith, c.field_count-field-end.ensures)
+
+holds_is : (set : Set) (spot : PartAt) (n : List ℤ) → holds_at set spot n ≡ all_hold (desc_at set spot.part).validate spot.version (spot_numbers set spot n)
+holds_is set spot n = ap (all_hold (desc_at set spot.part).validate spot.version) (own_is set spot n)
 
 pub walk-rules-requires-clause-may : goal.walk-rules-requires-clause-may
 walk-rules-requires-clause-may g t c =
-    let N = g.W.Cells.numbers in
     let set = described c.args.set.now in
-    let spot = c.args.spot in
-    let all = (desc_at set spot.part).fields in
-    let i = c.loop-field.field in
     let b = c.loop-field.walker in
     let inv = c.loop-field.invariant in
-    let le : i ≤ length all = omega (arith, c.field_count-field-end.ensures) in
-    let end : i ≡ length all = omega (arith, c.field_count-field-end.ensures) in
-    let d = desc_at set spot.part in
-    let holds : holds_at set spot (N b) ≡ all_hold d.validate spot.version (spot_numbers set spot (N b)) = ap (all_hold d.validate spot.version) (own_is set spot (N b)) in
-    subst (λ (x : Bool). g.W.Walker.may b (steps.Rule x)) (sym holds) (rule_may _ _ _ g.W.Walker.may (laws_of g) set (good_of set c.args.set.now.well_formed c.args.set.now.heads) spot c.requires.spot.part i c.loop-field.cell inv.here c.args.walker.now b le inv.way end c.requires.may)
+    let end = end_of g t c in
+    subst (λ (x : Bool). g.W.Walker.may b (steps.Rule x)) (sym (holds_is set c.args.spot (g.W.Cells.numbers b)))
+    (rule_may _ _ _ g.W.Walker.may (laws_of g) set (good_of set c.args.set.now.well_formed c.args.set.now.heads) c.args.spot c.requires.spot.part c.loop-field.field c.loop-field.cell inv.here c.args.walker.now b (omega (arith, end)) inv.way end c.requires.may)
 
 pub walk-returns-clause-ok : goal.walk-returns-clause-ok
 walk-returns-clause-ok g t c =
     let N = g.W.Cells.numbers in
-    let laws = laws_of g in
     let set = described c.args.set.now in
-    let spot = c.args.spot in
-    let all = (desc_at set spot.part).fields in
-    let i = c.loop-field.field in
     let b = c.loop-field.walker in
     let inv = c.loop-field.invariant in
-    let le : i ≤ length all = omega (arith, c.field_count-field-end.ensures) in
-    let end : i ≡ length all = omega (arith, c.field_count-field-end.ensures) in
-    let d = desc_at set spot.part in
-    let holds : holds_at set spot (N b) ≡ all_hold d.validate spot.version (spot_numbers set spot (N b)) = ap (all_hold d.validate spot.version) (own_is set spot (N b)) in
+    let end = end_of g t (goal.at.walk-returns-clause-ok g t c).After-rules-arg-1 in
     let e = c.rules.new.self in
-    on_ok_weaker c.rules.result (λ h. rule_next _ _ _ g.W.Walker.may laws set (good_of set c.args.set.now.well_formed c.args.set.now.heads) spot c.requires.spot.part i c.loop-field.cell inv.here c.args.walker.now b le inv.way end e (same_rule _ (N b) (N e) (laws.keeps _ b e h)) (subst (λ (x : Bool). g.W.Walker.goes (steps.Rule x ∷ []) b e) holds h)) c.rules.ensures.ok
+    on_ok_weaker c.rules.result (λ h. rule_next _ _ _ g.W.Walker.may (laws_of g) set (good_of set c.args.set.now.well_formed c.args.set.now.heads) c.args.spot c.requires.spot.part c.loop-field.field c.loop-field.cell inv.here c.args.walker.now b (omega (arith, end)) inv.way end e (same_rule _ (N b) (N e) ((laws_of g).keeps _ b e h)) (subst (λ (x : Bool). g.W.Walker.goes (steps.Rule x ∷ []) b e) (holds_is set c.args.spot (N b)) h)) c.rules.ensures.ok
 
 pub walk-returns-clause-err : goal.walk-returns-clause-err
 walk-returns-clause-err g t c =
     let N = g.W.Cells.numbers in
-    let laws = laws_of g in
     let set = described c.args.set.now in
-    let spot = c.args.spot in
-    let all = (desc_at set spot.part).fields in
-    let i = c.loop-field.field in
     let a = c.args.walker.now in
     let b = c.loop-field.walker in
     let inv = c.loop-field.invariant in
-    let le : i ≤ length all = omega (arith, c.field_count-field-end.ensures) in
-    let end : i ≡ length all = omega (arith, c.field_count-field-end.ensures) in
-    let d = desc_at set spot.part in
-    let holds : holds_at set spot (N b) ≡ all_hold d.validate spot.version (spot_numbers set spot (N b)) = ap (all_hold d.validate spot.version) (own_is set spot (N b)) in
+    let end = end_of g t (goal.at.walk-returns-clause-err g t c).After-rules-arg-1 in
     let e = c.rules.new.self in
-    IfErr-weaker c.rules.result (λ fault. g.W.Walker.stops (steps.Rule (holds_at set spot (N b)) ∷ []) b fault e) (λ fault. g.W.Walker.stops (steps_of (spot_slots set spot (N e))) a fault e)
-    (λ fault h. rule_stop _ _ _ g.W.Walker.may laws set (good_of set c.args.set.now.well_formed c.args.set.now.heads) spot c.requires.spot.part i c.loop-field.cell inv.here a b le inv.way end e fault (same_rule _ (N b) (N e) (laws.stopped _ b e fault h)) (subst (λ (x : Bool). g.W.Walker.stops (steps.Rule x ∷ []) b fault e) holds h)) c.rules.ensures.err
+    IfErr-weaker c.rules.result (λ fault. g.W.Walker.stops (steps.Rule (holds_at set c.args.spot (N b)) ∷ []) b fault e) (λ fault. g.W.Walker.stops (steps_of (spot_slots set c.args.spot (N e))) a fault e)
+    (λ fault h. rule_stop _ _ _ g.W.Walker.may (laws_of g) set (good_of set c.args.set.now.well_formed c.args.set.now.heads) c.args.spot c.requires.spot.part c.loop-field.field c.loop-field.cell inv.here a b (omega (arith, end)) inv.way end e fault (same_rule _ (N b) (N e) ((laws_of g).stopped _ b e fault h)) (subst (λ (x : Bool). g.W.Walker.stops (steps.Rule x ∷ []) b fault e) (holds_is set c.args.spot (N b)) h)) c.rules.ensures.err
 
 -- ---- one element
 

@@ -1,0 +1,17 @@
+// Names, which stand in a stream with their length.
+ghost use Rattle.std.specs.Prelude.{◌≡◌, ◌≤◌, length};
+
+use arrayvec::ArrayVec;
+
+/// The name of a section, a subsection or a machine, of at most 255 bytes, since one byte holds its length.
+pub type Name = ArrayVec<u8, 255>;
+
+/// The name of these bytes.
+pub fn name_of(bytes: &[u8]) -> Name
+    requires { length bytes.now ≤ 255 }
+    ensures { result ≡ record { items = bytes.now } }
+{
+    let mut name = Name::new();
+    let _fits = name.try_extend_from_slice(bytes);
+    name
+}

@@ -1,0 +1,7 @@
+// The head of a stream.
+
+/// The first four bytes of a stream, which tell that it is one.
+pub const MAGIC: [u8; 4] = *b"QEVM";
+
+/// The head of a stream: the magic, and 3, the version of the stream's form.
+pub const STREAM_HEAD: [u8; 8] = *b"QEVM\0\0\0\x03";

@@ -1,0 +1,58 @@
+// The head of a subsection.
+ghost use Rattle.std.specs.Prelude.{◌≡◌, ◌+◌, ◌≤◌, length, slice_index};
+ghost use Rattle.vms_spec.specs.Streams.{sub_head};
+
+use crate::{Mark, Name, name_of};
+use arrayvec::ArrayVec;
+use byteorder::{BigEndian, ByteOrder};
+
+/// A subsection's head begins with so many bytes: its mark, and the length of its name.
+pub const SUB_FRONT: usize = 2;
+
+/// The most bytes of a subsection's head: its mark, its version, and a name of 255 bytes with its length.
+pub const LONGEST_SUB_HEAD: usize = 261;
+
+/// The head of a subsection.
+#[derive(Clone, Debug, Drop, PartialEq, Eq)]
+pub struct SubHead {
+    /// The full name of the subsection's description.
+    pub name: Name,
+    /// The version id of the fields that follow.
+    pub version: u32,
+}
+
+impl SubHead {
+    ghost use Rattle.vms_marks.specs.Heads.{sub_head_in};
+
+    /// The bytes of the head, from its mark to its version.
+    pub fn bytes(&self) -> ArrayVec<u8, LONGEST_SUB_HEAD>
+        ensures { result.items ≡ sub_head self.now.name.items self.now.version }
+    {
+        let mut bytes = ArrayVec::new();
+        bytes.push(Mark::Sub.byte());
+        bytes.push(self.name.len() as u8);
+        let _fits = bytes.try_extend_from_slice(&self.name);
+        let _fits = bytes.try_extend_from_slice(&self.version.to_be_bytes());
+        bytes
+    }
+
+    /// How long the name is in a head that begins with these bytes; its version follows the name.
+    pub fn name_length(front: &[u8]) -> usize
+        requires { SUB_FRONT ≤ length front.now }
+        ensures { result ≡ slice_index front.now 1 }
+    {
+        front[1] as usize
+    }
+
+    /// The head that these bytes, of the right length, say.
+    pub fn of(bytes: &[u8]) -> SubHead
+        requires { length bytes.now ≡ 6 + slice_index bytes.now 1 }
+        ensures { result ≡ sub_head_in bytes.now }
+    {
+        let end = bytes.len() - 4;
+        SubHead {
+            name: name_of(&bytes[2..end]),
+            version: BigEndian::read_u32(&bytes[end..]),
+        }
+    }
+}
