@@ -45,4 +45,6 @@ chip-4 instance numbers are =
     level-mode instance numbers (needs (get_or numbers 16 (pos 0))) refl (unneeded (get_or numbers 16 (pos 0)) (are.in_range 16 (omega arith)))
 
 pub chip_is_carried : ChipIsCarried
-chip_is_carried instance = record { first = chip-1 instance; second = chip-2 instance; third = chip-3 instance; fourth = chip-4 instance }
+chip_is_carried = record {
+  chip = λ instance. record { first = chip-1 instance; second = chip-2 instance; third = chip-3 instance; fourth = chip-4 instance };
+}

@@ -46,9 +46,9 @@ AreChipCells set numbers = AreOf (pic_kinds set) numbers
 abbrev pub TimerIsReady : Type 0
 TimerIsReady = InEachSet (ReadyWhere AreTimerCells) timer timer timer timer
 
-abbrev pub ChipIsReady : Type 0
-ChipIsReady =
-    (instance : ℕ) → InEachSet (ReadyWhere AreChipCells) (i8259_at_1 instance) (i8259_at_2 instance) (i8259_at_2 instance) (i8259_at_4 instance)
+pub record ChipIsReady : Type 0 where
+  pub chip : (instance : ℕ)
+      → InEachSet (ReadyWhere AreChipCells) (i8259_at_1 instance) (i8259_at_2 instance) (i8259_at_2 instance) (i8259_at_4 instance)
 
 -- normal cells of the timer chip
 abbrev pub PitIsReady : Type 0
@@ -84,10 +84,9 @@ CarriedWhere Are table newest number set d =
 abbrev pub TimerIsCarried : Type 0
 TimerIsCarried = InEachSet (CarriedWhere AreTimerCells (λ set numbers. numbers) timer) timer timer timer timer
 
-abbrev pub ChipIsCarried : Type 0
-ChipIsCarried =
-    (instance : ℕ) → InEachSet (CarriedWhere AreChipCells pic_carried (i8259_at_4 instance))
-    (i8259_at_1 instance) (i8259_at_2 instance) (i8259_at_2 instance) (i8259_at_4 instance)
+pub record ChipIsCarried : Type 0 where
+  pub chip : (instance : ℕ) → InEachSet (CarriedWhere AreChipCells pic_carried (i8259_at_4 instance))
+      (i8259_at_1 instance) (i8259_at_2 instance) (i8259_at_2 instance) (i8259_at_4 instance)
 
 -- the cells of the timer chip, an absent one being at its default
 abbrev pub PitIsCarried : Type 0
