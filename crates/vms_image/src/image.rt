@@ -1,13 +1,13 @@
 // The state of a device.
 ghost use Rattle.vms_spec.specs.declared.TheConstants.{MOST_ITEMS};
-ghost use Rattle.std.specs.Prelude.{◌≡◌, ◌+◌, ◌<◌, ◌≤◌, ◌↔◌, IsTrue, ℕ, Option, None, pos, length, get_or, slice_set, map, replicate, take, drop, IfOk};
+ghost use Rattle.std.specs.Prelude.{◌≡◌, ◌+◌, ◌*◌, ◌<◌, ◌≤◌, ◌↔◌, IsTrue, ℕ, Option, None, pos, length, get_or, slice_set, map, replicate, take, drop, IfOk};
 ghost use Rattle.vms_desc.specs.Described.{described, device_at};
 ghost use Rattle.vms_desc.specs.Spots.{kinds_at};
 ghost use Rattle.vms_image.specs.Typed.{default_at, IsImageOf};
-ghost use Rattle.vms_kinds.specs.Codes.{InRange, code};
+ghost use Rattle.vms_kinds.specs.Codes.{InRange, code, width};
 ghost use Rattle.vms_kinds.specs.declared.Kind.TheVariants.{U8};
 ghost use Rattle.vms_spec.specs.Layout.{device_cells};
-ghost use Rattle.vms_spots.specs.Spots.{raw_of, no_spot, codes_of, AreOne};
+ghost use Rattle.vms_spots.specs.Spots.{raw_of, no_spot, codes_of, AreOne, put_from, values_of};
 
 use std::alloc::{AllocError, Global};
 use std::marker::Model;
@@ -113,6 +113,20 @@ impl Image {
         ensures { result.now ≡ codes_of kind (take count (drop first self.now.numbers)) }
     {
         self.cells.codes(first, count, kind)
+    }
+
+    /// Puts so many numbers of one kind, by their codes one after the other, into the cells from `first` on; all
+    /// else stays. The kind isn't `Bool`, so that each code stands for a number.
+    pub fn put_codes(&mut self, first: u32, count: u32, kind: Kind, codes: &[u8])
+        requires room { first + count ≤ length self.old.numbers }
+        requires one { AreOne self.old.kinds first count kind }
+        requires number { kind ≡ Kind.Bool → ⊥ }
+        requires long { length codes.now ≡ count * width kind }
+        ensures { self.new ≡ record self.old {
+          numbers = put_from self.old.numbers first (values_of kind count codes.now);
+        } }
+    {
+        self.cells.put_codes(first, count, kind, codes);
     }
 
     /// Tells whether a number is in the range of a cell's kind.

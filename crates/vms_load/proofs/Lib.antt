@@ -13,6 +13,8 @@ pub mod Loaded
 pub mod PartReads
 pub mod PartTaken
 pub mod ReadLemmas
+pub mod RunReads
+pub mod RunTaken
 pub mod SetFacts
 pub mod SmallItems
 pub mod StagedLemmas

@@ -15,6 +15,8 @@ use vms_desc::{Cells, DescSet};
 use vms_frames::{Cursor, FrameFault};
 use vms_image::Image;
 use vms_io::Source;
+use vms_kinds::Kind;
+use vms_spec::Reason;
 use vms_walk::{PartAt, WalkStep, Walker, walk};
 
 /// The fields and the validations of a description.
@@ -51,6 +53,9 @@ pub(crate) fn read_part<S: Source>(
         Err(fault) => Err(fault),
     }
 }
+
+// The codes of a run of numbers have at most so many bytes: 8 for each of 128.
+const LONGEST_CODES: usize = 1024;
 
 // Reads each step, and puts numbers into the image.
 #[derive(Drop)]
@@ -114,6 +119,23 @@ impl<S: Source> Walker for Reader<'_, S> {
     #[inline(always)]
     fn step(&mut self, step: WalkStep) -> Result<(), FrameFault> {
         read_step(step, self.image, self.cursor, self.source)
+    }
+
+    fn run(&mut self, first: u32, count: u32, kind: Kind) -> Result<(), FrameFault> {
+        let width = kind.width();
+        let mut room = [0; LONGEST_CODES];
+        let codes = &mut room[..count as usize * width];
+        let came = self.cursor.codes(self.source, kind, codes)?;
+        let whole = came / width;
+        let codes = &codes[..whole * width];
+        self.image.put_codes(first, whole as u32, kind, codes);
+        if whole < count as usize {
+            return Err(FrameFault::Refused {
+                at: self.cursor.at(),
+                reason: Reason::Truncated,
+            });
+        }
+        Ok(())
     }
 }
 

@@ -1,5 +1,6 @@
 pub mod BufferLaws
 pub mod LayoutLaws
+pub mod PutLaws
 pub mod RunLaws
 pub mod SpotLaws
 pub mod SpotRows

@@ -23,7 +23,7 @@ again_4 n h = omega (arith, h)
 again_8 : (n : ℕ) → aligned 8 n ≡ n → aligned 8 (n + 8) ≡ n + 8
 again_8 n h = omega (arith, h)
 
-again : (kind : Kind) (n : ℕ) → aligned (width kind) n ≡ n → aligned (width kind) (n + width kind) ≡ n + width kind
+pub again : (kind : Kind) (n : ℕ) → aligned (width kind) n ≡ n → aligned (width kind) (n + width kind) ≡ n + width kind
 again U8 n h = again_1 n h
 again U16 n h = again_2 n h
 again U32 n h = again_4 n h
@@ -47,7 +47,7 @@ twice_4 n = omega arith
 twice_8 : (n : ℕ) → aligned 8 (aligned 8 n) ≡ aligned 8 n
 twice_8 n = omega arith
 
-twice : (kind : Kind) (n : ℕ) → aligned (width kind) (aligned (width kind) n) ≡ aligned (width kind) n
+pub twice : (kind : Kind) (n : ℕ) → aligned (width kind) (aligned (width kind) n) ≡ aligned (width kind) n
 twice U8 n = twice_1 n
 twice U16 n = twice_2 n
 twice U32 n = twice_4 n

@@ -1,6 +1,6 @@
 -- Where the numbers of a state lie in one buffer of bytes, and what stands there.
 use Rattle.vms_spec.specs.declared.TheConstants.{MOST_ITEMS}
-use Rattle.std.specs.Prelude.{◌≡◌, ℕ, ◌+◌, ◌-◌, ◌*◌, ◌/◌, ◌%◌, ◌<◌, ◌≤◌, List, [], ◌∷◌, ◌++◌, length, get_or, map, replicate, take, drop, ℤ, pos}
+use Rattle.std.specs.Prelude.{◌≡◌, ℕ, zero, suc, ◌+◌, ◌-◌, ◌*◌, ◌/◌, ◌%◌, ◌<◌, ◌≤◌, List, [], ◌∷◌, ◌++◌, length, get_or, slice_set, map, replicate, take, drop, ℤ, pos}
 use Rattle.std.specs.List.{flat_map}
 use Rattle.vms_kinds.specs.declared.Kind.{Kind}
 use Rattle.vms_kinds.specs.declared.Kind.TheVariants.{U8}
@@ -94,3 +94,13 @@ codes_of kind numbers = flat_map (code kind) numbers
 -- so many cells from one on are of a kind
 abbrev pub AreOne : List Kind → ℕ → ℕ → Kind → Type 0
 AreOne kinds first count kind = (k : ℕ) → first ≤ k → k < first + count → get_or kinds k U8 ≡ kind
+
+-- the numbers that so many codes of a kind stand for, one after the other
+abbrev pub values_of : Kind → ℕ → List ℕ → List ℤ
+values_of kind zero bytes = []
+values_of kind (suc n) bytes = value_of kind (take (width kind) bytes) ∷ values_of kind n (drop (width kind) bytes)
+
+-- numbers with others in place of those from one on
+abbrev pub put_from : List ℤ → ℕ → List ℤ → List ℤ
+put_from numbers first [] = numbers
+put_from numbers first (z ∷ zs) = put_from (slice_set numbers first z) (first + 1) zs

@@ -1,9 +1,9 @@
 // The bytes of a state.
 ghost use Rattle.vms_spec.specs.declared.TheConstants.{MOST_ITEMS};
-ghost use Rattle.std.specs.Prelude.{◌≡◌, ◌+◌, ◌≤◌, ◌<◌, length, get_or, slice_set, replicate, take, drop, pos, IfOk};
-ghost use Rattle.vms_kinds.specs.Codes.{InRange, code};
+ghost use Rattle.std.specs.Prelude.{◌≡◌, ◌+◌, ◌*◌, ◌≤◌, ◌<◌, length, get_or, slice_set, replicate, take, drop, pos, IfOk};
+ghost use Rattle.vms_kinds.specs.Codes.{InRange, code, width};
 ghost use Rattle.vms_kinds.specs.declared.Kind.TheVariants.{U8};
-ghost use Rattle.vms_spots.specs.Spots.{spots_of, kinds_of, raw_of, codes_of, AreOne};
+ghost use Rattle.vms_spots.specs.Spots.{spots_of, kinds_of, raw_of, codes_of, AreOne, put_from, values_of};
 
 use crate::{Spot, size};
 use std::alloc::{AllocError, Global};
@@ -121,6 +121,24 @@ impl Buffer {
         let offset = spot.offset as usize;
         let end = spot.end() as usize;
         spot.kind.write(value, &mut self.bytes[offset..end]);
+    }
+
+    /// Puts so many numbers of one kind, by their codes one after the other, into the cells from `first` on; all
+    /// else stays. The kind isn't `Bool`, so that each code stands for a number.
+    pub fn put_codes(&mut self, first: u32, count: u32, kind: Kind, codes: &[u8])
+        requires room { first + count ≤ length self.old.numbers }
+        requires one { AreOne self.old.kinds first count kind }
+        requires number { kind ≡ Kind.Bool → ⊥ }
+        requires long { length codes.now ≡ count * width kind }
+        ensures { self.new ≡ record self.old {
+          numbers = put_from self.old.numbers first (values_of kind count codes.now);
+        } }
+    {
+        if count == 0 {
+            return;
+        }
+        let offset = self.spots[first as usize].offset as usize;
+        self.bytes[offset..offset + codes.len()].copy_from_slice(codes);
     }
 
     /// The bytes: the code of each number at its spot, and 0 elsewhere.

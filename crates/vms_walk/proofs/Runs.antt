@@ -1,5 +1,5 @@
 -- Numbers of one kind whose cells follow one another are the elements of an array.
-use Rattle.std.proofs.Common.{◌≡◌, ℕ, zero, suc, ◌+◌, ◌-◌, ◌*◌, ◌<◌, ◌≤◌, List, [], ◌∷◌, ◌++◌, ℤ, Option, None, refl, sym, ap, ◌∙◌, subst, arith}
+use Rattle.std.proofs.Common.{◌≡◌, ℕ, zero, suc, ◌+◌, ◌-◌, ◌*◌, ◌<◌, ◌≤◌, List, [], ◌∷◌, ◌++◌, ℤ, Option, None, refl, sym, ap, ◌∙◌, subst, arith, append_assoc}
 use Rattle.vms_kinds.specs.declared.Kind.{Kind}
 use Rattle.vms_kinds.specs.declared.Item.{Item}
 use Rattle.vms_kinds.specs.declared.Item.TheVariants.{Num}
@@ -9,7 +9,8 @@ use Rattle.vms_walk.specs.declared.step.WalkStep.TheVariants.{Number}
 use Rattle.vms_walk.specs.Runs.{run_of, MayRun}
 use Rattle.vms_walk.specs.Steps.{steps_of, elements_slots}
 use Rattle.vms_walk.proofs.Going.{Laws}
-use Rattle.vms_walk.proofs.Parts.{times_more, times_split}
+use Rattle.vms_walk.proofs.Parts.{times_split}
+use Rattle.vms_walk.proofs.Walking.{left_within}
 
 run_is : (set : Set) (kind : Kind) (n : List ℤ) (first count : ℕ) → steps_of (elements_slots set (Num kind) None n count first) ≡ run_of first count kind
 run_is set kind n first zero = refl
@@ -19,43 +20,71 @@ pub run_steps : (set : Set) (item : Item) (most : Option ℕ) (kind : Kind) → 
 run_steps set item most kind e f n first count =
     ap (λ (i : Item). steps_of (elements_slots set i most n count first)) e ∙ ap (λ (m : Option ℕ). steps_of (elements_slots set (Num kind) m n count first)) f ∙ run_is set kind n first count
 
--- one more of them, and the others behind it
-pub run_more : (first n : ℕ) (kind : Kind) → run_of first (n + 1) kind ≡ run_of first n kind ++ (Number (first + n) kind None ∷ [])
-run_more first n kind =
-    let e : first + n * 1 ≡ first + n = omega arith in
-    times_more n (λ cell. Number cell kind None ∷ []) first 1 ∙ ap (λ (k : ℕ). run_of first n kind ++ (Number k kind None ∷ [])) e
-
+-- those before one of them, it, and the others
 pub run_split : (first count n : ℕ) (kind : Kind) → n < count → (rest : List WalkStep) × (run_of first count kind ≡ run_of first n kind ++ (Number (first + n) kind None ∷ rest))
 run_split first count n kind lt =
     let e : first + n * 1 ≡ first + n = omega arith in
     let parts = times_split count n (λ cell. Number cell kind None ∷ []) first 1 lt in
     (parts.0, parts.1 ∙ ap (λ (k : ℕ). run_of first n kind ++ (Number k kind None ∷ parts.0)) e)
 
--- ---- one of them after those before it
+-- what is so of each step is so of each of their cells
+pub run_each : (P : WalkStep → Type 0) (first count : ℕ) (kind : Kind) → ((ys rest : List WalkStep) (x : WalkStep) → run_of first count kind ≡ ys ++ (x ∷ rest) → P x)
+    → (k : ℕ) → first ≤ k → k < first + count → P (Number k kind None)
+run_each P first count kind each k from below =
+    let n = k - first in
+    let parts = run_split first count n kind (omega (arith, from, below)) in
+    let here : first + n ≡ k = omega (arith, from) in
+    subst (λ (cell : ℕ). P (Number cell kind None)) here (each (run_of first n kind) parts.0 (Number (first + n) kind None) parts.1)
+
+-- some first of them, and the others
+pub run_both : (first n m : ℕ) (kind : Kind) → run_of first (n + m) kind ≡ run_of first n kind ++ run_of (first + n) m kind
+run_both first zero m kind =
+    let e : first ≡ first + 0 = omega arith in
+    let none : 0 + m ≡ m = omega arith in
+    ap (λ (k : ℕ). run_of first k kind) none ∙ ap (λ (k : ℕ). run_of k m kind) e
+run_both first (suc n) m kind =
+    let e : (first + 1) + n ≡ first + suc n = omega arith in
+    let one : suc n + m ≡ suc (n + m) = omega arith in
+    ap (λ (k : ℕ). run_of first k kind) one
+    ∙ ap (λ (l : List WalkStep). Number first kind None ∷ l) (run_both (first + 1) n m kind ∙ ap (λ (k : ℕ). run_of (first + 1) n kind ++ run_of k m kind) e)
+
+-- some of them behind those before them
+pub run_parts : (first n m count : ℕ) (kind : Kind) → n + m ≤ count → run_of first count kind ≡ run_of first n kind ++ (run_of (first + n) m kind ++ run_of (first + (n + m)) (count - (n + m)) kind)
+run_parts first n m count kind le =
+    let all : count ≡ (n + m) + (count - (n + m)) = omega (arith, le) in
+    let rest = run_of (first + (n + m)) (count - (n + m)) kind in
+    ap (λ (k : ℕ). run_of first k kind) all ∙ run_both first (n + m) (count - (n + m)) kind
+    ∙ ap (λ (l : List WalkStep). l ++ rest) (run_both first n m kind)
+    ∙ append_assoc (run_of first n kind) (run_of (first + n) m kind) rest
+
+-- ---- some of them after those before them
 
 module _ {S F : Type 0} (N : S → List ℤ) (goes : List WalkStep → S → S → Type 0) (stops : List WalkStep → S → F → S → Type 0) (laws : Laws N goes stops)
-    (first cell : ℕ) (kind : Kind) (a b : S) (from : first ≤ cell) (way : goes (run_of first (cell - first) kind) a b) where
+    (first cell : ℕ) (kind : Kind) (a b : S) (from : first ≤ cell) (way : goes (run_of first (cell - first) kind) a b) (some : ℕ) where
   here : first + (cell - first) ≡ cell
   here = omega arith
 
-  pub run_next : (c : S) → goes (Number cell kind None ∷ []) b c → goes (run_of first ((cell + 1) - first) kind) a c
+  pub run_next : (c : S) → goes (run_of cell some kind) b c → goes (run_of first ((cell + some) - first) kind) a c
   run_next c h =
       let n = cell - first in
-      let one : (cell + 1) - first ≡ n + 1 = omega arith in
+      let sum : (cell + some) - first ≡ n + some = omega arith in
       subst (λ (l : List WalkStep). goes l a c)
-      (sym (ap (λ (k : ℕ). run_of first k kind) one ∙ run_more first n kind ∙ ap (λ (k : ℕ). run_of first n kind ++ (Number k kind None ∷ [])) here))
-      (laws.more (run_of first n kind) (Number cell kind None ∷ []) a b c way h)
+      (sym (ap (λ (k : ℕ). run_of first k kind) sum ∙ run_both first n some kind ∙ ap (λ (k : ℕ). run_of first n kind ++ run_of k some kind) here))
+      (laws.more (run_of first n kind) (run_of cell some kind) a b c way h)
 
-  module _ (count : ℕ) (lt : cell < first + count) where
-    parts : (rest : List WalkStep) × (run_of first count kind ≡ run_of first (cell - first) kind ++ (Number cell kind None ∷ rest))
-    parts =
-        let all = run_split first count (cell - first) kind (omega arith) in
-        (all.0, all.1 ∙ ap (λ (k : ℕ). run_of first (cell - first) kind ++ (Number k kind None ∷ all.0)) here)
+  module _ (count : ℕ) (le : cell + some ≤ first + count) where
+    abbrev behind : List WalkStep
+    behind = run_of (first + ((cell - first) + some)) (count - ((cell - first) + some)) kind
 
-    pub run_stop : (c : S) (f : F) → stops (Number cell kind None ∷ []) b f c → stops (run_of first count kind) a f c
+    parts : run_of first count kind ≡ run_of first (cell - first) kind ++ (run_of cell some kind ++ behind)
+    parts = run_parts first (cell - first) some count kind (omega arith) ∙ ap (λ (k : ℕ). run_of first (cell - first) kind ++ (run_of k some kind ++ behind)) here
+
+    pub run_stop : (c : S) (f : F) → stops (run_of cell some kind) b f c → stops (run_of first count kind) a f c
     run_stop c f h =
-        subst (λ (l : List WalkStep). stops l a f c) (sym parts.1)
-        (laws.after (run_of first (cell - first) kind) (Number cell kind None ∷ parts.0) a b c f way (laws.before (Number cell kind None ∷ []) parts.0 b c f h))
+        subst (λ (l : List WalkStep). stops l a f c) (sym parts)
+        (laws.after (run_of first (cell - first) kind) (run_of cell some kind ++ behind) a b c f way (laws.before (run_of cell some kind) behind b c f h))
 
-    pub run_may : (may : S → WalkStep → Type 0) → MayRun goes may (run_of first count kind) a → may b (Number cell kind None)
-    run_may may all = all (run_of first (cell - first) kind) [] parts.0 (Number cell kind None) b way parts.1
+    pub run_may : (may : S → WalkStep → Type 0) → MayRun goes may (run_of first count kind) a → MayRun goes may (run_of cell some kind) b
+    run_may may all = λ ys ws zs x d h e.
+        all (run_of first (cell - first) kind ++ ys) ws (zs ++ behind) x d (laws.more (run_of first (cell - first) kind) ys a b d way h)
+        (left_within (run_of first (cell - first) kind) (run_of cell some kind) behind (run_of first count kind) ys ws zs x parts e)

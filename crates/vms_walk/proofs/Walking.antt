@@ -16,13 +16,18 @@ pub steps_append : (xs ys : List Slot) → steps_of (xs ++ ys) ≡ steps_of xs +
 steps_append [] ys = refl
 steps_append (x ∷ xs) ys = ap (λ (l : List WalkStep). step_of x ∷ l) (steps_append xs ys)
 
+-- what is left within some of the steps is left within all
+pub left_within : (before here rest whole ys ws zs : List WalkStep) (x : WalkStep) → whole ≡ before ++ (here ++ rest) → here ≡ ys ++ (ws ++ (x ∷ zs)) → whole ≡ (before ++ ys) ++ (ws ++ (x ∷ (zs ++ rest)))
+left_within before here rest whole ys ws zs x e f =
+    let behind = append_assoc ys (ws ++ (x ∷ zs)) rest ∙ ap (λ (l : List WalkStep). ys ++ l) (append_assoc ws (x ∷ zs) rest) in
+    e ∙ ap (λ (l : List WalkStep). before ++ l) (ap (λ (l : List WalkStep). l ++ rest) f ∙ behind) ∙ sym (append_assoc before ys (ws ++ (x ∷ (zs ++ rest))))
+
 -- a step of a part that is left is one of the whole
 pub part_left : (before here rest whole : List Slot) (ys ws zs : List WalkStep) (x : WalkStep) → whole ≡ before ++ (here ++ rest) → steps_of here ≡ ys ++ (ws ++ (x ∷ zs))
     → steps_of whole ≡ (steps_of before ++ ys) ++ (ws ++ (x ∷ (zs ++ steps_of rest)))
 part_left before here rest whole ys ws zs x e f =
-    let behind = append_assoc ys (ws ++ (x ∷ zs)) (steps_of rest) ∙ ap (λ (l : List WalkStep). ys ++ l) (append_assoc ws (x ∷ zs) (steps_of rest)) in
-    ap steps_of e ∙ steps_append before (here ++ rest) ∙ ap (λ (l : List WalkStep). steps_of before ++ l) (steps_append here rest ∙ ap (λ (l : List WalkStep). l ++ steps_of rest) f ∙ behind)
-    ∙ sym (append_assoc (steps_of before) ys (ws ++ (x ∷ (zs ++ steps_of rest))))
+    left_within (steps_of before) (steps_of here) (steps_of rest) (steps_of whole) ys ws zs x
+    (ap steps_of e ∙ steps_append before (here ++ rest) ∙ ap (λ (l : List WalkStep). steps_of before ++ l) (steps_append here rest)) f
 
 -- the first of the elements that are left
 pub times_next : {B : Type 0} (part : ℕ → List B) (n m at step : ℕ) → n ≡ suc m → times n part at step ≡ part at ++ times m part (at + step) step

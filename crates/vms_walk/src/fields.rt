@@ -1,19 +1,23 @@
 // The walk: the fields of a description in order, arrays and structures expanded.
 ghost use Rattle.vms_spec.specs.declared.TheConstants.{MOST_ITEMS};
-ghost use Rattle.std.specs.Prelude.{◌≡◌, ◌<◌, ◌≤◌, ◌+◌, ◌*◌, true, None, length, OnOk, IfErr};
+ghost use Rattle.std.specs.Prelude.{◌≡◌, ◌<◌, ◌≤◌, ◌+◌, ◌*◌, true, None, length, IfSome, OnOk, IfErr};
 ghost use Rattle.vms_kinds.specs.declared.Item.TheVariants as items;
 ghost use Rattle.vms_spec.specs.Layout.{capacity_of};
 ghost use Rattle.vms_spec.specs.Rules.{uses_below};
 ghost use Rattle.vms_desc.specs.Asks.{field_at};
 ghost use Rattle.vms_desc.specs.Described.{described};
 ghost use Rattle.vms_desc.specs.Parts.{desc_at};
+ghost use Rattle.vms_walk.specs.Runs.{run_of, MayRun};
 ghost use Rattle.vms_walk.specs.Steps.{HasSpot, MayCome};
 ghost use Rattle.vms_walk.specs.Steps.{spot_numbers, present_of, size_in, cell_of};
 ghost use Rattle.vms_walk.specs.Steps.{steps_of, spot_slots, field_by, elements_by, item_by};
 
-use crate::{WalkStep, Walker};
+use crate::{LONGEST_RUN, WalkStep, Walker};
 use vms_desc::{Cells, DescSet, Part};
-use vms_kinds::Item;
+use vms_kinds::{Item, Kind};
+
+// Fewer numbers are taken one by one.
+const SHORTEST_RUN: u32 = 4;
 
 /// A part of a set at a version, or one element of a structure, and its first cell.
 #[derive(Clone, Copy, Drop)]
@@ -134,14 +138,48 @@ fn walk_items<W: Walker>(
         let slots = elements_by (described set.now) item.now most count first n in
         IfErr result (λ fault. W.stops (steps_of slots) walker.old fault walker.new) }
 {
-    if let (Item::Num(kind), None) = (item, most) {
-        return walker.run(first, count, *kind);
+    if let Some(kind) = run_kind(item, most, count) {
+        return walk_run(first, count, kind, walker);
     }
     let size = set.item_cells(*item);
     let mut cell = first;
     for _turn in 0..count {
         walk_item(set, item, most, cell, walker)?;
         cell += size;
+    }
+    Ok(())
+}
+
+// The kind of elements that are taken in runs: some numbers which count nothing and have any code of their width.
+#[inline(always)]
+fn run_kind(item: &Item, most: Option<u32>, count: u32) -> Option<Kind>
+    ensures number { IfSome result (λ kind. item.now ≡ items.Num kind) }
+    ensures free { IfSome result (λ kind. most ≡ None) }
+    ensures any { IfSome result (λ kind. kind ≡ Kind.Bool → ⊥) }
+{
+    match (item, most) {
+        (Item::Num(kind), None) if count >= SHORTEST_RUN && *kind != Kind::Bool => Some(*kind),
+        _ => None,
+    }
+}
+
+// Numbers of one kind that count nothing, whose cells follow one another from `first` on.
+#[inline(always)]
+fn walk_run<W: Walker>(first: u32, count: u32, kind: Kind, walker: &mut W) -> Result<(), W::Fault>
+    requires number { kind ≡ Kind.Bool → ⊥ }
+    requires room { first + count ≤ length (W.numbers walker.old) }
+    requires few { length (W.numbers walker.old) ≤ MOST_ITEMS }
+    requires may { MayRun W.goes W.may (run_of first count kind) walker.old }
+    ensures ok { OnOk result (W.goes (run_of first count kind) walker.old walker.new) }
+    ensures err { IfErr result (λ fault.
+        W.stops (run_of first count kind) walker.old fault walker.new) }
+{
+    let end = first + count;
+    let mut cell = first;
+    while cell < end {
+        let some = (end - cell).min(LONGEST_RUN);
+        walker.run(cell, some, kind)?;
+        cell += some;
     }
     Ok(())
 }

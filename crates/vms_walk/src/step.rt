@@ -29,11 +29,15 @@ pub enum WalkStep {
     },
 }
 
+/// So many numbers at most are taken by one call of [`Walker::run`].
+pub const LONGEST_RUN: u32 = 128;
+
 /// What is done at each step. It may change numbers, but of the cells alone at which it is called.
 pub trait Walker: Cells {
-    ghost use Rattle.std.specs.Prelude.{List, [], ◌∷◌, ◌++◌, ◌+◌, ◌≤◌, length};
+    ghost use Rattle.std.specs.Prelude.{List, [], ◌∷◌, ◌++◌, ◌+◌, ◌<◌, ◌≤◌, ◌≡◌, length};
     ghost use Rattle.vms_spec.specs.declared.TheConstants.{MOST_ITEMS};
     ghost use Rattle.vms_walk.specs.Runs.{run_of, MayRun};
+    ghost use Rattle.vms_walk.specs.declared.step.TheConstants.{LONGEST_RUN};
     ghost use Rattle.vms_desc.specs.Described.{described};
     ghost use Rattle.vms_walk.specs.declared.step.WalkStep.{WalkStep as OneStep};
     ghost use Rattle.vms_walk.specs.declared.step.WalkStep.TheVariants.{Rule};
@@ -75,9 +79,12 @@ pub trait Walker: Cells {
         self.step(WalkStep::Rule { holds })
     }
 
-    /// Takes the steps at so many numbers of one kind, which count nothing and whose cells follow one another from
-    /// `first` on, or stops at one of them.
+    /// Takes the steps at so many numbers of one kind, which isn't `Bool`: they count nothing, and their cells follow
+    /// one another from `first` on. Or stops at one of them.
     fn run(&mut self, first: u32, count: u32, kind: Kind) -> Result<(), Self::Fault>
+        requires some { 0 < count }
+        requires short { count ≤ LONGEST_RUN }
+        requires number { kind ≡ Kind.Bool → ⊥ }
         requires room { first + count ≤ length (Self.numbers self.old) }
         requires few { length (Self.numbers self.old) ≤ MOST_ITEMS }
         requires may { MayRun goes may (run_of first count kind) self.old }

@@ -106,27 +106,28 @@ walk_items-overflow_add-cell g t c =
 
 -- numbers that count nothing
 
-pub walk_items-run-requires-clause-may : goal.walk_items-run-requires-clause-may
-walk_items-run-requires-clause-may g t c = λ xs ys rest x b h e.
-    c.requires.may xs ys rest x b h (run_steps (described c.args.set.now) c.args.item.now c.args.most c.in-Num-None.kind c.in-Num-None.is-0 c.in-Num-None.is-1 (g.W.Cells.numbers b) c.args.first c.args.count ∙ e)
+pub walk_items-walk_run-requires-clause-may : goal.walk_items-walk_run-requires-clause-may
+walk_items-walk_run-requires-clause-may g t c =
+    λ xs ys rest x b h e.
+    c.requires.may xs ys rest x b h (run_steps (described c.args.set.now) c.args.item.now c.args.most c.in-Some.kind (search rules) (search rules) (g.W.Cells.numbers b) c.args.first c.args.count ∙ e)
 
-pub walk_items-returns-in-Num-None-clause-ok : goal.walk_items-returns-in-Num-None-clause-ok
-walk_items-returns-in-Num-None-clause-ok g t c =
+pub walk_items-returns-in-Some-clause-ok : goal.walk_items-returns-in-Some-clause-ok
+walk_items-returns-in-Some-clause-ok g t c =
     let a = c.args.walker.now in
-    let b = c.run.new.self in
-    let same = run_steps (described c.args.set.now) c.args.item.now c.args.most c.in-Num-None.kind c.in-Num-None.is-0 c.in-Num-None.is-1 (g.W.Cells.numbers b) c.args.first c.args.count in
-    on_ok_weaker c.run.result (λ h. subst (λ (l : List WalkStep). g.W.Walker.goes l a b) (sym same) h) c.run.ensures.ok
+    let b = c.walk_run.new.walker in
+    let same = run_steps (described c.args.set.now) c.args.item.now c.args.most c.in-Some.kind (search rules) (search rules) (g.W.Cells.numbers b) c.args.first c.args.count in
+    on_ok_weaker c.walk_run.result (λ h. subst (λ (l : List WalkStep). g.W.Walker.goes l a b) (sym same) h) c.walk_run.ensures.ok
 
-pub walk_items-returns-in-Num-None-clause-err : goal.walk_items-returns-in-Num-None-clause-err
-walk_items-returns-in-Num-None-clause-err g t c =
+pub walk_items-returns-in-Some-clause-err : goal.walk_items-returns-in-Some-clause-err
+walk_items-returns-in-Some-clause-err g t c =
     let set = described c.args.set.now in
     let a = c.args.walker.now in
-    let b = c.run.new.self in
-    let kind = c.in-Num-None.kind in
+    let b = c.walk_run.new.walker in
+    let kind = c.in-Some.kind in
     let slots = elements_slots set c.args.item.now c.args.most (g.W.Cells.numbers b) c.args.count c.args.first in
-    let same = run_steps set c.args.item.now c.args.most kind c.in-Num-None.is-0 c.in-Num-None.is-1 (g.W.Cells.numbers b) c.args.first c.args.count in
-    IfErr-weaker c.run.result (λ fault. g.W.Walker.stops (run_of c.args.first c.args.count kind) a fault b) (λ fault. g.W.Walker.stops (steps_of slots) a fault b)
-    (λ fault h. subst (λ (l : List WalkStep). g.W.Walker.stops l a fault b) (sym same) h) c.run.ensures.err
+    let same = run_steps set c.args.item.now c.args.most kind (search rules) (search rules) (g.W.Cells.numbers b) c.args.first c.args.count in
+    IfErr-weaker c.walk_run.result (λ fault. g.W.Walker.stops (run_of c.args.first c.args.count kind) a fault b) (λ fault. g.W.Walker.stops (steps_of slots) a fault b)
+    (λ fault h. subst (λ (l : List WalkStep). g.W.Walker.stops l a fault b) (sym same) h) c.walk_run.ensures.err
 
 -- ---- one field
 

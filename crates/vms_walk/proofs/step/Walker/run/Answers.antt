@@ -1,4 +1,4 @@
-use Rattle.std.proofs.Common.{◌≡◌, ◌-◌, refl, ◌∙◌, subst, arith, zero, ℕ}
+use Rattle.std.proofs.Common.{[], ◌≡◌, ◌-◌, refl, ◌∙◌, subst, arith, zero, ℕ}
 use Rattle.vms_walk.specs.Runs.{run_of}
 use Rattle.vms_walk.proofs.Going.{Laws}
 use Rattle.vms_walk.proofs.Results.{err_is}
@@ -31,7 +31,7 @@ loop-cell-preserved g c =
     let b = c.loop-cell.self in
     let d = c.step.new.self in
     record {
-      way = run_next _ _ _ laws c.args.first c.loop-cell.cell c.args.kind c.args.self.now b c.loop-cell.auto.cell inv.way d c.in_ok-step.ensures.ok;
+      way = run_next _ _ _ laws c.args.first c.loop-cell.cell c.args.kind c.args.self.now b c.loop-cell.auto.cell inv.way 1 d c.in_ok-step.ensures.ok;
       long = (laws.keeps _ b d c.in_ok-step.ensures.ok).long ∙ inv.long;
       within = omega (arith, c.loop-cell-test.true);
     }
@@ -42,7 +42,7 @@ step-requires-clause-inside g c = omega (arith, c.loop-cell.invariant.long, c.lo
 pub step-requires-clause-may : goal.step-requires-clause-may
 step-requires-clause-may g c =
     run_may _ _ _ (laws_of g) c.args.first c.loop-cell.cell c.args.kind c.args.self.now c.loop-cell.self c.loop-cell.auto.cell c.loop-cell.invariant.way
-    c.args.count c.loop-cell-test.true g.Self.Walker.may c.requires.may
+    1 c.args.count (omega (arith, c.loop-cell-test.true)) g.Self.Walker.may c.requires.may [] [] [] _ c.loop-cell.self (g.met.Self.Walker.none c.loop-cell.self) refl
 
 pub returns-clause-ok : goal.returns-clause-ok
 returns-clause-ok g c =
@@ -56,4 +56,4 @@ returns-in_err-step-clause-err g c =
     let fault = c.in_err-step.field-0.0 in
     err_is (λ fault. g.Self.Walker.stops (run_of c.args.first c.args.count c.args.kind) a fault d) c.from_residual.result fault c.from_residual.ensures.1
     (run_stop _ _ _ (laws_of g) c.args.first c.loop-cell.cell c.args.kind a c.loop-cell.self c.loop-cell.auto.cell c.loop-cell.invariant.way
-    c.args.count c.loop-cell-test.true d fault c.in_err-step.ensures.err)
+    1 c.args.count (omega (arith, c.loop-cell-test.true)) d fault c.in_err-step.ensures.err)

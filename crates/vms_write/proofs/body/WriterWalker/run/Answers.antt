@@ -1,13 +1,15 @@
 use Rattle.std.proofs.Common.{[], refl, ◌∙◌}
 use Rattle.vms_io.specs.Told.{outlet}
 use Rattle.vms_io.proofs.WritingLemmas.{puts_none, puts_as, stops_as}
-use Rattle.vms_write.proofs.RunBytes.{run_bytes, run_kinds, wrote_ok, wrote_err}
+use Rattle.vms_walk.proofs.Runs.{run_each}
+use Rattle.vms_write.specs.Bytes.{CanStep}
+use Rattle.vms_write.proofs.RunBytes.{run_bytes, wrote_ok, wrote_err}
 use Rattle.vms_write.proofs.body.WriterWalker.run.Goals as goal
 
 pub codes-requires-clause-one : goal.codes-requires-clause-one
 codes-requires-clause-one g c =
     let w = c.args.self.now in
-    run_kinds w.image.now.kinds c.args.kind c.args.first c.args.count (λ ys rest x e. c.requires.may [] ys rest x w (refl, refl, puts_none _) e)
+    run_each (CanStep w.image.now.kinds) c.args.first c.args.count c.args.kind (λ ys rest x e. c.requires.may [] ys rest x w (refl, refl, puts_none _) e)
 
 pub returns-clause-ok : goal.returns-clause-ok
 returns-clause-ok g c =

@@ -1,0 +1,14 @@
+use Rattle.std.proofs.Common.{◌≡◌, ◌+◌, ◌-◌, ◌≤◌, length}
+use Rattle.vms_walk.specs.Runs.{run_of}
+use Rattle.vms_walk.proofs.fields.walk_run.Given as goal
+
+abbrev pub invariant-loop-cell : goal.invariant-loop-cell
+invariant-loop-cell g l = record {
+  way : g.W.Walker.goes (run_of l.first (l.cell - l.first) l.kind) l.initial.walker l.walker;
+  long : length (g.W.Cells.numbers l.walker) ≡ length (g.W.Cells.numbers l.initial.walker);
+  from : l.first ≤ l.cell;
+  within : l.cell ≤ l.first + l.count;
+}
+
+abbrev pub decreases-loop-cell : goal.decreases-loop-cell
+decreases-loop-cell g l = (l.first + l.count) - l.cell
