@@ -1,7 +1,7 @@
 -- Cells of given kinds: how lists of them are made and taken apart, and the ranges of their numbers.
-use Rattle.std.proofs.Common.{◌≡◌, ℕ, zero, suc, ◌^◌, ◌<◌, ◌==◌, Bool, true, false, cond, List, [], ◌∷◌, ◌++◌, length, ℤ, pos, negsuc, refl, arith, ap}
+use Rattle.std.proofs.Common.{◌≡◌, ℕ, zero, suc, ◌^◌, ◌<◌, ◌==◌, Bool, true, false, cond, List, [], ◌∷◌, ◌++◌, length, ℤ, pos, negsuc, ◌≤ℤ◌, refl, arith, ap}
 use Rattle.std.proofs.lemmas.Int.{ints}
-use Rattle.vms_kinds.specs.Codes.{InRange}
+use Rattle.vms_kinds.specs.Codes.{InRange, highest}
 use Rattle.vms_kinds.specs.declared.Kind.{Kind}
 use Rattle.vms_kinds.specs.declared.Kind.TheVariants.{U8, U16, U64, Bool as Truth, Timer}
 use Rattle.dev_base.specs.Cells.{cell_at, nat_of, flag_number, kind_at, AreOf}
@@ -59,22 +59,13 @@ pub flag : (b : Bool) → InRange Truth (pos (flag_number b))
 flag true = (omega (arith, ints), omega (arith, ints))
 flag false = (omega (arith, ints), omega (arith, ints))
 
--- and the other way
-pub byte-lt : (z : ℤ) → InRange U8 z → nat_of z < 2 ^ 8
-byte-lt (pos n) range = omega (arith, ints)
-byte-lt (negsuc n) range = omega arith
-
-pub word-lt : (z : ℤ) → InRange U16 z → nat_of z < 2 ^ 16
-word-lt (pos n) range = omega (arith, ints)
-word-lt (negsuc n) range = omega arith
-
-pub long-lt : (z : ℤ) → InRange U64 z → nat_of z < 2 ^ 64
-long-lt (pos n) range = omega (arith, ints)
-long-lt (negsuc n) range = omega arith
-
-pub timer-lt : (z : ℤ) → InRange Timer z → nat_of z < 2 ^ 64
-timer-lt (pos n) range = omega (arith, ints)
-timer-lt (negsuc n) range = omega arith
+-- and the other way, of any kind
+pub number-lt : (kind : Kind) (z : ℤ) → InRange kind z → nat_of z < suc (nat_of (highest kind))
+number-lt kind (negsuc n) range = omega arith
+number-lt kind (pos n) range = by (highest kind) range.1 where
+  by : (most : ℤ) → pos n ≤ℤ most → n < suc (nat_of most)
+  by (pos m) h = omega (arith, ints, h)
+  by (negsuc m) h = absurd (omega (arith, ints, h))
 
 -- a truth value is the one of its number
 pub flag-back : (b : Bool) → (flag_number b == 1) ≡ b

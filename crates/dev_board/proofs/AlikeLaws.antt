@@ -8,11 +8,11 @@ use Rattle.dev_serial.specs.Access.{read_of}
 use Rattle.dev_base.specs.Bits.{bits_where}
 use Rattle.dev_serial.specs.Port.{Port}
 use Rattle.dev_serial.specs.Sound.{Alike as AlikePorts}
-use Rattle.dev_board.specs.Laws.{AnswersAlike, AlikeStays, Likeness}
+use Rattle.dev_board.specs.Laws.{AnswersAlike, StaysAlike, AlikeStays, Likeness}
 use Rattle.dev_board.specs.Ports.{target_of, read_at, written_at}
 use Rattle.dev_board.specs.Sound.{Alike}
 use Rattle.dev_board.specs.State.{State}
-use Rattle.dev_board.specs.Step.{Act, valued, later_by, waited, acted, wires_after, inputs_of, settled, after_act, step, observe, after_all, after_by, answers_by}
+use Rattle.dev_board.specs.Step.{Act, valued, later_by, waited, acted, wires_after, inputs_of, settled, after_act, step, after_by, answers_by}
 use Rattle.dev_board.specs.Wires.{wires_of}
 use Rattle.dev_board.specs.declared.event.Answer.{Answer}
 use Rattle.dev_board.specs.declared.event.Event.{Event}
@@ -28,7 +28,7 @@ module _ (m : State) (port : Port) (a : AlikePorts m.serial port) where
   with-serial : (first second : Port) → AlikePorts first second → Alike (record m { serial = first }) (record m { serial = second })
   with-serial first second b = record { same = refl; serial = b }
 
-  read_at-alike : (target : Target) (number : ℕ) → AnswersAlike (read_at target number m) (read_at target number other)
+  read_at-alike : (target : Target) (number : ℕ) → AnswersAlike Alike (read_at target number m) (read_at target number other)
   unfolding read_at
   read_at-alike Pair number = record { value = refl; alike = record { same = refl; serial = a } }
   read_at-alike (Counter counter) number = record { value = refl; alike = record { same = refl; serial = a } }
@@ -46,14 +46,14 @@ module _ (m : State) (port : Port) (a : AlikePorts m.serial port) where
   written_at-alike (Register offset) number value = record { same = refl; serial = writes_alike offset value m.moment m.serial port a }
   written_at-alike Nothing number value = record { same = refl; serial = a }
 
-  waited-alike : (to : ℕ) → AnswersAlike (waited to m) (waited to other)
+  waited-alike : (to : ℕ) → AnswersAlike Alike (waited to m) (waited to other)
   unfolding waited
   waited-alike to =
       let answers = advances_alike to m.serial port a in
       let act : List ℕ → Act = (λ bytes. record { value = None; edge = pit_edge 0 m.moment to m.pit; sent = bytes }) in
       record { value = ap act answers.value; alike = record { same = refl; serial = answers.alike } }
 
-  acted-alike : (event : Event) → AnswersAlike (acted event m) (acted event other)
+  acted-alike : (event : Event) → AnswersAlike Alike (acted event m) (acted event other)
   unfolding acted
   acted-alike (Read number) =
       let answers = read_at-alike (target_of m.level number) number in
@@ -76,48 +76,52 @@ module _ (m : State) (port : Port) (a : AlikePorts m.serial port) where
   unfolding settled
   settled-alike wires edge = record { same = ap (λ (pair : PicPair). record other { pair = pair }) (pair-alike wires edge); serial = a }
 
-  after_act-alike : (wires : ℕ) (act : Act) → AnswersAlike (after_act wires (act, m)) (after_act wires (act, other))
+  after_act-alike : (wires : ℕ) (act : Act) → AnswersAlike Alike (after_act wires (act, m)) (after_act wires (act, other))
   unfolding after_act
   after_act-alike wires act =
       let answer : PicPair → Answer = (λ pair. record { value = act.value; int = int_of pair; sent = record { items = act.sent } }) in
       record { value = ap answer (pair-alike wires act.edge); alike = settled-alike wires act.edge }
 
 -- the lines are taken over of boards that are alike after equal acts
-settle-alike : (wires : ℕ) (first second : Act × State) → AnswersAlike first second → AnswersAlike (after_act wires first) (after_act wires second)
+settle-alike : (wires : ℕ) (first second : Act × State) → AnswersAlike Alike first second → AnswersAlike Alike (after_act wires first) (after_act wires second)
 settle-alike wires first second answers =
-    let same_act = λ (act : Act). AnswersAlike (after_act wires first) (after_act wires (act, record first.1 { serial = second.1.serial })) in
-    let same_state = λ (after : State). AnswersAlike (after_act wires first) (after_act wires (second.0, after)) in
+    let same_act = λ (act : Act). AnswersAlike Alike (after_act wires first) (after_act wires (act, record first.1 { serial = second.1.serial })) in
+    let same_state = λ (after : State). AnswersAlike Alike (after_act wires first) (after_act wires (second.0, after)) in
     subst same_state (sym answers.alike.same) (subst same_act (sym answers.value) (after_act-alike first.1 second.1.serial answers.alike.serial wires first.0))
 
 same_wires : (m : State) (port : Port) → wires_of (record m { serial = port }) ≡ wires_of m
 unfolding wires_of
 same_wires m port = refl
 
-other-step : (event : Event) (m : State) (port : Port) → AlikePorts m.serial port → AnswersAlike (step event m) (step event (record m { serial = port }))
+other-step : (event : Event) (m : State) (port : Port) → AlikePorts m.serial port → AnswersAlike Alike (step event m) (step event (record m { serial = port }))
 unfolding step
 other-step event m port a =
     rw (same_wires m port) (settle-alike (wires_after event (wires_of m)) (acted event m) (acted event (record m { serial = port })) (acted-alike m port a event))
 
-step-alike : (event : Event) (m n : State) → Alike m n → AnswersAlike (step event m) (step event n)
+step-alike : (event : Event) (m n : State) → Alike m n → AnswersAlike Alike (step event m) (step event n)
 step-alike event m n a =
-    subst (λ (o : State). AnswersAlike (step event m) (step event o)) (sym a.same) (other-step event m n.serial a.serial)
+    subst (λ (o : State). AnswersAlike Alike (step event m) (step event o)) (sym a.same) (other-step event m n.serial a.serial)
 
--- after each event of a list
-answers-alike : (events : List Event) (m n : State) → Alike m n → observe events n ≡ observe events m
-unfolding answers_by
-answers-alike [] m n a = refl
-answers-alike (event ∷ events) m n a =
-    let now = step-alike event m n a in
-    ap (λ (answer : Answer). answer ∷ observe events (step event n).1) now.value
-    ∙ ap (λ (answers : List Answer). (step event m).0 ∷ answers) (answers-alike events (step event m).1 (step event n).1 now.alike)
+-- what is alike after each event is so after each event of a list
+module _ {S : Type 0} (AreAlike : S → S → Type 0) (go : Event → S → Answer × S) (each : (event : Event) (m n : S) → AreAlike m n → AnswersAlike AreAlike (go event m) (go event n)) where
+  answers-alike : (events : List Event) (m n : S) → AreAlike m n → answers_by go events n ≡ answers_by go events m
+  unfolding answers_by
+  answers-alike [] m n a = refl
+  answers-alike (event ∷ events) m n a =
+      let now = each event m n a in
+      ap (λ (answer : Answer). answer ∷ answers_by go events (go event n).1) now.value
+      ∙ ap (λ (answers : List Answer). (go event m).0 ∷ answers) (answers-alike events (go event m).1 (go event n).1 now.alike)
 
-after-alike : (events : List Event) (m n : State) → Alike m n → Alike (after_all events m) (after_all events n)
-unfolding after_by
-after-alike [] m n a = a
-after-alike (event ∷ events) m n a = after-alike events (step event m).1 (step event n).1 (step-alike event m n a).alike
+  after-alike : (events : List Event) (m n : S) → AreAlike m n → AreAlike (after_by go events m) (after_by go events n)
+  unfolding after_by
+  after-alike [] m n a = a
+  after-alike (event ∷ events) m n a = after-alike events (go event m).1 (go event n).1 (each event m n a).alike
+
+  pub stays-alike : StaysAlike AreAlike go
+  stays-alike = record { event = each; answers = answers-alike; after = after-alike }
 
 pub alike_stays : AlikeStays
-alike_stays = record { event = step-alike; answers = answers-alike; after = after-alike }
+alike_stays = stays-alike Alike step step-alike
 
 pub likeness : Likeness
 likeness = record {

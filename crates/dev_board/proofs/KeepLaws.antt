@@ -32,41 +32,26 @@ pub record Kept {A : Type 0} (answer : A × State) : Type 0 where
   pub kept : HasDevices answer.1
 
 module _ (m : State) (h : HasDevices m) where
-  pub with-pair : (pair : PicPair) → PairHasRegisters pair → pair.level ≡ m.pair.level → HasDevices (record m { pair = pair })
-  with-pair pair k e = record {
+  with-devices : (pair : PicPair) (pit : Pit) (port : Port) → PairHasRegisters pair → IsSoundPit m.moment pit → IsSoundPort m.moment port → pair.level ≡ m.level → pit.level ≡ m.level → port.level ≡ m.level → HasDevices (record m { pair = pair; pit = pit; serial = port })
+  with-devices pair pit port a b c d e f = record {
     level = h.level;
     moment = h.moment;
-    pair_level = e ∙ h.pair_level;
-    pit_level = h.pit_level;
-    serial_level = h.serial_level;
-    pair = k;
-    pit = h.pit;
-    serial = h.serial;
+    pair_level = d;
+    pit_level = e;
+    serial_level = f;
+    pair = a;
+    pit = b;
+    serial = c;
   }
+
+  pub with-pair : (pair : PicPair) → PairHasRegisters pair → pair.level ≡ m.pair.level → HasDevices (record m { pair = pair })
+  with-pair pair k e = with-devices pair m.pit m.serial k h.pit h.serial (e ∙ h.pair_level) h.pit_level h.serial_level
 
   pub with-pit : (pit : Pit) → IsSoundPit m.moment pit → pit.level ≡ m.pit.level → HasDevices (record m { pit = pit })
-  with-pit pit k e = record {
-    level = h.level;
-    moment = h.moment;
-    pair_level = h.pair_level;
-    pit_level = e ∙ h.pit_level;
-    serial_level = h.serial_level;
-    pair = h.pair;
-    pit = k;
-    serial = h.serial;
-  }
+  with-pit pit k e = with-devices m.pair pit m.serial h.pair k h.serial h.pair_level (e ∙ h.pit_level) h.serial_level
 
   pub with-serial : (port : Port) → IsSoundPort m.moment port → port.level ≡ m.serial.level → HasDevices (record m { serial = port })
-  with-serial port k e = record {
-    level = h.level;
-    moment = h.moment;
-    pair_level = h.pair_level;
-    pit_level = h.pit_level;
-    serial_level = e ∙ h.serial_level;
-    pair = h.pair;
-    pit = h.pit;
-    serial = k;
-  }
+  with-serial port k e = with-devices m.pair m.pit port h.pair h.pit k h.pair_level h.pit_level (e ∙ h.serial_level)
 
   pub read_at-kept : (target : Target) (port : ℕ) → Kept (read_at target port m)
   unfolding read_at

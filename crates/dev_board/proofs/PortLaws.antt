@@ -30,20 +30,22 @@ not_pair level port a b c d e f =
     none_of (port == 0x20) (port == 0x21) (port == 0xa0) (port == 0xa1) (port == 0x4d0) (port == 0x4d1) _
     (ne_eqb port 0x20 a) (ne_eqb port 0x21 b) (ne_eqb port 0xa0 c) (ne_eqb port 0xa1 d) (ne_eqb port 0x4d0 e) (ne_eqb port 0x4d1 f)
 
+-- a port between two chips', or behind both and before their level registers, isn't the pair's
+between : (level port : ℕ) → (0x21 < port) × (port < 0xa0) ⊎ (0xa1 < port) × (port < 0x4d0) → target_of level port ≡ other port
+between level port (inl (low, high)) =
+    by_pair level port false (not_pair level port (λ e. omega arith) (λ e. omega arith) (λ e. omega arith) (λ e. omega arith) (λ e. omega arith) (λ e. omega arith))
+between level port (inr (low, high)) =
+    by_pair level port false (not_pair level port (λ e. omega arith) (λ e. omega arith) (λ e. omega arith) (λ e. omega arith) (λ e. omega arith) (λ e. omega arith))
+
 counter_of : (port counter : ℕ) → 0x40 ≤ port → port ≤ 0x42 → port - 0x40 ≡ counter → other port ≡ Counter counter
 counter_of port counter low high back = rw (le-leb 0x40 port low, le-leb port 0x42 high) (ap Counter back)
 
 counter_at : (level counter : ℕ) → counter < 3 → target_of level (0x40 + counter) ≡ Counter counter
 counter_at level counter m =
-    let port = 0x40 + counter in
-    let own : is_port level port ≡ false = not_pair level port (λ e. absurd (omega arith)) (λ e. absurd (omega arith)) (λ e. absurd (omega arith)) (λ e. absurd (omega arith))
-    (λ e. absurd (omega arith)) (λ e. absurd (omega arith)) in
-    by_pair level port false own ∙ counter_of port counter (omega arith) (omega arith) (omega arith)
+    between level (0x40 + counter) (inl (omega arith, omega arith)) ∙ counter_of (0x40 + counter) counter (omega arith) (omega arith) (omega arith)
 
 control_at : (level : ℕ) → target_of level 0x43 ≡ Control
-control_at level =
-    by_pair level 0x43 false (not_pair level 0x43 (λ e. absurd (omega arith)) (λ e. absurd (omega arith)) (λ e. absurd (omega arith)) (λ e. absurd (omega arith))
-    (λ e. absurd (omega arith)) (λ e. absurd (omega arith)))
+control_at level = between level 0x43 (inl (omega arith, omega arith))
 
 register_of : (port offset : ℕ) → 0x3f8 ≤ port → port ≤ 0x3ff → port - 0x3f8 ≡ offset → other port ≡ Register offset
 register_of port offset low high back =
@@ -52,10 +54,7 @@ register_of port offset low high back =
 
 register_at : (level offset : ℕ) → offset < 8 → target_of level (0x3f8 + offset) ≡ Register offset
 register_at level offset m =
-    let port = 0x3f8 + offset in
-    let own : is_port level port ≡ false = not_pair level port (λ e. absurd (omega arith)) (λ e. absurd (omega arith)) (λ e. absurd (omega arith)) (λ e. absurd (omega arith))
-    (λ e. absurd (omega arith)) (λ e. absurd (omega arith)) in
-    by_pair level port false own ∙ register_of port offset (omega arith) (omega arith) (omega arith)
+    between level (0x3f8 + offset) (inr (omega arith, omega arith)) ∙ register_of (0x3f8 + offset) offset (omega arith) (omega arith) (omega arith)
 
 -- a port below or above a range isn't in it
 out_of : (low high port : ℕ) → (port < low) ⊎ (high < port) → (nat_le low port && nat_le port high) ≡ false

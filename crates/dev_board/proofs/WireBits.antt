@@ -3,7 +3,7 @@ use Rattle.std.proofs.Common.{◌≡◌, ◌≢◌, ℕ, ◌-◌, ◌<◌, ◌^�
 use Rattle.std.proofs.lemmas.Bool.{false≢true}
 use Rattle.std.proofs.lemmas.Bool.Decides.{nat_tests}
 use Rattle.std.proofs.lemmas.Nat.{and_le_l, and_le_r, or_of_16, pow_below}
-use Rattle.std.proofs.Math.Bool.{and-false, or-false}
+use Rattle.std.proofs.Math.Bool.{and-false, and-true, or-false}
 use Rattle.dev_base.specs.Bits.{has, bits_where}
 use Rattle.dev_pic.proofs.BitLaws.{has-and, has-or, has-one_other}
 use Rattle.dev_pic.specs.Pair.{lines_of}
@@ -79,22 +79,10 @@ pub named-bound : (event : Event) (input : ℕ) (up : Bool) → names_wire event
 unfolding names_wire
 named-bound event input up e is = wire-bound input (sym (ap names_wire is) ∙ e)
 
--- two device lines among the inputs
-out-0 : (b : Bool) → has (bits_where b 0x01) 0 ≡ b
-out-0 true = refl
-out-0 false = refl
-
-out-4 : (b : Bool) → has (bits_where b 0x01) 4 ≡ false
-out-4 true = refl
-out-4 false = refl
-
-line-0 : (b : Bool) → has (bits_where b 0x10) 0 ≡ false
-line-0 true = refl
-line-0 false = refl
-
-line-4 : (b : Bool) → has (bits_where b 0x10) 4 ≡ b
-line-4 true = refl
-line-4 false = refl
+-- a device's line among the inputs
+where-bit : (b : Bool) (bits place : ℕ) → has 0 place ≡ false → has (bits_where b bits) place ≡ (has bits place && b)
+where-bit true bits place z = sym (and-true (has bits place))
+where-bit false bits place z = z ∙ sym (and-false (has bits place))
 
 pub one-lt : (b : Bool) (bit : ℕ) → bit < 2 ^ 16 → bits_where b bit < 2 ^ 16
 one-lt true bit h = h
@@ -116,15 +104,15 @@ module _ (wires : ℕ) (m : State) (w : AreWires wires) where
   unfolding inputs_of
   inputs-out =
       has-or (bit_or wires (bits_where out 0x01)) (bits_where line 0x10) 0
-      ∙ ap (λ b. has (bit_or wires (bits_where out 0x01)) 0 || b) (line-0 line)
+      ∙ ap (λ b. has (bit_or wires (bits_where out 0x01)) 0 || b) (where-bit line 0x10 0 refl)
       ∙ or-false (has (bit_or wires (bits_where out 0x01)) 0)
       ∙ has-or wires (bits_where out 0x01) 0
       ∙ ap (λ b. b || has (bits_where out 0x01) 0) w.out
-      ∙ out-0 out
+      ∙ where-bit out 0x01 0 refl
 
   pub inputs-serial : has (inputs_of wires m) 4 ≡ line
   unfolding inputs_of
   inputs-serial =
       has-or (bit_or wires (bits_where out 0x01)) (bits_where line 0x10) 4
-      ∙ ap (λ b. has (bit_or wires (bits_where out 0x01)) 4 || b) (line-4 line)
-      ∙ ap (λ b. b || line) (has-or wires (bits_where out 0x01) 4 ∙ ap (λ b. b || has (bits_where out 0x01) 4) w.serial ∙ out-4 out)
+      ∙ ap (λ b. has (bit_or wires (bits_where out 0x01)) 4 || b) (where-bit line 0x10 4 refl)
+      ∙ ap (λ b. b || line) (has-or wires (bits_where out 0x01) 4 ∙ ap (λ b. b || has (bits_where out 0x01) 4) w.serial ∙ where-bit out 0x01 4 refl)

@@ -7,8 +7,9 @@ use Rattle.dev_pic.specs.Pair.{is_port, lines_of}
 use Rattle.dev_board.specs.Ports.{target_of}
 use Rattle.dev_board.specs.Sound.{IsSound, Alike}
 use Rattle.dev_board.specs.State.{State, power_on}
-use Rattle.dev_board.specs.Step.{step, observe, after_all}
+use Rattle.dev_board.specs.Step.{step, after_all, answers_by, after_by}
 use Rattle.dev_board.specs.Wires.{is_wire}
+use Rattle.dev_board.specs.declared.event.Answer.{Answer}
 use Rattle.dev_board.specs.declared.event.Event.{Event}
 use Rattle.dev_board.specs.declared.event.Event.TheVariants.{Read, Write, Byte, Wait, Wire, Ack}
 use Rattle.dev_board.specs.declared.ports.Target.TheVariants.{Pair, Counter, Control, Register, Nothing}
@@ -57,16 +58,20 @@ pub record ClockGoesOn : Type 0 where
   pub moment : (event : Event) (m : State) → (step event m).1.moment ≡ moment_left event m.moment
   pub level : (event : Event) (m : State) → (step event m).1.level ≡ m.level
 
--- two answers of boards are equal, and the boards after them alike
-pub record AnswersAlike {A : Type 0} (first second : A × State) : Type 0 where
+-- two answers are equal, and what gave them is alike after them
+pub record AnswersAlike {A S : Type 0} (AreAlike : S → S → Type 0) (first second : A × S) : Type 0 where
   pub value : second.0 ≡ first.0
-  pub alike : Alike first.1 second.1
+  pub alike : AreAlike first.1 second.1
 
--- boards that are alike answer each event, and each list of events, equally, and are alike after it
-pub record AlikeStays : Type 0 where
-  pub event : (event : Event) (m n : State) → Alike m n → AnswersAlike (step event m) (step event n)
-  pub answers : (events : List Event) (m n : State) → Alike m n → observe events n ≡ observe events m
-  pub after : (events : List Event) (m n : State) → Alike m n → Alike (after_all events m) (after_all events n)
+-- what is alike answers each event, and each list of events, equally, and is alike after it
+pub record StaysAlike {S : Type 0} (AreAlike : S → S → Type 0) (go : Event → S → Answer × S) : Type 0 where
+  pub event : (event : Event) (m n : S) → AreAlike m n → AnswersAlike AreAlike (go event m) (go event n)
+  pub answers : (events : List Event) (m n : S) → AreAlike m n → answers_by go events n ≡ answers_by go events m
+  pub after : (events : List Event) (m n : S) → AreAlike m n → AreAlike (after_by go events m) (after_by go events n)
+
+-- boards that are alike
+abbrev pub AlikeStays : Type 0
+AlikeStays = StaysAlike Alike step
 
 -- to be alike is an equivalence
 pub record Likeness : Type 0 where

@@ -1,18 +1,19 @@
 -- Devices that are alike answer each event alike.
-use Rattle.std.proofs.Common.{◌≡◌, ℕ, ◌==◌, Bool, true, false, cond, List, [], ◌∷◌, refl, sym, ap, subst, ◌∙◌}
-use Rattle.dev_board.proofs.AlikeLaws.{alike_stays as board_stays}
+use Rattle.std.proofs.Common.{◌≡◌, ℕ, ◌==◌, Bool, true, false, cond, refl, sym, ap, subst, ◌∙◌}
+use Rattle.dev_board.proofs.AlikeLaws.{alike_stays as board_stays, stays-alike}
 use Rattle.dev_board.specs.Sound.{Alike as AlikeBoards}
 use Rattle.dev_board.specs.State.{State}
-use Rattle.dev_board.specs.Step.{step as board_step, answers_by, after_by}
+use Rattle.dev_board.specs.Step.{step as board_step}
 use Rattle.dev_board.specs.declared.event.Answer.{Answer}
 use Rattle.dev_board.specs.declared.event.Event.{Event}
 use Rattle.dev_board.specs.declared.event.Event.TheVariants.{Read, Write, Byte, Wait, Wire, Ack}
 use Rattle.vms_rtc.specs.Chip.{is_port, passed, line_of}
 use Rattle.vms_rtc.specs.declared.rtc.Rtc.{Rtc}
-use Rattle.dev_clock.specs.Laws.{AnswersAlike, AlikeStays}
+use Rattle.dev_board.specs.Laws.{AnswersAlike}
+use Rattle.dev_clock.specs.Laws.{AlikeStays}
 use Rattle.dev_clock.specs.Sound.{Alike}
 use Rattle.dev_clock.specs.State.{ClockState}
-use Rattle.dev_clock.specs.Step.{on_board, waited, acted, follows_line, step, observe, after_all}
+use Rattle.dev_clock.specs.Step.{on_board, waited, acted, follows_line, step}
 use Rattle.dev_clock.specs.declared.devices.TheConstants.{CLOCK_INPUT}
 
 -- boards that are alike are at one moment
@@ -20,7 +21,7 @@ same-moment : (m n : State) → AlikeBoards m n → n.moment ≡ m.moment
 same-moment m n a = ap (λ (s : State). s.moment) a.same
 
 -- two choices by one test
-chosen : (b : Bool) (x y p q : Answer × ClockState) → AnswersAlike x p → AnswersAlike y q → AnswersAlike (cond b x y) (cond b p q)
+chosen : (b : Bool) (x y p q : Answer × ClockState) → AnswersAlike Alike x p → AnswersAlike Alike y q → AnswersAlike Alike (cond b x y) (cond b p q)
 chosen true x y p q first second = first
 chosen false x y p q first second = second
 
@@ -29,12 +30,12 @@ module _ (m : ClockState) (board : State) (a : AlikeBoards m.board board) where
   abbrev other : ClockState
   other = record m { board = board }
 
-  on_board-alike : (event : Event) → AnswersAlike (on_board event m) (on_board event other)
+  on_board-alike : (event : Event) → AnswersAlike Alike (on_board event m) (on_board event other)
   on_board-alike event =
       let answers = board_stays.event event m.board board a in
       record { value = answers.value; alike = record { clock = refl; board = answers.alike } }
 
-  waited-alike : (ns : ℕ) → AnswersAlike (waited ns m) (waited ns other)
+  waited-alike : (ns : ℕ) → AnswersAlike Alike (waited ns m) (waited ns other)
   unfolding waited
   waited-alike ns =
       let answers = board_stays.event (Wait ns) m.board board a in
@@ -47,7 +48,7 @@ module _ (m : ClockState) (board : State) (a : AlikeBoards m.board board) where
         };
       }
 
-  acted-alike : (event : Event) → AnswersAlike (acted event m) (acted event other)
+  acted-alike : (event : Event) → AnswersAlike Alike (acted event m) (acted event other)
   unfolding acted
   acted-alike (Read port) = chosen (is_port port) _ _ _ _ (record { value = refl; alike = record { clock = refl; board = a } }) (on_board-alike (Read port))
   acted-alike (Write port value) =
@@ -62,7 +63,7 @@ module _ (m : ClockState) (board : State) (a : AlikeBoards m.board board) where
 abbrev taken : Rtc → State → Answer × State
 taken clock board = board_step (Wire CLOCK_INPUT (line_of clock)) board
 
-follows-alike : (first second : Answer × ClockState) → AnswersAlike first second → AnswersAlike (follows_line first) (follows_line second)
+follows-alike : (first second : Answer × ClockState) → AnswersAlike Alike first second → AnswersAlike Alike (follows_line first) (follows_line second)
 unfolding follows_line
 follows-alike first second a =
     let answers = board_stays.event (Wire CLOCK_INPUT (line_of first.1.clock)) first.1.board second.1.board a.alike.board in
@@ -78,26 +79,12 @@ follows-alike first second a =
       };
     }
 
-step-alike : (event : Event) (m n : ClockState) → Alike m n → AnswersAlike (step event m) (step event n)
+step-alike : (event : Event) (m n : ClockState) → Alike m n → AnswersAlike Alike (step event m) (step event n)
 unfolding step
 step-alike event m n a =
     let same : n ≡ record m { board = n.board } = ap (λ (clock : Rtc). record n { clock = clock }) a.clock in
-    subst (λ (o : ClockState). AnswersAlike (follows_line (acted event m)) (follows_line (acted event o))) (sym same)
+    subst (λ (o : ClockState). AnswersAlike Alike (follows_line (acted event m)) (follows_line (acted event o))) (sym same)
     (follows-alike (acted event m) (acted event (record m { board = n.board })) (acted-alike m n.board a.board event))
 
--- after each event of a list
-answers-alike : (events : List Event) (m n : ClockState) → Alike m n → observe events n ≡ observe events m
-unfolding answers_by
-answers-alike [] m n a = refl
-answers-alike (event ∷ events) m n a =
-    let now = step-alike event m n a in
-    ap (λ (answer : Answer). answer ∷ observe events (step event n).1) now.value
-    ∙ ap (λ (answers : List Answer). (step event m).0 ∷ answers) (answers-alike events (step event m).1 (step event n).1 now.alike)
-
-after-alike : (events : List Event) (m n : ClockState) → Alike m n → Alike (after_all events m) (after_all events n)
-unfolding after_by
-after-alike [] m n a = a
-after-alike (event ∷ events) m n a = after-alike events (step event m).1 (step event n).1 (step-alike event m n a).alike
-
 pub alike_stays : AlikeStays
-alike_stays = record { event = step-alike; answers = answers-alike; after = after-alike }
+alike_stays = stays-alike Alike step step-alike

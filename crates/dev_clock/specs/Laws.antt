@@ -1,12 +1,12 @@
 -- Laws of a clock board's devices that contracts name.
 use Rattle.std.specs.Prelude.{◌≡◌, ℕ, List}
 use Rattle.dev_base.specs.Levels.{IsUpTo}
-use Rattle.dev_board.specs.Laws.{IsEvent, AreEvents, moment_left}
+use Rattle.dev_board.specs.Laws.{IsEvent, AreEvents, moment_left, StaysAlike}
 use Rattle.dev_board.specs.declared.event.Event.{Event}
 use Rattle.vms_rtc.specs.declared.limits.TheConstants.{NEWEST_CLOCK}
 use Rattle.dev_clock.specs.Sound.{IsSound, Alike}
 use Rattle.dev_clock.specs.State.{ClockState, power_on}
-use Rattle.dev_clock.specs.Step.{step, observe, after_all}
+use Rattle.dev_clock.specs.Step.{step, after_all}
 
 -- the devices are sound at power on, and each event and each list of events keeps them so
 pub record SoundStays : Type 0 where
@@ -19,13 +19,6 @@ pub record ClockGoesOn : Type 0 where
   pub moment : (event : Event) (m : ClockState) → (step event m).1.board.moment ≡ moment_left event m.board.moment
   pub version : (event : Event) (m : ClockState) → (step event m).1.clock.version ≡ m.clock.version
 
--- two answers are equal, and the devices after them alike
-pub record AnswersAlike {A : Type 0} (first second : A × ClockState) : Type 0 where
-  pub value : second.0 ≡ first.0
-  pub alike : Alike first.1 second.1
-
 -- devices that are alike answer each event, and each list of events, equally, and are alike after it
-pub record AlikeStays : Type 0 where
-  pub event : (event : Event) (m n : ClockState) → Alike m n → AnswersAlike (step event m) (step event n)
-  pub answers : (events : List Event) (m n : ClockState) → Alike m n → observe events n ≡ observe events m
-  pub after : (events : List Event) (m n : ClockState) → Alike m n → Alike (after_all events m) (after_all events n)
+abbrev pub AlikeStays : Type 0
+AlikeStays = StaysAlike Alike step

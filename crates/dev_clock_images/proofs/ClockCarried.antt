@@ -13,7 +13,7 @@ use Rattle.dev_clock.specs.State.{ClockState}
 use Rattle.dev_clock.specs.declared.cells.ClockCells.{ClockCells}
 use Rattle.dev_images.proofs.BoardCarried.{saved_is_carried as board-is-carried}
 use Rattle.dev_images.proofs.ChipReady.{needs, unneeded}
-use Rattle.dev_images.specs.Images.{image_of, images_of, lists_of as board_lists, cells_in as board_cells_in}
+use Rattle.dev_images.specs.Images.{image_of, images_of, lists_of as board_lists, cells_in as board_cells_in, list_at, board_from, numbers_in}
 use Rattle.vms_check.specs.Carrying.{carried, carried_device}
 use Rattle.vms_desc.specs.Formed.{clock_set}
 use Rattle.vms_rtc.specs.Cells.{kinds, saved_cells, carried as chip_carried}
@@ -22,7 +22,7 @@ use Rattle.vms_shipped.specs.ClockSets.{clock_1, clock_2, mc146818_at_1, mc14681
 use Rattle.vms_spec.specs.Layout.{first}
 use Rattle.vms_spec.specs.Sets.{Set, Device}
 use Rattle.vms_spec.specs.Shipped.{set_4}
-use Rattle.dev_clock_images.specs.Images.{list_at, board_behind, numbers_in, cells_in}
+use Rattle.dev_clock_images.specs.Images.{cells_in}
 use Rattle.dev_clock_images.specs.Laws.{SavedIsCarried, ImagesComeBack}
 
 -- the chip's numbers in the newest clock set
@@ -48,11 +48,11 @@ chip-2 numbers are = flag-2 numbers (needs (get_or numbers 66 (pos 0))) refl (un
 -- ---- the board's devices
 
 -- they are carried as between shipped sets
-board-1 : (numbers : List ℤ) (cells : BoardCells) → board_behind (numbers_in (carried clock_1 clock_2 (images_of clock_1 clock_1.devices (numbers ∷ board_lists cells)))) ≡ board_cells_in (carried set_4 set_4 (images_of set_4 set_4.devices (board_lists cells)))
+board-1 : (numbers : List ℤ) (cells : BoardCells) → board_from 1 (numbers_in (carried clock_1 clock_2 (images_of clock_1 clock_1.devices (numbers ∷ board_lists cells)))) ≡ board_cells_in (carried set_4 set_4 (images_of set_4 set_4.devices (board_lists cells)))
 unfolding carried first
 board-1 numbers cells = refl
 
-board-2 : (numbers : List ℤ) (cells : BoardCells) → board_behind (numbers_in (carried clock_2 clock_2 (images_of clock_2 clock_2.devices (numbers ∷ board_lists cells)))) ≡ board_cells_in (carried set_4 set_4 (images_of set_4 set_4.devices (board_lists cells)))
+board-2 : (numbers : List ℤ) (cells : BoardCells) → board_from 1 (numbers_in (carried clock_2 clock_2 (images_of clock_2 clock_2.devices (numbers ∷ board_lists cells)))) ≡ board_cells_in (carried set_4 set_4 (images_of set_4 set_4.devices (board_lists cells)))
 unfolding carried first
 board-2 numbers cells = refl
 

@@ -1,11 +1,9 @@
 -- Images of a clock board's devices under the clock sets.
-use Rattle.std.specs.Prelude.{ℕ, List, [], ◌∷◌, map, get_or, ℤ}
-use Rattle.arrayvec.specs.ArrayVec.{ArrayVec}
-use Rattle.dev_board.specs.declared.cells.BoardCells.{BoardCells}
+use Rattle.std.specs.Prelude.{ℕ, List, ◌∷◌, ℤ}
 use Rattle.dev_clock.specs.Saved.{saved}
 use Rattle.dev_clock.specs.State.{ClockState}
 use Rattle.dev_clock.specs.declared.cells.ClockCells.{ClockCells}
-use Rattle.dev_images.specs.Images.{images_of, lists_of as board_lists}
+use Rattle.dev_images.specs.Images.{images_of, lists_of as board_lists, list_at, board_from, numbers_in}
 use Rattle.vms_desc.specs.Formed.{clock_set}
 use Rattle.vms_spec.specs.Images.{Image}
 
@@ -18,24 +16,8 @@ abbrev pub saved_images : ℕ → ClockState → List Image
 saved_images set m = images_of (clock_set set) (clock_set set).devices (lists_of (saved set m))
 
 -- the devices' cells by such lists: the chip's, and those of the board's devices behind it
-abbrev pub list_at : List (List ℤ) → ℕ → ArrayVec ℤ
-list_at lists k = record { items = get_or lists k [] }
-
-abbrev pub board_behind : List (List ℤ) → BoardCells
-board_behind lists = record {
-  timer = list_at lists 1;
-  master = list_at lists 2;
-  slave = list_at lists 3;
-  pit = list_at lists 4;
-  serial = list_at lists 5;
-}
-
 abbrev pub cells_of : List (List ℤ) → ClockCells
-cells_of lists = record { clock = list_at lists 0; board = board_behind lists }
-
--- the numbers of images of the devices
-abbrev pub numbers_in : List Image → List (List ℤ)
-numbers_in images = map (λ image. image.numbers) images
+cells_of lists = record { clock = list_at lists 0; board = board_from 1 lists }
 
 -- the cells of the devices in images of them
 abbrev pub cells_in : List Image → ClockCells

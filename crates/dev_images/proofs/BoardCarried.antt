@@ -41,32 +41,13 @@ as-tables : (set : ℕ) (cells : BoardCells) → tables set cells ≡ board_carr
 unfolding board_carried
 as-tables set cells = refl
 
-set-1 : (m : State) → AreSavedCells 1 (saved 1 m) → cells_in (carried (shipped_set 1) (shipped_set NEWEST) (saved_images 1 m)) ≡ tables 1 (saved 1 m)
-unfolding carried
-set-1 m a =
-    same-five _ _ _ _ _ _ _ _ _ _ (timer_is_carried.first _ a.timer) (chip_is_carried.first 0 _ a.master) (chip_is_carried.first 1 _ a.slave) (pit_is_carried.first _ a.pit) (serial_is_carried.first _ a.serial)
-
-set-2 : (m : State) → AreSavedCells 2 (saved 2 m) → cells_in (carried (shipped_set 2) (shipped_set NEWEST) (saved_images 2 m)) ≡ tables 2 (saved 2 m)
-unfolding carried
-set-2 m a =
-    same-five _ _ _ _ _ _ _ _ _ _ (timer_is_carried.second _ a.timer) (chip_is_carried.second 0 _ a.master) (chip_is_carried.second 1 _ a.slave) (pit_is_carried.second _ a.pit) (serial_is_carried.second _ a.serial)
-
-set-3 : (m : State) → AreSavedCells 3 (saved 3 m) → cells_in (carried (shipped_set 3) (shipped_set NEWEST) (saved_images 3 m)) ≡ tables 3 (saved 3 m)
-unfolding carried
-set-3 m a =
-    same-five _ _ _ _ _ _ _ _ _ _ (timer_is_carried.third _ a.timer) (chip_is_carried.third 0 _ a.master) (chip_is_carried.third 1 _ a.slave) (pit_is_carried.third _ a.pit) (serial_is_carried.third _ a.serial)
-
-set-4 : (m : State) → AreSavedCells 4 (saved 4 m) → cells_in (carried (shipped_set 4) (shipped_set NEWEST) (saved_images 4 m)) ≡ tables 4 (saved 4 m)
-unfolding carried
-set-4 m a =
-    same-five _ _ _ _ _ _ _ _ _ _ (timer_is_carried.fourth _ a.timer) (chip_is_carried.fourth 0 _ a.master) (chip_is_carried.fourth 1 _ a.slave) (pit_is_carried.fourth _ a.pit) (serial_is_carried.fourth _ a.serial)
-
 each : (set : ℕ) (m : State) → AreSavedCells set (saved set m) → 1 ≤ set → set ≤ NEWEST → cells_in (carried (shipped_set set) (shipped_set NEWEST) (saved_images set m)) ≡ tables set (saved set m)
+unfolding carried
 each zero m a l h = absurd (omega (arith, l))
-each (suc zero) m a l h = set-1 m a
-each (suc (suc zero)) m a l h = set-2 m a
-each (suc (suc (suc zero))) m a l h = set-3 m a
-each (suc (suc (suc (suc zero)))) m a l h = set-4 m a
+each (suc zero) m a l h = same-five _ _ _ _ _ _ _ _ _ _ (timer_is_carried.first _ a.timer) ((chip_is_carried.chip 0).first _ a.master) ((chip_is_carried.chip 1).first _ a.slave) (pit_is_carried.first _ a.pit) (serial_is_carried.first _ a.serial)
+each (suc (suc zero)) m a l h = same-five _ _ _ _ _ _ _ _ _ _ (timer_is_carried.second _ a.timer) ((chip_is_carried.chip 0).second _ a.master) ((chip_is_carried.chip 1).second _ a.slave) (pit_is_carried.second _ a.pit) (serial_is_carried.second _ a.serial)
+each (suc (suc (suc zero))) m a l h = same-five _ _ _ _ _ _ _ _ _ _ (timer_is_carried.third _ a.timer) ((chip_is_carried.chip 0).third _ a.master) ((chip_is_carried.chip 1).third _ a.slave) (pit_is_carried.third _ a.pit) (serial_is_carried.third _ a.serial)
+each (suc (suc (suc (suc zero)))) m a l h = same-five _ _ _ _ _ _ _ _ _ _ (timer_is_carried.fourth _ a.timer) ((chip_is_carried.chip 0).fourth _ a.master) ((chip_is_carried.chip 1).fourth _ a.slave) (pit_is_carried.fourth _ a.pit) (serial_is_carried.fourth _ a.serial)
 each (suc (suc (suc (suc (suc set))))) m a l h = absurd (omega (arith, h))
 
 cells-carried : (set : ℕ) (m : State) → IsSound m → MaySaveUnder m.level set → cells_in (carried (shipped_set set) (shipped_set NEWEST) (saved_images set m)) ≡ board_carried set (saved set m)

@@ -46,10 +46,10 @@ are-ready set lists h = record { one_each = counts set set.devices lists h; read
 each : (set : ℕ) (m : State) → AreSavedCells set (saved set m) → 1 ≤ set → set ≤ 4 → AllReady (shipped_set set) (shipped_set set).devices (lists_of (saved set m))
 unfolding AllReady
 each zero m a l h = absurd (omega (arith, l))
-each (suc zero) m a l h = (timer_is_ready.first _ a.timer, (chip_is_ready.first 0 _ a.master, (chip_is_ready.first 1 _ a.slave, (pit_is_ready.first _ a.pit, (serial_is_ready.first _ a.serial, tt)))))
-each (suc (suc zero)) m a l h = (timer_is_ready.second _ a.timer, (chip_is_ready.second 0 _ a.master, (chip_is_ready.second 1 _ a.slave, (pit_is_ready.second _ a.pit, (serial_is_ready.second _ a.serial, tt)))))
-each (suc (suc (suc zero))) m a l h = (timer_is_ready.third _ a.timer, (chip_is_ready.third 0 _ a.master, (chip_is_ready.third 1 _ a.slave, (pit_is_ready.third _ a.pit, (serial_is_ready.third _ a.serial, tt)))))
-each (suc (suc (suc (suc zero)))) m a l h = (timer_is_ready.fourth _ a.timer, (chip_is_ready.fourth 0 _ a.master, (chip_is_ready.fourth 1 _ a.slave, (pit_is_ready.fourth _ a.pit, (serial_is_ready.fourth _ a.serial, tt)))))
+each (suc zero) m a l h = (timer_is_ready.first _ a.timer, ((chip_is_ready.chip 0).first _ a.master, ((chip_is_ready.chip 1).first _ a.slave, (pit_is_ready.first _ a.pit, (serial_is_ready.first _ a.serial, tt)))))
+each (suc (suc zero)) m a l h = (timer_is_ready.second _ a.timer, ((chip_is_ready.chip 0).second _ a.master, ((chip_is_ready.chip 1).second _ a.slave, (pit_is_ready.second _ a.pit, (serial_is_ready.second _ a.serial, tt)))))
+each (suc (suc (suc zero))) m a l h = (timer_is_ready.third _ a.timer, ((chip_is_ready.chip 0).third _ a.master, ((chip_is_ready.chip 1).third _ a.slave, (pit_is_ready.third _ a.pit, (serial_is_ready.third _ a.serial, tt)))))
+each (suc (suc (suc (suc zero)))) m a l h = (timer_is_ready.fourth _ a.timer, ((chip_is_ready.chip 0).fourth _ a.master, ((chip_is_ready.chip 1).fourth _ a.slave, (pit_is_ready.fourth _ a.pit, (serial_is_ready.fourth _ a.serial, tt)))))
 each (suc (suc (suc (suc (suc set))))) m a l h = absurd (omega (arith, h))
 
 pub saved_are_ready : SavedAreReady

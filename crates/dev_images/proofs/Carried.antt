@@ -4,6 +4,7 @@ use Rattle.dev_base.specs.Cells.{AreOf}
 use Rattle.dev_board.specs.Saved.{timer_kinds}
 use Rattle.dev_pic.specs.Cells.{kinds as pic_kinds, carried as pic_carried}
 use Rattle.vms_spec.specs.Layout.{first}
+use Rattle.vms_spec.specs.Sets.{Set}
 use Rattle.vms_spec.specs.Shipped.{set_1, set_2, set_3, set_4, timer, i8259_at_1, i8259_at_2, i8259_at_4}
 use Rattle.dev_images.specs.Laws.{carried_numbers, TimerIsCarried, ChipIsCarried}
 use Rattle.dev_images.proofs.ChipReady.{needs, unneeded}
@@ -14,24 +15,13 @@ one [] e = absurd (omega arith)
 one (z ∷ []) e = refl
 one (z ∷ y ∷ rest) e = absurd (omega arith)
 
-timer-1 : (numbers : List ℤ) → AreOf timer_kinds numbers → carried_numbers set_1 timer timer numbers ≡ numbers
+-- from any set: the moment is no structure
+timer-carried : (set : Set) (numbers : List ℤ) → AreOf timer_kinds numbers → carried_numbers set timer timer numbers ≡ numbers
 unfolding first
-timer-1 numbers are = one numbers are.count
-
-timer-2 : (numbers : List ℤ) → AreOf timer_kinds numbers → carried_numbers set_2 timer timer numbers ≡ numbers
-unfolding first
-timer-2 numbers are = one numbers are.count
-
-timer-3 : (numbers : List ℤ) → AreOf timer_kinds numbers → carried_numbers set_3 timer timer numbers ≡ numbers
-unfolding first
-timer-3 numbers are = one numbers are.count
-
-timer-4 : (numbers : List ℤ) → AreOf timer_kinds numbers → carried_numbers set_4 timer timer numbers ≡ numbers
-unfolding first
-timer-4 numbers are = one numbers are.count
+timer-carried set numbers are = one numbers are.count
 
 pub timer_is_carried : TimerIsCarried
-timer_is_carried = record { first = timer-1; second = timer-2; third = timer-3; fourth = timer-4 }
+timer_is_carried = record { first = timer-carried set_1; second = timer-carried set_2; third = timer-carried set_3; fourth = timer-carried set_4 }
 
 chip-1 : (instance : ℕ) (numbers : List ℤ) → AreOf (pic_kinds 1) numbers → carried_numbers set_1 (i8259_at_1 instance) (i8259_at_4 instance) numbers ≡ pic_carried 1 numbers
 unfolding first
@@ -55,4 +45,6 @@ chip-4 instance numbers are =
     level-mode instance numbers (needs (get_or numbers 16 (pos 0))) refl (unneeded (get_or numbers 16 (pos 0)) (are.in_range 16 (omega arith)))
 
 pub chip_is_carried : ChipIsCarried
-chip_is_carried = record { first = chip-1; second = chip-2; third = chip-3; fourth = chip-4 }
+chip_is_carried = record {
+  chip = λ instance. record { first = chip-1 instance; second = chip-2 instance; third = chip-3 instance; fourth = chip-4 instance };
+}

@@ -47,4 +47,6 @@ fourth-set instance numbers are =
     ready-plain set_4 (i8259_at_4 instance) numbers (omega arith) (omega arith, tt) are refl both.0 both.1
 
 pub chip_is_ready : ChipIsReady
-chip_is_ready = record { first = first-set; second = second-set; third = third-set; fourth = fourth-set }
+chip_is_ready = record {
+  chip = λ instance. record { first = first-set instance; second = second-set instance; third = third-set instance; fourth = fourth-set instance };
+}

@@ -1,6 +1,7 @@
 pub mod BoardCarried
 pub mod BoardReady
 pub mod Carried
+pub mod Channels
 pub mod ChipReady
 pub mod KindsAre
 pub mod NormalBoard

@@ -1,12 +1,11 @@
 -- A normal image of the newest set's serial port has the cells that a port may be restored from.
-use Rattle.std.proofs.Common.{◌≡◌, ◌≢◌, ℕ, zero, suc, ◌+◌, ◌<◌, ◌≤◌, Bool, true, false, ◌&&◌, ◌==◌, List, ◌∷◌, ◌++◌, length, get_or, take, drop, min, map, Option, Some, None, ℤ, pos, negsuc, ◌≤ℤ◌, refl, sym, ◌∙◌, subst, arith, []}
-use Rattle.std.proofs.lemmas.Bool.{and_parts, leb-true, ltb-true, or_from}
+use Rattle.std.proofs.Common.{◌≡◌, ℕ, zero, suc, ◌+◌, ◌<◌, ◌≤◌, Bool, true, false, ◌&&◌, ◌==◌, List, ◌∷◌, ◌++◌, length, get_or, take, drop, min, map, Option, Some, None, ℤ, pos, negsuc, ◌≤ℤ◌, refl, sym, ◌∙◌, subst, arith, []}
+use Rattle.std.proofs.lemmas.Bool.{and_parts, ltb-true, or_from}
 use Rattle.vms_spec.specs.Numbers.{same_number}
 use Rattle.vms_spec.specs.Sets.{Set, Device, Sub}
 use Rattle.dev_images.specs.Laws.{serial_at_4}
 use Rattle.dev_images.proofs.Parts.{element, sub_cells, zero_defaults}
 use Rattle.dev_images.proofs.SerialReady.{byte, second_slots, inner_slots, fifo_slots, elements}
-use Rattle.std.proofs.lemmas.Bool.Decides.{nat_tests}
 use Rattle.std.proofs.lemmas.Int.{ints}
 use Rattle.std.specs.Prelude.{nat_le, nat_lt}
 use Rattle.vms_kinds.specs.Codes.{InRange, residue}
@@ -19,19 +18,9 @@ use Rattle.vms_desc.specs.Formed.{shipped_set}
 use Rattle.vms_spec.specs.Shipped.{thr_ipending, fifo, timeout, ring}
 use Rattle.vms_spec.proofs.NumberLaws.{same_number_is}
 use Rattle.dev_base.specs.Cells.{AreOf, kind_at, nat_of}
-use Rattle.dev_images.proofs.NormalCells.{of-kinds, has-none}
+use Rattle.dev_images.proofs.NormalCells.{of-kinds}
+use Rattle.dev_images.proofs.ReadyOf.{has-none, neq, all_within, before-none}
 use Rattle.dev_serial.specs.Cells.{IsPortCells}
-
-neq : (k c : ℕ) → k ≢ c → (k == c) ≡ false
-neq k c h = grind (arith, nat_tests)
-
--- every number of these slots is of a cell from a place on and below another
-abbrev all_within : ℕ → ℕ → List Slot → Bool
-all_within low high [] = true
-all_within low high (Number k kind capacities ∷ slots) = nat_le low k && (nat_lt k high && all_within low high slots)
-all_within low high (Constant kind z ∷ slots) = all_within low high slots
-all_within low high (Filler n ∷ slots) = all_within low high slots
-all_within low high (Rule b ∷ slots) = all_within low high slots
 
 within-none : (low high : ℕ) (slots : List Slot) (c : ℕ) → all_within low high slots ≡ true → high ≤ c → has_cell slots c ≡ false
 within-none low high [] c e h = refl
@@ -43,17 +32,6 @@ within-none low high (Number k kind capacities ∷ slots) c e h =
 within-none low high (Constant kind z ∷ slots) c e h = within-none low high slots c e h
 within-none low high (Filler n ∷ slots) c e h = within-none low high slots c e h
 within-none low high (Rule b ∷ slots) c e h = within-none low high slots c e h
-
-before-none : (low high : ℕ) (slots : List Slot) (c : ℕ) → all_within low high slots ≡ true → c < low → has_cell slots c ≡ false
-before-none low high [] c e h = refl
-before-none low high (Number k kind capacities ∷ slots) c e h =
-    let p = and_parts (nat_le low k) (nat_lt k high && all_within low high slots) e in
-    let q = and_parts (nat_lt k high) (all_within low high slots) p.1 in
-    let from : low ≤ k = leb-true low k p.0 in
-    or_from (k == c) (has_cell slots c) (neq k c (λ same. absurd (omega (arith, from, same, h)))) (before-none low high slots c q.1 h)
-before-none low high (Constant kind z ∷ slots) c e h = before-none low high slots c e h
-before-none low high (Filler n ∷ slots) c e h = before-none low high slots c e h
-before-none low high (Rule b ∷ slots) c e h = before-none low high slots c e h
 
 -- elements of an array before and behind a cell
 elements-before : (n at c : ℕ) → at + n ≤ c → has_cell (times n (element byte) at 1) c ≡ false

@@ -1,9 +1,11 @@
 -- The cells of the timer chip are carried as its own table says.
-use Rattle.std.proofs.Common.{◌≡◌, ℕ, ◌+◌, ◌==◌, Bool, true, false, List, [], ◌∷◌, ◌++◌, get_or, ℤ, pos, negsuc, ◌≤ℤ◌, refl, ap, ◌∙◌, arith}
+use Rattle.std.proofs.Common.{◌≡◌, ℕ, ◌==◌, Bool, true, false, cond, List, [], ◌∷◌, ◌++◌, get_or, ℤ, pos, negsuc, ◌≤ℤ◌, refl, sym, ap, ◌∙◌, arith}
 use Rattle.std.proofs.lemmas.Int.{ints}
 use Rattle.vms_kinds.specs.Codes.{InRange}
-use Rattle.vms_kinds.specs.declared.Kind.TheVariants.{Bool as Truth}
-use Rattle.vms_check.specs.Carrying.{carriers, no_carrier}
+use Rattle.vms_kinds.specs.declared.Item.TheVariants.{Num}
+use Rattle.vms_kinds.specs.declared.Kind.{Kind}
+use Rattle.vms_kinds.specs.declared.Kind.TheVariants.{U8, U16, Bool as Truth}
+use Rattle.vms_check.specs.Carrying.{carriers, carry_items, no_carrier}
 use Rattle.vms_spec.specs.Layout.{first, struct_cells}
 use Rattle.vms_spec.specs.Sets.{Set}
 use Rattle.dev_base.specs.declared.limits.TheConstants.{NEWEST}
@@ -12,61 +14,43 @@ use Rattle.vms_spec.specs.Shipped.{set_1, set_2, set_3, set_4, i8254_at_1, i8254
 use Rattle.dev_base.specs.Cells.{nat_of}
 use Rattle.dev_pit.specs.Cells.{AreCellsOf, carried as pit_carried}
 use Rattle.dev_images.specs.Laws.{carried_numbers, PitIsCarried}
+use Rattle.vms_check.specs.Comparing.{same_kind}
 use Rattle.dev_images.proofs.ChipReady.{needs, unneeded}
+use Rattle.dev_images.proofs.Channels.{behind, IsKeptAt}
 
 -- a channel of the newest set from one of older sets
 abbrev channel_in : Set → List ℤ → ℕ → List ℤ
 channel_in old numbers at =
     get_or (carriers (struct_cells old) (struct_cells (shipped_set NEWEST)) old.structs (shipped_set NEWEST).structs 1) 0 no_carrier 0 numbers at
 
+-- the number of a cell that may be absent, and is then 0
+abbrev may_lack : Set → List ℤ → Kind → Bool → ℕ → List ℤ
+may_lack old numbers kind there at =
+    carry_items [] (struct_cells old) (struct_cells (shipped_set NEWEST)) numbers (Num kind) (Num kind) (pos 0 ∷ []) 1 (cond there 1 0) 1 at
+
+may_lack-is : (old : Set) (numbers : List ℤ) (kind : Kind) (there : Bool) (at : ℕ) → same_kind kind kind ≡ true → (there ≡ false → get_or numbers at (pos 0) ≡ pos 0) → may_lack old numbers kind there at ≡ get_or numbers at (pos 0) ∷ []
+may_lack-is old numbers kind true at e off = rw e refl
+may_lack-is old numbers kind false at e off = ap (λ z. z ∷ []) (sym (off refl))
+
+-- a channel that is carried number by number, but for these two
+abbrev lacking : List ℤ → ℕ → List ℤ → List ℤ → List ℤ
+lacking numbers at wlow latch =
+    get_or numbers at (pos 0) ∷ get_or numbers (behind 1 at) (pos 0) ∷ get_or numbers (behind 2 at) (pos 0) ∷ get_or numbers (behind 3 at) (pos 0)
+    ∷ get_or numbers (behind 4 at) (pos 0) ∷ get_or numbers (behind 5 at) (pos 0) ∷ get_or numbers (behind 6 at) (pos 0) ∷ get_or numbers (behind 7 at) (pos 0)
+    ∷ (wlow ++ (get_or numbers (behind 9 at) (pos 0) ∷ (latch ++ [])))
+
 abbrev plain : List ℤ → ℕ → List ℤ
-plain numbers at =
-    get_or numbers at (pos 0) ∷ get_or numbers (at + 1) (pos 0) ∷ get_or numbers (at + 2) (pos 0) ∷ get_or numbers (at + 3) (pos 0)
-    ∷ get_or numbers (at + 4) (pos 0) ∷ get_or numbers (at + 5) (pos 0) ∷ get_or numbers (at + 6) (pos 0) ∷ get_or numbers (at + 7) (pos 0)
-    ∷ get_or numbers (at + 8) (pos 0) ∷ get_or numbers (at + 9) (pos 0) ∷ get_or numbers (at + 10) (pos 0) ∷ []
+plain numbers at = lacking numbers at (get_or numbers (behind 8 at) (pos 0) ∷ []) (get_or numbers (behind 10 at) (pos 0) ∷ [])
 
--- the channels of set 1, whose last item is a constant, and those of later sets, by the places of their first cells
-first-0 : (numbers : List ℤ) (held latched : Bool) → needs (get_or numbers 7 (pos 0)) ≡ held → needs (get_or numbers 9 (pos 0)) ≡ latched → (held ≡ false → get_or numbers 8 (pos 0) ≡ pos 0) → (latched ≡ false → get_or numbers 10 (pos 0) ≡ pos 0) → channel_in set_1 numbers 0 ≡ plain numbers 0
-unfolding first
-first-0 numbers true true a b c d = rw (a, b) refl
-first-0 numbers true false a b c d = rw (a, b, d refl) refl
-first-0 numbers false true a b c d = rw (a, b, c refl) refl
-first-0 numbers false false a b c d = rw (a, b, c refl, d refl) refl
+abbrev IsLacking : Set → List ℤ → ℕ → Type 0
+IsLacking old numbers at =
+    channel_in old numbers at ≡ lacking numbers at (may_lack old numbers U8 (needs (get_or numbers (behind 7 at) (pos 0))) (behind 8 at)) (may_lack old numbers U16 (needs (get_or numbers (behind 9 at) (pos 0))) (behind 10 at))
 
-first-11 : (numbers : List ℤ) (held latched : Bool) → needs (get_or numbers 18 (pos 0)) ≡ held → needs (get_or numbers 20 (pos 0)) ≡ latched → (held ≡ false → get_or numbers 19 (pos 0) ≡ pos 0) → (latched ≡ false → get_or numbers 21 (pos 0) ≡ pos 0) → channel_in set_1 numbers 11 ≡ plain numbers 11
-unfolding first
-first-11 numbers true true a b c d = rw (a, b) refl
-first-11 numbers true false a b c d = rw (a, b, d refl) refl
-first-11 numbers false true a b c d = rw (a, b, c refl) refl
-first-11 numbers false false a b c d = rw (a, b, c refl, d refl) refl
-
-first-22 : (numbers : List ℤ) (held latched : Bool) → needs (get_or numbers 29 (pos 0)) ≡ held → needs (get_or numbers 31 (pos 0)) ≡ latched → (held ≡ false → get_or numbers 30 (pos 0) ≡ pos 0) → (latched ≡ false → get_or numbers 32 (pos 0) ≡ pos 0) → channel_in set_1 numbers 22 ≡ plain numbers 22
-unfolding first
-first-22 numbers true true a b c d = rw (a, b) refl
-first-22 numbers true false a b c d = rw (a, b, d refl) refl
-first-22 numbers false true a b c d = rw (a, b, c refl) refl
-first-22 numbers false false a b c d = rw (a, b, c refl, d refl) refl
-
-later-0 : (numbers : List ℤ) (held latched : Bool) → needs (get_or numbers 7 (pos 0)) ≡ held → needs (get_or numbers 9 (pos 0)) ≡ latched → (held ≡ false → get_or numbers 8 (pos 0) ≡ pos 0) → (latched ≡ false → get_or numbers 10 (pos 0) ≡ pos 0) → channel_in set_2 numbers 0 ≡ plain numbers 0
-unfolding first
-later-0 numbers true true a b c d = rw (a, b) refl
-later-0 numbers true false a b c d = rw (a, b, d refl) refl
-later-0 numbers false true a b c d = rw (a, b, c refl) refl
-later-0 numbers false false a b c d = rw (a, b, c refl, d refl) refl
-
-later-11 : (numbers : List ℤ) (held latched : Bool) → needs (get_or numbers 18 (pos 0)) ≡ held → needs (get_or numbers 20 (pos 0)) ≡ latched → (held ≡ false → get_or numbers 19 (pos 0) ≡ pos 0) → (latched ≡ false → get_or numbers 21 (pos 0) ≡ pos 0) → channel_in set_2 numbers 11 ≡ plain numbers 11
-unfolding first
-later-11 numbers true true a b c d = rw (a, b) refl
-later-11 numbers true false a b c d = rw (a, b, d refl) refl
-later-11 numbers false true a b c d = rw (a, b, c refl) refl
-later-11 numbers false false a b c d = rw (a, b, c refl, d refl) refl
-
-later-22 : (numbers : List ℤ) (held latched : Bool) → needs (get_or numbers 29 (pos 0)) ≡ held → needs (get_or numbers 31 (pos 0)) ≡ latched → (held ≡ false → get_or numbers 30 (pos 0) ≡ pos 0) → (latched ≡ false → get_or numbers 32 (pos 0) ≡ pos 0) → channel_in set_2 numbers 22 ≡ plain numbers 22
-unfolding first
-later-22 numbers true true a b c d = rw (a, b) refl
-later-22 numbers true false a b c d = rw (a, b, d refl) refl
-later-22 numbers false true a b c d = rw (a, b, c refl) refl
-later-22 numbers false false a b c d = rw (a, b, c refl, d refl) refl
+channel-carried : (old : Set) (numbers : List ℤ) (at : ℕ) → IsLacking old numbers at → IsKeptAt numbers at → channel_in old numbers at ≡ plain numbers at
+channel-carried old numbers at is k =
+    is
+    ∙ ap (λ l. lacking numbers at l (may_lack old numbers U16 (needs (get_or numbers (behind 9 at) (pos 0))) (behind 10 at))) (may_lack-is old numbers U8 _ (behind 8 at) refl k.wlow)
+    ∙ ap (λ l. lacking numbers at (get_or numbers (behind 8 at) (pos 0) ∷ []) l) (may_lack-is old numbers U16 _ (behind 10 at) refl k.latch)
 
 -- an absent number is 0 where its flag is clear
 off : (flag number : ℤ) → InRange Truth flag → pos 0 ≤ℤ number → ((nat_of flag == 1) ≡ false → nat_of number ≡ 0) → needs flag ≡ false → number ≡ pos 0
@@ -106,44 +90,38 @@ joined-4 numbers = refl
 
 -- wlow and latch of each channel, which are absent where their flags are clear
 pub record IsKept (numbers : List ℤ) : Type 0 where
-  pub wlow-0 : needs (get_or numbers 7 (pos 0)) ≡ false → get_or numbers 8 (pos 0) ≡ pos 0
-  pub latch-0 : needs (get_or numbers 9 (pos 0)) ≡ false → get_or numbers 10 (pos 0) ≡ pos 0
-  pub wlow-1 : needs (get_or numbers 18 (pos 0)) ≡ false → get_or numbers 19 (pos 0) ≡ pos 0
-  pub latch-1 : needs (get_or numbers 20 (pos 0)) ≡ false → get_or numbers 21 (pos 0) ≡ pos 0
-  pub wlow-2 : needs (get_or numbers 29 (pos 0)) ≡ false → get_or numbers 30 (pos 0) ≡ pos 0
-  pub latch-2 : needs (get_or numbers 31 (pos 0)) ≡ false → get_or numbers 32 (pos 0) ≡ pos 0
+  pub first : IsKeptAt numbers 0
+  pub second : IsKeptAt numbers 11
+  pub third : IsKeptAt numbers 22
 
 pub absent-kept : (set : ℕ) (numbers : List ℤ) → AreCellsOf set numbers → IsKept numbers
 absent-kept set numbers are =
     let range = are.of_kinds.in_range in
     record {
-      wlow-0 = off _ _ (range 7 (omega arith)) (range 8 (omega arith)).0 (are.wlow 0 (omega arith));
-      latch-0 = off _ _ (range 9 (omega arith)) (range 10 (omega arith)).0 (are.latch 0 (omega arith));
-      wlow-1 = off _ _ (range 18 (omega arith)) (range 19 (omega arith)).0 (are.wlow 1 (omega arith));
-      latch-1 = off _ _ (range 20 (omega arith)) (range 21 (omega arith)).0 (are.latch 1 (omega arith));
-      wlow-2 = off _ _ (range 29 (omega arith)) (range 30 (omega arith)).0 (are.wlow 2 (omega arith));
-      latch-2 = off _ _ (range 31 (omega arith)) (range 32 (omega arith)).0 (are.latch 2 (omega arith));
+      first = record { wlow = off _ _ (range 7 (omega arith)) (range 8 (omega arith)).0 (are.wlow 0 (omega arith)); latch = off _ _ (range 9 (omega arith)) (range 10 (omega arith)).0 (are.latch 0 (omega arith)) };
+      second = record { wlow = off _ _ (range 18 (omega arith)) (range 19 (omega arith)).0 (are.wlow 1 (omega arith)); latch = off _ _ (range 20 (omega arith)) (range 21 (omega arith)).0 (are.latch 1 (omega arith)) };
+      third = record { wlow = off _ _ (range 29 (omega arith)) (range 30 (omega arith)).0 (are.wlow 2 (omega arith)); latch = off _ _ (range 31 (omega arith)) (range 32 (omega arith)).0 (are.latch 2 (omega arith)) };
     }
 
+channels-carried : (old : Set) (numbers rest : List ℤ) → IsKept numbers → IsLacking old numbers 0 → IsLacking old numbers 11 → IsLacking old numbers 22 → with_channels (channel_in old numbers 0) (channel_in old numbers 11) (channel_in old numbers 22) rest ≡ with_channels (plain numbers 0) (plain numbers 11) (plain numbers 22) rest
+channels-carried old numbers rest k a b c =
+    same-channels numbers _ _ _ rest (channel-carried old numbers 0 a k.first) (channel-carried old numbers 11 b k.second) (channel-carried old numbers 22 c k.third)
+
 pit-1 : (numbers : List ℤ) → AreCellsOf 1 numbers → carried_numbers set_1 i8254_at_1 i8254_at_2 numbers ≡ pit_carried 1 numbers
-pit-1 numbers are =
-    let k = absent-kept 1 numbers are in
-    joined-1 numbers ∙ same-channels numbers _ _ _ six_zeros (first-0 numbers _ _ refl refl k.wlow-0 k.latch-0) (first-11 numbers _ _ refl refl k.wlow-1 k.latch-1) (first-22 numbers _ _ refl refl k.wlow-2 k.latch-2)
+unfolding first
+pit-1 numbers are = joined-1 numbers ∙ channels-carried set_1 numbers six_zeros (absent-kept 1 numbers are) refl refl refl
 
 pit-2 : (numbers : List ℤ) → AreCellsOf 2 numbers → carried_numbers set_2 i8254_at_2 i8254_at_2 numbers ≡ pit_carried 2 numbers
-pit-2 numbers are =
-    let k = absent-kept 2 numbers are in
-    joined-2 numbers ∙ same-channels numbers _ _ _ (statuses numbers) (later-0 numbers _ _ refl refl k.wlow-0 k.latch-0) (later-11 numbers _ _ refl refl k.wlow-1 k.latch-1) (later-22 numbers _ _ refl refl k.wlow-2 k.latch-2)
+unfolding first
+pit-2 numbers are = joined-2 numbers ∙ channels-carried set_2 numbers (statuses numbers) (absent-kept 2 numbers are) refl refl refl
 
 pit-3 : (numbers : List ℤ) → AreCellsOf 3 numbers → carried_numbers set_3 i8254_at_2 i8254_at_2 numbers ≡ pit_carried 3 numbers
-pit-3 numbers are =
-    let k = absent-kept 3 numbers are in
-    joined-3 numbers ∙ same-channels numbers _ _ _ (statuses numbers) (later-0 numbers _ _ refl refl k.wlow-0 k.latch-0) (later-11 numbers _ _ refl refl k.wlow-1 k.latch-1) (later-22 numbers _ _ refl refl k.wlow-2 k.latch-2)
+unfolding first
+pit-3 numbers are = joined-3 numbers ∙ channels-carried set_2 numbers (statuses numbers) (absent-kept 3 numbers are) refl refl refl
 
 pit-4 : (numbers : List ℤ) → AreCellsOf 4 numbers → carried_numbers set_4 i8254_at_2 i8254_at_2 numbers ≡ pit_carried 4 numbers
-pit-4 numbers are =
-    let k = absent-kept 4 numbers are in
-    joined-4 numbers ∙ same-channels numbers _ _ _ (statuses numbers) (later-0 numbers _ _ refl refl k.wlow-0 k.latch-0) (later-11 numbers _ _ refl refl k.wlow-1 k.latch-1) (later-22 numbers _ _ refl refl k.wlow-2 k.latch-2)
+unfolding first
+pit-4 numbers are = joined-4 numbers ∙ channels-carried set_2 numbers (statuses numbers) (absent-kept 4 numbers are) refl refl refl
 
 pub pit_is_carried : PitIsCarried
 pit_is_carried = record { first = pit-1; second = pit-2; third = pit-3; fourth = pit-4 }

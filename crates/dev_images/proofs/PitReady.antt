@@ -1,70 +1,15 @@
 -- The image of the timer chip is ready.
-use Rattle.std.proofs.Common.{◌≡◌, ℕ, Bool, true, false, List, ◌∷◌, ◌++◌, get_or, ℤ, pos, refl, arith, []}
+use Rattle.std.proofs.Common.{◌≡◌, ℕ, true, List, ◌∷◌, ◌++◌, ℤ, pos, refl, arith, []}
 use Rattle.vms_kinds.specs.declared.Kind.TheVariants.{U8, Bool as Truth}
 use Rattle.vms_spec.specs.Images.{RulesHold}
-use Rattle.vms_spec.specs.Layout.{first, struct_cells, meanings, no_meaning, Cell, Slot, Number, Rule}
-use Rattle.vms_spec.specs.Sets.{Set}
+use Rattle.vms_spec.specs.Layout.{first, Cell, Slot, Number, Constant, Filler, Rule}
 use Rattle.vms_spec.specs.Shipped.{set_1, set_2, set_3, set_4, i8254_at_1, i8254_at_2}
 use Rattle.dev_pit.specs.Cells.{AreCellsOf}
 use Rattle.dev_images.specs.Laws.{ReadyOf, PitIsReady}
-use Rattle.dev_images.proofs.ChipReady.{needs}
-use Rattle.dev_images.proofs.PitCarried.{absent-kept}
+use Rattle.dev_images.proofs.Channels.{channel_cells, slots_in, channel-fine}
+use Rattle.dev_images.proofs.PitCarried.{IsKept, absent-kept}
 use Rattle.dev_images.proofs.ReadyOf.{are_kept, ready-plain, kept-left, kept-right, kept-both}
 use Rattle.vms_bodies.proofs.SpellLaws.{rules_append}
-
--- the slots of the channel whose cells begin at a place, and its cells
-abbrev pub slots_in : Set → List ℤ → ℕ → List Slot
-slots_in set numbers at = (get_or (meanings set.structs 1) 0 no_meaning).slots numbers at
-
-abbrev channel_cells : List Cell
-channel_cells = get_or (struct_cells set_1) 0 []
-
--- each of its cells stands in the bytes or holds its default, and its rules hold
-abbrev IsFine : Set → List ℤ → ℕ → Type 0
-IsFine set numbers at = (are_kept (slots_in set numbers at) numbers at channel_cells ≡ true) × RulesHold (slots_in set numbers at)
-
--- the channels of set 1 and of later sets
-first-0 : (numbers : List ℤ) (held latched : Bool) → needs (get_or numbers 7 (pos 0)) ≡ held → needs (get_or numbers 9 (pos 0)) ≡ latched → (held ≡ false → get_or numbers 8 (pos 0) ≡ pos 0) → (latched ≡ false → get_or numbers 10 (pos 0) ≡ pos 0) → IsFine set_1 numbers 0
-unfolding first
-first-0 numbers true true a b c d = rw (a, b) (refl, (refl, tt))
-first-0 numbers true false a b c d = rw (a, b, d refl) (refl, (refl, tt))
-first-0 numbers false true a b c d = rw (a, b, c refl) (refl, (refl, tt))
-first-0 numbers false false a b c d = rw (a, b, c refl, d refl) (refl, (refl, tt))
-
-first-11 : (numbers : List ℤ) (held latched : Bool) → needs (get_or numbers 18 (pos 0)) ≡ held → needs (get_or numbers 20 (pos 0)) ≡ latched → (held ≡ false → get_or numbers 19 (pos 0) ≡ pos 0) → (latched ≡ false → get_or numbers 21 (pos 0) ≡ pos 0) → IsFine set_1 numbers 11
-unfolding first
-first-11 numbers true true a b c d = rw (a, b) (refl, (refl, tt))
-first-11 numbers true false a b c d = rw (a, b, d refl) (refl, (refl, tt))
-first-11 numbers false true a b c d = rw (a, b, c refl) (refl, (refl, tt))
-first-11 numbers false false a b c d = rw (a, b, c refl, d refl) (refl, (refl, tt))
-
-first-22 : (numbers : List ℤ) (held latched : Bool) → needs (get_or numbers 29 (pos 0)) ≡ held → needs (get_or numbers 31 (pos 0)) ≡ latched → (held ≡ false → get_or numbers 30 (pos 0) ≡ pos 0) → (latched ≡ false → get_or numbers 32 (pos 0) ≡ pos 0) → IsFine set_1 numbers 22
-unfolding first
-first-22 numbers true true a b c d = rw (a, b) (refl, (refl, tt))
-first-22 numbers true false a b c d = rw (a, b, d refl) (refl, (refl, tt))
-first-22 numbers false true a b c d = rw (a, b, c refl) (refl, (refl, tt))
-first-22 numbers false false a b c d = rw (a, b, c refl, d refl) (refl, (refl, tt))
-
-later-0 : (numbers : List ℤ) (held latched : Bool) → needs (get_or numbers 7 (pos 0)) ≡ held → needs (get_or numbers 9 (pos 0)) ≡ latched → (held ≡ false → get_or numbers 8 (pos 0) ≡ pos 0) → (latched ≡ false → get_or numbers 10 (pos 0) ≡ pos 0) → IsFine set_2 numbers 0
-unfolding first
-later-0 numbers true true a b c d = rw (a, b) (refl, (refl, tt))
-later-0 numbers true false a b c d = rw (a, b, d refl) (refl, (refl, tt))
-later-0 numbers false true a b c d = rw (a, b, c refl) (refl, (refl, tt))
-later-0 numbers false false a b c d = rw (a, b, c refl, d refl) (refl, (refl, tt))
-
-later-11 : (numbers : List ℤ) (held latched : Bool) → needs (get_or numbers 18 (pos 0)) ≡ held → needs (get_or numbers 20 (pos 0)) ≡ latched → (held ≡ false → get_or numbers 19 (pos 0) ≡ pos 0) → (latched ≡ false → get_or numbers 21 (pos 0) ≡ pos 0) → IsFine set_2 numbers 11
-unfolding first
-later-11 numbers true true a b c d = rw (a, b) (refl, (refl, tt))
-later-11 numbers true false a b c d = rw (a, b, d refl) (refl, (refl, tt))
-later-11 numbers false true a b c d = rw (a, b, c refl) (refl, (refl, tt))
-later-11 numbers false false a b c d = rw (a, b, c refl, d refl) (refl, (refl, tt))
-
-later-22 : (numbers : List ℤ) (held latched : Bool) → needs (get_or numbers 29 (pos 0)) ≡ held → needs (get_or numbers 31 (pos 0)) ≡ latched → (held ≡ false → get_or numbers 30 (pos 0) ≡ pos 0) → (latched ≡ false → get_or numbers 32 (pos 0) ≡ pos 0) → IsFine set_2 numbers 22
-unfolding first
-later-22 numbers true true a b c d = rw (a, b) (refl, (refl, tt))
-later-22 numbers true false a b c d = rw (a, b, d refl) (refl, (refl, tt))
-later-22 numbers false true a b c d = rw (a, b, c refl) (refl, (refl, tt))
-later-22 numbers false false a b c d = rw (a, b, c refl, d refl) (refl, (refl, tt))
 
 -- three channels with what follows them
 abbrev pub chip_slots : List Slot → List Slot → List Slot → List Slot → List Slot
@@ -106,49 +51,64 @@ status_cells =
     let byte : Cell = record { kind = U8; capacities = []; default = pos 0 } in
     flag ∷ flag ∷ flag ∷ byte ∷ byte ∷ byte ∷ []
 
+-- what stands behind a channel's cells: its gate's byte, which tells nothing in later sets
+abbrev pub gate : Slot
+gate = Constant U8 (pos 1)
+
+abbrev pub no_gate : Slot
+no_gate = Filler 1
+
 pit-1 : (numbers : List ℤ) → AreCellsOf 1 numbers → ReadyOf set_1 i8254_at_1 numbers
 unfolding first
 pit-1 numbers are =
     let k = absent-kept 1 numbers are in
-    let a = first-0 numbers _ _ refl refl k.wlow-0 k.latch-0 in
-    let b = first-11 numbers _ _ refl refl k.wlow-1 k.latch-1 in
-    let c = first-22 numbers _ _ refl refl k.wlow-2 k.latch-2 in
+    let a = channel-fine set_1 numbers 0 gate refl tt k.first in
+    let b = channel-fine set_1 numbers 11 gate refl tt k.second in
+    let c = channel-fine set_1 numbers 22 gate refl tt k.third in
     ready-plain set_1 i8254_at_1 numbers (omega arith) tt are.of_kinds refl
-    (all-kept numbers (slots_in set_1 numbers 0) (slots_in set_1 numbers 11) (slots_in set_1 numbers 22) [] [] a.0 b.0 c.0 refl)
-    (all-hold numbers (slots_in set_1 numbers 0) (slots_in set_1 numbers 11) (slots_in set_1 numbers 22) [] a.1 b.1 c.1 tt)
+    (all-kept numbers (slots_in set_1 numbers 0) (slots_in set_1 numbers 11) (slots_in set_1 numbers 22) [] [] a.kept b.kept c.kept refl)
+    (all-hold numbers (slots_in set_1 numbers 0) (slots_in set_1 numbers 11) (slots_in set_1 numbers 22) [] a.rules b.rules c.rules tt)
+
+-- later sets have the same structure, and statuses behind the channels
+module _ (numbers : List ℤ) (k : IsKept numbers) where
+  abbrev first-slots : List Slot
+  first-slots = slots_in set_2 numbers 0
+
+  abbrev second-slots : List Slot
+  second-slots = slots_in set_2 numbers 11
+
+  abbrev third-slots : List Slot
+  third-slots = slots_in set_2 numbers 22
+
+  later-kept : are_kept (chip_slots first-slots second-slots third-slots status_slots) numbers 0 (chip_cells status_cells) ≡ true
+  unfolding first
+  later-kept =
+      all-kept numbers first-slots second-slots third-slots status_slots status_cells
+      (channel-fine set_2 numbers 0 no_gate refl tt k.first).kept (channel-fine set_2 numbers 11 no_gate refl tt k.second).kept (channel-fine set_2 numbers 22 no_gate refl tt k.third).kept refl
+
+  later-holds : RulesHold (chip_slots first-slots second-slots third-slots status_slots)
+  unfolding first
+  later-holds =
+      all-hold numbers first-slots second-slots third-slots status_slots
+      (channel-fine set_2 numbers 0 no_gate refl tt k.first).rules (channel-fine set_2 numbers 11 no_gate refl tt k.second).rules (channel-fine set_2 numbers 22 no_gate refl tt k.third).rules tt
 
 pit-2 : (numbers : List ℤ) → AreCellsOf 2 numbers → ReadyOf set_2 i8254_at_2 numbers
 unfolding first
 pit-2 numbers are =
     let k = absent-kept 2 numbers are in
-    let a = later-0 numbers _ _ refl refl k.wlow-0 k.latch-0 in
-    let b = later-11 numbers _ _ refl refl k.wlow-1 k.latch-1 in
-    let c = later-22 numbers _ _ refl refl k.wlow-2 k.latch-2 in
-    ready-plain set_2 i8254_at_2 numbers (omega arith) tt are.of_kinds refl
-    (all-kept numbers (slots_in set_2 numbers 0) (slots_in set_2 numbers 11) (slots_in set_2 numbers 22) status_slots status_cells a.0 b.0 c.0 refl)
-    (all-hold numbers (slots_in set_2 numbers 0) (slots_in set_2 numbers 11) (slots_in set_2 numbers 22) status_slots a.1 b.1 c.1 tt)
+    ready-plain set_2 i8254_at_2 numbers (omega arith) tt are.of_kinds refl (later-kept numbers k) (later-holds numbers k)
 
 pit-3 : (numbers : List ℤ) → AreCellsOf 3 numbers → ReadyOf set_3 i8254_at_2 numbers
 unfolding first
 pit-3 numbers are =
     let k = absent-kept 3 numbers are in
-    let a = later-0 numbers _ _ refl refl k.wlow-0 k.latch-0 in
-    let b = later-11 numbers _ _ refl refl k.wlow-1 k.latch-1 in
-    let c = later-22 numbers _ _ refl refl k.wlow-2 k.latch-2 in
-    ready-plain set_3 i8254_at_2 numbers (omega arith) tt are.of_kinds refl
-    (all-kept numbers (slots_in set_2 numbers 0) (slots_in set_2 numbers 11) (slots_in set_2 numbers 22) status_slots status_cells a.0 b.0 c.0 refl)
-    (all-hold numbers (slots_in set_2 numbers 0) (slots_in set_2 numbers 11) (slots_in set_2 numbers 22) status_slots a.1 b.1 c.1 tt)
+    ready-plain set_3 i8254_at_2 numbers (omega arith) tt are.of_kinds refl (later-kept numbers k) (later-holds numbers k)
 
 pit-4 : (numbers : List ℤ) → AreCellsOf 4 numbers → ReadyOf set_4 i8254_at_2 numbers
 unfolding first
 pit-4 numbers are =
     let k = absent-kept 4 numbers are in
-    let a = later-0 numbers _ _ refl refl k.wlow-0 k.latch-0 in
-    let b = later-11 numbers _ _ refl refl k.wlow-1 k.latch-1 in
-    let c = later-22 numbers _ _ refl refl k.wlow-2 k.latch-2 in
-    ready-plain set_4 i8254_at_2 numbers (omega arith) tt are.of_kinds refl
-    (all-kept numbers (slots_in set_2 numbers 0) (slots_in set_2 numbers 11) (slots_in set_2 numbers 22) status_slots status_cells a.0 b.0 c.0 refl)
-    (all-hold numbers (slots_in set_2 numbers 0) (slots_in set_2 numbers 11) (slots_in set_2 numbers 22) status_slots a.1 b.1 c.1 tt)
+    ready-plain set_4 i8254_at_2 numbers (omega arith) tt are.of_kinds refl (later-kept numbers k) (later-holds numbers k)
 
 pub pit_is_ready : PitIsReady
 pit_is_ready = record { first = pit-1; second = pit-2; third = pit-3; fourth = pit-4 }

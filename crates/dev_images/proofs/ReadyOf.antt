@@ -1,14 +1,16 @@
 -- When the image of numbers is ready.
-use Rattle.std.proofs.Common.{◌≡◌, ℕ, zero, suc, ◌+◌, ◌<◌, ◌≤◌, Bool, true, false, ◌&&◌, ◌==◌, cond, List, ◌∷◌, ◌++◌, length, get_or, map, Option, Some, None, ℤ, pos, ◌≤ℤ◌, refl, sym, ap, ◌∙◌, subst, arith, ◌||◌, []}
+use Rattle.std.proofs.Common.{◌≡◌, ◌≢◌, ℕ, zero, suc, ◌+◌, ◌<◌, ◌≤◌, Bool, true, false, ◌&&◌, ◌==◌, cond, List, ◌∷◌, ◌++◌, length, get_or, map, Option, Some, None, ℤ, pos, ◌≤ℤ◌, refl, sym, ap, ◌∙◌, subst, arith, ◌||◌, []}
 use Rattle.std.specs.List.{AllByRecursion}
 use Rattle.vms_kinds.specs.Codes.{InRange}
 use Rattle.vms_kinds.specs.declared.Kind.{Kind}
 use Rattle.vms_spec.proofs.WellFormedLaws.{within}
 use Rattle.vms_spec.specs.Rules.{counts_well}
 use Rattle.vms_spec.specs.Numbers.{same_number}
-use Rattle.std.proofs.lemmas.Bool.{and_parts, eqb-true, and_from}
+use Rattle.std.proofs.lemmas.Bool.{and_parts, eqb-true, and_from, leb-true, or_from}
+use Rattle.std.proofs.lemmas.Bool.Decides.{nat_tests}
+use Rattle.std.specs.Prelude.{nat_le, nat_lt}
 use Rattle.vms_spec.specs.Images.{Image, has_cell, image_slots, AreVersionsOf, FitCells, IsValid}
-use Rattle.vms_spec.specs.Layout.{Cell, no_cell, device_cells, Slot}
+use Rattle.vms_spec.specs.Layout.{Cell, no_cell, device_cells, Slot, Number, Constant, Filler, Rule}
 use Rattle.vms_spec.specs.Sets.{Sub, Device, Set}
 use Rattle.vms_spec.specs.Streams.{is_needed, ComeAsNeeded, IsReady}
 use Rattle.vms_spec.proofs.ListLaws.{or_second}
@@ -143,7 +145,7 @@ or-mono : (a b c : Bool) → (b ≡ true → c ≡ true) → (a || b) ≡ true �
 or-mono true b c f e = refl
 or-mono false b c f e = f e
 
-or-lift : (a b c : Bool) → (a ≡ true → b ≡ true) → (a || c) ≡ true → (b || c) ≡ true
+pub or-lift : (a b c : Bool) → (a ≡ true → b ≡ true) → (a || c) ≡ true → (b || c) ≡ true
 or-lift true b c f e = ap (λ b. b || c) (f refl)
 or-lift false true c f e = refl
 or-lift false false c f e = e
@@ -167,3 +169,37 @@ kept-both slots numbers from next [] second is e f =
 kept-both slots numbers from next (cell ∷ first) second is e f =
     let p = and_parts (has_cell slots from || same_number (get_or numbers from (pos 0)) cell.default) (are_kept slots numbers (suc from) first) e in
     and_from _ _ p.0 (kept-both slots numbers (suc from) next first second (omega (arith, is)) p.1 f)
+
+-- no slot of these has a cell
+pub has-none : (slots more : List Slot) (c : ℕ) → has_cell slots c ≡ false → has_cell more c ≡ false → has_cell (slots ++ more) c ≡ false
+has-none [] more c e f = f
+has-none (Number k kind capacities ∷ slots) more c e f = or-none (k == c) (has_cell slots c) (has_cell (slots ++ more) c) (λ out. has-none slots more c out f) e
+  where
+    or-none : (a b d : Bool) → (b ≡ false → d ≡ false) → (a || b) ≡ false → (a || d) ≡ false
+    or-none true b d g e = cc
+    or-none false b d g e = g e
+has-none (Constant kind z ∷ slots) more c e f = has-none slots more c e f
+has-none (Filler n ∷ slots) more c e f = has-none slots more c e f
+has-none (Rule b ∷ slots) more c e f = has-none slots more c e f
+
+pub neq : (k c : ℕ) → k ≢ c → (k == c) ≡ false
+neq k c h = grind (arith, nat_tests)
+
+-- every number of these slots is of a cell from a place on and below another
+abbrev pub all_within : ℕ → ℕ → List Slot → Bool
+all_within low high [] = true
+all_within low high (Number k kind capacities ∷ slots) = nat_le low k && (nat_lt k high && all_within low high slots)
+all_within low high (Constant kind z ∷ slots) = all_within low high slots
+all_within low high (Filler n ∷ slots) = all_within low high slots
+all_within low high (Rule b ∷ slots) = all_within low high slots
+
+pub before-none : (low high : ℕ) (slots : List Slot) (c : ℕ) → all_within low high slots ≡ true → c < low → has_cell slots c ≡ false
+before-none low high [] c e h = refl
+before-none low high (Number k kind capacities ∷ slots) c e h =
+    let p = and_parts (nat_le low k) (nat_lt k high && all_within low high slots) e in
+    let q = and_parts (nat_lt k high) (all_within low high slots) p.1 in
+    let from : low ≤ k = leb-true low k p.0 in
+    or_from (k == c) (has_cell slots c) (neq k c (λ same. absurd (omega (arith, from, same, h)))) (before-none low high slots c q.1 h)
+before-none low high (Constant kind z ∷ slots) c e h = before-none low high slots c e h
+before-none low high (Filler n ∷ slots) c e h = before-none low high slots c e h
+before-none low high (Rule b ∷ slots) c e h = before-none low high slots c e h

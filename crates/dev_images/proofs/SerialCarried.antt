@@ -13,7 +13,8 @@ use Rattle.dev_serial.specs.Laws.{AreSaved}
 use Rattle.dev_images.specs.Images.{image_of}
 use Rattle.dev_images.specs.Laws.{carried_numbers, SerialIsCarried, serial_at_1, serial_at_2, serial_at_3, serial_at_4}
 use Rattle.dev_images.proofs.Parts.{front, shape}
-use Rattle.dev_images.proofs.SerialReady.{needs_sign, needs_timer, needs_fifo, needs_ring, no-sign, no-timer, no-ring, HasFifo, has-fifo-2, has-fifo-3, has-fifo-4, rx_elements, tx_elements, rx-zeros, tx-zeros, no-fifo}
+use Rattle.std.specs.Prelude.{codes}
+use Rattle.dev_images.proofs.SerialReady.{serial_since_2, needs_sign, needs_timer, needs_fifo, needs_ring, no-sign, no-timer, no-ring, HasFifo, has-fifo-2, has-fifo-3, has-fifo-4, rx_elements, tx_elements, rx-zeros, tx-zeros, no-fifo}
 
 -- the numbers of cells one after the other
 abbrev run : List ℤ → ℕ → ℕ → List ℤ
@@ -68,48 +69,22 @@ unfolding first
 thr-1 numbers true e off = rw e refl
 thr-1 numbers false e off = rw (e, off refl) refl
 
-thr-2 : (numbers : List ℤ) (needed : Bool) → needs_sign (get_or numbers 12 (pos 0)) ≡ needed → (needed ≡ false → get_or numbers 12 (pos 0) ≡ negsuc 0) → part set_2 serial_at_2 numbers thr_ipending ≡ (get_or numbers 12 (pos 0) ∷ [])
-unfolding first
-thr-2 numbers true e off = rw e refl
-thr-2 numbers false e off = rw (e, off refl) refl
+module _ (set : Set) (version : ℕ) (name : List ℕ) (former : List (List ℕ)) (more : List Sub) (numbers : List ℤ) where
+  thr : (needed : Bool) → needs_sign (get_or numbers 12 (pos 0)) ≡ needed → (needed ≡ false → get_or numbers 12 (pos 0) ≡ negsuc 0) → part set (serial_since_2 version name former more) numbers thr_ipending ≡ (get_or numbers 12 (pos 0) ∷ [])
+  unfolding first
+  thr true e off = rw e refl
+  thr false e off = rw (e, off refl) refl
 
-thr-3 : (numbers : List ℤ) (needed : Bool) → needs_sign (get_or numbers 12 (pos 0)) ≡ needed → (needed ≡ false → get_or numbers 12 (pos 0) ≡ negsuc 0) → part set_3 serial_at_3 numbers thr_ipending ≡ (get_or numbers 12 (pos 0) ∷ [])
-unfolding first
-thr-3 numbers true e off = rw e refl
-thr-3 numbers false e off = rw (e, off refl) refl
+  due : (needed : Bool) → needs_timer (get_or numbers 47 (pos 0)) ≡ needed → (needed ≡ false → get_or numbers 47 (pos 0) ≡ pos never) → part set (serial_since_2 version name former (timeout ∷ more)) numbers timeout ≡ (get_or numbers 47 (pos 0) ∷ [])
+  unfolding first
+  due true e off = rw e refl
+  due false e off = rw (e, off refl) refl
 
-thr-4 : (numbers : List ℤ) (needed : Bool) → needs_sign (get_or numbers 12 (pos 0)) ≡ needed → (needed ≡ false → get_or numbers 12 (pos 0) ≡ negsuc 0) → part set_4 serial_at_4 numbers thr_ipending ≡ (get_or numbers 12 (pos 0) ∷ [])
-unfolding first
-thr-4 numbers true e off = rw e refl
-thr-4 numbers false e off = rw (e, off refl) refl
-
-fifo-2 : (numbers : List ℤ) (h : HasFifo numbers) (needed : Bool) → needs_fifo numbers ≡ needed → (needed ≡ false → take 34 (drop 13 numbers) ≡ replicate 34 (pos 0)) → part set_2 serial_at_2 numbers fifo ≡ run numbers 13 34
-unfolding first
-fifo-2 numbers h true e off =
-    rw e (fifo-run (carriers (struct_cells set_2) (struct_cells (shipped_set NEWEST)) set_2.structs (shipped_set NEWEST).structs 1) (struct_cells set_2) (struct_cells (shipped_set NEWEST)) numbers (rx_elements numbers h) (tx_elements numbers h) (rx-zeros numbers h) (tx-zeros numbers h))
-fifo-2 numbers h false e off = rw e (zeros-run numbers 13 34 (off refl))
-
-fifo-3 : (numbers : List ℤ) (h : HasFifo numbers) (needed : Bool) → needs_fifo numbers ≡ needed → (needed ≡ false → take 34 (drop 13 numbers) ≡ replicate 34 (pos 0)) → part set_3 serial_at_3 numbers fifo ≡ run numbers 13 34
-unfolding first
-fifo-3 numbers h true e off =
-    rw e (fifo-run (carriers (struct_cells set_3) (struct_cells (shipped_set NEWEST)) set_3.structs (shipped_set NEWEST).structs 1) (struct_cells set_3) (struct_cells (shipped_set NEWEST)) numbers (rx_elements numbers h) (tx_elements numbers h) (rx-zeros numbers h) (tx-zeros numbers h))
-fifo-3 numbers h false e off = rw e (zeros-run numbers 13 34 (off refl))
-
-fifo-4 : (numbers : List ℤ) (h : HasFifo numbers) (needed : Bool) → needs_fifo numbers ≡ needed → (needed ≡ false → take 34 (drop 13 numbers) ≡ replicate 34 (pos 0)) → part set_4 serial_at_4 numbers fifo ≡ run numbers 13 34
-unfolding first
-fifo-4 numbers h true e off =
-    rw e (fifo-run (carriers (struct_cells set_4) (struct_cells (shipped_set NEWEST)) set_4.structs (shipped_set NEWEST).structs 1) (struct_cells set_4) (struct_cells (shipped_set NEWEST)) numbers (rx_elements numbers h) (tx_elements numbers h) (rx-zeros numbers h) (tx-zeros numbers h))
-fifo-4 numbers h false e off = rw e (zeros-run numbers 13 34 (off refl))
-
-timeout-3 : (numbers : List ℤ) (needed : Bool) → needs_timer (get_or numbers 47 (pos 0)) ≡ needed → (needed ≡ false → get_or numbers 47 (pos 0) ≡ pos never) → part set_3 serial_at_3 numbers timeout ≡ (get_or numbers 47 (pos 0) ∷ [])
-unfolding first
-timeout-3 numbers true e off = rw e refl
-timeout-3 numbers false e off = rw (e, off refl) refl
-
-timeout-4 : (numbers : List ℤ) (needed : Bool) → needs_timer (get_or numbers 47 (pos 0)) ≡ needed → (needed ≡ false → get_or numbers 47 (pos 0) ≡ pos never) → part set_4 serial_at_4 numbers timeout ≡ (get_or numbers 47 (pos 0) ∷ [])
-unfolding first
-timeout-4 numbers true e off = rw e refl
-timeout-4 numbers false e off = rw (e, off refl) refl
+  fifo-part : HasFifo numbers → (needed : Bool) → needs_fifo numbers ≡ needed → (needed ≡ false → take 34 (drop 13 numbers) ≡ replicate 34 (pos 0)) → part set (serial_since_2 version name former more) numbers fifo ≡ run numbers 13 34
+  unfolding first
+  fifo-part h true e off =
+      rw e (fifo-run (carriers (struct_cells set) (struct_cells (shipped_set NEWEST)) set.structs (shipped_set NEWEST).structs 1) (struct_cells set) (struct_cells (shipped_set NEWEST)) numbers (rx_elements numbers h) (tx_elements numbers h) (rx-zeros numbers h) (tx-zeros numbers h))
+  fifo-part h false e off = rw e (zeros-run numbers 13 34 (off refl))
 
 ring-4 : (numbers : List ℤ) (needed : Bool) → needs_ring numbers ≡ needed → (needed ≡ false → take 36 (drop 48 numbers) ≡ replicate 36 (pos 0)) → part set_4 serial_at_4 numbers ring ≡ run numbers 48 36
 unfolding first
@@ -135,21 +110,25 @@ unfolding first serial_carried
 serial-2 numbers are =
     let h = has-fifo-2 numbers are in
     same-parts (run numbers 0 12) (part set_2 serial_at_2 numbers thr_ipending) (part set_2 serial_at_2 numbers fifo) (pos never ∷ []) (replicate 36 (pos 0)) _ _ _ _
-    (thr-2 numbers _ refl (no-sign _ (are.of_kinds.in_range 12 (omega arith)))) (fifo-2 numbers h _ refl (no-fifo numbers h)) refl refl
+    (thr set_2 2 (codes "divider") [] [] numbers _ refl (no-sign _ (are.of_kinds.in_range 12 (omega arith)))) (fifo-part set_2 2 (codes "divider") [] [] numbers h _ refl (no-fifo numbers h)) refl refl
 
 serial-3 : (numbers : List ℤ) → AreSaved 3 numbers → carried_numbers set_3 serial_at_3 serial_at_4 numbers ≡ serial_carried 3 numbers
 unfolding first serial_carried
 serial-3 numbers are =
     let h = has-fifo-3 numbers are in
+    let name = codes "divisor" in
+    let former = codes "divider" ∷ [] in
     same-parts (run numbers 0 12) (part set_3 serial_at_3 numbers thr_ipending) (part set_3 serial_at_3 numbers fifo) (part set_3 serial_at_3 numbers timeout) (replicate 36 (pos 0)) _ _ _ _
-    (thr-3 numbers _ refl (no-sign _ (are.of_kinds.in_range 12 (omega arith)))) (fifo-3 numbers h _ refl (no-fifo numbers h)) (timeout-3 numbers _ refl (no-timer _ (are.of_kinds.in_range 47 (omega arith)))) refl
+    (thr set_3 3 name former (timeout ∷ []) numbers _ refl (no-sign _ (are.of_kinds.in_range 12 (omega arith)))) (fifo-part set_3 3 name former (timeout ∷ []) numbers h _ refl (no-fifo numbers h)) (due set_3 3 name former [] numbers _ refl (no-timer _ (are.of_kinds.in_range 47 (omega arith)))) refl
 
 serial-4 : (numbers : List ℤ) → AreSaved 4 numbers → carried_numbers set_4 serial_at_4 serial_at_4 numbers ≡ serial_carried 4 numbers
 unfolding first serial_carried
 serial-4 numbers are =
     let h = has-fifo-4 numbers are in
+    let name = codes "divisor" in
+    let former = codes "divider" ∷ [] in
     same-parts (run numbers 0 12) (part set_4 serial_at_4 numbers thr_ipending) (part set_4 serial_at_4 numbers fifo) (part set_4 serial_at_4 numbers timeout) (part set_4 serial_at_4 numbers ring) _ _ _ _
-    (thr-4 numbers _ refl (no-sign _ (are.of_kinds.in_range 12 (omega arith)))) (fifo-4 numbers h _ refl (no-fifo numbers h)) (timeout-4 numbers _ refl (no-timer _ (are.of_kinds.in_range 47 (omega arith)))) (ring-4 numbers _ refl (no-ring numbers are))
+    (thr set_4 4 name former (timeout ∷ ring ∷ []) numbers _ refl (no-sign _ (are.of_kinds.in_range 12 (omega arith)))) (fifo-part set_4 4 name former (timeout ∷ ring ∷ []) numbers h _ refl (no-fifo numbers h)) (due set_4 4 name former (ring ∷ []) numbers _ refl (no-timer _ (are.of_kinds.in_range 47 (omega arith)))) (ring-4 numbers _ refl (no-ring numbers are))
 
 pub serial_is_carried : SerialIsCarried
 serial_is_carried = record { first = serial-1; second = serial-2; third = serial-3; fourth = serial-4 }

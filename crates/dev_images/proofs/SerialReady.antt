@@ -4,9 +4,9 @@ use Rattle.std.proofs.lemmas.Bool.{eqb-true, not-false, or_parts}
 use Rattle.std.proofs.lemmas.Bool.Decides.{nat_tests}
 use Rattle.std.proofs.lemmas.Int.{ints}
 use Rattle.std.proofs.lemmas.Nat.{and_le_l}
-use Rattle.std.specs.Prelude.{bit_and, nat_le}
+use Rattle.std.specs.Prelude.{bit_and, nat_le, codes}
 use Rattle.vms_kinds.specs.Codes.{InRange, residue}
-use Rattle.vms_kinds.specs.declared.Kind.TheVariants.{U8, I8, Timer}
+use Rattle.vms_kinds.specs.declared.Kind.TheVariants.{U8, U16, I8, Timer}
 use Rattle.vms_spec.specs.Layout.{first, device_cells, times, Cell, Slot, Number, Rule}
 use Rattle.vms_spec.specs.Images.{RulesHold}
 use Rattle.vms_spec.specs.Rules.{counts_well}
@@ -14,12 +14,13 @@ use Rattle.vms_bodies.proofs.ReadyLaws.{counted_well}
 use Rattle.vms_bodies.proofs.SpellLaws.{rules_append}
 use Rattle.std.proofs.lemmas.Grind.{and_numeral}
 use Rattle.dev_serial.specs.Cells.{IsArray}
-use Rattle.vms_spec.specs.Shipped.{set_1, set_2, set_3, set_4, never, thr_ipending, fifo, timeout, ring}
+use Rattle.vms_spec.specs.Sets.{Set, Device, Sub}
+use Rattle.vms_spec.specs.Shipped.{set_1, set_2, set_3, set_4, never, number, serial, serial_fields, fcr, thr_ipending, fifo, timeout, ring}
 use Rattle.dev_base.specs.Cells.{nat_of}
 use Rattle.dev_serial.specs.Laws.{AreSaved}
 use Rattle.dev_images.specs.Laws.{ReadyOf, SerialIsReady, serial_at_1, serial_at_2, serial_at_3, serial_at_4}
 use Rattle.dev_images.proofs.Parts.{IsFineSub, ready-parts, zeros-kept, element, array-kept, rules-times}
-use Rattle.dev_images.proofs.ReadyOf.{are_kept, are_counted, counts-none, counts-by, kept-left, kept-right, kept-both}
+use Rattle.dev_images.proofs.ReadyOf.{are_kept, counts-none, counts-by, kept-left, kept-right, kept-both}
 
 -- whether a signed byte isn't -1, and whether a timer isn't never
 abbrev pub needs_sign : ℤ → Bool
@@ -50,39 +51,28 @@ no-timer (pos n) r e =
     ap pos is
 no-timer (negsuc n) r e = absurd (let least = r.0 in omega (arith, ints, least))
 
--- the latch's cell
+-- the serial port of a set from 2 on, where subsections may follow that of its FIFOs: its first field has another name from
+-- set 3 on
+abbrev pub serial_since_2 : ℕ → List ℕ → List (List ℕ) → List Sub → Device
+serial_since_2 version name former more =
+    serial version (record (number U16 name) { former = former } ∷ serial_fields ++ fcr ∷ []) (thr_ipending ∷ fifo ∷ more)
+
+-- the latch's cell, and the timeout's; no item of the port is a structure
 thr-1 : (numbers : List ℤ) (needed : Bool) → needs_sign (get_or numbers 11 (pos 0)) ≡ needed → (needed ≡ false → get_or numbers 11 (pos 0) ≡ negsuc 0) → IsFineSub set_1 serial_at_1 numbers thr_ipending 0 11
 unfolding first
 thr-1 numbers true e off = record { kept = rw e refl; rules = rw e (refl, tt) }
 thr-1 numbers false e off = record { kept = rw (e, off refl) refl; rules = rw e tt }
 
--- the latch's cell
-thr-2 : (numbers : List ℤ) (needed : Bool) → needs_sign (get_or numbers 12 (pos 0)) ≡ needed → (needed ≡ false → get_or numbers 12 (pos 0) ≡ negsuc 0) → IsFineSub set_2 serial_at_2 numbers thr_ipending 0 12
-unfolding first
-thr-2 numbers true e off = record { kept = rw e refl; rules = rw e (refl, tt) }
-thr-2 numbers false e off = record { kept = rw (e, off refl) refl; rules = rw e tt }
+module _ (set : Set) (version : ℕ) (name : List ℕ) (former : List (List ℕ)) (more : List Sub) (numbers : List ℤ) where
+  thr : (needed : Bool) → needs_sign (get_or numbers 12 (pos 0)) ≡ needed → (needed ≡ false → get_or numbers 12 (pos 0) ≡ negsuc 0) → IsFineSub set (serial_since_2 version name former more) numbers thr_ipending 0 12
+  unfolding first
+  thr true e off = record { kept = rw e refl; rules = rw e (refl, tt) }
+  thr false e off = record { kept = rw (e, off refl) refl; rules = rw e tt }
 
--- the latch's cell
-thr-3 : (numbers : List ℤ) (needed : Bool) → needs_sign (get_or numbers 12 (pos 0)) ≡ needed → (needed ≡ false → get_or numbers 12 (pos 0) ≡ negsuc 0) → IsFineSub set_3 serial_at_3 numbers thr_ipending 0 12
-unfolding first
-thr-3 numbers true e off = record { kept = rw e refl; rules = rw e (refl, tt) }
-thr-3 numbers false e off = record { kept = rw (e, off refl) refl; rules = rw e tt }
-
--- the latch's cell
-thr-4 : (numbers : List ℤ) (needed : Bool) → needs_sign (get_or numbers 12 (pos 0)) ≡ needed → (needed ≡ false → get_or numbers 12 (pos 0) ≡ negsuc 0) → IsFineSub set_4 serial_at_4 numbers thr_ipending 0 12
-unfolding first
-thr-4 numbers true e off = record { kept = rw e refl; rules = rw e (refl, tt) }
-thr-4 numbers false e off = record { kept = rw (e, off refl) refl; rules = rw e tt }
-
-timeout-3 : (numbers : List ℤ) (needed : Bool) → needs_timer (get_or numbers 47 (pos 0)) ≡ needed → (needed ≡ false → get_or numbers 47 (pos 0) ≡ pos never) → IsFineSub set_3 serial_at_3 numbers timeout 2 47
-unfolding first
-timeout-3 numbers true e off = record { kept = rw e refl; rules = rw e (refl, tt) }
-timeout-3 numbers false e off = record { kept = rw (e, off refl) refl; rules = rw e tt }
-
-timeout-4 : (numbers : List ℤ) (needed : Bool) → needs_timer (get_or numbers 47 (pos 0)) ≡ needed → (needed ≡ false → get_or numbers 47 (pos 0) ≡ pos never) → IsFineSub set_4 serial_at_4 numbers timeout 2 47
-unfolding first
-timeout-4 numbers true e off = record { kept = rw e refl; rules = rw e (refl, tt) }
-timeout-4 numbers false e off = record { kept = rw (e, off refl) refl; rules = rw e tt }
+  due : (needed : Bool) → needs_timer (get_or numbers 47 (pos 0)) ≡ needed → (needed ≡ false → get_or numbers 47 (pos 0) ≡ pos never) → IsFineSub set (serial_since_2 version name former (timeout ∷ more)) numbers timeout 2 47
+  unfolding first
+  due true e off = record { kept = rw e refl; rules = rw e (refl, tt) }
+  due false e off = record { kept = rw (e, off refl) refl; rules = rw e tt }
 
 -- whether a count isn't 0
 abbrev needs_count : ℤ → Bool
@@ -173,20 +163,11 @@ module _ (numbers : List ℤ) (h : HasFifo numbers) where
   no-fifo e =
       h.none (no-count _ h.rx_range ((or_parts (needs_count (get_or numbers 13 (pos 0))) _ e).0)) (no-count _ h.tx_range ((or_parts (needs_count (get_or numbers 13 (pos 0))) _ e).1))
 
-  fifo-2 : (needed : Bool) → needs_fifo numbers ≡ needed → (needed ≡ false → take 34 (drop 13 numbers) ≡ replicate 34 (pos 0)) → IsFineSub set_2 serial_at_2 numbers fifo 1 13
+  -- under any set from 2 on
+  fifos : (set : Set) (version : ℕ) (name : List ℕ) (former : List (List ℕ)) (more : List Sub) (needed : Bool) → needs_fifo numbers ≡ needed → (needed ≡ false → take 34 (drop 13 numbers) ≡ replicate 34 (pos 0)) → IsFineSub set (serial_since_2 version name former more) numbers fifo 1 13
   unfolding first
-  fifo-2 true e off = record { kept = rw e (fifo-kept numbers rx_elements tx_elements rx-zeros tx-zeros); rules = rw e (fifo-rules numbers rx_elements tx_elements rx-zeros tx-zeros) }
-  fifo-2 false e off = record { kept = rw e (zeros-kept [] numbers 13 fifo_cells refl (off refl)); rules = rw e tt }
-
-  fifo-3 : (needed : Bool) → needs_fifo numbers ≡ needed → (needed ≡ false → take 34 (drop 13 numbers) ≡ replicate 34 (pos 0)) → IsFineSub set_3 serial_at_3 numbers fifo 1 13
-  unfolding first
-  fifo-3 true e off = record { kept = rw e (fifo-kept numbers rx_elements tx_elements rx-zeros tx-zeros); rules = rw e (fifo-rules numbers rx_elements tx_elements rx-zeros tx-zeros) }
-  fifo-3 false e off = record { kept = rw e (zeros-kept [] numbers 13 fifo_cells refl (off refl)); rules = rw e tt }
-
-  fifo-4 : (needed : Bool) → needs_fifo numbers ≡ needed → (needed ≡ false → take 34 (drop 13 numbers) ≡ replicate 34 (pos 0)) → IsFineSub set_4 serial_at_4 numbers fifo 1 13
-  unfolding first
-  fifo-4 true e off = record { kept = rw e (fifo-kept numbers rx_elements tx_elements rx-zeros tx-zeros); rules = rw e (fifo-rules numbers rx_elements tx_elements rx-zeros tx-zeros) }
-  fifo-4 false e off = record { kept = rw e (zeros-kept [] numbers 13 fifo_cells refl (off refl)); rules = rw e tt }
+  fifos set version name former more true e off = record { kept = rw e (fifo-kept numbers rx_elements tx_elements rx-zeros tx-zeros); rules = rw e (fifo-rules numbers rx_elements tx_elements rx-zeros tx-zeros) }
+  fifos set version name former more false e off = record { kept = rw e (zeros-kept [] numbers 13 fifo_cells refl (off refl)); rules = rw e tt }
 
 serial-1 : (numbers : List ℤ) → AreSaved 1 numbers → ReadyOf set_1 serial_at_1 numbers
 unfolding first
@@ -210,58 +191,34 @@ well-rx numbers h = counted-well (get_or numbers 13 (pos 0)) h.rx_range h.rx.fit
 well-tx : (numbers : List ℤ) (h : HasFifo numbers) → counts_well (16 ∷ []) (get_or numbers 30 (pos 0)) ≡ true
 well-tx numbers h = counted-well (get_or numbers 30 (pos 0)) h.tx_range h.tx.fits
 
-pub has-fifo-2 : (numbers : List ℤ) → AreSaved 2 numbers → HasFifo numbers
-has-fifo-2 numbers are = record {
-  rx_range = are.of_kinds.in_range 13 (omega arith);
-  tx_range = are.of_kinds.in_range 30 (omega arith);
-  rx = are.rx (omega arith);
-  tx = are.tx (omega arith);
-  none = are.no_fifo (omega arith);
-}
+pub has-fifo : (set : ℕ) → 2 ≤ set → (numbers : List ℤ) → AreSaved set numbers → InRange U8 (get_or numbers 13 (pos 0)) → InRange U8 (get_or numbers 30 (pos 0)) → HasFifo numbers
+has-fifo set since numbers are rx tx = record { rx_range = rx; tx_range = tx; rx = are.rx since; tx = are.tx since; none = are.no_fifo since }
 
-counted-2 : (numbers : List ℤ) → HasFifo numbers → are_counted numbers 0 (device_cells set_2 serial_at_2) ≡ true
-unfolding first
-counted-2 numbers h = rw (well-rx numbers h, well-tx numbers h) refl
+-- the FIFOs of the sets that have them
+pub has-fifo-2 : (numbers : List ℤ) → AreSaved 2 numbers → HasFifo numbers
+has-fifo-2 numbers are = has-fifo 2 (omega arith) numbers are (are.of_kinds.in_range 13 (omega arith)) (are.of_kinds.in_range 30 (omega arith))
 
 pub has-fifo-3 : (numbers : List ℤ) → AreSaved 3 numbers → HasFifo numbers
-has-fifo-3 numbers are = record {
-  rx_range = are.of_kinds.in_range 13 (omega arith);
-  tx_range = are.of_kinds.in_range 30 (omega arith);
-  rx = are.rx (omega arith);
-  tx = are.tx (omega arith);
-  none = are.no_fifo (omega arith);
-}
-
-counted-3 : (numbers : List ℤ) → HasFifo numbers → are_counted numbers 0 (device_cells set_3 serial_at_3) ≡ true
-unfolding first
-counted-3 numbers h = rw (well-rx numbers h, well-tx numbers h) refl
+has-fifo-3 numbers are = has-fifo 3 (omega arith) numbers are (are.of_kinds.in_range 13 (omega arith)) (are.of_kinds.in_range 30 (omega arith))
 
 pub has-fifo-4 : (numbers : List ℤ) → AreSaved 4 numbers → HasFifo numbers
-has-fifo-4 numbers are = record {
-  rx_range = are.of_kinds.in_range 13 (omega arith);
-  tx_range = are.of_kinds.in_range 30 (omega arith);
-  rx = are.rx (omega arith);
-  tx = are.tx (omega arith);
-  none = are.no_fifo (omega arith);
-}
-
-counted-4 : (numbers : List ℤ) → HasFifo numbers → are_counted numbers 0 (device_cells set_4 serial_at_4) ≡ true
-unfolding first
-counted-4 numbers h = rw (well-rx numbers h, well-tx numbers h) refl
+has-fifo-4 numbers are = has-fifo 4 (omega arith) numbers are (are.of_kinds.in_range 13 (omega arith)) (are.of_kinds.in_range 30 (omega arith))
 
 serial-2 : (numbers : List ℤ) → AreSaved 2 numbers → ReadyOf set_2 serial_at_2 numbers
 unfolding first
 serial-2 numbers are =
     let h = has-fifo-2 numbers are in
-    ready-parts set_2 serial_at_2 numbers (omega arith) (omega arith, (omega arith, tt)) are.of_kinds (counts-by (device_cells set_2 serial_at_2) numbers (counted-2 numbers h)) refl (refl, tt)
-    (thr-2 numbers _ refl (no-sign _ (are.of_kinds.in_range 12 (omega arith))), (fifo-2 numbers h _ refl (no-fifo numbers h), tt))
+    ready-parts set_2 serial_at_2 numbers (omega arith) (omega arith, (omega arith, tt)) are.of_kinds (counts-by (device_cells set_2 serial_at_2) numbers (rw (well-rx numbers h, well-tx numbers h) refl)) refl (refl, tt)
+    (thr set_2 2 (codes "divider") [] [] numbers _ refl (no-sign _ (are.of_kinds.in_range 12 (omega arith))), (fifos numbers h set_2 2 (codes "divider") [] [] _ refl (no-fifo numbers h), tt))
 
 serial-3 : (numbers : List ℤ) → AreSaved 3 numbers → ReadyOf set_3 serial_at_3 numbers
 unfolding first
 serial-3 numbers are =
     let h = has-fifo-3 numbers are in
-    ready-parts set_3 serial_at_3 numbers (omega arith) (omega arith, (omega arith, (omega arith, tt))) are.of_kinds (counts-by (device_cells set_3 serial_at_3) numbers (counted-3 numbers h)) refl (refl, tt)
-    (thr-3 numbers _ refl (no-sign _ (are.of_kinds.in_range 12 (omega arith))), (fifo-3 numbers h _ refl (no-fifo numbers h), (timeout-3 numbers _ refl (no-timer _ (are.of_kinds.in_range 47 (omega arith))), tt)))
+    let name = codes "divisor" in
+    let former = codes "divider" ∷ [] in
+    ready-parts set_3 serial_at_3 numbers (omega arith) (omega arith, (omega arith, (omega arith, tt))) are.of_kinds (counts-by (device_cells set_3 serial_at_3) numbers (rw (well-rx numbers h, well-tx numbers h) refl)) refl (refl, tt)
+    (thr set_3 3 name former (timeout ∷ []) numbers _ refl (no-sign _ (are.of_kinds.in_range 12 (omega arith))), (fifos numbers h set_3 3 name former (timeout ∷ []) _ refl (no-fifo numbers h), (due set_3 3 name former [] numbers _ refl (no-timer _ (are.of_kinds.in_range 47 (omega arith))), tt)))
 
 pub no-ring : (numbers : List ℤ) → AreSaved 4 numbers → needs_ring numbers ≡ false → take 36 (drop 48 numbers) ≡ replicate 36 (pos 0)
 no-ring numbers are e =
@@ -272,8 +229,11 @@ serial-4 : (numbers : List ℤ) → AreSaved 4 numbers → ReadyOf set_4 serial_
 unfolding first
 serial-4 numbers are =
     let h = has-fifo-4 numbers are in
-    ready-parts set_4 serial_at_4 numbers (omega arith) (omega arith, (omega arith, (omega arith, (omega arith, tt)))) are.of_kinds (counts-by (device_cells set_4 serial_at_4) numbers (counted-4 numbers h)) refl (refl, tt)
-    (thr-4 numbers _ refl (no-sign _ (are.of_kinds.in_range 12 (omega arith))), (fifo-4 numbers h _ refl (no-fifo numbers h), (timeout-4 numbers _ refl (no-timer _ (are.of_kinds.in_range 47 (omega arith))), (ring-4 numbers _ refl (no-ring numbers are), tt))))
+    let name = codes "divisor" in
+    let former = codes "divider" ∷ [] in
+    let more = timeout ∷ ring ∷ [] in
+    ready-parts set_4 serial_at_4 numbers (omega arith) (omega arith, (omega arith, (omega arith, (omega arith, tt)))) are.of_kinds (counts-by (device_cells set_4 serial_at_4) numbers (rw (well-rx numbers h, well-tx numbers h) refl)) refl (refl, tt)
+    (thr set_4 4 name former more numbers _ refl (no-sign _ (are.of_kinds.in_range 12 (omega arith))), (fifos numbers h set_4 4 name former more _ refl (no-fifo numbers h), (due set_4 4 name former (ring ∷ []) numbers _ refl (no-timer _ (are.of_kinds.in_range 47 (omega arith))), (ring-4 numbers _ refl (no-ring numbers are), tt))))
 
 pub serial_is_ready : SerialIsReady
 serial_is_ready = record { first = serial-1; second = serial-2; third = serial-3; fourth = serial-4 }

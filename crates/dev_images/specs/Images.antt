@@ -1,5 +1,5 @@
 -- Images at their set's version, with exactly the subsections that are needed.
-use Rattle.std.specs.Prelude.{ℕ, suc, if◌then◌else◌, List, [], ◌∷◌, Option, Some, None, ℤ, get_or, map}
+use Rattle.std.specs.Prelude.{ℕ, suc, ◌+◌, if◌then◌else◌, List, [], ◌∷◌, Option, Some, None, ℤ, get_or, map}
 use Rattle.arrayvec.specs.ArrayVec.{ArrayVec}
 use Rattle.vms_spec.specs.Images.{Image}
 use Rattle.vms_spec.specs.Sets.{Sub, Device, Set}
@@ -37,15 +37,23 @@ lists_of cells = cells.timer.items ∷ cells.master.items ∷ cells.slave.items 
 abbrev pub saved_images : ℕ → State → List Image
 saved_images set m = images_of (shipped_set set) (shipped_set set).devices (lists_of (saved set m))
 
--- the cells of a board's devices in images of them
-abbrev pub numbers_at : List Image → ℕ → ArrayVec ℤ
-numbers_at images k = record { items = get_or (map (λ image. image.numbers) images) k [] }
+-- list k of these, as the cells of a device
+abbrev pub list_at : List (List ℤ) → ℕ → ArrayVec ℤ
+list_at lists k = record { items = get_or lists k [] }
+
+-- the cells of a board's devices, whose lists stand one behind the other from list k on
+abbrev pub board_from : ℕ → List (List ℤ) → BoardCells
+board_from k lists = record {
+  timer = list_at lists k;
+  master = list_at lists (k + 1);
+  slave = list_at lists (k + 2);
+  pit = list_at lists (k + 3);
+  serial = list_at lists (k + 4);
+}
+
+-- the numbers of images, and the cells of a board's devices in images of them
+abbrev pub numbers_in : List Image → List (List ℤ)
+numbers_in images = map (λ image. image.numbers) images
 
 abbrev pub cells_in : List Image → BoardCells
-cells_in images = record {
-  timer = numbers_at images 0;
-  master = numbers_at images 1;
-  slave = numbers_at images 2;
-  pit = numbers_at images 3;
-  serial = numbers_at images 4;
-}
+cells_in images = board_from 0 (numbers_in images)

@@ -25,25 +25,34 @@ use Rattle.dev_images.specs.Images.{image_of, saved_images, cells_in}
 abbrev pub ReadyOf : Set → Device → List ℤ → Type 0
 ReadyOf set d numbers = IsReady set d (image_of set d numbers)
 
-pub record TimerIsReady : Type 0 where
-  pub first : (numbers : List ℤ) → AreOf timer_kinds numbers → ReadyOf set_1 timer numbers
-  pub second : (numbers : List ℤ) → AreOf timer_kinds numbers → ReadyOf set_2 timer numbers
-  pub third : (numbers : List ℤ) → AreOf timer_kinds numbers → ReadyOf set_3 timer numbers
-  pub fourth : (numbers : List ℤ) → AreOf timer_kinds numbers → ReadyOf set_4 timer numbers
+-- what is said of each shipped set from 1 on, by its number and by what a device is in it
+pub record InEachSet (Says : ℕ → Set → Device → Type 0) (in_1 in_2 in_3 in_4 : Device) : Type 0 where
+  pub first : Says 1 set_1 in_1
+  pub second : Says 2 set_2 in_2
+  pub third : Says 3 set_3 in_3
+  pub fourth : Says 4 set_4 in_4
 
--- an image of cells that are those of a chip
+-- an image of a set's cells of a device is ready
+abbrev pub ReadyWhere : (ℕ → List ℤ → Type 0) → ℕ → Set → Device → Type 0
+ReadyWhere Are number set d = (numbers : List ℤ) → Are number numbers → ReadyOf set d numbers
+
+-- the cell of a moment, and those of a chip
+abbrev pub AreTimerCells : ℕ → List ℤ → Type 0
+AreTimerCells set numbers = AreOf timer_kinds numbers
+
+abbrev pub AreChipCells : ℕ → List ℤ → Type 0
+AreChipCells set numbers = AreOf (pic_kinds set) numbers
+
+abbrev pub TimerIsReady : Type 0
+TimerIsReady = InEachSet (ReadyWhere AreTimerCells) timer timer timer timer
+
 pub record ChipIsReady : Type 0 where
-  pub first : (instance : ℕ) (numbers : List ℤ) → AreOf (pic_kinds 1) numbers → ReadyOf set_1 (i8259_at_1 instance) numbers
-  pub second : (instance : ℕ) (numbers : List ℤ) → AreOf (pic_kinds 2) numbers → ReadyOf set_2 (i8259_at_2 instance) numbers
-  pub third : (instance : ℕ) (numbers : List ℤ) → AreOf (pic_kinds 3) numbers → ReadyOf set_3 (i8259_at_2 instance) numbers
-  pub fourth : (instance : ℕ) (numbers : List ℤ) → AreOf (pic_kinds 4) numbers → ReadyOf set_4 (i8259_at_4 instance) numbers
+  pub chip : (instance : ℕ)
+      → InEachSet (ReadyWhere AreChipCells) (i8259_at_1 instance) (i8259_at_2 instance) (i8259_at_2 instance) (i8259_at_4 instance)
 
--- an image of normal cells of the timer chip
-pub record PitIsReady : Type 0 where
-  pub first : (numbers : List ℤ) → ArePitCells 1 numbers → ReadyOf set_1 i8254_at_1 numbers
-  pub second : (numbers : List ℤ) → ArePitCells 2 numbers → ReadyOf set_2 i8254_at_2 numbers
-  pub third : (numbers : List ℤ) → ArePitCells 3 numbers → ReadyOf set_3 i8254_at_2 numbers
-  pub fourth : (numbers : List ℤ) → ArePitCells 4 numbers → ReadyOf set_4 i8254_at_2 numbers
+-- normal cells of the timer chip
+abbrev pub PitIsReady : Type 0
+PitIsReady = InEachSet (ReadyWhere ArePitCells) i8254_at_1 i8254_at_2 i8254_at_2 i8254_at_2
 
 -- the serial port of each set
 abbrev pub serial_at_1 : Device
@@ -58,48 +67,37 @@ serial_at_3 = serial 3 (divisor ∷ serial_fields ++ fcr ∷ []) (thr_ipending �
 abbrev pub serial_at_4 : Device
 serial_at_4 = serial 4 (divisor ∷ serial_fields ++ fcr ∷ []) (thr_ipending ∷ fifo ∷ timeout ∷ ring ∷ [])
 
--- an image of cells that a serial port saves
-pub record SerialIsReady : Type 0 where
-  pub first : (numbers : List ℤ) → AreSerialCells 1 numbers → ReadyOf set_1 serial_at_1 numbers
-  pub second : (numbers : List ℤ) → AreSerialCells 2 numbers → ReadyOf set_2 serial_at_2 numbers
-  pub third : (numbers : List ℤ) → AreSerialCells 3 numbers → ReadyOf set_3 serial_at_3 numbers
-  pub fourth : (numbers : List ℤ) → AreSerialCells 4 numbers → ReadyOf set_4 serial_at_4 numbers
+-- cells that a serial port saves
+abbrev pub SerialIsReady : Type 0
+SerialIsReady = InEachSet (ReadyWhere AreSerialCells) serial_at_1 serial_at_2 serial_at_3 serial_at_4
 
 -- the numbers of a device of the newest set, from an image of its device in an older one
 abbrev pub carried_numbers : Set → Device → Device → List ℤ → List ℤ
 carried_numbers set d e numbers = (carried_device set (shipped_set NEWEST) d e (image_of set d numbers)).numbers
 
--- a moment is carried as it is
-pub record TimerIsCarried : Type 0 where
-  pub first : (numbers : List ℤ) → AreOf timer_kinds numbers → carried_numbers set_1 timer timer numbers ≡ numbers
-  pub second : (numbers : List ℤ) → AreOf timer_kinds numbers → carried_numbers set_2 timer timer numbers ≡ numbers
-  pub third : (numbers : List ℤ) → AreOf timer_kinds numbers → carried_numbers set_3 timer timer numbers ≡ numbers
-  pub fourth : (numbers : List ℤ) → AreOf timer_kinds numbers → carried_numbers set_4 timer timer numbers ≡ numbers
+-- a set's cells of a device are carried to it in the newest set as its own table says
+abbrev pub CarriedWhere : (ℕ → List ℤ → Type 0) → (ℕ → List ℤ → List ℤ) → Device → ℕ → Set → Device → Type 0
+CarriedWhere Are table newest number set d =
+    (numbers : List ℤ) → Are number numbers → carried_numbers set d newest numbers ≡ table number numbers
 
--- the cells of a chip are carried as the chip's own table says
+-- a moment as it is
+abbrev pub TimerIsCarried : Type 0
+TimerIsCarried = InEachSet (CarriedWhere AreTimerCells (λ set numbers. numbers) timer) timer timer timer timer
+
 pub record ChipIsCarried : Type 0 where
-  pub first : (instance : ℕ) (numbers : List ℤ) → AreOf (pic_kinds 1) numbers → carried_numbers set_1 (i8259_at_1 instance) (i8259_at_4 instance) numbers ≡ pic_carried 1 numbers
-  pub second : (instance : ℕ) (numbers : List ℤ) → AreOf (pic_kinds 2) numbers → carried_numbers set_2 (i8259_at_2 instance) (i8259_at_4 instance) numbers ≡ pic_carried 2 numbers
-  pub third : (instance : ℕ) (numbers : List ℤ) → AreOf (pic_kinds 3) numbers → carried_numbers set_3 (i8259_at_2 instance) (i8259_at_4 instance) numbers ≡ pic_carried 3 numbers
-  pub fourth : (instance : ℕ) (numbers : List ℤ) → AreOf (pic_kinds 4) numbers → carried_numbers set_4 (i8259_at_4 instance) (i8259_at_4 instance) numbers ≡ pic_carried 4 numbers
+  pub chip : (instance : ℕ) → InEachSet (CarriedWhere AreChipCells pic_carried (i8259_at_4 instance))
+      (i8259_at_1 instance) (i8259_at_2 instance) (i8259_at_2 instance) (i8259_at_4 instance)
 
--- the cells of the timer chip, an absent one being at its default, are carried as the chip's own table says
-pub record PitIsCarried : Type 0 where
-  pub first : (numbers : List ℤ) → ArePitCells 1 numbers → carried_numbers set_1 i8254_at_1 i8254_at_2 numbers ≡ pit_carried 1 numbers
-  pub second : (numbers : List ℤ) → ArePitCells 2 numbers → carried_numbers set_2 i8254_at_2 i8254_at_2 numbers ≡ pit_carried 2 numbers
-  pub third : (numbers : List ℤ) → ArePitCells 3 numbers → carried_numbers set_3 i8254_at_2 i8254_at_2 numbers ≡ pit_carried 3 numbers
-  pub fourth : (numbers : List ℤ) → ArePitCells 4 numbers → carried_numbers set_4 i8254_at_2 i8254_at_2 numbers ≡ pit_carried 4 numbers
+-- the cells of the timer chip, an absent one being at its default
+abbrev pub PitIsCarried : Type 0
+PitIsCarried = InEachSet (CarriedWhere ArePitCells pit_carried i8254_at_2) i8254_at_1 i8254_at_2 i8254_at_2 i8254_at_2
+
+abbrev pub SerialIsCarried : Type 0
+SerialIsCarried = InEachSet (CarriedWhere AreSerialCells serial_carried serial_at_4) serial_at_1 serial_at_2 serial_at_3 serial_at_4
 
 -- what is saved of a sound board under a shipped set from its level on are ready images of the set
 pub record SavedAreReady : Type 0 where
   pub images : (set : ℕ) (m : State) → IsSound m → MaySaveUnder m.level set → AreReady (shipped_set set) (saved_images set m)
-
--- the cells that a serial port saves are carried as the port's own table says
-pub record SerialIsCarried : Type 0 where
-  pub first : (numbers : List ℤ) → AreSerialCells 1 numbers → carried_numbers set_1 serial_at_1 serial_at_4 numbers ≡ serial_carried 1 numbers
-  pub second : (numbers : List ℤ) → AreSerialCells 2 numbers → carried_numbers set_2 serial_at_2 serial_at_4 numbers ≡ serial_carried 2 numbers
-  pub third : (numbers : List ℤ) → AreSerialCells 3 numbers → carried_numbers set_3 serial_at_3 serial_at_4 numbers ≡ serial_carried 3 numbers
-  pub fourth : (numbers : List ℤ) → AreSerialCells 4 numbers → carried_numbers set_4 serial_at_4 serial_at_4 numbers ≡ serial_carried 4 numbers
 
 -- what a comparison of sets carries of saved images to the newest set has the cells that the devices' own tables carry
 pub record SavedIsCarried : Type 0 where

@@ -16,21 +16,13 @@ pow_lt : (i : ℕ) → i < 8 → 2 ^ i < 256
 pow_lt i h = pow_below i 8 h
 
 -- tests of bits
-min_test : (a b : ℕ) → a < 2 → b < 2 → (min a b == 1) ≡ ((a == 1) && (b == 1))
-min_test zero zero h l = refl
-min_test zero (suc zero) h l = refl
-min_test (suc zero) zero h l = refl
-min_test (suc zero) (suc zero) h l = refl
-min_test (suc (suc a)) b h l = absurd (omega arith)
-min_test a (suc (suc b)) h l = absurd (omega arith)
-
-max_test : (a b : ℕ) → a < 2 → b < 2 → (max a b == 1) ≡ ((a == 1) || (b == 1))
-max_test zero zero h l = refl
-max_test zero (suc zero) h l = refl
-max_test (suc zero) zero h l = refl
-max_test (suc zero) (suc zero) h l = refl
-max_test (suc (suc a)) b h l = absurd (omega arith)
-max_test a (suc (suc b)) h l = absurd (omega arith)
+both_tests : (a b : ℕ) → a < 2 → b < 2 → ((min a b == 1) ≡ ((a == 1) && (b == 1))) × ((max a b == 1) ≡ ((a == 1) || (b == 1)))
+both_tests zero zero h l = (refl, refl)
+both_tests zero (suc zero) h l = (refl, refl)
+both_tests (suc zero) zero h l = (refl, refl)
+both_tests (suc zero) (suc zero) h l = (refl, refl)
+both_tests (suc (suc a)) b h l = absurd (omega arith)
+both_tests a (suc (suc b)) h l = absurd (omega arith)
 
 pub not_test : (a : ℕ) → a < 2 → ((1 - a) == 1) ≡ not (a == 1)
 not_test zero h = refl
@@ -39,11 +31,11 @@ not_test (suc (suc a)) h = absurd (omega arith)
 
 pub has-and : (a b i : ℕ) → has (bit_and a b) i ≡ (has a i && has b i)
 has-and a b i =
-    ap (λ n. n == 1) (bit_at_and a b i) ∙ min_test (bit_at a i) (bit_at b i) (bit_at-lt a i) (bit_at-lt b i)
+    ap (λ n. n == 1) (bit_at_and a b i) ∙ (both_tests (bit_at a i) (bit_at b i) (bit_at-lt a i) (bit_at-lt b i)).0
 
 pub has-or : (a b i : ℕ) → has (bit_or a b) i ≡ (has a i || has b i)
 has-or a b i =
-    ap (λ n. n == 1) (bit_at_or a b i) ∙ max_test (bit_at a i) (bit_at b i) (bit_at-lt a i) (bit_at-lt b i)
+    ap (λ n. n == 1) (bit_at_or a b i) ∙ (both_tests (bit_at a i) (bit_at b i) (bit_at-lt a i) (bit_at-lt b i)).1
 
 pub has-but_not : (a b i : ℕ) → b < 256 → i < 8 → has (but_not a b) i ≡ (has a i && not (has b i))
 unfolding but_not

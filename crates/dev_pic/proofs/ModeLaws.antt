@@ -45,22 +45,21 @@ served_blocks_lower role chip place lower mask nested le within served e =
     let clear = w.before_served place (omega (arith, same)) in
     false≢true (sym (rw (plain_service role chip mask nested) at clear) ∙ served)
 
--- what an end of the service of an input means
-ends : (chip : Chip) (input : ℕ) → input < 8 → EndsService input chip (ended (Some input) chip)
-unfolding ended
-ends chip input within = record {
+-- what an end of the service of an input means, whichever input has the lowest priority from then on
+ends_with : (chip : Chip) (input lowest : ℕ) → input < 8 → EndsService input chip (record chip { isr = without_input chip.isr input; lowest = lowest })
+ends_with chip input lowest within = record {
   ended = has-without_same chip.isr input within;
   others = λ other h n. has-without_other chip.isr input other within h n;
   rest = refl;
 }
 
+ends : (chip : Chip) (input : ℕ) → input < 8 → EndsService input chip (ended (Some input) chip)
+unfolding ended
+ends chip input within = ends_with chip input chip.lowest within
+
 ends_lowest : (chip : Chip) (input : ℕ) → input < 8 → EndsService input chip (ended_lowest (Some input) chip)
 unfolding ended_lowest
-ends_lowest chip input within = record {
-  ended = has-without_same chip.isr input within;
-  others = λ other h n. has-without_other chip.isr input other within h n;
-  rest = refl;
-}
+ends_lowest chip input within = ends_with chip input input within
 
 found : (chip : Chip) (input : ℕ) → IsHighestServed chip input → highest_served chip ≡ Some input
 found chip input h =

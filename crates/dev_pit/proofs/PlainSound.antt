@@ -1,5 +1,6 @@
 -- What the rules say of a counter itself.
 use Rattle.std.proofs.Common.{◌≡◌, ℕ, ◌≤◌, ◌==◌, Bool, true, false, not, ◌&&◌, ◌||◌, Option, Some, None, refl, arith}
+use Rattle.std.proofs.lemmas.Bool.{le-leb}
 use Rattle.std.proofs.lemmas.Bool.Decides.{nat_tests}
 use Rattle.std.specs.Prelude.{nat_le, is_some}
 use Rattle.dev_pit.specs.Channel.{channel_of, registers_hold, moment_holds, status_holds, toggles_hold}
@@ -30,22 +31,25 @@ pub record PlainSound (level now : ℕ) (counter : Counter) : Type 0 where
   pub status : StatusFits level counter.status
   pub toggles : TogglesFit counter.access counter.read_high counter.held_low
 
-mode-small : (mode : Mode) → nat_le (mode_number mode) 5 ≡ true
-mode-small TerminalCount = refl
-mode-small OneShot = refl
-mode-small RateGenerator = refl
-mode-small SquareWave = refl
-mode-small SoftwareStrobe = refl
-mode-small HardwareStrobe = refl
+pub mode-small : (mode : Mode) → mode_number mode ≤ 5
+mode-small TerminalCount = omega arith
+mode-small OneShot = omega arith
+mode-small RateGenerator = omega arith
+mode-small SquareWave = omega arith
+mode-small SoftwareStrobe = omega arith
+mode-small HardwareStrobe = omega arith
 
-access-small : (access : Access) → (nat_le 1 (access_number access) && nat_le (access_number access) 3) ≡ true
-access-small LowByte = refl
-access-small HighByte = refl
-access-small LowThenHigh = refl
+pub access-small : (access : Access) → (1 ≤ access_number access) × (access_number access ≤ 3)
+access-small LowByte = (omega arith, omega arith)
+access-small HighByte = (omega arith, omega arith)
+access-small LowThenHigh = (omega arith, omega arith)
 
 pub registers-hold : (counter : Counter) → registers_hold (channel_of counter) ≡ true
 unfolding registers_hold channel_of
-registers-hold counter = rw (mode-small counter.mode, access-small counter.access)
+registers-hold counter =
+    let mode = mode-small counter.mode in
+    let access = access-small counter.access in
+    rw (le-leb _ 5 mode, le-leb 1 _ access.0, le-leb _ 3 access.1)
 
 moment-from : (now : ℕ) (load : Option ℕ) → LoadedBy now load → (nat_le (held_or load 0) now && (is_some load || (held_or load 0 == 0))) ≡ true
 moment-from now None h = grind (arith, nat_tests)

@@ -1,14 +1,16 @@
 -- What is restored is sound.
-use Rattle.std.proofs.Common.{◌≡◌, ℕ, ◌^◌, ◌<◌, ◌≤◌, ◌==◌, Bool, true, false, not, ◌&&◌, Ok, List, ◌∷◌, slice_index_or, ℤ, refl, arith, subst, ⊎_elim, ◌||◌, []}
+use Rattle.std.proofs.Common.{◌≡◌, ℕ, ◌+◌, ◌^◌, ◌<◌, ◌≤◌, ◌==◌, Bool, true, false, not, ◌&&◌, Ok, List, ◌∷◌, slice_index_or, ℤ, refl, arith, subst, ⊎_elim, ◌||◌, []}
 use Rattle.std.proofs.lemmas.Bool.Decides.{nat_tests}
 use Rattle.std.specs.Prelude.{nat_le}
 use Rattle.std.proofs.lemmas.Bool.{and_parts, cases_Bool}
 use Rattle.dev_base.specs.Cells.{cell_at}
 use Rattle.dev_base.specs.Levels.{IsLevel}
 use Rattle.dev_base.specs.declared.limits.TheConstants.{LAST_MOMENT}
-use Rattle.dev_base.proofs.CellLaws.{byte-lt, word-lt, long-lt}
+use Rattle.vms_kinds.specs.Codes.{InRange}
+use Rattle.vms_kinds.specs.declared.Kind.TheVariants.{U8, U16, U64}
+use Rattle.dev_base.proofs.CellLaws.{number-lt}
 use Rattle.dev_base.proofs.RuleLaws.{AllTrue, judged-ok, hook-ok}
-use Rattle.dev_pit.specs.Cells.{channel_at, IsPitCells}
+use Rattle.dev_pit.specs.Cells.{channel_place, status_place, channel_at, IsPitCells}
 use Rattle.dev_pit.specs.Channel.{held_if, counter_from, moment_holds, status_holds, toggles_hold}
 use Rattle.dev_pit.specs.Counter.{LoadedBy, powered_on}
 use Rattle.dev_pit.specs.Laws.{RestoredIsSound}
@@ -78,30 +80,23 @@ counter-sound level now channel r m s t = record {
 }
 
 -- the ranges of each channel's fields
-channel-ranges : (cells : List ℤ) → IsPitCells cells → (k : ℕ) → k < 3 → HasRanges (channel_at k cells)
+ranges-at : (cells : List ℤ) (k : ℕ) → InRange U16 (cell_at cells (channel_place k)) → InRange U64 (cell_at cells (channel_place k + 5)) → InRange U8 (cell_at cells (channel_place k + 8)) → InRange U16 (cell_at cells (channel_place k + 10)) → InRange U8 (cell_at cells (status_place k)) → HasRanges (channel_at k cells)
 unfolding channel_at
-channel-ranges cells h = each_of (λ k. HasRanges (channel_at k cells))
-    (record {
-      count = word-lt (cell_at cells 0) (h.of_kinds.in_range 0 (omega arith));
-      load_time = long-lt (cell_at cells 5) (h.of_kinds.in_range 5 (omega arith));
-      wlow = byte-lt (cell_at cells 8) (h.of_kinds.in_range 8 (omega arith));
-      latch = word-lt (cell_at cells 10) (h.of_kinds.in_range 10 (omega arith));
-      status = byte-lt (cell_at cells 36) (h.of_kinds.in_range 36 (omega arith));
-    })
-    (record {
-      count = word-lt (cell_at cells 11) (h.of_kinds.in_range 11 (omega arith));
-      load_time = long-lt (cell_at cells 16) (h.of_kinds.in_range 16 (omega arith));
-      wlow = byte-lt (cell_at cells 19) (h.of_kinds.in_range 19 (omega arith));
-      latch = word-lt (cell_at cells 21) (h.of_kinds.in_range 21 (omega arith));
-      status = byte-lt (cell_at cells 37) (h.of_kinds.in_range 37 (omega arith));
-    })
-    (record {
-      count = word-lt (cell_at cells 22) (h.of_kinds.in_range 22 (omega arith));
-      load_time = long-lt (cell_at cells 27) (h.of_kinds.in_range 27 (omega arith));
-      wlow = byte-lt (cell_at cells 30) (h.of_kinds.in_range 30 (omega arith));
-      latch = word-lt (cell_at cells 32) (h.of_kinds.in_range 32 (omega arith));
-      status = byte-lt (cell_at cells 38) (h.of_kinds.in_range 38 (omega arith));
-    })
+ranges-at cells k count load wlow latch status = record {
+  count = number-lt U16 _ count;
+  load_time = number-lt U64 _ load;
+  wlow = number-lt U8 _ wlow;
+  latch = number-lt U16 _ latch;
+  status = number-lt U8 _ status;
+}
+
+channel-ranges : (cells : List ℤ) → IsPitCells cells → (k : ℕ) → k < 3 → HasRanges (channel_at k cells)
+channel-ranges cells h =
+    let range = h.of_kinds.in_range in
+    each_of (λ k. HasRanges (channel_at k cells))
+    (ranges-at cells 0 (range 0 (omega arith)) (range 5 (omega arith)) (range 8 (omega arith)) (range 10 (omega arith)) (range 36 (omega arith)))
+    (ranges-at cells 1 (range 11 (omega arith)) (range 16 (omega arith)) (range 19 (omega arith)) (range 21 (omega arith)) (range 37 (omega arith)))
+    (ranges-at cells 2 (range 22 (omega arith)) (range 27 (omega arith)) (range 30 (omega arith)) (range 32 (omega arith)) (range 38 (omega arith)))
 
 -- a rule of three channels is one of each
 each : (rule : Channel → Bool) (cells : List ℤ) → three_hold rule cells ≡ true → (k : ℕ) → k < 3 → rule (channel_at k cells) ≡ true

@@ -27,9 +27,9 @@ use Rattle.dev_pit.specs.declared.mode.Mode.{Mode}
 use Rattle.dev_pit.specs.declared.mode.Mode.TheVariants.{TerminalCount, OneShot, RateGenerator, SquareWave, SoftwareStrobe, HardwareStrobe}
 use Rattle.dev_pit.specs.declared.pit.Pit.{Pit}
 use Rattle.dev_pit.proofs.Chips.{three_counters, each_of}
-use Rattle.dev_pit.proofs.PlainSound.{StatusFits, plain-from_sound}
+use Rattle.dev_pit.proofs.PlainSound.{StatusFits, plain-from_sound, mode-small, access-small}
 use Rattle.dev_pit.proofs.RestoredLaw.{pit-restored}
-use Rattle.dev_pit.proofs.SoundSteps.{mode-small, access-small, held-below}
+use Rattle.dev_pit.proofs.SoundSteps.{held-below}
 
 mode-back : (mode : Mode) → mode_of (mode_number mode) ≡ mode
 mode-back TerminalCount = refl

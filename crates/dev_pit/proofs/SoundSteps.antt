@@ -14,7 +14,7 @@ use Rattle.dev_pit.specs.declared.mode.Access.TheVariants.{LowByte, HighByte, Lo
 use Rattle.dev_pit.specs.declared.mode.Mode.{Mode}
 use Rattle.dev_pit.specs.declared.mode.Mode.TheVariants.{TerminalCount, OneShot, RateGenerator, SquareWave, SoftwareStrobe, HardwareStrobe}
 use Rattle.dev_base.proofs.Choices.{either}
-use Rattle.dev_pit.proofs.PlainSound.{PlainSound, TogglesFit}
+use Rattle.dev_pit.proofs.PlainSound.{PlainSound, TogglesFit, mode-small, access-small}
 
 -- a number of sixteen bits
 record IsWord (n : ℕ) : Type 0 where
@@ -53,26 +53,13 @@ pub flag-small : (b : Bool) → flag_number b ≤ 1
 flag-small true = omega arith
 flag-small false = omega arith
 
-pub mode-small : (mode : Mode) → mode_number mode ≤ 5
-mode-small TerminalCount = omega arith
-mode-small OneShot = omega arith
-mode-small RateGenerator = omega arith
-mode-small SquareWave = omega arith
-mode-small SoftwareStrobe = omega arith
-mode-small HardwareStrobe = omega arith
-
-pub access-small : (access : Access) → access_number access ≤ 3
-access-small LowByte = omega arith
-access-small HighByte = omega arith
-access-small LowThenHigh = omega arith
-
 status-byte : (counter : Counter) (now : ℕ) → status_of counter now < 2 ^ 8
 unfolding status_of
 status-byte counter now =
     let out : flag_number (out_of counter now) ≤ 1 = flag-small (out_of counter now) in
     let bcd : flag_number counter.bcd ≤ 1 = flag-small counter.bcd in
     let mode : mode_number counter.mode ≤ 5 = mode-small counter.mode in
-    let access : access_number counter.access ≤ 3 = access-small counter.access in
+    let access : access_number counter.access ≤ 3 = (access-small counter.access).1 in
     omega arith
 
 -- latching

@@ -9,7 +9,8 @@ use Rattle.dev_pit.specs.declared.mode.Mode.{Mode}
 use Rattle.dev_pit.specs.declared.mode.Mode.TheVariants.{TerminalCount, OneShot, RateGenerator, SquareWave, SoftwareStrobe, HardwareStrobe}
 use Rattle.dev_pit.specs.declared.mode.Access.{Access}
 use Rattle.dev_base.proofs.CellLaws.{flag-back}
-use Rattle.dev_pit.proofs.SoundSteps.{flag-small, mode-small, access-small}
+use Rattle.dev_pit.proofs.SoundSteps.{flag-small}
+use Rattle.dev_pit.proofs.PlainSound.{mode-small, access-small}
 
 -- the parts of a byte that is put together of them
 module _ (out access mode bcd : ℕ) (o : out ≤ 1) (a : access ≤ 3) (m : mode ≤ 5) (b : bcd ≤ 1) where
@@ -39,7 +40,7 @@ tells counter now =
     let mode = mode_number counter.mode in
     let bcd = flag_number counter.bcd in
     let o = flag-small (out_of counter now) in
-    let a = access-small counter.access in
+    let a = (access-small counter.access).1 in
     let m = mode-small counter.mode in
     let b = flag-small counter.bcd in
     record {

@@ -57,8 +57,4 @@ rises HardwareStrobe count before after = false
 -- OUT of a counter that is not loaded
 abbrev pub out_unloaded : Mode → Bool
 out_unloaded TerminalCount = false
-out_unloaded OneShot = true
-out_unloaded RateGenerator = true
-out_unloaded SquareWave = true
-out_unloaded SoftwareStrobe = true
-out_unloaded HardwareStrobe = true
+out_unloaded _ = true

@@ -7,7 +7,7 @@ use Rattle.dev_base.specs.Rules.{judged}
 use Rattle.dev_serial.specs.Access.{is_empty}
 use Rattle.dev_serial.specs.Cells.{numbers_of}
 use Rattle.dev_serial.specs.Port.{Port, interrupt, id_number}
-use Rattle.dev_serial.specs.PortNumbers.{bytes_held, fifos_of, latch_of, moment_of, port_of, shift_of, stored_bytes}
+use Rattle.dev_serial.specs.PortNumbers.{bytes_held, fifos_of, latch_of, moment_of, port_of, port_with, shift_of, stored_bytes}
 use Rattle.dev_serial.specs.Recast.{is_in_ring, array_for, ring_left, recast_port, recast_cells}
 use Rattle.dev_serial.specs.Rules.{fcr_holds, id_holds, is_stored_once, is_unused, latch_holds, longest_timeout, once_holds, registers_hold, restored, rings_hold, rules, shift_holds, status_holds, timeout_holds, unused_hold}
 use Rattle.dev_serial.specs.Saved.{restored_cells}
@@ -84,26 +84,11 @@ module _ (level now : ℕ) (n : PortNumbers) where
   abbrev m : PortNumbers
   m = recast_port n
 
-  -- a port with these lists, and all else by these numbers
-  abbrev with_lists : PortNumbers → List ℕ → List ℕ → Port
-  with_lists n rx tx = record {
-    level = level;
-    divisor = n.divisor;
-    ier = n.ier;
-    lcr = n.lcr;
-    mcr = n.mcr;
-    scr = n.scr;
-    fifos = fifos_of n.fcr;
-    receiver = record { held = bytes_held n.fcr (has n.lsr 0) n.rbr rx; overrun = has n.lsr 1; timeout = moment_of n.timeout_at };
-    transmitter = record { waiting = bytes_held n.fcr (not (has n.lsr 5)) n.thr tx; shift = shift_of n.tsr n.tx_due };
-    thr_empty = latch_of n.iir n.thr_ipending;
-  }
-
   same_port : port_of level m ≡ port_of level n
   unfolding port_of
   same_port =
-      ap (λ (l : List ℕ). with_lists n l (stored_bytes m.tx m.tx_ring)) (same_bytes n.rx n.rx_ring)
-      ∙ ap (λ (l : List ℕ). with_lists n (stored_bytes n.rx n.rx_ring) l) (same_bytes n.tx n.tx_ring)
+      ap (λ (l : List ℕ). port_with level n l (stored_bytes m.tx m.tx_ring)) (same_bytes n.rx n.rx_ring)
+      ∙ ap (λ (l : List ℕ). port_with level n (stored_bytes n.rx n.rx_ring) l) (same_bytes n.tx n.tx_ring)
 
   -- ---- its rules
 

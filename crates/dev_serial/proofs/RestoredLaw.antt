@@ -4,7 +4,8 @@ use Rattle.std.proofs.lemmas.Bool.{false≢true, leb-true, and_parts}
 use Rattle.std.specs.Prelude.{is_some, nat_le}
 use Rattle.dev_base.specs.Cells.{cell_at, number_at}
 use Rattle.dev_base.specs.Levels.{IsLevel}
-use Rattle.dev_base.proofs.CellLaws.{byte-lt, word-lt}
+use Rattle.vms_kinds.specs.declared.Kind.TheVariants.{U8, U16}
+use Rattle.dev_base.proofs.CellLaws.{number-lt}
 use Rattle.dev_base.proofs.RuleLaws.{hook-ok}
 use Rattle.dev_base.specs.Bits.{has}
 use Rattle.dev_serial.specs.Cells.{IsPortCells, bytes_at, array_at, ring_at, numbers_of}
@@ -75,17 +76,17 @@ module _ (level now : ℕ) (n : PortNumbers) (is_level : IsLevel level) (ranges 
 module _ (cells : List ℤ) (is : IsPortCells cells) where
   array-bytes : (place : ℕ) → 12 < place → place + 16 ≤ 47 → AreBytes (bytes_at cells place)
   array-bytes place low high =
-      firsts-bytes (λ i. number_at cells (place + i)) 0 16 (λ k l m. byte-lt (cell_at cells (place + k)) (in_arrays cells place 16 is.of_kinds (omega arith) high (place + k) (omega arith) (omega arith)))
+      firsts-bytes (λ i. number_at cells (place + i)) 0 16 (λ k l m. number-lt U8 (cell_at cells (place + k)) (in_arrays cells place 16 is.of_kinds (omega arith) high (place + k) (omega arith) (omega arith)))
 
   ranges-of : HasRanges (numbers_of cells)
   unfolding numbers_of
   ranges-of = record {
-    divisor = word-lt _ (is.of_kinds.in_range 0 (omega arith));
-    lcr = byte-lt _ (is.of_kinds.in_range 3 (omega arith));
-    scr = byte-lt _ (is.of_kinds.in_range 6 (omega arith));
-    rbr = byte-lt _ (is.of_kinds.in_range 7 (omega arith));
-    thr = byte-lt _ (is.of_kinds.in_range 8 (omega arith));
-    tsr = byte-lt _ (is.of_kinds.in_range 9 (omega arith));
+    divisor = number-lt U16 _ (is.of_kinds.in_range 0 (omega arith));
+    lcr = number-lt U8 _ (is.of_kinds.in_range 3 (omega arith));
+    scr = number-lt U8 _ (is.of_kinds.in_range 6 (omega arith));
+    rbr = number-lt U8 _ (is.of_kinds.in_range 7 (omega arith));
+    thr = number-lt U8 _ (is.of_kinds.in_range 8 (omega arith));
+    tsr = number-lt U8 _ (is.of_kinds.in_range 9 (omega arith));
     rx = stored-bytes (array_at cells 13) (ring_at cells 48) (array-bytes 14 (omega arith) (omega arith)) (ring-bytes cells is.of_kinds 48 (omega arith) (omega arith));
     tx = stored-bytes (array_at cells 30) (ring_at cells 66) (array-bytes 31 (omega arith) (omega arith)) (ring-bytes cells is.of_kinds 66 (omega arith) (omega arith));
   }

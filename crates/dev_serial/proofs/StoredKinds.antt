@@ -5,7 +5,7 @@ use Rattle.vms_kinds.specs.declared.Kind.TheVariants.{U8, I8, Timer}
 use Rattle.dev_base.specs.Cells.{cell_at, kind_at, number_at, AreOf}
 use Rattle.dev_serial.specs.Cells.{field_kinds, kinds, AreBytesIn, bytes_at}
 use Rattle.dev_serial.specs.Sound.{AreBytes}
-use Rattle.dev_base.proofs.CellLaws.{byte-lt}
+use Rattle.dev_base.proofs.CellLaws.{number-lt}
 use Rattle.dev_base.proofs.PlaceLemmas.{bytes_within}
 use Rattle.dev_serial.proofs.StoredLaws.{firsts-bytes}
 
@@ -27,4 +27,4 @@ in_rings cells place count all low high k l h =
 -- the elements of a ring
 pub ring-bytes : (cells : List ℤ) → AreOf (kinds 4) cells → (place : ℕ) → 48 ≤ place → place + 16 ≤ 84 → AreBytes (bytes_at cells place)
 ring-bytes cells of_kinds place low high =
-    firsts-bytes (λ i. number_at cells (place + i)) 0 16 (λ k l m. byte-lt (cell_at cells (place + k)) (in_rings cells place 16 of_kinds low high (place + k) (omega arith) (omega arith)))
+    firsts-bytes (λ i. number_at cells (place + i)) 0 16 (λ k l m. number-lt U8 (cell_at cells (place + k)) (in_rings cells place 16 of_kinds low high (place + k) (omega arith) (omega arith)))

@@ -92,18 +92,12 @@ id_number ThrEmpty = 0x02
 id_number NonePending = 0x01
 
 abbrev pub is_thr_empty : Interrupt → Bool
-is_thr_empty LineStatus = false
-is_thr_empty ReceivedData = false
-is_thr_empty CharacterTimeout = false
 is_thr_empty ThrEmpty = true
-is_thr_empty NonePending = false
+is_thr_empty _ = false
 
 abbrev pub is_pending : Interrupt → Bool
-is_pending LineStatus = true
-is_pending ReceivedData = true
-is_pending CharacterTimeout = true
-is_pending ThrEmpty = true
 is_pending NonePending = false
+is_pending _ = true
 
 -- the interrupt line is high
 unfoldable pub line_of : ℕ → Port → Bool

@@ -103,9 +103,9 @@ bytes_held fcr is_held byte bytes = if fcr == 0 then (if is_held then byte ∷ [
 abbrev pub latch_of : ℕ → ℤ → Bool
 latch_of iir ipending = if int_eq ipending (negsuc 0) then iir == 2 else int_eq ipending (pos 1)
 
--- the port of these numbers at a level
-unfoldable pub port_of : ℕ → PortNumbers → Port
-port_of level numbers = record {
+-- the port of these numbers at a level, with these bytes in its lists
+abbrev pub port_with : ℕ → PortNumbers → List ℕ → List ℕ → Port
+port_with level numbers rx tx = record {
   level = level;
   divisor = numbers.divisor;
   ier = numbers.ier;
@@ -114,13 +114,18 @@ port_of level numbers = record {
   scr = numbers.scr;
   fifos = fifos_of numbers.fcr;
   receiver = record {
-    held = bytes_held numbers.fcr (has numbers.lsr 0) numbers.rbr (stored_bytes numbers.rx numbers.rx_ring);
+    held = bytes_held numbers.fcr (has numbers.lsr 0) numbers.rbr rx;
     overrun = has numbers.lsr 1;
     timeout = moment_of numbers.timeout_at;
   };
   transmitter = record {
-    waiting = bytes_held numbers.fcr (not (has numbers.lsr 5)) numbers.thr (stored_bytes numbers.tx numbers.tx_ring);
+    waiting = bytes_held numbers.fcr (not (has numbers.lsr 5)) numbers.thr tx;
     shift = shift_of numbers.tsr numbers.tx_due;
   };
   thr_empty = latch_of numbers.iir numbers.thr_ipending;
 }
+
+-- the port of these numbers at a level
+unfoldable pub port_of : ℕ → PortNumbers → Port
+port_of level numbers =
+    port_with level numbers (stored_bytes numbers.rx numbers.rx_ring) (stored_bytes numbers.tx numbers.tx_ring)

@@ -1,16 +1,15 @@
 // The cells of a board's devices in images of them.
-ghost use Rattle.std.specs.Prelude.{◌≡◌, ◌<◌, ◌≤◌, length, map};
+ghost use Rattle.std.specs.Prelude.{◌≡◌, ◌<◌, map};
 ghost use Rattle.dev_base.specs.declared.limits.TheConstants.{NEWEST as newest};
 ghost use Rattle.dev_clock_images.specs.Images.{cells_in as clock_cells_of};
-ghost use Rattle.dev_images.specs.Images.{cells_in as cells_of, numbers_at};
+ghost use Rattle.dev_images.specs.Images.{cells_in as cells_of, list_at, numbers_in};
 ghost use Rattle.vms_desc.specs.Formed.{clock_set, shipped_set};
 ghost use Rattle.vms_rtc.specs.declared.limits.TheConstants.{NEWEST_CLOCK as newest_clock};
 ghost use Rattle.vms_image.specs.Typed.{AreImagesOf, state_of};
-ghost use Rattle.vms_kinds.specs.declared.TheConstants.{MOST_CELLS};
 
-use arrayvec::ArrayVec;
 use dev_board::BoardCells;
 use dev_clock::ClockCells;
+use dev_images::image_cells;
 use vms_image::Image;
 use vms_kinds::DevCells;
 
@@ -34,7 +33,7 @@ pub(crate) fn clock_cells_in(images: &[Image]) -> ClockCells
     ensures { result ≡ clock_cells_of (map state_of images.now) }
 {
     ClockCells {
-        clock: numbers(&images[0]),
+        clock: image_cells(&images[0]),
         board: cells_in(&images[1..]),
     }
 }
@@ -43,19 +42,7 @@ pub(crate) fn clock_cells_in(images: &[Image]) -> ClockCells
 fn cells_at(images: &[Image], device: usize) -> DevCells
     requires of { AreImagesOf (shipped_set newest) images.now }
     requires device { device < 5 }
-    ensures { result ≡ numbers_at (map state_of images.now) device }
+    ensures { result ≡ list_at (numbers_in (map state_of images.now)) device }
 {
-    numbers(&images[device])
-}
-
-// The numbers of an image, of which there are `MOST_CELLS` at most.
-fn numbers(image: &Image) -> DevCells
-    requires { length image.now.numbers ≤ MOST_CELLS }
-    ensures { result.items ≡ image.now.numbers }
-{
-    let mut cells = ArrayVec::new();
-    for cell in 0..image.len() {
-        cells.push(image.get(cell));
-    }
-    cells
+    image_cells(&images[device])
 }

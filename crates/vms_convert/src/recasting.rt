@@ -1,6 +1,6 @@
 // Which devices the target keeps otherwise than the newest set has them, and their numbers then.
 ghost use Rattle.std.specs.List.{list_any};
-ghost use Rattle.std.specs.Prelude.{◌≡◌, ◌&&◌, ◌<◌, ◌≤◌, ℕ, IfOk, get_or, length, map, pos, slice_set};
+ghost use Rattle.std.specs.Prelude.{◌≡◌, ◌&&◌, ◌<◌, ℕ, IfOk, get_or, length, map, pos, slice_set};
 ghost use Rattle.dev_base.specs.declared.limits.TheConstants.{NEWEST};
 ghost use Rattle.dev_serial.specs.Cells.{IsPortCells, kinds};
 ghost use Rattle.dev_serial.specs.Recast.{recast_cells};
@@ -11,9 +11,8 @@ ghost use Rattle.vms_kinds.specs.Codes.{InRange};
 ghost use Rattle.vms_kinds.specs.declared.Kind.TheVariants.{U8};
 ghost use Rattle.vms_image.specs.Typed.{IsImageOf};
 ghost use Rattle.vms_convert.specs.Recast.{is_port, is_ring, wants, wants_arrays};
-ghost use Rattle.vms_kinds.specs.declared.TheConstants.{MOST_CELLS};
 
-use arrayvec::ArrayVec;
+use dev_images::image_cells;
 use dev_serial::recast;
 use std::alloc::Global;
 use vms_desc::{DescSet, Device, Sub};
@@ -79,22 +78,10 @@ pub(crate) fn recast_image(
     ensures numbers { let cells = recast_cells image.now.numbers in
         IfOk result (λ recast. recast.numbers ≡ cells) }
 {
-    let cells = recast(&cells_of(image));
+    let cells = recast(&image_cells(image));
     let mut recast = Image::new(alloc, newest, device)?;
     put_cells(&mut recast, &cells);
     Ok(recast)
-}
-
-// The numbers of an image, of which there are `MOST_CELLS` at most.
-fn cells_of(image: &Image) -> DevCells
-    requires { length image.now.numbers ≤ MOST_CELLS }
-    ensures { result.items ≡ image.now.numbers }
-{
-    let mut cells = ArrayVec::new();
-    for cell in 0..image.len() {
-        cells.push(image.get(cell));
-    }
-    cells
 }
 
 // Puts cells of its kinds into an image.

@@ -18,26 +18,21 @@ goes_on_from_the_greatest_seed = refl
 
 -- ---- saves
 
-saves_after_a_thousand : is_save_due 1000 ≡ true
-unfolding is_save_due
-saves_after_a_thousand = refl
+record SavesInTurn : Type 0 where
+  saves_after_a_thousand : is_save_due 1000 ≡ true
+  saves_not_before : is_save_due 999 ≡ false
+  begins_with_the_level : set_of 3 0 ≡ 3
+  turns_to_the_newest : set_of 3 1 ≡ 4
+  turns_back_to_the_level : set_of 3 2 ≡ 3
+  keeps_to_the_newest : set_of 4 7 ≡ 4
 
-saves_not_before : is_save_due 999 ≡ false
-unfolding is_save_due
-saves_not_before = refl
-
-begins_with_the_level : set_of 3 0 ≡ 3
-unfolding set_of
-begins_with_the_level = refl
-
-turns_to_the_newest : set_of 3 1 ≡ 4
-unfolding set_of
-turns_to_the_newest = refl
-
-turns_back_to_the_level : set_of 3 2 ≡ 3
-unfolding set_of
-turns_back_to_the_level = refl
-
-keeps_to_the_newest : set_of 4 7 ≡ 4
-unfolding set_of
-keeps_to_the_newest = refl
+saves_in_turn : SavesInTurn
+unfolding is_save_due set_of
+saves_in_turn = record {
+  saves_after_a_thousand = refl;
+  saves_not_before = refl;
+  begins_with_the_level = refl;
+  turns_to_the_newest = refl;
+  turns_back_to_the_level = refl;
+  keeps_to_the_newest = refl;
+}

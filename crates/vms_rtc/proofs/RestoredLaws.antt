@@ -4,9 +4,10 @@ use Rattle.std.proofs.lemmas.Bool.{false≢true, and_parts}
 use Rattle.std.proofs.lemmas.Bool.Decides.{nat_tests}
 use Rattle.std.proofs.lemmas.List.FromFn.{get_or-map-range_with_len, length-map-range_with_len}
 use Rattle.vms_hooks.specs.Numbers.{Numbers}
-use Rattle.dev_base.proofs.CellLaws.{byte-lt}
+use Rattle.vms_kinds.specs.declared.Kind.TheVariants.{U8}
+use Rattle.dev_base.proofs.CellLaws.{number-lt}
 use Rattle.dev_base.proofs.RuleLaws.{AllTrue, judged-ok, hook-ok}
-use Rattle.dev_base.specs.Cells.{cell_at, number_at, flag_at, AreOf}
+use Rattle.dev_base.specs.Cells.{cell_at, nat_of, number_at, flag_at, AreOf}
 use Rattle.dev_base.specs.Levels.{IsUpTo}
 use Rattle.vms_rtc.proofs.CellPlaces.{is_byte}
 use Rattle.vms_rtc.specs.Cells.{kinds}
@@ -51,7 +52,7 @@ sound version cells v are hold =
       count = length-map-range_with_len (λ i. number_at cells (1 + i)) 0 REGISTERS;
       bytes = λ k lt.
           let is : register k (chip_of version cells) ≡ number_at cells (1 + k) = register_of version cells k lt in
-          let small = byte-lt (cell_at cells (1 + k)) (is_byte cells (1 + k) are (omega (arith, lt))) in
+          let small : nat_of (cell_at cells (1 + k)) < 256 = number-lt U8 (cell_at cells (1 + k)) (is_byte cells (1 + k) are (omega (arith, lt))) in
           omega (arith, is, small);
       a = n.a;
       c = n.c;

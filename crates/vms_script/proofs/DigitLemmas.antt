@@ -54,27 +54,26 @@ pub record IsDigitOf (b d : ℕ) : Type 0 where
 some_same : (m n : ℕ) → Some m ≡ Some n → n ≡ m
 some_same m n e = cc
 
+digit_at : (b d base : ℕ) → digit_spelled b ≡ Some d → digit_spelled b ≡ Some (b - base) → b - base < 16 → digit_char (b - base) ≡ b → IsDigitOf b d
+digit_at b d base e f small char =
+    let is : d ≡ b - base = some_same (b - base) d (sym f ∙ e) in
+    record { small = omega (arith, is, small); char = sym (ap digit_char is ∙ char) }
+
+bounds : (low high b : ℕ) → (nat_le low b && nat_le b high) ≡ true → (low ≤ b) × (b ≤ high)
+bounds low high b e =
+    let parts = and_parts (nat_le low b) (nat_le b high) e in (leb-true low b parts.0, leb-true b high parts.1)
+
 pub digit_is : (b d : ℕ) → digit_spelled b ≡ Some d → IsDigitOf b d
 digit_is b d e = by (is_digit b) (nat_le 97 b && nat_le b 102) refl refl where
   by : (l h : Bool) → is_digit b ≡ l → (nat_le 97 b && nat_le b 102) ≡ h → IsDigitOf b d
   by true h p q =
-      let parts = and_parts (nat_le 48 b) (nat_le b 57) p in
-      let from : 48 ≤ b = leb-true 48 b parts.0 in
-      let to : b ≤ 57 = leb-true b 57 parts.1 in
-      let is : d ≡ b - 48 = some_same (b - 48) d (sym (digit_low b from to) ∙ e) in
-      record {
-        small = omega (arith, is, to);
-        char = let same : b ≡ 48 + d = omega (arith, is, from) in same ∙ sym (low_char d (omega (arith, is, to)));
-      }
+      let (from, to) = bounds 48 57 b p in
+      let back : 48 + (b - 48) ≡ b = omega (arith, from) in
+      digit_at b d 48 e (digit_low b from to) (omega (arith, to)) (low_char (b - 48) (omega (arith, to)) ∙ back)
   by false true p q =
-      let parts = and_parts (nat_le 97 b) (nat_le b 102) q in
-      let from : 97 ≤ b = leb-true 97 b parts.0 in
-      let to : b ≤ 102 = leb-true b 102 parts.1 in
-      let is : d ≡ b - 87 = some_same (b - 87) d (sym (digit_high b from to) ∙ e) in
-      record {
-        small = omega (arith, is, to);
-        char = let same : b ≡ 87 + d = omega (arith, is, from) in same ∙ sym (high_char d (omega (arith, is, from)));
-      }
+      let (from, to) = bounds 97 102 b q in
+      let back : 87 + (b - 87) ≡ b = omega (arith, from) in
+      digit_at b d 87 e (digit_high b from to) (omega (arith, to)) (high_char (b - 87) (omega (arith, from)) ∙ back)
   by false false p q =
       let none : None ≡ Some d = sym (ap (λ (t : Bool). spelled_by t (nat_le 97 b && nat_le b 102) b) p ∙ ap (λ (t : Bool). spelled_by false t b) q) ∙ e in cc
 

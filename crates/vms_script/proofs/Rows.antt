@@ -8,29 +8,24 @@ use Rattle.vms_script.specs.declared.line.ScriptReason.TheVariants as reasons
 
 -- ---- whole scripts
 
-reads_two_lines : script_read None (codes "out 0020 19\nwire 3 1\n") ≡ Ok (Happens (events.Write 0x20 0x19) ∷ Happens (events.Wire 3 true) ∷ [])
-unfolding script_read
-reads_two_lines = refl
+record WholeScripts : Type 0 where
+  reads_two_lines : script_read None (codes "out 0020 19\nwire 3 1\n") ≡ Ok (Happens (events.Write 0x20 0x19) ∷ Happens (events.Wire 3 true) ∷ [])
+  refuses_a_line_without_its_end : script_read None (codes "ack") ≡ bad 1 reasons.NoEnd
+  refuses_input_4 : script_read None (codes "ack\nwire 4 1\n") ≡ bad 2 reasons.Range
+  refuses_three_digits : script_read None (codes "in 3f8\n") ≡ bad 1 reasons.Form
+  refuses_the_first_bad_line : script_read None (codes "wait -1\nin 3f8\n") ≡ bad 1 reasons.Range
+  answers_the_lowest_reason : script_read None (codes "wire 4 1") ≡ bad 1 reasons.Range
 
-refuses_a_line_without_its_end : script_read None (codes "ack") ≡ bad 1 reasons.NoEnd
+whole_scripts : WholeScripts
 unfolding script_read
-refuses_a_line_without_its_end = refl
-
-refuses_input_4 : script_read None (codes "ack\nwire 4 1\n") ≡ bad 2 reasons.Range
-unfolding script_read
-refuses_input_4 = refl
-
-refuses_three_digits : script_read None (codes "in 3f8\n") ≡ bad 1 reasons.Form
-unfolding script_read
-refuses_three_digits = refl
-
-refuses_the_first_bad_line : script_read None (codes "wait -1\nin 3f8\n") ≡ bad 1 reasons.Range
-unfolding script_read
-refuses_the_first_bad_line = refl
-
-answers_the_lowest_reason : script_read None (codes "wire 4 1") ≡ bad 1 reasons.Range
-unfolding script_read
-answers_the_lowest_reason = refl
+whole_scripts = record {
+  reads_two_lines = refl;
+  refuses_a_line_without_its_end = refl;
+  refuses_input_4 = refl;
+  refuses_three_digits = refl;
+  refuses_the_first_bad_line = refl;
+  answers_the_lowest_reason = refl;
+}
 
 -- ---- lines
 

@@ -32,10 +32,8 @@ pub(crate) fn read_event(word: &[u8], rest: &[u8]) -> Option<Result<Event, Scrip
 fn read_in(port: &[u8]) -> Result<Event, ScriptReason>
     ensures { event_view result ≡ in_line port.now }
 {
-    match port_of(port) {
-        Some(port) => Ok(Event::Read { port }),
-        None => Err(ScriptReason::Form),
-    }
+    let port = port_of(port).ok_or(ScriptReason::Form)?;
+    Ok(Event::Read { port })
 }
 
 // `out PPPP VV`.
@@ -43,26 +41,18 @@ fn read_out(words: &[u8]) -> Result<Event, ScriptReason>
     ensures { event_view result ≡ out_line (first_word words.now) }
 {
     let split = split_word(words);
-    let Some(port) = port_of(split.word) else {
-        return Err(ScriptReason::Form);
-    };
-    let Some(value) = split.rest else {
-        return Err(ScriptReason::Form);
-    };
-    match byte_of(value) {
-        Some(value) => Ok(Event::Write { port, value }),
-        None => Err(ScriptReason::Form),
-    }
+    let port = port_of(split.word).ok_or(ScriptReason::Form)?;
+    let value = split.rest.ok_or(ScriptReason::Form)?;
+    let value = byte_of(value).ok_or(ScriptReason::Form)?;
+    Ok(Event::Write { port, value })
 }
 
 // `byte VV`.
 fn read_byte(value: &[u8]) -> Result<Event, ScriptReason>
     ensures { event_view result ≡ byte_line value.now }
 {
-    match byte_of(value) {
-        Some(value) => Ok(Event::Byte { value }),
-        None => Err(ScriptReason::Form),
-    }
+    let value = byte_of(value).ok_or(ScriptReason::Form)?;
+    Ok(Event::Byte { value })
 }
 
 // `wait N`, with N at most `LONGEST_WAIT`.

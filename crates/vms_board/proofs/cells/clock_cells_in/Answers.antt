@@ -1,11 +1,11 @@
 use Rattle.vms_board.proofs.ClockImages.{behind, chip_room, cells-behind}
 use Rattle.vms_board.proofs.cells.clock_cells_in.Goals as goal
 
-pub numbers-requires : goal.numbers-requires
-numbers-requires c = chip_room c.args.images.now c.index-images-0.result c.requires c.index-images-0.is
+pub image_cells-requires : goal.image_cells-requires
+image_cells-requires c = chip_room c.args.images.now c.index-images-0.result c.requires c.index-images-0.is
 
 pub cells_in-requires : goal.cells_in-requires
 cells_in-requires c = behind c.args.images.now c.requires
 
 pub returns : goal.returns
-returns c = cells-behind c.args.images.now c.index-images-0.result c.numbers.result c.cells_in.result c.requires c.index-images-0.is c.numbers.ensures c.cells_in.ensures
+returns c = cells-behind c.args.images.now c.index-images-0.result c.image_cells.result c.cells_in.result c.requires c.index-images-0.is c.image_cells.ensures c.cells_in.ensures
