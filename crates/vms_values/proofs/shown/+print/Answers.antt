@@ -1,20 +1,15 @@
-use Rattle.std.proofs.Common.{rules, arith, ◌≡◌, ◌+◌, ◌*◌, ◌-◌, ◌<◌, ◌≤◌, List, ◌++◌, ℕ, length, length-append, get_or, map, drop, codes, refl, sym, ap, ◌∙◌, subst}
+use Rattle.std.proofs.Common.{rules, arith, ◌≡◌, ◌+◌, ◌*◌, ◌-◌, ◌<◌, ◌≤◌, List, ◌++◌, ℕ, length, length-append, get_or, drop, codes, refl, sym, ap, ◌∙◌, subst}
 use Rattle.std.proofs.lemmas.Result.{err_from_is_err_and}
 use Rattle.std.proofs.lemmas.Bool.{ltb-true}
 use Rattle.vms_kinds.specs.declared.Item.{Item}
-use Rattle.vms_spec.specs.declared.TheConstants.{MOST_ITEMS}
-use Rattle.vms_spec.specs.Sets.{Field, Desc}
-use Rattle.vms_spec.specs.Layout.{no_desc, numbers_of, capacity_of, elements_of, item_size, struct_cells, cells_from}
+use Rattle.vms_spec.specs.Layout.{no_desc, numbers_of, capacity_of, cells_from}
 use Rattle.vms_spec.specs.Values.{printers, element_lines, item_lines, field_lines, desc_lines}
 use Rattle.std.specs.Fmt.{decimal}
-use Rattle.vms_parts.specs.Sizes.{in_u32}
 use Rattle.vms_parts.specs.Views.{field_of}
-use Rattle.vms_desc.specs.Asks.{field_at, own_numbers}
 use Rattle.vms_desc.specs.Described.{described}
 use Rattle.vms_desc.specs.Parts.{desc_at}
-use Rattle.vms_desc.proofs.AskLaws.{found_field}
 use Rattle.vms_walk.specs.Steps.{size_in, table, cells_in}
-use Rattle.vms_walk.proofs.Spots.{size_code, width_code, struct_size, spot_room}
+use Rattle.vms_walk.proofs.Spots.{size_code, struct_size, spot_room}
 use Rattle.vms_walk.proofs.Walking.{room_at}
 use Rattle.vms_values.specs.Printing.{run_lines, below, Stays}
 use Rattle.vms_values.proofs.Printers.{cells_of, struct_lines}

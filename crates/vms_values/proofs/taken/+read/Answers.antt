@@ -1,4 +1,4 @@
-use Rattle.std.proofs.Common.{rules, ◌≡◌, ℕ, ◌+◌, ◌-◌, ◌*◌, ◌<◌, ◌≤◌, ◌++◌, List, length, length-append, get_or, drop, map, codes, refl, sym, ap, ◌∙◌, subst, arith}
+use Rattle.std.proofs.Common.{rules, ◌≡◌, ℕ, ◌+◌, ◌-◌, ◌*◌, ◌<◌, ◌≤◌, ◌++◌, List, length, length-append, get_or, drop, codes, refl, sym, ap, ◌∙◌, subst, arith}
 use Rattle.std.proofs.lemmas.Bool.{ltb-true}
 use Rattle.std.proofs.lemmas.Result.{err_from_is_err_and}
 use Rattle.vms_kinds.specs.declared.Item.{Item}
@@ -7,22 +7,20 @@ use Rattle.vms_spec.specs.declared.TheConstants.{MOST_ITEMS}
 use Rattle.vms_spec.specs.declared.Part.TheVariants as parts
 use Rattle.vms_spec.proofs.Sizes.{elements_fit}
 use Rattle.vms_spec.specs.Sets.{Field, Desc}
-use Rattle.vms_spec.specs.Layout.{no_desc, cells_from, capacity_of, elements_of, struct_cells, item_size}
+use Rattle.vms_spec.specs.Layout.{no_desc, cells_from, capacity_of}
 use Rattle.vms_spec.specs.Places.{own_cell_count}
 use Rattle.vms_spec.specs.ValuesReading.{Read, readers, read_item, read_elements, read_desc}
-use Rattle.vms_parts.specs.Sizes.{in_u32}
 use Rattle.vms_parts.specs.Views.{field_of}
 use Rattle.vms_desc.specs.Asks.{field_at, own_numbers}
 use Rattle.vms_desc.specs.Described.{described}
 use Rattle.vms_desc.specs.Parts.{desc_at}
-use Rattle.vms_desc.proofs.AskLaws.{found_field}
 use Rattle.vms_walk.specs.Steps.{HasSpot, size_in, table, cells_in, capacities_of}
-use Rattle.vms_walk.proofs.Spots.{size_code, width_code, spot_room, struct_size}
+use Rattle.vms_walk.proofs.Spots.{size_code, spot_room, struct_size}
 use Rattle.vms_walk.proofs.Walking.{room_at, fields_at}
 use Rattle.std.specs.Fmt.{decimal}
 use Rattle.vms_values.specs.Printing.{below, Stays}
 use Rattle.vms_values.specs.Reading.{Reaches}
-use Rattle.vms_values.specs.Taken.{AreKinds, ElementKinds, element_cells, place_of}
+use Rattle.vms_values.specs.Taken.{AreKinds, element_cells, place_of}
 use Rattle.vms_values.proofs.Fronts.{stays, stays_is, stays_then, stays_element, cut_is, field_short}
 use Rattle.vms_values.proofs.KindsAt.{FieldKinds, field_kinds, number_kind, struct_kinds}
 use Rattle.vms_values.proofs.Kept.{kept_none, kept_more}
