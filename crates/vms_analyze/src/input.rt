@@ -1,6 +1,7 @@
 // The whole input.
 ghost use Rattle.std.specs.Prelude.{◌≤◌, length};
 ghost use Rattle.vms_io.specs.Told.{intake};
+ghost use Rattle.vms_analyze.specs.declared.input.TheConstants.{PIECE};
 ghost use Rattle.vms_analyze.specs.Inputs.{TakesInput, TakesPiece};
 
 use std::alloc::Global;
@@ -41,7 +42,7 @@ pub(crate) fn read_input<S: Source>(alloc: Global, source: &mut S) -> Result<Vec
 
 // Appends so many bytes to the input, or all that are left where they are fewer, and answers whether they are.
 fn read_piece<S: Source>(source: &mut S, room: usize, input: &mut Vec<u8>) -> Result<bool, NoInput>
-    requires { room ≤ 16384 }
+    requires { room ≤ PIECE }
     ensures { TakesPiece (intake S.Source source.old) (intake S.Source source.new)
         input.old.items input.new.items room result }
 {

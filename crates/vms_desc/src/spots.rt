@@ -4,6 +4,7 @@ ghost use Rattle.std.specs.Prelude.{◌≡◌, ◌<◌, ◌≤◌, ℕ, [], leng
 ghost use Rattle.vms_spec.specs.Layout.{device_cells};
 ghost use Rattle.vms_desc.specs.Described.{described, device_at};
 ghost use Rattle.vms_desc.specs.Spots.{kinds_at, form_spots};
+ghost use Rattle.vms_spots.specs.declared.layout.TheConstants.{MOST_BYTES};
 ghost use Rattle.vms_spots.specs.Spots.{spots_of, bytes_of, no_spot, AreApart};
 
 use crate::{CellForm, DescSet, Listed};
@@ -37,7 +38,7 @@ impl DescSet {
     pub fn image_bytes(&self, device: u32) -> u32
         requires { device < length (described self.now).devices }
         ensures bytes { result ≡ bytes_of (kinds_at (described self.now) device) }
-        ensures bound { result ≤ 131072 }
+        ensures bound { result ≤ MOST_BYTES }
     {
         size(self.spots(device))
     }

@@ -3,6 +3,7 @@ ghost use Rattle.std.specs.Prelude.{◌≡◌, ◌+◌, ◌-◌, ◌^◌, ◌<�
 ghost use Rattle.std.proofs.Common.{arith};
 ghost use Rattle.std.specs.Io.KnownBytes.{Keeps};
 ghost use Rattle.vms_io.specs.Causes.{HasCause};
+ghost use Rattle.vms_io.specs.declared.standard.TheConstants.{STAGE, GATHER};
 
 use crate::{Failed, Sink, Source};
 use std::io::{ErrorKind, Read, Write};
@@ -24,7 +25,7 @@ pub struct StdSource<R: Read + Drop> {
     given: u64,
     faults: u64,
     ghost order: { begin ≤ end },
-    ghost within: { end ≤ 8192 },
+    ghost within: { end ≤ STAGE },
 }
 
 impl<R: Read + Drop> StdSource<R> {
@@ -92,7 +93,7 @@ pub struct StdSink<W: Write + Drop> {
     end: usize,
     faults: u64,
     ghost order: { begin ≤ end },
-    ghost within: { end ≤ 8192 },
+    ghost within: { end ≤ GATHER },
 }
 
 impl<W: Write + Drop> StdSink<W> {

@@ -7,6 +7,7 @@ use Rattle.vms_kinds.specs.declared.Kind.TheVariants.{U8, U16, U32, U64, I8, I16
 use Rattle.vms_kinds.specs.Codes.{width, code, InRange, IsBadBool}
 use Rattle.vms_spec.specs.declared.TheConstants.{MOST_ITEMS}
 use Rattle.vms_spec.proofs.KindLaws.{length-code}
+use Rattle.vms_spots.specs.declared.layout.TheConstants.{MOST_BYTES}
 use Rattle.vms_spots.specs.declared.layout.Spot.{Spot}
 use Rattle.vms_spots.specs.Spots.{aligned, spots_of, end_from, bytes_of, no_spot, kinds_of, raw_from, raw_of, AreOf, number_at, Held, held, IsHeld}
 use Rattle.vms_spots.proofs.SpotLaws.{aligned_is, spot_is, code_at, numbers_are, set_fits, set_raw, code_0, range_0, end_after}
@@ -49,7 +50,7 @@ good_bool Bool (negsuc n) h b = omega (arith, ints)
 -- ---- one number
 
 pub record AtSpot (spots : List Spot) (bytes : List ℕ) (cell : ℕ) (s : Spot) : Type 0 where
-  pub small : s.offset ≤ 131072
+  pub small : s.offset ≤ MOST_BYTES
   pub inside : s.offset + width s.kind ≤ length bytes
   pub kind : s.kind ≡ get_or (kinds_of spots) cell U8
   pub number : number_at bytes s ≡ get_or (map (number_at bytes) spots) cell (pos 0)
@@ -68,7 +69,7 @@ at_spot spots bytes cell s h lt is =
     let kind : s.kind ≡ get_or kinds cell U8 = ap (λ (x : Spot). x.kind) same ∙ spot.kind_is in
     let offset : s.offset ≡ (get_or (spots_of kinds) cell no_spot).offset = ap (λ (x : Spot). x.offset) same in
     let all : length bytes ≡ bytes_of kinds = omega (arith, ap length h.raw, raw_long 0 kinds numbers h.fit.long) in
-    let few : bytes_of kinds ≤ 131072 = few_bytes kinds (omega (arith, long, h.few)) in
+    let few : bytes_of kinds ≤ MOST_BYTES = few_bytes kinds (omega (arith, long, h.few)) in
     let wide : width s.kind ≡ width (get_or kinds cell U8) = ap width kind in
     let inside : s.offset + width s.kind ≤ length bytes = omega (arith, offset, wide, all, spot.inside) in
     let number : number_at bytes s ≡ get_or numbers cell (pos 0) =

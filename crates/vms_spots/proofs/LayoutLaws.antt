@@ -7,6 +7,7 @@ use Rattle.std.specs.List.{slice_get}
 use Rattle.vms_kinds.specs.declared.Kind.{Kind}
 use Rattle.vms_kinds.specs.Codes.{width}
 use Rattle.vms_parts.specs.declared.types.CellForm.{CellForm}
+use Rattle.vms_spots.specs.declared.layout.TheConstants.{MOST_BYTES}
 use Rattle.vms_spots.specs.declared.layout.Spot.{Spot}
 use Rattle.vms_spots.specs.Spots.{aligned, spots_from, spots_of, bytes_of, no_spot, kinds_of}
 use Rattle.vms_spots.proofs.SpotLaws.{aligned_is, last_end, end_small}
@@ -45,12 +46,12 @@ ends forms spots end i all l =
 -- ---- the last one
 
 pub record IsLast (kinds : List Kind) (s : Spot) : Type 0 where
-  pub small : s.offset ≤ 131072
+  pub small : s.offset ≤ MOST_BYTES
   pub end : s.offset + width s.kind ≡ bytes_of kinds
-  pub bound : bytes_of kinds ≤ 131072
+  pub bound : bytes_of kinds ≤ MOST_BYTES
 
 -- no more than 8 bytes for each
-pub few_bytes : (kinds : List Kind) → length kinds ≤ MOST_ITEMS → bytes_of kinds ≤ 131072
+pub few_bytes : (kinds : List Kind) → length kinds ≤ MOST_ITEMS → bytes_of kinds ≤ MOST_BYTES
 few_bytes kinds few = omega (arith, end_small 0 kinds 0 (omega arith))
 
 pub is_last : (spots : List Spot) (s : Spot) (n : ℕ) → length spots ≤ MOST_ITEMS → spots ≡ spots_of (kinds_of spots)
@@ -60,7 +61,7 @@ is_last spots s n few laid long is =
     let all : length kinds ≡ suc n = length-map spots (λ s. s.kind) ∙ long in
     let same : s ≡ get_or (spots_of kinds) n no_spot = is ∙ ap (λ (l : List Spot). get_or l n no_spot) laid in
     let end : s.offset + width s.kind ≡ bytes_of kinds = ap (λ (x : Spot). x.offset + width x.kind) same ∙ last_end 0 kinds n all in
-    let bound : bytes_of kinds ≤ 131072 = few_bytes kinds (omega (arith, all, long)) in
+    let bound : bytes_of kinds ≤ MOST_BYTES = few_bytes kinds (omega (arith, all, long)) in
     record { small = omega (arith, end, bound); end = end; bound = bound }
 
 -- so it is where a list has a last one

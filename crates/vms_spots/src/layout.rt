@@ -2,11 +2,15 @@
 ghost use Rattle.vms_spec.specs.declared.TheConstants.{MOST_ITEMS};
 ghost use Rattle.std.specs.Prelude.{◌≡◌, ◌≤◌, ◌+◌, length, map, IfOk};
 ghost use Rattle.vms_kinds.specs.Codes.{width};
+ghost use Rattle.vms_spots.specs.declared.layout.TheConstants.{MOST_BYTES};
 ghost use Rattle.vms_spots.specs.Spots.{aligned, spots_of, kinds_of, bytes_of, AreApart};
 
 use std::alloc::{AllocError, Global};
 use vms_kinds::Kind;
 use vms_parts::CellForm;
+
+/// The numbers of a well-formed set's devices take no more bytes: eight for each item.
+pub const MOST_BYTES: u32 = 131_072;
 
 /// Where the number of a cell stands in an image's bytes.
 #[derive(Clone, Copy, Debug, PartialEq, Eq)]
@@ -20,7 +24,7 @@ pub struct Spot {
 impl Spot {
     // The first spot for a number of this kind that doesn't begin before a byte.
     fn behind(end: u32, kind: Kind) -> Spot
-        requires { end ≤ 131072 }
+        requires { end ≤ MOST_BYTES }
         ensures { result ≡ record { offset = aligned (width kind) end; kind = kind } }
     {
         let width = kind.width() as u32;
@@ -32,7 +36,7 @@ impl Spot {
 
     /// The byte behind its last one.
     pub fn end(self) -> u32
-        requires { self.offset ≤ 131072 }
+        requires { self.offset ≤ MOST_BYTES }
         ensures { result ≡ self.offset + width self.kind }
     {
         self.offset + self.kind.width() as u32
@@ -63,7 +67,7 @@ pub fn size(spots: &[Spot]) -> u32
     requires few { length spots.now ≤ MOST_ITEMS }
     requires laid { spots.now ≡ spots_of (kinds_of spots.now) }
     ensures size { result ≡ bytes_of (kinds_of spots.now) }
-    ensures bound { result ≤ 131072 }
+    ensures bound { result ≤ MOST_BYTES }
 {
     match spots.last() {
         None => 0,

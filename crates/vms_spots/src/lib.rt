@@ -7,4 +7,4 @@ mod buffer;
 mod layout;
 
 pub use buffer::Buffer;
-pub use layout::{Spot, lay_out, size};
+pub use layout::{MOST_BYTES, Spot, lay_out, size};

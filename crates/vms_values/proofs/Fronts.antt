@@ -13,7 +13,7 @@ use Rattle.vms_desc.specs.Formed.{is_well_formed}
 use Rattle.vms_desc.specs.Parts.{HasPart, desc_at}
 use Rattle.vms_desc.proofs.Clean.{reach, field_clean, few_structs}
 use Rattle.vms_desc.proofs.Ranks.{reach_whole}
-use Rattle.vms_values.specs.declared.line.TheConstants.{LONGEST}
+use Rattle.vms_values.specs.declared.line.TheConstants.{LONGEST, PART_ROOM}
 use Rattle.vms_values.specs.Printing.{below, below_part, Stays}
 
 pub stays : (line : List ℕ) → Stays line line
@@ -51,13 +51,13 @@ stays_element line digits new e =
     (stays_then line begun _ (stays_more line (codes "[")) (stays_then begun (begun ++ digits) _ (stays_more begun digits) (stays_more (begun ++ digits) (codes "]"))))
 
 -- what may still come behind the items of a part's fields
-pub below_uses : (r : ℕ) (item : Item) → uses_below r item ≡ true → below item ≤ 128 * r
+pub below_uses : (r : ℕ) (item : Item) → uses_below r item ≡ true → below item ≤ PART_ROOM * r
 below_uses r (Num kind) e = omega arith
 below_uses r (Equal kind z) e = omega arith
 below_uses r (Unused b) e = omega arith
 below_uses r (Struct j) e = let lt : j < r = ltb-true j r e in omega arith
 
-pub below_reach : (set : Set) (part : Part) → HasPart set part → below_part set part ≡ 128 * (reach set part + 1)
+pub below_reach : (set : Set) (part : Part) → HasPart set part → below_part set part ≡ PART_ROOM * (reach set part + 1)
 below_reach set parts.Set h = refl
 below_reach set (parts.Struct j) h = refl
 below_reach set (parts.Device i) h = refl
@@ -65,7 +65,7 @@ below_reach set (parts.Sub i j) h = refl
 
 -- a field of a part
 pub field_short : (set : Set) → is_well_formed set ≡ true → (part : Part) → HasPart set part → (k : ℕ) → k < length (desc_at set part).fields
-    → (f : Field) → f ≡ field_at set part k → (length f.name ≤ 32) × (below f.item + 128 ≤ below_part set part)
+    → (f : Field) → f ≡ field_at set part k → (length f.name ≤ 32) × (below f.item + PART_ROOM ≤ below_part set part)
 field_short set well part h k lt f is =
     let clean = field_clean set well part h k lt in
     let uses : uses_below (reach set part) f.item ≡ true = ap (λ (x : Field). uses_below (reach set part) x.item) is ∙ clean.uses in

@@ -1,6 +1,7 @@
 -- The parts of a printed text.
-use Rattle.std.proofs.Common.{◌≡◌, ℕ, suc, ◌+◌, ◌<◌, List, [], ◌∷◌, ◌++◌, length, get_or, drop, Result, codes, refl, sym, ap, ◌∙◌, subst, arith, append_assoc, length-drop}
+use Rattle.std.proofs.Common.{◌≡◌, ℕ, suc, ◌+◌, ◌<◌, List, [], ◌∷◌, ◌++◌, length, get_or, drop, Result, Ok, Err, codes, refl, sym, ap, ◌∙◌, subst, arith, append_assoc, length-drop}
 use Rattle.std.proofs.lemmas.List.{drop_more}
+use Rattle.std.specs.Result.{is_ok}
 use Rattle.vms_io.specs.Told.{Outlet}
 use Rattle.vms_io.specs.Writing.{Puts, Wrote}
 use Rattle.vms_io.proofs.WritingLemmas.{wrote_as, wrote_behind}
@@ -18,6 +19,13 @@ element_text {a = a} path digits piece c result p e w =
     let s : path ++ (codes "[" ++ (piece ++ (codes "]" ++ []))) ≡ path ++ codes "[" ++ digits ++ codes "]" =
     ap (λ (d : List ℕ). path ++ (codes "[" ++ (d ++ codes "]"))) e ∙ sym (append_assoc path (codes "[") (digits ++ codes "]")) ∙ sym (append_assoc (path ++ codes "[") digits (codes "]")) in
     wrote_as result a c s (wrote_behind result c (codes "[" ++ (piece ++ (codes "]" ++ []))) p w)
+
+-- a call whose fault was passed on as another
+pub wrote_mapped : {T E F : Type 0} (a b : Outlet) (text : List ℕ) (r : Result T E) (mapped : Result T F) → is_ok mapped ≡ is_ok r → Wrote a b text r → Wrote a b text mapped
+wrote_mapped a b text (Ok x) (Ok y) e w = w
+wrote_mapped a b text (Ok x) (Err f) e w = cc
+wrote_mapped a b text (Err e) (Ok y) v w = cc
+wrote_mapped a b text (Err e) (Err f) v w = w
 
 -- ---- what is left of a list
 

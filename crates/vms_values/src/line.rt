@@ -1,12 +1,22 @@
 // The line that is printed next, or the path with which the line begins that is read next.
 ghost use Rattle.std.specs.Prelude.{◌≡◌, ◌+◌, ◌≤◌, ◌++◌, [], take, length, codes};
 ghost use Rattle.std.specs.Fmt.{decimal};
+ghost use Rattle.vms_values.specs.declared.line.TheConstants.{INDEX_ROOM};
 
 use itoa::Buffer;
 use std::marker::Model;
 
 /// A line has no more bytes: the names of 65 fields, one in the other, their elements and a number.
 const LONGEST: usize = 8320;
+
+/// What comes behind a path takes no more bytes: a number of 128 bits with its sign, and what stands around it.
+pub(crate) const NUMBER_ROOM: usize = 54;
+
+/// The number of an element takes no more, with its brackets.
+pub(crate) const INDEX_ROOM: usize = 42;
+
+/// A field in a structure takes no more before what comes behind its path: its name, an element's number and the dots.
+pub(crate) const PART_ROOM: usize = 128;
 
 /// A line, from its first byte on. What comes next keeps of it the front that the lines share.
 #[derive(Drop)]
@@ -65,9 +75,9 @@ impl Line {
 
     /// Appends the number of an element in brackets.
     pub(crate) fn push_index(&mut self, index: u32)
-        requires { length self.old + 42 ≤ LONGEST }
+        requires { length self.old + INDEX_ROOM ≤ LONGEST }
         ensures text { self.new ≡ self.old ++ codes "[" ++ decimal index ++ codes "]" }
-        ensures long { length self.new ≤ length self.old + 42 }
+        ensures long { length self.new ≤ length self.old + INDEX_ROOM }
     {
         let mut digits = Buffer::new();
         self.push(b"[");

@@ -34,27 +34,8 @@ pub fn print_values<K: Sink>(
         let text = values_text (described set.now) name (map state_of images.now) in
         Wrote (outlet K.Sink sink.old) (outlet K.Sink sink.new) text result }
 {
-    match print_all(set, machine, images, sink) {
-        Ok(()) => Ok(()),
-        Err(_) => Err(WriteFault),
-    }
-}
-
-fn print_all<K: Sink>(
-    set: &DescSet,
-    machine: Option<u32>,
-    images: &[Image],
-    sink: &mut K,
-) -> Result<(), Failed>
-    requires named { ForSome machine (λ m. m < length (described set.now).machines) }
-    requires one_each { AreOf (described set.now) (described set.now).devices
-        (map state_of images.now) }
-    ensures { let name = machine_of (described set.now) machine in
-        let text = values_text (described set.now) name (map state_of images.now) in
-        Wrote (outlet K.Sink sink.old) (outlet K.Sink sink.new) text result }
-{
-    print_machine(set.parts(), machine, sink)?;
-    print_devices(set, images, sink)
+    print_machine(set.parts(), machine, sink).map_err(|_| WriteFault)?;
+    print_devices(set, images, sink).map_err(|_| WriteFault)
 }
 
 fn print_machine<K: Sink>(parts: &Parts, machine: Option<u32>, sink: &mut K) -> Result<(), Failed>

@@ -1,5 +1,5 @@
 // Prints the lines of a description: arrays to their counts, and structures.
-ghost use Rattle.vms_values.specs.declared.line.TheConstants.{LONGEST};
+ghost use Rattle.vms_values.specs.declared.line.TheConstants.{LONGEST, NUMBER_ROOM, INDEX_ROOM, PART_ROOM};
 ghost use Rattle.vms_spec.specs.declared.TheConstants.{MOST_ITEMS};
 ghost use Rattle.std.specs.Prelude.{◌≡◌, ◌+◌, ◌*◌, ◌<◌, ◌≤◌, ◌++◌, [], true, codes, length};
 ghost use Rattle.std.specs.Fmt.{signed_decimal};
@@ -94,7 +94,7 @@ fn print_field<K: Sink>(
     requires fits { let set = described shown.set.now in
         IsRun set (field_of field.now) run.first run.count shown.image.now.numbers }
     requires name { length (field_of field.now).name ≤ 32 }
-    requires short { length line.old + 128 + below (field_of field.now).item ≤ LONGEST }
+    requires short { length line.old + PART_ROOM + below (field_of field.now).item ≤ LONGEST }
     ensures written { let set = described shown.entry.set.now in
         let n = shown.entry.image.now.numbers in
         let f = field_of field.now in
@@ -124,7 +124,7 @@ fn print_elements<K: Sink>(
     requires room { let size = size_in (described shown.set.now) item.now in
         run.first + run.count * size ≤ length shown.image.now.numbers }
     requires few { length shown.image.now.numbers ≤ MOST_ITEMS }
-    requires short { length line.old + 96 + below item.now ≤ LONGEST }
+    requires short { length line.old + INDEX_ROOM + NUMBER_ROOM + below item.now ≤ LONGEST }
     ensures written { let ps = printers (described shown.entry.set.now) in
         let n = shown.entry.image.now.numbers in
         let size = size_in (described shown.entry.set.now) item.now in
@@ -158,7 +158,7 @@ fn print_item<K: Sink>(
     requires room { let size = size_in (described shown.set.now) item.now in
         cell + size ≤ length shown.image.now.numbers }
     requires few { length shown.image.now.numbers ≤ MOST_ITEMS }
-    requires short { length line.old + 54 + below item.now ≤ LONGEST }
+    requires short { length line.old + NUMBER_ROOM + below item.now ≤ LONGEST }
     ensures written { let ps = printers (described shown.entry.set.now) in
         let n = shown.entry.image.now.numbers in
         let text = item_lines ps item.now line.old n cell in
@@ -187,7 +187,7 @@ fn print_struct<K: Sink>(
     requires room { let size = size_in (described shown.set.now) (items.Struct number) in
         cell + size ≤ length shown.image.now.numbers }
     requires few { length shown.image.now.numbers ≤ MOST_ITEMS }
-    requires short { length line.old + 54 + 128 * (number + 1) ≤ LONGEST }
+    requires short { length line.old + NUMBER_ROOM + PART_ROOM * (number + 1) ≤ LONGEST }
     ensures written { let ps = printers (described shown.entry.set.now) in
         let n = shown.entry.image.now.numbers in
         let text = item_lines ps (items.Struct number) line.old n cell in
@@ -207,7 +207,7 @@ fn print_struct<K: Sink>(
 // The line of a cell, of which the path is there.
 #[inline(always)]
 fn print_number<K: Sink>(number: i128, line: &mut Line, sink: &mut K) -> Result<(), Failed>
-    requires short { length line.old + 54 ≤ LONGEST }
+    requires short { length line.old + NUMBER_ROOM ≤ LONGEST }
     ensures written { let tail = codes " = " ++ (signed_decimal number ++ line_end) in
         Wrote (outlet K.Sink sink.old) (outlet K.Sink sink.new) (line.old ++ tail) result }
     ensures line { Stays line.old line.new }

@@ -1,5 +1,5 @@
 // Reads the lines of a description: arrays to their counts, and structures.
-ghost use Rattle.vms_values.specs.declared.line.TheConstants.{LONGEST};
+ghost use Rattle.vms_values.specs.declared.line.TheConstants.{LONGEST, NUMBER_ROOM, INDEX_ROOM, PART_ROOM};
 ghost use Rattle.vms_spec.specs.declared.TheConstants.{MOST_ITEMS};
 ghost use Rattle.std.specs.Prelude.{[], ◌≡◌, ◌+◌, ◌*◌, ◌<◌, ◌≤◌, ◌&&◌, true, length, get_or, slice_set};
 ghost use Rattle.vms_kinds.specs.Codes.{InRange};
@@ -123,7 +123,7 @@ fn read_field(set: &DescSet, run: Run, path: &mut Line, taken: &mut Taken) -> Re
         ElementKinds structs run.field.now.item taken.old.image.kinds run.first run.count }
     requires name { length (field_of run.field.now).name ≤ 32 }
     requires short { let item = run.field.now.item in
-        length path.old + 128 + below item ≤ LONGEST }
+        length path.old + PART_ROOM + below item ≤ LONGEST }
     ensures read { let f = field_of run.entry.field.now in
         let set = described set.now in
         let caps = capacities_of run.entry.most in
@@ -155,7 +155,7 @@ fn read_elements(
     requires few { length taken.old.image.numbers ≤ MOST_ITEMS }
     requires kinds { let structs = cells_in (table (described set.now)) in
         ElementKinds structs run.field.now.item taken.old.image.kinds run.first run.count }
-    requires short { length path.old + 96 + below run.field.now.item ≤ LONGEST }
+    requires short { length path.old + INDEX_ROOM + NUMBER_ROOM + below run.field.now.item ≤ LONGEST }
     ensures read { let f = field_of run.entry.field.now in
         let set = described set.now in
         let size = size_in set f.item in
@@ -188,7 +188,7 @@ fn read_item(set: &DescSet, run: Run, path: &mut Line, taken: &mut Taken) -> Res
     requires few { length taken.old.image.numbers ≤ MOST_ITEMS }
     requires kinds { let structs = cells_in (table (described set.now)) in
         AreKinds taken.old.image.kinds run.first (element_cells structs run.field.now.item) }
-    requires short { length path.old + 54 + below run.field.now.item ≤ LONGEST }
+    requires short { length path.old + NUMBER_ROOM + below run.field.now.item ≤ LONGEST }
     ensures read { let f = field_of run.entry.field.now in
         let set = described set.now in
         let caps = capacities_of run.entry.most in

@@ -24,7 +24,8 @@ use Rattle.vms_frames.specs.declared.units.Behind.TheVariants.{Sub, Next, Done}
 use Rattle.vms_frames.specs.Found.{Found as Answer, Whole as IsWhole, Wrong, Cut as IsCut, sub_found, foot_found, behind_long, behind_found, behind_mark_found}
 use Rattle.vms_frames.specs.Answers.{Answers, RefusesFor}
 use Rattle.vms_frames.specs.Calls.{Fails, AnswersBehind, in_section, tail_of}
-use Rattle.vms_frames.proofs.Calls.Cursors.{as_seen, unit_of_behind, sub_seen, foot_seen, foot_row, one_le}
+use Rattle.vms_stream.proofs.Calls.Judged.{foot_row}
+use Rattle.vms_frames.proofs.Calls.Cursors.{as_seen, unit_of_behind, sub_seen, foot_seen, one_le}
 
 -- ---- what is seen behind the first byte
 
@@ -44,7 +45,7 @@ other_there id b more e f =
     (if_false (b == 0x05) (sub_at (b ∷ more) (get_or more 0 0)) _ e ∙ ap (λ (t : Bool). if not t then (if b == 0x7e then needs 5 (b ∷ more) (Foot (number_at 4 1 (b ∷ more))) else needs 1 (b ∷ more) (Mark b)) else between_at false b (b ∷ more)) e
     ∙ if_false (b == 0x7e) _ _ f
     ∙ if_false (nat_lt (length (b ∷ more)) 1) Cut (Whole (Mark b) 1) (le-ltb (length (b ∷ more)) 1 (one_le b more)))
-    ∙ ap (λ (o : Option (Option ℕ × Reason)). seen_by o (Mark b) 1) (foot_row (in_section id) b)
+    ∙ ap (λ (o : Option (Option ℕ × Reason)). seen_by o (Mark b) 1) (foot_row 0 (in_section id) b)
 
 -- ---- answers
 

@@ -1,10 +1,9 @@
 -- What a cursor's calls answer is what is found there.
-use Rattle.std.proofs.Common.{◌≡◌, ℕ, ◌+◌, ◌<◌, ◌≤◌, List, [], ◌∷◌, length, get_or, take, drop, Option, Some, None, ℤ, refl, sym, ap, ◌∙◌, arith, length-drop, Bool, true, false, not, nat_lt, ◌==◌, ◌&&◌, ◌||◌, if◌then◌else◌}
+use Rattle.std.proofs.Common.{◌≡◌, ℕ, ◌+◌, ◌<◌, ◌≤◌, List, [], ◌∷◌, length, get_or, take, drop, Some, None, ℤ, refl, sym, ap, ◌∙◌, arith, length-drop, Bool, true, false, not, nat_lt, ◌==◌, ◌&&◌, ◌||◌, if◌then◌else◌}
 use Rattle.std.proofs.lemmas.Bool.{ltb-true, ltb-false, lt-ltb, eqb-true}
 use Rattle.std.proofs.lemmas.List.{length-take-le}
 use Rattle.vms_kinds.specs.declared.Kind.{Kind}
 use Rattle.vms_kinds.specs.Codes.{width, value_of}
-use Rattle.vms_spec.specs.declared.Reason.{Reason}
 use Rattle.vms_spec.specs.declared.Reason.TheVariants as reasons
 use Rattle.vms_spec.specs.Numbers.{is_truth, is_above}
 use Rattle.vms_spec.specs.Lookup.{is_bad_bool, number_at, bytes_at}
@@ -18,12 +17,11 @@ use Rattle.vms_frames.specs.declared.units.Behind.{Behind}
 use Rattle.vms_frames.specs.declared.units.Behind.TheVariants.{Sub, Next, Done}
 use Rattle.vms_frames.specs.Found.{Found as Answer, Whole as IsWhole, Wrong, Cut as IsCut, needs as wants, magic_found, version_found, number_found, skip_found, sub_found, foot_found, behind_long}
 use Rattle.vms_stream.specs.Dues.{Due, AMagic, AVersion, Field, AfterFields, raw}
-use Rattle.vms_stream.specs.Table.{first_row, alone}
 use Rattle.vms_stream.specs.Finding.{Whole, Cut, needs, sub_at}
 use Rattle.vms_stream.specs.Seen.{Seen, Good, Bad, Short, seen, seen_in, seen_by}
 use Rattle.vms_stream.specs.Taking.{nothing_known}
 use Rattle.vms_frames.specs.Calls.{in_section}
-use Rattle.vms_stream.specs.SoFar.{Tail, Footed, Known}
+use Rattle.vms_stream.specs.SoFar.{Tail, Known}
 
 -- what is found, as it is seen
 abbrev pub as_seen : {X : Type 0} → (X → Piece) → (X → ℕ) → Answer X → Seen
@@ -95,20 +93,6 @@ foot_seen t id rest =
 
 pub one_le : (b : ℕ) (more : List ℕ) → 1 ≤ length (b ∷ more)
 one_le b more = omega arith
-
--- neither a footer nor a subsection head
-pub foot_row : (k : Known) (b : ℕ) → first_row (alone (AfterFields 0 Footed) k (Mark b)) ≡ Some (k.section, reasons.BadFooter)
-foot_row k b = by (b == 0x02 || b == 0x03) (b == 0x08) (b == 0x05)
-  where
-    by : (p q r : Bool) → (let bad : Option (Option ℕ × Reason) = Some (k.section, reasons.BadFooter) in if p && false then Some (None, reasons.Iterative) else if q && false then Some (None, reasons.Command) else if r && false then Some (None, reasons.ConfigurationExtra) else bad) ≡ Some (k.section, reasons.BadFooter)
-    by true true true = refl
-    by true true false = refl
-    by true false true = refl
-    by true false false = refl
-    by false true true = refl
-    by false true false = refl
-    by false false true = refl
-    by false false false = refl
 
 -- ---- the stream head
 

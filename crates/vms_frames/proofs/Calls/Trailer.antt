@@ -1,5 +1,5 @@
 -- The call behind the end mark, by the unit that is found.
-use Rattle.std.proofs.Common.{◌≡◌, ℕ, ◌+◌, List, ◌∷◌, length, Option, Some, None, refl, sym, ap, ◌∙◌, arith, Bool, true, false, nat_lt, ◌==◌, ◌&&◌, ◌||◌, if◌then◌else◌}
+use Rattle.std.proofs.Common.{◌≡◌, ℕ, ◌+◌, List, ◌∷◌, length, Option, Some, None, refl, sym, ap, ◌∙◌, arith, Bool, true, false, nat_lt, ◌==◌, ◌||◌, if◌then◌else◌}
 use Rattle.std.proofs.lemmas.Bool.{le-ltb}
 use Rattle.vms_spec.specs.declared.Reason.{Reason}
 use Rattle.vms_spec.specs.declared.Reason.TheVariants as reasons
@@ -7,6 +7,7 @@ use Rattle.vms_spec.specs.Streams.{longest_text}
 use Rattle.vms_spec.specs.Lookup.{number_at, bytes_at}
 use Rattle.vms_spec.specs.Units.{Piece, Description, Long, Mark}
 use Rattle.vms_bodies.proofs.BodyOnly.{if_false}
+use Rattle.vms_stream.proofs.Calls.Judged.{not_between}
 use Rattle.vms_frames.specs.Found.{Found as Answer, Whole as IsWhole, Wrong, needs as wants, text_found, trailer_found}
 use Rattle.vms_stream.specs.Dues.{AfterEnd}
 use Rattle.vms_stream.specs.Table.{first_row, alone}
@@ -34,17 +35,7 @@ text_seen rest = by (nat_lt longest_text (number_at 4 1 rest))
         ∙ framed (λ (n : ℕ). described rest) (λ (n : ℕ). n) AfterEnd nothing_known (5 + n) rest (described rest) (IsWhole (5 + n)) (λ le. refl)
 
 trailing_row : (b : ℕ) → first_row (alone AfterEnd nothing_known (Mark b)) ≡ Some (None, reasons.Trailing)
-trailing_row b = by (b == 0x02 || b == 0x03) (b == 0x08) (b == 0x05)
-  where
-    by : (p q r : Bool) → (let bad : Option (Option ℕ × Reason) = Some (None, reasons.Trailing) in if p && false then Some (None, reasons.Iterative) else if q && false then Some (None, reasons.Command) else if r && false then Some (None, reasons.ConfigurationExtra) else bad) ≡ Some (None, reasons.Trailing)
-    by true true true = refl
-    by true true false = refl
-    by true false true = refl
-    by true false false = refl
-    by false true true = refl
-    by false true false = refl
-    by false false true = refl
-    by false false false = refl
+trailing_row b = not_between (Some (None, reasons.Trailing)) (b == 0x02 || b == 0x03) (b == 0x08) (b == 0x05)
 
 pub trailer_seen : (b : ℕ) (more : List ℕ) → as_seen (λ (n : ℕ). described (b ∷ more)) (λ (n : ℕ). n) (trailer_found (b ∷ more)) ≡ seen AfterEnd nothing_known (b ∷ more)
 unfolding trailer_at

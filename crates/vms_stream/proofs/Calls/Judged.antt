@@ -79,19 +79,21 @@ in_field j (FillerSlot m) k rest x n section reason e f =
     let g = ap (λ (y : Piece). first_row (alone (Field j (FillerSlot m)) k y)) is ∙ f in cc
 in_field j (RuleSlot b) k rest x n section reason e f = cc
 
+-- where no section may begin, no mark is one of those that may not begin one
+pub not_between : (bad : Line) (p q r : Bool)
+    → (if p && false then Some (None, reasons.Iterative) else if q && false then Some (None, reasons.Command) else if r && false then Some (None, reasons.ConfigurationExtra) else bad) ≡ bad
+not_between bad true true true = refl
+not_between bad true true false = refl
+not_between bad true false true = refl
+not_between bad true false false = refl
+not_between bad false true true = refl
+not_between bad false true false = refl
+not_between bad false false true = refl
+not_between bad false false false = refl
+
 -- neither a footer nor a subsection head
-foot_row : (j : ℕ) (k : Known) (b : ℕ) → first_row (alone (AfterFields j Footed) k (Mark b)) ≡ Some (k.section, reasons.BadFooter)
-foot_row j k b = by (b == 0x02 || b == 0x03) (b == 0x08) (b == 0x05)
-  where
-    by : (p q r : Bool) → (let bad : Line = Some (k.section, reasons.BadFooter) in if p && false then Some (None, reasons.Iterative) else if q && false then Some (None, reasons.Command) else if r && false then Some (None, reasons.ConfigurationExtra) else bad) ≡ Some (k.section, reasons.BadFooter)
-    by true true true = refl
-    by true true false = refl
-    by true false true = refl
-    by true false false = refl
-    by false true true = refl
-    by false true false = refl
-    by false false true = refl
-    by false false false = refl
+pub foot_row : (j : ℕ) (k : Known) (b : ℕ) → first_row (alone (AfterFields j Footed) k (Mark b)) ≡ Some (k.section, reasons.BadFooter)
+foot_row j k b = not_between (Some (k.section, reasons.BadFooter)) (b == 0x02 || b == 0x03) (b == 0x08) (b == 0x05)
 
 one_row : (a : Bool) (k section : Option ℕ) (p reason : Reason) → (if a then line k p else None) ≡ line section reason → section ≡ k
 one_row true k section p reason e = sym (section_is k section p reason e)

@@ -1,11 +1,6 @@
-use Rattle.std.proofs.Common.{◌≡◌, ℕ, length, ap, ◌∙◌}
-use Rattle.vms_spec.specs.Sets.{Set}
+use Rattle.std.proofs.Common.{length, ap, ◌∙◌}
 use Rattle.vms_desc.specs.Described.{described}
-use Rattle.vms_desc.specs.Spots.{kinds_at}
-use Rattle.vms_image.specs.Typed.{Typed, state_of, IsImageOf}
-use Rattle.vms_write.specs.Judged.{IsOfDevice}
-use Rattle.vms_values.specs.Taken.{IsKept}
-use Rattle.vms_values.specs.SubsTaken.{IsAlike}
+use Rattle.vms_image.specs.Typed.{IsImageOf}
 use Rattle.vms_values.proofs.ImageRead.{default_of, default_kinds, own_spot, alike_kept, image_of}
 use Rattle.vms_values.proofs.KindsAt.{own_kinds}
 use Rattle.vms_values.proofs.SubsReading.{of_alike, subs_alike}

@@ -1,27 +1,22 @@
-use Rattle.std.proofs.Common.{rules, arith, ◌≡◌, ◌+◌, ◌*◌, ◌-◌, ◌<◌, ◌≤◌, List, ◌++◌, ℕ, length, length-append, get_or, map, drop, codes, refl, sym, ap, ◌∙◌, subst}
+use Rattle.std.proofs.Common.{rules, arith, ◌≡◌, ◌+◌, ◌*◌, ◌-◌, ◌<◌, ◌≤◌, List, ◌++◌, ℕ, length, length-append, get_or, drop, codes, refl, sym, ap, ◌∙◌, subst}
 use Rattle.std.proofs.lemmas.Result.{err_from_is_err_and}
 use Rattle.std.proofs.lemmas.Bool.{ltb-true}
 use Rattle.vms_kinds.specs.declared.Item.{Item}
-use Rattle.vms_spec.specs.declared.TheConstants.{MOST_ITEMS}
-use Rattle.vms_spec.specs.Sets.{Field, Desc}
-use Rattle.vms_spec.specs.Layout.{no_desc, numbers_of, capacity_of, elements_of, item_size, struct_cells, cells_from}
+use Rattle.vms_spec.specs.Layout.{no_desc, numbers_of, capacity_of, cells_from}
 use Rattle.vms_spec.specs.Values.{printers, element_lines, item_lines, field_lines, desc_lines}
 use Rattle.std.specs.Fmt.{decimal}
-use Rattle.vms_parts.specs.Sizes.{in_u32}
 use Rattle.vms_parts.specs.Views.{field_of}
-use Rattle.vms_desc.specs.Asks.{field_at, own_numbers}
 use Rattle.vms_desc.specs.Described.{described}
 use Rattle.vms_desc.specs.Parts.{desc_at}
-use Rattle.vms_desc.proofs.AskLaws.{found_field}
 use Rattle.vms_walk.specs.Steps.{size_in, table, cells_in}
-use Rattle.vms_walk.proofs.Spots.{size_code, width_code, struct_size, spot_room}
+use Rattle.vms_walk.proofs.Spots.{size_code, struct_size, spot_room}
 use Rattle.vms_walk.proofs.Walking.{room_at}
 use Rattle.vms_values.specs.Printing.{run_lines, below, Stays}
 use Rattle.vms_values.proofs.Printers.{cells_of, struct_lines}
 use Rattle.vms_io.proofs.WritingLemmas.{wrote_as, leaves_all, leaves_rest, leaves_stop, leaves_none}
 use Rattle.vms_values.proofs.Runs.{FoundRun, array_run, elements_left, no_elements, no_fields, found_run, found_width}
 use Rattle.vms_values.proofs.Fronts.{stays, stays_is, stays_then, stays_element, cut_is, field_short}
-use Rattle.vms_values.specs.declared.line.TheConstants.{LONGEST}
+use Rattle.vms_values.specs.declared.line.TheConstants.{LONGEST, NUMBER_ROOM, INDEX_ROOM, PART_ROOM}
 use Rattle.vms_values.proofs.shown.+print.Given.{Over}
 use Rattle.vms_values.proofs.shown.+print.Goals as goal
 use Rattle.vms_values.proofs.shown.+print.Goals.{print_elements-After-print_item-arg-in-loop-index-1, print_part-After-field_cells-cell, print_part-After-print_field-arg-in-loop-field-1}
@@ -39,7 +34,7 @@ print_elements-loop-index-init g t c =
     }
 
 -- the path of the element whose turn it is
-element : (g : Over) (t : ℕ) (c : goal.print_elements-After-print_item-arg-in-loop-index-1 g t) → (c.push_index.new.self ≡ c.args.line.now ++ codes "[" ++ decimal c.loop-index.index ++ codes "]") × (length c.push_index.new.self ≤ length c.args.line.now + 42)
+element : (g : Over) (t : ℕ) (c : goal.print_elements-After-print_item-arg-in-loop-index-1 g t) → (c.push_index.new.self ≡ c.args.line.now ++ codes "[" ++ decimal c.loop-index.index ++ codes "]") × (length c.push_index.new.self ≤ length c.args.line.now + INDEX_ROOM)
 element g t c =
     let kept = cut_is c.args.line.now c.loop-index.line c.cut.new.self c.len-kept.result c.cut.ensures c.len-kept.ensures c.loop-index.invariant.line in
     (c.push_index.ensures.text ∙ ap (λ (l : List ℕ). l ++ codes "[" ++ decimal c.loop-index.index ++ codes "]") kept, omega (arith, ap length kept, c.push_index.ensures.long))
@@ -48,7 +43,7 @@ pub print_elements-print_item-requires : goal.print_elements-print_item-requires
 print_elements-print_item-requires g t c =
     let set = described c.args.shown.set.now in
     let room = room_at c.loop-index.index c.args.run.count (size_in set c.args.item.now) c.args.run.first c.loop-index.cell (length c.args.shown.image.now.numbers) c.loop-index-test.true c.loop-index.invariant.here c.requires.room in
-    let short : length c.push_index.new.self + 54 + below c.args.item.now ≤ LONGEST = omega (arith, (element g t c).1, c.requires.short) in
+    let short : length c.push_index.new.self + NUMBER_ROOM + below c.args.item.now ≤ LONGEST = omega (arith, (element g t c).1, c.requires.short) in
     λ κs h. (search rules, (search rules, (c.requires.reaches, (room, (c.requires.few, short)))))
 
 pub print_elements-returns-in_err-print_item-clause-written :
@@ -120,7 +115,7 @@ print_field-print_item-requires g t c =
     let room : c.args.run.first + 1 * size ≤ length c.args.shown.image.now.numbers = subst (λ (k : ℕ). c.args.run.first + k * size ≤ length c.args.shown.image.now.numbers) one fits.room in
     let same : 1 * size ≡ size = grind arith in
     let named : c.push.new.self ≡ c.args.line.now ++ c.args.field.now.name = c.push.ensures ∙ ap (λ (l : List ℕ). c.args.line.now ++ l) c.as_bytes.ensures in
-    let short : length c.push.new.self + 54 + below c.args.field.now.item ≤ LONGEST =
+    let short : length c.push.new.self + NUMBER_ROOM + below c.args.field.now.item ≤ LONGEST =
     omega (arith, ap length named, length-append c.args.line.now c.args.field.now.name, c.requires.name, c.requires.short) in
     λ κs h. (search rules, (search rules, (fits.reaches, (omega (arith, room, same), (fits.few, short)))))
 
@@ -128,7 +123,7 @@ pub print_field-print_elements-requires : goal.print_field-print_elements-requir
 print_field-print_elements-requires g t c =
     let fits = c.requires.fits in
     let named : c.push.new.self ≡ c.args.line.now ++ c.args.field.now.name = c.push.ensures ∙ ap (λ (l : List ℕ). c.args.line.now ++ l) c.as_bytes.ensures in
-    let short : length c.push.new.self + 96 + below c.args.field.now.item ≤ LONGEST =
+    let short : length c.push.new.self + INDEX_ROOM + NUMBER_ROOM + below c.args.field.now.item ≤ LONGEST =
     omega (arith, ap length named, length-append c.args.line.now c.args.field.now.name, c.requires.name, c.requires.short) in
     λ κs h. (search rules, (search rules, (fits.reaches, (fits.small, (fits.room, (fits.few, short))))))
 
@@ -170,7 +165,7 @@ print_struct-print_part-requires g t c =
     let j = c.args.number in
     let lt = c.requires.reaches in
     let size = struct_size set c.args.shown.set.now.well_formed j lt in
-    let grown : length c.push.new.self + 128 * (j + 1) ≤ LONGEST = omega (arith, ap length c.push.ensures, length-append c.args.line.now (codes "."), c.requires.short) in
+    let grown : length c.push.new.self + PART_ROOM * (j + 1) ≤ LONGEST = omega (arith, ap length c.push.ensures, length-append c.args.line.now (codes "."), c.requires.short) in
     λ κs h. (search rules, (search rules, (record { part = lt; few = c.requires.few; room = omega (arith, c.requires.room, size) }, grown)))
 
 pub print_struct-returns-clause-written : goal.print_struct-returns-clause-written

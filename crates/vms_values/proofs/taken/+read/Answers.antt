@@ -1,4 +1,4 @@
-use Rattle.std.proofs.Common.{rules, ◌≡◌, ℕ, ◌+◌, ◌-◌, ◌*◌, ◌<◌, ◌≤◌, ◌++◌, List, length, length-append, get_or, drop, map, codes, refl, sym, ap, ◌∙◌, subst, arith}
+use Rattle.std.proofs.Common.{rules, ◌≡◌, ℕ, ◌+◌, ◌-◌, ◌*◌, ◌<◌, ◌≤◌, ◌++◌, List, length, length-append, get_or, drop, codes, refl, sym, ap, ◌∙◌, subst, arith}
 use Rattle.std.proofs.lemmas.Bool.{ltb-true}
 use Rattle.std.proofs.lemmas.Result.{err_from_is_err_and}
 use Rattle.vms_kinds.specs.declared.Item.{Item}
@@ -7,22 +7,20 @@ use Rattle.vms_spec.specs.declared.TheConstants.{MOST_ITEMS}
 use Rattle.vms_spec.specs.declared.Part.TheVariants as parts
 use Rattle.vms_spec.proofs.Sizes.{elements_fit}
 use Rattle.vms_spec.specs.Sets.{Field, Desc}
-use Rattle.vms_spec.specs.Layout.{no_desc, cells_from, capacity_of, elements_of, struct_cells, item_size}
+use Rattle.vms_spec.specs.Layout.{no_desc, cells_from, capacity_of}
 use Rattle.vms_spec.specs.Places.{own_cell_count}
 use Rattle.vms_spec.specs.ValuesReading.{Read, readers, read_item, read_elements, read_desc}
-use Rattle.vms_parts.specs.Sizes.{in_u32}
 use Rattle.vms_parts.specs.Views.{field_of}
 use Rattle.vms_desc.specs.Asks.{field_at, own_numbers}
 use Rattle.vms_desc.specs.Described.{described}
 use Rattle.vms_desc.specs.Parts.{desc_at}
-use Rattle.vms_desc.proofs.AskLaws.{found_field}
 use Rattle.vms_walk.specs.Steps.{HasSpot, size_in, table, cells_in, capacities_of}
-use Rattle.vms_walk.proofs.Spots.{size_code, width_code, spot_room, struct_size}
+use Rattle.vms_walk.proofs.Spots.{size_code, spot_room, struct_size}
 use Rattle.vms_walk.proofs.Walking.{room_at, fields_at}
 use Rattle.std.specs.Fmt.{decimal}
 use Rattle.vms_values.specs.Printing.{below, Stays}
 use Rattle.vms_values.specs.Reading.{Reaches}
-use Rattle.vms_values.specs.Taken.{AreKinds, ElementKinds, element_cells, place_of}
+use Rattle.vms_values.specs.Taken.{AreKinds, element_cells, place_of}
 use Rattle.vms_values.proofs.Fronts.{stays, stays_is, stays_then, stays_element, cut_is, field_short}
 use Rattle.vms_values.proofs.KindsAt.{FieldKinds, field_kinds, number_kind, struct_kinds}
 use Rattle.vms_values.proofs.Kept.{kept_none, kept_more}
@@ -30,14 +28,14 @@ use Rattle.vms_values.proofs.ReadLemmas.{reached, stopped}
 use Rattle.vms_values.proofs.Readers.{struct_reads}
 use Rattle.vms_values.proofs.Runs.{FoundRun, found_run, found_width}
 use Rattle.vms_values.proofs.Takes.{elements_go, elements_stop, array_read, IsNext, fields_go, fields_stop}
-use Rattle.vms_values.specs.declared.line.TheConstants.{LONGEST}
+use Rattle.vms_values.specs.declared.line.TheConstants.{LONGEST, NUMBER_ROOM, INDEX_ROOM, PART_ROOM}
 use Rattle.vms_values.proofs.taken.+read.Goals as goal
 use Rattle.vms_values.proofs.taken.+read.Goals.{read_elements-After-read_item-arg-in-loop-index-1, read_under-After-field_cells-cell, read_under-After-read_field-arg-in-loop-field-1}
 
 -- ---- the elements of an array
 
 -- the path of the element whose turn it is
-element : (t : ℕ) (c : goal.read_elements-After-read_item-arg-in-loop-index-1 t) → (c.push_index.new.self ≡ c.args.path.now ++ codes "[" ++ decimal c.loop-index.index ++ codes "]") × (length c.push_index.new.self ≤ length c.args.path.now + 42)
+element : (t : ℕ) (c : goal.read_elements-After-read_item-arg-in-loop-index-1 t) → (c.push_index.new.self ≡ c.args.path.now ++ codes "[" ++ decimal c.loop-index.index ++ codes "]") × (length c.push_index.new.self ≤ length c.args.path.now + INDEX_ROOM)
 element t c =
     let front = cut_is c.args.path.now c.loop-index.path c.cut.new.self c.len-kept.result c.cut.ensures c.len-kept.ensures c.loop-index.invariant.path in
     (c.push_index.ensures.text ∙ ap (λ (l : List ℕ). l ++ codes "[" ++ decimal c.loop-index.index ++ codes "]") front, omega (arith, ap length front, c.push_index.ensures.long))
@@ -99,7 +97,7 @@ read_elements-read_item-requires t c =
     subst (λ (p : ℕ). AreKinds c.args.taken.now.image.kinds p (element_cells cs item)) (sym c.loop-index.invariant.here) (c.requires.kinds c.loop-index.index (omega (arith, c.loop-index-test.true))) in
     let fits : c.loop-index.first + size_in set item ≤ length c.loop-index.taken.image.numbers = omega (arith, room, kept.long) in
     let few : length c.loop-index.taken.image.numbers ≤ MOST_ITEMS = omega (arith, kept.long, c.requires.few) in
-    let short : length c.push_index.new.self + 54 + below item ≤ LONGEST = omega (arith, (element t c).1, c.requires.short) in
+    let short : length c.push_index.new.self + NUMBER_ROOM + below item ≤ LONGEST = omega (arith, (element t c).1, c.requires.short) in
     (omega arith, (c.requires.reaches, (fits, (few, (subst (λ (ks : List Kind). AreKinds ks c.loop-index.first (element_cells cs item)) (sym kept.kinds) here, short)))))
 
 -- ---- a field
@@ -115,14 +113,14 @@ read_field-read_item-requires t c =
     let width : c.args.run.count * size_in set item ≡ 1 * size_in set item = ap (λ (n : ℕ). n * size_in set item) one in
     let room : c.args.run.first + size_in set item ≤ length c.args.taken.now.image.numbers = omega (arith, width, c.requires.fits.room) in
     let named : c.push.new.self ≡ c.args.path.now ++ (field_of c.args.run.field.now).name = c.push.ensures ∙ ap (λ (l : List ℕ). c.args.path.now ++ l) c.as_bytes.ensures in
-    let short : length c.push.new.self + 54 + below c.args.run.field.now.item ≤ LONGEST =
+    let short : length c.push.new.self + NUMBER_ROOM + below c.args.run.field.now.item ≤ LONGEST =
     omega (arith, ap length named, length-append c.args.path.now (field_of c.args.run.field.now).name, c.requires.name, c.requires.short) in
     (omega arith, (c.requires.fits.reaches, (room, (c.requires.fits.few, (subst (λ (p : ℕ). AreKinds kinds p (element_cells cs item)) zero_on (c.requires.kinds 0 (omega (arith, one))), short)))))
 
 pub read_field-read_elements-requires : goal.read_field-read_elements-requires
 read_field-read_elements-requires t c =
     let named : c.push.new.self ≡ c.args.path.now ++ (field_of c.args.run.field.now).name = c.push.ensures ∙ ap (λ (l : List ℕ). c.args.path.now ++ l) c.as_bytes.ensures in
-    let short : length c.push.new.self + 96 + below c.args.run.field.now.item ≤ LONGEST =
+    let short : length c.push.new.self + INDEX_ROOM + NUMBER_ROOM + below c.args.run.field.now.item ≤ LONGEST =
     omega (arith, ap length named, length-append c.args.path.now (field_of c.args.run.field.now).name, c.requires.name, c.requires.short) in
     (omega arith, (c.requires.fits.reaches, (c.requires.fits.small, (c.requires.fits.room, (c.requires.fits.few, (c.requires.kinds, short))))))
 
@@ -153,7 +151,7 @@ read_item-read_under-requires t c =
     let spot : HasSpot set (record { part = parts.Struct j; version = c.desc.result.now.version; base = c.args.run.first }) c.args.taken.now.image.numbers =
     record { part = lt; few = c.requires.few; room = omega (arith, room, size) } in
     let short = rw c.in-Struct.is at c.requires.short in
-    let grown : length c.push.new.self + 128 * (j + 1) ≤ LONGEST = omega (arith, ap length c.push.ensures, length-append c.args.path.now (codes "."), short) in
+    let grown : length c.push.new.self + PART_ROOM * (j + 1) ≤ LONGEST = omega (arith, ap length c.push.ensures, length-append c.args.path.now (codes "."), short) in
     (search rules, (spot, (struct_kinds set c.args.set.now.well_formed j lt c.args.taken.now.image.kinds c.args.run.first (rw c.in-Struct.is at c.requires.kinds), grown)))
 
 pub read_item-read_number_line-requires-clause-of_kind : goal.read_item-read_number_line-requires-clause-of_kind

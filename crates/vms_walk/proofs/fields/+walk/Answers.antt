@@ -1,18 +1,18 @@
-use Rattle.std.proofs.Common.{rules, arith, refl, sym, ap, ◌∙◌, subst, ◌≡◌, ℕ, ℤ, ◌+◌, ◌*◌, ◌<◌, ◌≤◌, List, [], ◌∷◌, ◌++◌, length, get_or, map, drop, Bool, true, OnOk, IfErr, Option}
+use Rattle.std.proofs.Common.{rules, arith, refl, sym, ap, ◌∙◌, subst, ◌≡◌, ℕ, ℤ, ◌+◌, ◌*◌, ◌<◌, ◌≤◌, List, [], ◌∷◌, ◌++◌, length, drop, Bool, true, OnOk, IfErr, Option}
 use Rattle.std.proofs.lemmas.Bool.{ltb-true}
 use Rattle.std.proofs.lemmas.Result.{IfErr-weaker}
 use Rattle.vms_kinds.specs.declared.Item.{Item}
+use Rattle.vms_kinds.specs.declared.Item.TheVariants.{Struct}
 use Rattle.vms_spec.specs.declared.TheConstants.{MOST_ITEMS}
 use Rattle.vms_spec.specs.declared.Part.TheVariants as parts
 use Rattle.vms_spec.specs.Sets.{Field, Desc, Set}
 use Rattle.vms_spec.specs.Rules.{uses_below}
-use Rattle.vms_spec.specs.Layout.{Slot, no_desc, item_slots, cells_from, capacity_of, all_hold}
+use Rattle.vms_spec.specs.Layout.{Slot, item_slots, cells_from, capacity_of, all_hold}
 use Rattle.vms_spec.specs.Places.{own_cell_count}
 use Rattle.vms_bodies.proofs.Places.{SameBelow}
 use Rattle.vms_spec.proofs.Sizes.{field_size}
 use Rattle.vms_bodies.proofs.WalkLaws.{place_first}
 use Rattle.vms_bodies.proofs.AboveLaws.{IsAbove, items_above, meanings_above}
-use Rattle.vms_parts.specs.Views.{field_of}
 use Rattle.vms_desc.specs.Asks.{field_at}
 use Rattle.vms_desc.specs.Described.{described}
 use Rattle.vms_desc.specs.Parts.{desc_at}
@@ -32,7 +32,7 @@ use Rattle.vms_walk.proofs.Local.{keeps_below, keeps_first, next_place, set_sett
 use Rattle.vms_walk.proofs.Going.{Laws, items_next, items_stop, items_may, field_slots_are, fields_next, fields_stop, fields_may, rule_next, rule_stop, rule_may, same_rule}
 use Rattle.vms_walk.proofs.fields.+walk.Given.{Over}
 use Rattle.vms_walk.proofs.fields.+walk.Goals as goal
-use Rattle.vms_walk.proofs.fields.+walk.Goals.{walk-After-field_cells-cell, walk-After-rules-arg-1, walk-After-walk_field-arg-1, walk_field-After-walk_items-arg-1}
+use Rattle.vms_walk.proofs.fields.+walk.Goals.{walk-After-field_cells-cell, walk-After-rules-arg-1, walk-After-walk_field-arg-1, walk_field-After-walk_items-arg-1, walk_struct-After-walk-arg-1}
 
 laws_of : (g : Over) → Laws g.W.Cells.numbers g.W.Walker.goes g.W.Walker.stops
 laws_of g = record { more = g.met.W.Walker.more; after = g.met.W.Walker.stops_after; before = g.met.W.Walker.stops_before; keeps = g.met.W.Walker.keeps; stopped = g.met.W.Walker.keeps_stopped }
@@ -357,33 +357,29 @@ walk_item-returns-in-Struct-clause-err g t c =
 
 -- ---- an element of a structure
 
+-- the slots of the structure's element are those of its fields
+slots_are : (g : Over) (t : ℕ) (c : goal.walk_struct-After-walk-arg-1 g t) (m : List ℤ)
+    → item_slots (table (described c.args.set.now)) (Struct c.args.number) [] m c.args.cell ≡ spot_slots (described c.args.set.now) (record { part = parts.Struct c.args.number; version = c.desc.result.now.version; base = c.args.cell }) m
+slots_are g t c m =
+    let set = described c.args.set.now in
+    struct_spot set c.args.set.now.well_formed c.args.number (ltb-true c.args.number (length set.structs) c.requires.reaches) c.desc.result.now.version c.args.cell m (ap (λ (d : Desc). d.version) c.desc.ensures) []
+
 pub walk_struct-walk-requires : goal.walk_struct-walk-requires
 walk_struct-walk-requires g t c =
     let set = described c.args.set.now in
     let N = g.W.Cells.numbers in
     let j = c.args.number in
-    let well = c.args.set.now.well_formed in
     let lt : j < length set.structs = ltb-true j (length set.structs) c.requires.reaches in
-    let version : c.desc.result.now.version ≡ (get_or set.structs j no_desc).version = ap (λ (d : Desc). d.version) c.desc.ensures in
-    let slots = λ (m : List ℤ). struct_spot set well j lt c.desc.result.now.version c.args.cell m version [] in
     let spot : HasSpot set (record { part = parts.Struct j; version = c.desc.result.now.version; base = c.args.cell }) (N c.args.walker.now) =
-    record { part = lt; few = c.requires.few; room = omega (arith, (struct_size set well j lt), c.requires.room) } in
-    λ κs h. (search rules, (search rules, (search rules, (spot, λ ys ws zs x d k e. c.requires.may ys ws zs x d k (ap steps_of (slots (N d)) ∙ e)))))
+    record { part = lt; few = c.requires.few; room = omega (arith, (struct_size set c.args.set.now.well_formed j lt), c.requires.room) } in
+    λ κs h. (search rules, (search rules, (search rules, (spot, λ ys ws zs x d k e. c.requires.may ys ws zs x d k (ap steps_of (slots_are g t c (N d)) ∙ e)))))
 
 pub walk_struct-returns-clause-ok : goal.walk_struct-returns-clause-ok
 walk_struct-returns-clause-ok g t c =
-    let set = described c.args.set.now in
-    let j = c.args.number in
-    let lt : j < length set.structs = ltb-true j (length set.structs) c.requires.reaches in
-    let version : c.desc.result.now.version ≡ (get_or set.structs j no_desc).version = ap (λ (d : Desc). d.version) c.desc.ensures in
-    let slots = λ (m : List ℤ). struct_spot set c.args.set.now.well_formed j lt c.desc.result.now.version c.args.cell m version [] in
-    subst (λ (l : List Slot). OnOk c.walk.result (g.W.Walker.goes (steps_of l) c.args.walker.now c.walk.new.walker)) (sym (slots (g.W.Cells.numbers c.walk.new.walker))) c.walk.ensures.ok
+    let slots = slots_are g t (goal.at.walk_struct-returns-clause-ok g t c).After-walk-arg-1 (g.W.Cells.numbers c.walk.new.walker) in
+    subst (λ (l : List Slot). OnOk c.walk.result (g.W.Walker.goes (steps_of l) c.args.walker.now c.walk.new.walker)) (sym slots) c.walk.ensures.ok
 
 pub walk_struct-returns-clause-err : goal.walk_struct-returns-clause-err
 walk_struct-returns-clause-err g t c =
-    let set = described c.args.set.now in
-    let j = c.args.number in
-    let lt : j < length set.structs = ltb-true j (length set.structs) c.requires.reaches in
-    let version : c.desc.result.now.version ≡ (get_or set.structs j no_desc).version = ap (λ (d : Desc). d.version) c.desc.ensures in
-    let slots = λ (m : List ℤ). struct_spot set c.args.set.now.well_formed j lt c.desc.result.now.version c.args.cell m version [] in
-    subst (λ (l : List Slot). IfErr c.walk.result (λ fault. g.W.Walker.stops (steps_of l) c.args.walker.now fault c.walk.new.walker)) (sym (slots (g.W.Cells.numbers c.walk.new.walker))) c.walk.ensures.err
+    let slots = slots_are g t (goal.at.walk_struct-returns-clause-err g t c).After-walk-arg-1 (g.W.Cells.numbers c.walk.new.walker) in
+    subst (λ (l : List Slot). IfErr c.walk.result (λ fault. g.W.Walker.stops (steps_of l) c.args.walker.now fault c.walk.new.walker)) (sym slots) c.walk.ensures.err

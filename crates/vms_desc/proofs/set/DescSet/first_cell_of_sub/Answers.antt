@@ -9,6 +9,7 @@ use Rattle.vms_desc.specs.Parts.{sub_at}
 use Rattle.vms_parts.specs.Sizes.{in_u32}
 use Rattle.vms_desc.proofs.AskLaws.{few_cells, sub_first, sub_next, sub_inside, own_inside_device}
 use Rattle.vms_desc.proofs.set.DescSet.first_cell_of_sub.Goals as goal
+use Rattle.vms_desc.proofs.set.DescSet.first_cell_of_sub.Goals.{After-cells_of-cell-in-loop-earlier}
 
 pub loop-earlier-init : goal.loop-earlier-init
 loop-earlier-init c =
@@ -19,26 +20,23 @@ loop-earlier-init c =
     let same : c.cells_of-cell.result ≡ own_cells set d = omega arith in
     same ∙ sym (sub_first set (own_cells set d) d.subs)
 
+-- an earlier subsection is one of the device's, and the code has its size
+earlier : (c : goal.After-cells_of-cell-in-loop-earlier) → (let d = device_at (described c.args.self.now) c.args.device in
+    (c.loop-earlier.earlier < length d.subs) × (c.cells_of-cell-in-loop-earlier.result ≡ own_cell_count (described c.args.self.now) (sub_at d c.loop-earlier.earlier).desc))
+earlier c =
+    let set = described c.args.self.now in
+    let lt : c.loop-earlier.earlier < length (device_at set c.args.device).subs = omega (arith, c.requires.1) in
+    (lt, omega (arith, c.cells_of-cell-in-loop-earlier.ensures, sub_inside set c.args.device c.loop-earlier.earlier lt, few_cells set c.args.self.now.well_formed c.args.device))
+
 pub overflow_add-cell : goal.overflow_add-cell
 overflow_add-cell c =
     let set = described c.args.self.now in
-    let i = c.args.device in
-    let j = c.loop-earlier.earlier in
-    let d = device_at set i in
-    let lt : j < length d.subs = omega (arith, c.requires.1) in
-    let size : c.cells_of-cell-in-loop-earlier.result ≡ in_u32 (own_cell_count set (sub_at d j).desc) = c.cells_of-cell-in-loop-earlier.ensures in
-    omega (arith, size, c.loop-earlier.invariant, sub_inside set i j lt, few_cells set c.args.self.now.well_formed i)
+    let e = earlier c in
+    omega (arith, e.1, c.loop-earlier.invariant, sub_inside set c.args.device c.loop-earlier.earlier e.0, few_cells set c.args.self.now.well_formed c.args.device)
 
 pub loop-earlier-preserved : goal.loop-earlier-preserved
 loop-earlier-preserved c =
     let set = described c.args.self.now in
-    let i = c.args.device in
-    let j = c.loop-earlier.earlier in
-    let d = device_at set i in
-    let lt : j < length d.subs = omega (arith, c.requires.1) in
-    let size : c.cells_of-cell-in-loop-earlier.result ≡ in_u32 (own_cell_count set (sub_at d j).desc) = c.cells_of-cell-in-loop-earlier.ensures in
-    let inside = sub_inside set i j lt in
-    let few = few_cells set c.args.self.now.well_formed i in
-    let exact : c.cells_of-cell-in-loop-earlier.result ≡ own_cell_count set (sub_at d j).desc = omega arith in
-    let next = sub_next set (own_cells set d) d.subs j (record { desc = no_desc; needed = AtLeast 0 }) lt in
-    omega (arith, exact, next, c.loop-earlier.invariant)
+    let d = device_at set c.args.device in
+    let e = earlier (goal.at.loop-earlier-preserved c).After-cells_of-cell-in-loop-earlier in
+    omega (arith, e.1, sub_next set (own_cells set d) d.subs c.loop-earlier.earlier (record { desc = no_desc; needed = AtLeast 0 }) e.0, c.loop-earlier.invariant)

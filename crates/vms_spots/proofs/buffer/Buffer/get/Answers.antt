@@ -8,46 +8,45 @@ use Rattle.vms_kinds.specs.declared.Kind.TheVariants.{U8}
 use Rattle.vms_spots.specs.Spots.{Held}
 use Rattle.vms_spots.proofs.BufferLaws.{at_cell, AtSpot}
 use Rattle.vms_spots.proofs.buffer.Buffer.get.Goals as goal
+use Rattle.vms_spots.proofs.buffer.Buffer.get.Goals.{After-end-end}
 
 pub end-end-requires : goal.end-end-requires
 end-end-requires c =
     (at_cell c.self.inside.spots.items c.self.inside.bytes.items c.args.cell c.index-spot.result.now c.args.self.now c.self.view_is c.self.invariant c.requires c.index-spot.ensures).small
 
+-- the cell's number stands at its spot, which the code found
+at_spot : (c : goal.After-end-end) → AtSpot c.self.inside.spots.items c.self.inside.bytes.items c.args.cell c.index-spot.result.now
+at_spot c = at_cell c.self.inside.spots.items c.self.inside.bytes.items c.args.cell c.index-spot.result.now c.args.self.now c.self.view_is c.self.invariant c.requires c.index-spot.ensures
+
+wide : (c : goal.After-end-end) → c.end-end.result - c.index-spot.result.now.offset ≡ width c.index-spot.result.now.kind
+wide c = omega (arith, c.end-end.ensures)
+
 pub slice_bounds-take-end : goal.slice_bounds-take-end
 slice_bounds-take-end c =
-    let a : AtSpot c.self.inside.spots.items c.self.inside.bytes.items c.args.cell c.index-spot.result.now =
-    at_cell c.self.inside.spots.items c.self.inside.bytes.items c.args.cell c.index-spot.result.now c.args.self.now c.self.view_is c.self.invariant c.requires c.index-spot.ensures in
-    search (rules, a.inside, c.end-end.ensures, c.deref.ensures.value)
+    let inside = (at_spot (goal.at.slice_bounds-take-end c).After-end-end).inside in
+    search (rules, inside, c.end-end.ensures, c.deref.ensures.value)
 
 pub unreachable-requires : goal.unreachable-requires
 unreachable-requires c =
     let s = c.index-spot.result.now in
-    let bytes = c.self.inside.bytes.items in
-    let a : AtSpot c.self.inside.spots.items bytes c.args.cell s =
-    at_cell c.self.inside.spots.items bytes c.args.cell s c.args.self.now c.self.view_is c.self.invariant c.requires c.index-spot.ensures in
-    let wide : c.end-end.result - s.offset ≡ width s.kind = omega (arith, c.end-end.ensures) in
-    a.good (subst (λ (l : List ℕ). IsBadBool s.kind (take (width s.kind) (drop s.offset l))) c.deref.ensures.value
-    (subst (λ (n : ℕ). IsBadBool s.kind (take n (drop s.offset c.deref.result.now))) wide (c.in-None.ensures.none.0 refl)))
+    let h = (goal.at.unreachable-requires c).After-end-end in
+    (at_spot h).good (subst (λ (l : List ℕ). IsBadBool s.kind (take (width s.kind) (drop s.offset l))) c.deref.ensures.value
+    (subst (λ (n : ℕ). IsBadBool s.kind (take n (drop s.offset c.deref.result.now))) (wide h) (c.in-None.ensures.none.0 refl)))
 
 pub returns-clause-number : goal.returns-clause-number
 returns-clause-number c =
     let s = c.index-spot.result.now in
-    let bytes = c.self.inside.bytes.items in
-    let a : AtSpot c.self.inside.spots.items bytes c.args.cell s =
-    at_cell c.self.inside.spots.items bytes c.args.cell s c.args.self.now c.self.view_is c.self.invariant c.requires c.index-spot.ensures in
-    let wide : c.end-end.result - s.offset ≡ width s.kind = omega (arith, c.end-end.ensures) in
+    let h = (goal.at.returns-clause-number c).After-end-end in
     let fits : SFits w128 c.in-Some.number = search rules in
     to_z-of_z w128 c.in-Some.number fits ∙ c.in-Some.ensures.value
-    ∙ ap (λ (n : ℕ). value_of s.kind (take n (drop s.offset c.deref.result.now))) wide
+    ∙ ap (λ (n : ℕ). value_of s.kind (take n (drop s.offset c.deref.result.now))) (wide h)
     ∙ ap (λ (l : List ℕ). value_of s.kind (take (width s.kind) (drop s.offset l))) c.deref.ensures.value
-    ∙ a.number ∙ ap (λ (x : Held). get_or x.numbers c.args.cell (pos 0)) c.self.view_is
+    ∙ (at_spot h).number ∙ ap (λ (x : Held). get_or x.numbers c.args.cell (pos 0)) c.self.view_is
 
 pub returns-clause-range : goal.returns-clause-range
 returns-clause-range c =
     let s = c.index-spot.result.now in
-    let bytes = c.self.inside.bytes.items in
-    let a : AtSpot c.self.inside.spots.items bytes c.args.cell s =
-    at_cell c.self.inside.spots.items bytes c.args.cell s c.args.self.now c.self.view_is c.self.invariant c.requires c.index-spot.ensures in
+    let a = at_spot (goal.at.returns-clause-range c).After-end-end in
     let fits : SFits w128 c.in-Some.number = search rules in
     let kind : s.kind ≡ get_or c.args.self.now.kinds c.args.cell U8 = a.kind ∙ ap (λ (x : Held). get_or x.kinds c.args.cell U8) c.self.view_is in
     subst (λ (z : ℤ). InRange (get_or c.args.self.now.kinds c.args.cell U8) z) (sym (to_z-of_z w128 c.in-Some.number fits)) (subst (λ (k : Kind). InRange k c.in-Some.number) kind c.in-Some.ensures.some.0)

@@ -5,10 +5,13 @@ use Rattle.vms_spec.specs.Values.{machine_line, devices_lines}
 use Rattle.vms_desc.specs.Described.{described}
 use Rattle.vms_image.specs.Typed.{state_of}
 use Rattle.vms_values.specs.Printing.{machine_of}
-use Rattle.vms_values.proofs.print.print_all.Goals as goal
+use Rattle.vms_values.proofs.PrintLemmas.{wrote_mapped}
+use Rattle.vms_values.proofs.print.print_values.Goals as goal
 
 pub returns : goal.returns
 returns g c =
     let set = described c.args.set.now in
     let line = ap (λ (s : Set). machine_line (machine_of s c.args.machine)) c.parts.ensures in
-    wrote_behind c.print_devices.result _ (devices_lines set set.devices (map state_of c.args.images.now)) (puts_as line c.in_ok-print_machine.ensures) c.print_devices.ensures
+    let first = rw c.in_ok-map_err.was at (wrote_mapped _ _ _ c.print_machine.result c.map_err.result c.map_err.ensures.variant c.print_machine.ensures) in
+    wrote_mapped _ _ _ c.print_devices.result c.map_err-2.result c.map_err-2.ensures.variant
+    (wrote_behind c.print_devices.result _ (devices_lines set set.devices (map state_of c.args.images.now)) (puts_as line first) c.print_devices.ensures)
