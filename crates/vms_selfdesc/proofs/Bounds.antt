@@ -86,32 +86,16 @@ short_holds = record { short = λ set well heads images. set_short set (ap is_no
 
 -- ---- shipped sets
 
-room_0 : set_room set_0 < 60000
+rooms : (set_room set_0 < 60000) × (set_room set_1 < 60000) × (set_room set_2 < 60000) × (set_room set_3 < 60000) × (set_room set_4 < 60000)
 unfolding first
-room_0 = omega arith
-
-room_1 : set_room set_1 < 60000
-unfolding first
-room_1 = omega arith
-
-room_2 : set_room set_2 < 60000
-unfolding first
-room_2 = omega arith
-
-room_3 : set_room set_3 < 60000
-unfolding first
-room_3 = omega arith
-
-room_4 : set_room set_4 < 60000
-unfolding first
-room_4 = omega arith
+rooms = (omega arith, omega arith, omega arith, omega arith, omega arith)
 
 by_number : (s : ℕ) → s ≤ 4 → (images : List Image) → length (described_text (shipped_set s) images) < 60000
-by_number zero le images = let f = shipped_stands.0 in omega (arith, set_long set_0 (ap is_none f.well) f.heads images, room_0)
-by_number (suc zero) le images = let f = shipped_stands.1 in omega (arith, set_long set_1 (ap is_none f.well) f.heads images, room_1)
-by_number (suc (suc zero)) le images = let f = shipped_stands.2 in omega (arith, set_long set_2 (ap is_none f.well) f.heads images, room_2)
-by_number (suc (suc (suc zero))) le images = let f = shipped_stands.3 in omega (arith, set_long set_3 (ap is_none f.well) f.heads images, room_3)
-by_number (suc (suc (suc (suc s)))) le images = let f = shipped_stands.4 in omega (arith, set_long set_4 (ap is_none f.well) f.heads images, room_4)
+by_number zero le images = let f = shipped_stands.0 in omega (arith, set_long set_0 (ap is_none f.well) f.heads images, rooms.0)
+by_number (suc zero) le images = let f = shipped_stands.1 in omega (arith, set_long set_1 (ap is_none f.well) f.heads images, rooms.1)
+by_number (suc (suc zero)) le images = let f = shipped_stands.2 in omega (arith, set_long set_2 (ap is_none f.well) f.heads images, rooms.2)
+by_number (suc (suc (suc zero))) le images = let f = shipped_stands.3 in omega (arith, set_long set_3 (ap is_none f.well) f.heads images, rooms.3)
+by_number (suc (suc (suc (suc s)))) le images = let f = shipped_stands.4 in omega (arith, set_long set_4 (ap is_none f.well) f.heads images, rooms.4)
 
 pub shipped_holds : ShippedLaw
 shipped_holds = record { shipped = by_number }

@@ -26,9 +26,9 @@ use Rattle.vms_selfdesc.specs.Entries.{Entry, cell_entry, sent_entry, listed_if,
 use Rattle.vms_selfdesc.specs.Listing.{item_entries, element_path, element_entries, array_entries}
 use Rattle.vms_selfdesc.specs.Tree.{entry_tree}
 use Rattle.vms_selfdesc.specs.Drafts.{IsPlain}
-use Rattle.vms_selfdesc.proofs.Plain.{IsShort, plain_append, element_plain, element_long, dot_plain}
+use Rattle.vms_selfdesc.proofs.Plain.{IsShort, plain_append, element_plain, element_long, dot_plain, key_long}
 use Rattle.vms_selfdesc.proofs.OfElements.{of_append, of_dotted, number_is, constant_is, filler_is, of_field, of_desc}
-use Rattle.vms_selfdesc.proofs.EntryLong.{sent_long, absent_long, word_short, equal_short, unused_short}
+use Rattle.vms_selfdesc.proofs.EntryLong.{sent_long, absent_long, word_short}
 
 -- the texts of these entries are no longer than this
 abbrev pub AreLong : ℕ → List Entry → Type 0
@@ -102,10 +102,10 @@ module _ (ss : List Shape) (sizes depths : List ℕ) (fit : FitTables ss sizes d
       subst (AreLong (length path + 40 * item_depth depths (Num kind) + 68)) (sym (number_is ss kind z sent n path at)) (omega arith, tt)
   item_long (Equal kind y) z sent n path at p small few =
       subst (AreLong (length path + 40 * item_depth depths (Equal kind y) + 68)) (sym (constant_is ss kind y z sent n path at))
-      (listed_if_long _ sent _ (omega (arith, sent_long path (width kind) (codes "equal") p (width_small kind) equal_short)))
+      (listed_if_long _ sent _ (omega (arith, sent_long path (width kind) (codes "equal") p (width_small kind) (omega (arith, key_long (codes "equal") refl)))))
   item_long (Unused k) z sent n path at p small few =
       subst (AreLong (length path + 40 * item_depth depths (Unused k) + 68)) (sym (filler_is ss k z sent n path at))
-      (listed_if_long _ sent _ (omega (arith, sent_long path k (codes "unused") p small unused_short)))
+      (listed_if_long _ sent _ (omega (arith, sent_long path k (codes "unused") p small (omega (arith, key_long (codes "unused") refl)))))
   item_long (Struct j) z sent n path at p small few =
       let e = (fit j).long sent (path ++ 46 ∷ []) n at (dot_plain path p) few in
       subst (AreLong (length path + 40 * item_depth depths (Struct j) + 68)) (sym (of_dotted sent path ((get_or ss j no_shape).elements n at)))

@@ -17,12 +17,10 @@ use Rattle.vms_selfdesc.specs.Tree.{entry_tree, sub_members, device_members}
 -- all strings and keys have such bytes
 abbrev mutual
   pub HasLetters : (ℕ → Type 0) → Data → Type 0
-  HasLetters L null = Unit {0}
-  HasLetters L (boolean b) = Unit {0}
-  HasLetters L (number n) = Unit {0}
   HasLetters L (string s) = AllByRecursion L s
   HasLetters L (array ds) = ItemsHave L ds
   HasLetters L (object ms) = MembersHave L ms
+  HasLetters _ _ = Unit {0}
 
   pub ItemsHave : (ℕ → Type 0) → Items → Type 0
   ItemsHave L no_items = Unit {0}

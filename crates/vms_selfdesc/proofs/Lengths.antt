@@ -2,7 +2,6 @@
 -- subsection and device, and fewer for the items of a part without structures.
 use Rattle.std.proofs.Common.{◌≡◌, ℕ, suc, ◌+◌, ◌*◌, ◌<◌, ◌≤◌, List, [], ◌∷◌, length, length-append, map, ℤ, Bool, true, false, refl, ap, arith, Option, is_some, codes}
 use Rattle.std.proofs.Math.Nat.{mul-le-mul_left, mul-le-mul_right}
-use Rattle.json.specs.Print.{quoted, escape_byte}
 use Rattle.serde_json.specs.Data.{Data, no_members, member, object, array, string, boolean}
 use Rattle.serde_json.specs.View.{items_of}
 use Rattle.serde_json.specs.Written.{compact_text, items_text}
@@ -16,9 +15,9 @@ use Rattle.vms_desc.specs.Formed.{is_well_formed}
 use Rattle.vms_elements.specs.Elements.{shapes}
 use Rattle.vms_selfdesc.specs.Entries.{Entry, part_entries}
 use Rattle.vms_selfdesc.specs.Tree.{natural, entry_tree, list_tree, sub_members, sub_trees, device_members, device_trees, described_text}
-use Rattle.vms_selfdesc.proofs.EntryLong.{member_long, number_short, key_name}
+use Rattle.vms_selfdesc.proofs.EntryLong.{member_long, number_short}
 use Rattle.vms_selfdesc.proofs.Fits.{AreLong, longer, AreSound, FitTables, tables_fit, entries_few, entries_long}
-use Rattle.vms_selfdesc.proofs.Plain.{IsShort, quoted_long}
+use Rattle.vms_selfdesc.proofs.Plain.{IsShort, quoted_long, key_long}
 use Rattle.vms_selfdesc.proofs.Soundness.{part_sound, fields_flat}
 
 -- ---- lists
@@ -44,32 +43,6 @@ entries_weight (e ∷ es) most p =
     let more : (most + 1) * suc (length es) ≡ (most + 1) + (most + 1) * length es = grind arith in
     omega (arith, rest, here, more)
 
--- ---- keys
-
-key_fields : length (quoted (codes "fields")) ≡ 8
-unfolding escape_byte
-key_fields = refl
-
-key_sent : length (quoted (codes "sent")) ≡ 6
-unfolding escape_byte
-key_sent = refl
-
-key_version : length (quoted (codes "version")) ≡ 9
-unfolding escape_byte
-key_version = refl
-
-key_instance : length (quoted (codes "instance_id")) ≡ 13
-unfolding escape_byte
-key_instance = refl
-
-key_subsections : length (quoted (codes "subsections")) ≡ 13
-unfolding escape_byte
-key_subsections = refl
-
-key_devices : length (quoted (codes "devices")) ≡ 9
-unfolding escape_byte
-key_devices = refl
-
 flag_short : (b : Bool) → length (compact_text (boolean b)) ≤ 5
 flag_short true = omega arith
 flag_short false = omega arith
@@ -88,10 +61,10 @@ sub_long es name sent version short small =
       member_long true (codes "name") (string name) third,
       member_long true (codes "sent") (boolean sent) last,
       member_long true (codes "version") (natural version) no_members,
-      key_fields,
-      key_name,
-      key_sent,
-      key_version,
+      key_long (codes "fields") refl,
+      key_long (codes "name") refl,
+      key_long (codes "sent") refl,
+      key_long (codes "version") refl,
       array_long (map entry_tree es),
       quoted_long name short.plain,
       short.short,
@@ -113,11 +86,11 @@ device_long es instance name subs version short few small =
       member_long true (codes "name") (string name) fourth,
       member_long true (codes "subsections") (array (items_of subs)) last,
       member_long true (codes "version") (natural version) no_members,
-      key_fields,
-      key_instance,
-      key_name,
-      key_subsections,
-      key_version,
+      key_long (codes "fields") refl,
+      key_long (codes "instance_id") refl,
+      key_long (codes "name") refl,
+      key_long (codes "subsections") refl,
+      key_long (codes "version") refl,
       array_long (map entry_tree es),
       array_long subs,
       quoted_long name short.plain,
@@ -127,7 +100,7 @@ device_long es instance name subs version short few small =
     )
 
 whole_long : (ds : List Data) → length (compact_text (object (member (codes "devices") (array (items_of ds)) no_members))) ≤ weight ds + 14
-whole_long ds = omega (arith, member_long false (codes "devices") (array (items_of ds)) no_members, key_devices, array_long ds)
+whole_long ds = omega (arith, member_long false (codes "devices") (array (items_of ds)) no_members, key_long (codes "devices") refl, array_long ds)
 
 -- ---- the parts of a well-formed set
 

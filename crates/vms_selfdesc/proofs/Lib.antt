@@ -4,7 +4,6 @@ pub mod EntryLong
 pub mod FieldNeeds
 pub mod Fits
 pub mod JsonBytes
-pub mod Keys
 pub mod Lengths
 pub mod Following
 pub mod Listed
@@ -20,5 +19,6 @@ pub mod Shapes
 pub mod Sound
 pub mod Soundness
 pub mod Structures
+pub mod Tails
 pub mod Trees
 pub mod WholeText

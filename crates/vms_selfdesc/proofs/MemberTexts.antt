@@ -12,8 +12,7 @@ use Rattle.vms_words.specs.Words.{kind_word}
 use Rattle.vms_selfdesc.specs.Tree.{natural}
 use Rattle.vms_selfdesc.specs.declared.draft.Draft.{Draft}
 use Rattle.vms_selfdesc.proofs.Following.{further}
-use Rattle.vms_selfdesc.proofs.Keys.{plain_word}
-use Rattle.vms_selfdesc.proofs.Plain.{plain_escape}
+use Rattle.vms_selfdesc.proofs.Plain.{plain_escape, name_plain, word_plain}
 
 pub quoted_plain : (s : List ℕ) → IsPlain s → 34 ∷ (s ++ 34 ∷ []) ≡ quoted s
 quoted_plain s p = ap (λ (e : List ℕ). 34 ∷ (e ++ 34 ∷ [])) (sym (plain_escape s p))
@@ -89,7 +88,7 @@ unfolding escape_byte
 tail_text kind =
     let word = kind_word kind in
     ap (λ (s : List ℕ). codes "\",\"size\":" ++ (decimal (width kind) ++ (codes ",\"type\":" ++ s)))
-    (sym (append_assoc (34 ∷ word) (34 ∷ []) (125 ∷ [])) ∙ ap (λ (q : List ℕ). q ++ 125 ∷ []) (quoted_plain word (plain_word kind)))
+    (sym (append_assoc (34 ∷ word) (34 ∷ []) (125 ∷ [])) ∙ ap (λ (q : List ℕ). q ++ 125 ∷ []) (quoted_plain word (name_plain (kind_word kind) (word_plain kind))))
 
 pub absent_text : (kind : Kind) (d : Data) → absent_tail kind ++ (compact_text d ++ codes "}") ≡ 34 ∷ members_text true (size_members 0 (kind_word kind) (member (codes "value") d no_members))
 unfolding escape_byte digits
@@ -98,4 +97,4 @@ absent_text kind d =
     let value = compact_text d ++ codes "}" in
     let after = codes ",\"value\":" ++ value in
     ap (λ (s : List ℕ). codes "\",\"size\":0,\"type\":\"" ++ s) (append_assoc word (codes "\",\"value\":") value)
-    ∙ ap (λ (s : List ℕ). codes "\",\"size\":0,\"type\":" ++ s) (sym (append_assoc (34 ∷ word) (34 ∷ []) after) ∙ ap (λ (q : List ℕ). q ++ after) (quoted_plain word (plain_word kind)))
+    ∙ ap (λ (s : List ℕ). codes "\",\"size\":0,\"type\":" ++ s) (sym (append_assoc (34 ∷ word) (34 ∷ []) after) ∙ ap (λ (q : List ℕ). q ++ after) (quoted_plain word (name_plain (kind_word kind) (word_plain kind))))

@@ -4,7 +4,7 @@ use Rattle.std.proofs.lemmas.Bool.{le-ltb, lt-ltb}
 use Rattle.std.proofs.lemmas.List.{append-nil}
 use Rattle.std.proofs.Math.Bool.{and-true, and-false, and_assoc}
 use Rattle.vms_kinds.specs.declared.Item.{Item}
-use Rattle.vms_kinds.specs.declared.Item.TheVariants.{Num, Equal, Unused, Struct}
+use Rattle.vms_kinds.specs.declared.Item.TheVariants.{Num, Equal, Unused}
 use Rattle.vms_kinds.specs.declared.Kind.{Kind}
 use Rattle.vms_kinds.specs.Codes.{width}
 use Rattle.vms_spec.specs.declared.Count.{Count}
@@ -13,7 +13,7 @@ use Rattle.vms_spec.specs.Sets.{Formula, Field, Desc}
 use Rattle.vms_spec.specs.Tests.{is_there}
 use Rattle.vms_spec.specs.Layout.{no_parent, item_size, capacity_of, elements_of, counted, numbers_of, desc_cells, all_hold}
 use Rattle.vms_spec.proofs.Sizes.{elements_fit}
-use Rattle.vms_elements.specs.Elements.{What, Number, Constant, Filler, Rule, Element, Shape, cells_in, index_text, dotted, behind, single, item_elements, Stand, array_elements, field_elements, elements_from, desc_elements}
+use Rattle.vms_elements.specs.Elements.{What, Number, Rule, Element, Shape, cells_in, index_text, dotted, behind, single, item_elements, Stand, array_elements, field_elements, elements_from, desc_elements}
 use Rattle.vms_selfdesc.specs.Entries.{Entry, cell_entry, sent_entry, listed_if, entry_of, entries_of}
 use Rattle.vms_selfdesc.specs.Listing.{item_entries, element_path, element_entries, array_entries}
 
@@ -41,9 +41,7 @@ of_step sent there p path text step (x ∷ xs) e =
 -- behind one past the count
 none_of : (what : What) (path : List ℕ) → entry_of what false false path ≡ []
 none_of (Number cell) path = refl
-none_of (Constant kind z) path = refl
-none_of (Filler n) path = refl
-none_of (Rule holds) path = refl
+none_of _ path = refl
 
 of_past : (sent p : Bool) (path text : List ℕ) (step : ℕ × ℕ) (xs : List Element) → p ≡ false → entries_of sent path (map (behind step text false p) xs) ≡ []
 of_past sent p path text step [] e = refl
@@ -104,9 +102,7 @@ filler_is shapes m z sent n path at = plain_is sent path m (codes "unused")
 any_capacities : (shapes : List Shape) (item : Item) (caps : List ℕ) (z : ℤ) (sent : Bool) (n : List ℤ) (path : List ℕ) (at : ℕ)
     → entries_of sent path (item_elements shapes item caps z n at) ≡ item_entries shapes item z sent n path at
 any_capacities shapes (Num kind) caps z sent n path at = refl
-any_capacities shapes (Equal kind y) caps z sent n path at = refl
-any_capacities shapes (Unused m) caps z sent n path at = refl
-any_capacities shapes (Struct j) caps z sent n path at = refl
+any_capacities shapes _ caps z sent n path at = refl
 
 -- ---- fields
 

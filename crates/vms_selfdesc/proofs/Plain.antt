@@ -12,6 +12,9 @@ use Rattle.vms_spec.specs.Names.{is_name_byte, is_name, is_sub_name}
 use Rattle.vms_spec.proofs.ListLaws.{either_of}
 use Rattle.vms_selfdesc.specs.Drafts.{IsPlain}
 use Rattle.vms_selfdesc.specs.Listing.{element_path}
+use Rattle.vms_kinds.specs.declared.Kind.{Kind}
+use Rattle.vms_kinds.specs.declared.Kind.TheVariants.{U8}
+use Rattle.vms_words.specs.Words.{kind_word}
 
 pub plain_append : (xs ys : List ℕ) → IsPlain xs → IsPlain ys → IsPlain (xs ++ ys)
 plain_append [] ys p q = q
@@ -69,9 +72,17 @@ name_byte x e =
     one : (b : ℕ) → x == b ≡ true → (x ≡ b → escape_byte x ≡ x ∷ []) → escape_byte x ≡ x ∷ []
     one b e f = f (eqb-true x b e)
 
-name_bytes : (xs : List ℕ) → list_all is_name_byte xs ≡ true → IsPlain xs
-name_bytes [] e = tt
-name_bytes (x ∷ xs) e = let p = and_parts (is_name_byte x) (list_all is_name_byte xs) e in (name_byte x p.0, name_bytes xs p.1)
+-- so is a key, or a type
+pub name_plain : (xs : List ℕ) → list_all is_name_byte xs ≡ true → IsPlain xs
+name_plain [] e = tt
+name_plain (x ∷ xs) e = let p = and_parts (is_name_byte x) (list_all is_name_byte xs) e in (name_byte x p.0, name_plain xs p.1)
+
+pub key_long : (key : List ℕ) → list_all is_name_byte key ≡ true → length (quoted key) ≡ length key + 2
+key_long key e = quoted_long key (name_plain key e)
+
+pub word_plain : (kind : Kind) → list_all is_name_byte (kind_word kind) ≡ true
+word_plain U8 = refl
+word_plain _ = refl
 
 -- a text of at most so many bytes that is written as it is
 pub record IsShort (most : ℕ) (name : List ℕ) : Type 0 where
@@ -82,7 +93,7 @@ pub name_short : (most : ℕ) (name : List ℕ) → is_name most name ≡ true �
 name_short most name e =
     let p = and_parts (nat_le 1 (length name) && nat_le (length name) most) (list_all is_name_byte name) e in
     let q = and_parts (nat_le 1 (length name)) (nat_le (length name) most) p.0 in
-    record { plain = name_bytes name p.1; short = leb-true (length name) most q.1 }
+    record { plain = name_plain name p.1; short = leb-true (length name) most q.1 }
 
 pub sub_name_short : (device name : List ℕ) → IsShort 100 device → is_sub_name device name ≡ true → IsShort 165 name
 sub_name_short device name d e =

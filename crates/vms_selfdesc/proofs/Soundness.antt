@@ -44,16 +44,11 @@ natural_fits kinds.Bool n e = omega (arith, leb-true n 1 e)
 natural_fits kinds.Timer n e = omega (arith, leb-true n 0xffff_ffff_ffff_ffff e)
 
 pub negative_fits : (kind : Kind) (n : ℕ) → int_le (lowest kind) (negsuc n) ≡ true → n < 2 ^ 63
-negative_fits kinds.U8 n e = cc
-negative_fits kinds.U16 n e = cc
-negative_fits kinds.U32 n e = cc
-negative_fits kinds.U64 n e = cc
 negative_fits kinds.I8 n e = omega (arith, leb-true n 0x7f e)
 negative_fits kinds.I16 n e = omega (arith, leb-true n 0x7fff e)
 negative_fits kinds.I32 n e = omega (arith, leb-true n 0x7fff_ffff e)
 negative_fits kinds.I64 n e = omega (arith, leb-true n 0x7fff_ffff_ffff_ffff e)
-negative_fits kinds.Bool n e = cc
-negative_fits kinds.Timer n e = cc
+negative_fits _ n e = cc
 
 default_short : (kind : Kind) (z : ℤ) → in_range kind z ≡ true → length (number_text (of_integer z)) ≤ 20
 default_short kind (pos n) e =

@@ -2,7 +2,7 @@
 use Rattle.std.proofs.Common.{◌≡◌, ℕ, suc, ◌+◌, ◌<◌, List, [], ◌∷◌, ◌++◌, length, get_or, map, ℤ, pos, refl, ap, ◌∙◌, arith}
 use mathlib.Core.Path.{fun_ext}
 use Rattle.vms_kinds.specs.declared.Item.{Item}
-use Rattle.vms_kinds.specs.declared.Item.TheVariants.{Num, Equal, Unused, Struct}
+use Rattle.vms_kinds.specs.declared.Item.TheVariants.{Struct}
 use Rattle.vms_spec.specs.Sets.{Field, Desc, Set}
 use Rattle.vms_spec.specs.Layout.{no_desc, first, item_size, field_cells, desc_cells, struct_cells, capacity_of, counted, numbers_of, all_hold}
 use Rattle.vms_spec.proofs.Prefixes.{ItemBelow, FieldsBelow, item_cells_same, field_cells_same, desc_cells_same, own_same, row_same, first_same}
@@ -15,10 +15,8 @@ module _ (j : ℕ) (ss Ss : List Shape) (agree : (i : ℕ) → i < j → get_or 
   cells_agree i lt = row_same (λ (s : Shape). s.cells) no_shape ss Ss i (agree i lt)
 
   item_elements_same : (item : Item) (caps : List ℕ) (z : ℤ) (n : List ℤ) (at : ℕ) → ItemBelow j item → item_elements ss item caps z n at ≡ item_elements Ss item caps z n at
-  item_elements_same (Num kind) caps z n at e = refl
-  item_elements_same (Equal kind y) caps z n at e = refl
-  item_elements_same (Unused m) caps z n at e = refl
   item_elements_same (Struct i) caps z n at e = ap (λ (s : Shape). map dotted (s.elements n at)) (agree i e)
+  item_elements_same _ caps z n at e = refl
 
   field_elements_same : (fields : List Field) (v : ℕ) (own : ℕ → ℕ) (n : List ℤ) (i at : ℕ) (f : Field) → ItemBelow j f.item
       → field_elements ss fields v own n i at f ≡ field_elements Ss fields v own n i at f

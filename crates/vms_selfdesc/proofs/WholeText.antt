@@ -6,7 +6,7 @@ use Rattle.json.specs.Json as json
 use Rattle.json.specs.Tree as tree
 use Rattle.json.proofs.Printed.Tokens.{tokens-print}
 use Rattle.json.proofs.Printed.Trees.{value-json_tokens, ArePrintable-json_tokens}
-use Rattle.serde_json.specs.Data.{Data, null, boolean, number, string, array, object, Items, no_items, item, Members, no_members, member, depth, items_depth, members_depth}
+use Rattle.serde_json.specs.Data.{Data, array, object, Items, no_items, item, Members, no_members, member, depth, items_depth, members_depth}
 use Rattle.serde_json.specs.Read.{of_json, read, max_depth}
 use Rattle.serde_json.specs.Written.{outline, items_outline, members_outline, compact_text}
 use Rattle.serde_json.proofs.Texts.{print-outline}
@@ -14,12 +14,9 @@ use Rattle.vms_selfdesc.specs.Drafts.{IsSound}
 
 mutual
   tree_depth : (d : Data) → tree.depth (outline d) ≡ depth d
-  tree_depth null = refl
-  tree_depth (boolean b) = refl
-  tree_depth (number n) = refl
-  tree_depth (string s) = refl
   tree_depth (array ds) = ap suc (items_deep ds)
   tree_depth (object ms) = ap suc (members_deep ms)
+  tree_depth _ = refl
 
   items_deep : (ds : Items) → tree.items_depth (items_outline ds) ≡ items_depth ds
   items_deep no_items = refl

@@ -10,6 +10,7 @@ use std::alloc::AllocError;
 use vms_kinds::Kind;
 
 // What comes after the path of a cell that stands in the stream.
+#[tactic(auto, using(crate::proofs::Tails::cell_same))]
 fn cell_tail(kind: Kind) -> &'static str
     ensures { result.now ≡ cell_tail kind }
 {
@@ -28,6 +29,7 @@ fn cell_tail(kind: Kind) -> &'static str
 }
 
 // What comes after the path of a cell that doesn't stand there, up to its default.
+#[tactic(auto, using(crate::proofs::Tails::absent_same))]
 fn absent_tail(kind: Kind) -> &'static str
     ensures { result.now ≡ absent_tail kind }
 {

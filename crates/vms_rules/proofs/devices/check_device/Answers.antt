@@ -14,7 +14,28 @@ use Rattle.vms_rules.specs.Judged.{IsFirst, Judges}
 use Rattle.vms_rules.specs.Walks.{subs_from}
 use Rattle.vms_rules.proofs.DeviceLaws.{inside_stops, subs_left}
 use Rattle.vms_rules.proofs.WalkLaws.{stops_by, first_stops}
+use Rattle.vms_rules.proofs.devices.check_device.Goals.{After-as_slice, After-index-as_slice-number, In_ok-lowest}
 use Rattle.vms_rules.proofs.devices.check_device.Goals as goal
+
+-- the device of the number
+device_is : (c : After-index-as_slice-number) → device_at (set_of c.args.parts.now) c.args.number ≡ device_of c.index-as_slice-number.result
+device_is c =
+    let p = c.args.parts.now in
+    let i = c.args.number in
+    let x = c.index-as_slice-number.result in
+    let is : x ≡ get_or p.devices i x = c.index-as_slice-number.is ∙ ap (λ (l : List Device). get_or l i x) c.as_slice-2.ensures in
+    get_map_at device_of p.devices i x (record { instance = 0; desc = no_desc; subs = [] }) c.requires.there is
+
+structs_are : (c : After-as_slice) → length c.as_slice.result.now ≡ length (set_of c.args.parts.now).structs
+structs_are c = ap length c.as_slice.ensures ∙ sym (length-map c.args.parts.now.structs desc_of)
+
+-- its own rules hold
+own_good : (c : In_ok-lowest) → let set = set_of c.args.parts.now in let i = c.args.number in failing 1 (device_rules set i (device_at set i)) (here (parts.Device i)) ≡ None
+own_good c =
+    let set = set_of c.args.parts.now in
+    let i = c.args.number in
+    ap (λ (q : Place). failing 1 (device_rules set i (device_at set i)) q) (sym c.here.ensures)
+    ∙ ap (λ (r : List Bool). failing 1 r c.here.result) (sym c.device_rules.ensures) ∙ c.in_ok-lowest.ensures
 
 inside : ℕ → sets.Device → ℕ → Option SetFault
 inside k d i = or_else (fields_fault k d.desc (parts.Device i)) (validations_fault d.desc (parts.Device i))
@@ -43,12 +64,9 @@ returns-in_err-check_inside c =
     let i = c.args.number in
     let x = c.index-as_slice-number.result in
     let e = c.in_err-check_inside.field-0.0 in
-    let is : x ≡ get_or p.devices i x = c.index-as_slice-number.is ∙ ap (λ (l : List Device). get_or l i x) c.as_slice-2.ensures in
-    let at : device_at set i ≡ device_of x = get_map_at device_of p.devices i x (record { instance = 0; desc = no_desc; subs = [] }) c.requires.there is in
-    let structs : length c.as_slice.result.now ≡ length set.structs = ap length c.as_slice.ensures ∙ sym (length-map p.structs desc_of) in
-    let good : failing 1 (device_rules set i (device_at set i)) (here (parts.Device i)) ≡ None =
-    ap (λ (q : Place). failing 1 (device_rules set i (device_at set i)) q) (sym c.here.ensures)
-    ∙ ap (λ (r : List Bool). failing 1 r c.here.result) (sym c.device_rules.ensures) ∙ c.in_ok-lowest.ensures in
+    let at = device_is (goal.at.returns-in_err-check_inside c).After-index-as_slice-number in
+    let structs = structs_are (goal.at.returns-in_err-check_inside c).After-as_slice in
+    let good = own_good (goal.at.returns-in_err-check_inside c).In_ok-lowest in
     let counted : IsFirst (inside (length set.structs) (device_of x) i) e = subst (λ (k : ℕ). IsFirst (inside k (device_of x) i) e) structs c.in_err-check_inside.ensures in
     let first : IsFirst (inside (length set.structs) (device_at set i) i) e = subst (λ (d : sets.Device). IsFirst (inside (length set.structs) d i) e) (sym at) counted in
     stops_by (device_fault set i (device_at set i)) c.from_residual-in_err-check_inside.result e c.from_residual-in_err-check_inside.ensures.1
@@ -61,12 +79,9 @@ returns c =
     let set = set_of p in
     let i = c.args.number in
     let x = c.index-as_slice-number.result in
-    let is : x ≡ get_or p.devices i x = c.index-as_slice-number.is ∙ ap (λ (l : List Device). get_or l i x) c.as_slice-2.ensures in
-    let at : device_at set i ≡ device_of x = get_map_at device_of p.devices i x (record { instance = 0; desc = no_desc; subs = [] }) c.requires.there is in
-    let structs : length c.as_slice.result.now ≡ length set.structs = ap length c.as_slice.ensures ∙ sym (length-map p.structs desc_of) in
-    let good : failing 1 (device_rules set i (device_at set i)) (here (parts.Device i)) ≡ None =
-    ap (λ (q : Place). failing 1 (device_rules set i (device_at set i)) q) (sym c.here.ensures)
-    ∙ ap (λ (r : List Bool). failing 1 r c.here.result) (sym c.device_rules.ensures) ∙ c.in_ok-lowest.ensures in
+    let at = device_is (goal.at.returns c).After-index-as_slice-number in
+    let structs = structs_are (goal.at.returns c).After-as_slice in
+    let good = own_good (goal.at.returns c).In_ok-lowest in
     let none : inside (length set.structs) (device_at set i) i ≡ None =
     ap (λ (d : sets.Device). inside (length set.structs) d i) at ∙ ap (λ (k : ℕ). inside k (device_of x) i) (sym structs) ∙ c.in_ok-check_inside.ensures in
     let left : device_fault set i (device_at set i) ≡ subs_from (length c.as_slice.result.now) i (device_of x) 0 (device_of x).subs =

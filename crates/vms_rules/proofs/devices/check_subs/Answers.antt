@@ -11,7 +11,24 @@ use Rattle.vms_rules.specs.NameSets.{has_name, with_name}
 use Rattle.vms_rules.specs.Walks.{subs_from, sub_at}
 use Rattle.vms_rules.proofs.DeviceLaws.{sub_names_more}
 use Rattle.vms_rules.proofs.WalkLaws.{stops_by, place_good, place_stops}
+use Rattle.vms_rules.specs.declared.devices.Within.{Within}
+use Rattle.vms_rules.proofs.devices.check_subs.Goals.{After-sub-item}
 use Rattle.vms_rules.proofs.devices.check_subs.Goals as goal
+
+-- the subsection of the number
+record IsSub (w : Within) (i : ℕ) (s : Sub) : Type 0 where
+  lt : i < length w.device.now.subs
+  is : s ≡ get_or w.device.now.subs i s
+  at : sub_at (device_of w.device.now) i ≡ sub_of s
+
+sub_is : (c : After-sub-item) → IsSub c.args.within c.loop-number.number c.sub-item.result
+sub_is c =
+    let subs = c.args.within.device.now.subs in
+    let s = c.sub-item.result in
+    let i = c.loop-number.number in
+    let lt : i < length subs = omega (arith, ap length c.as_slice-sub-items.ensures) in
+    let is : s ≡ get_or subs i s = c.sub-item.is ∙ ap (λ (l : List Sub). get_or l i s) c.as_slice-sub-items.ensures in
+    record { lt = lt; is = is; at = get_map_at sub_of subs i s (record { desc = no_desc; needed = AtLeast 0 }) lt is }
 
 pub returns-in_err-check_sub : goal.returns-in_err-check_sub
 returns-in_err-check_sub c =
@@ -21,13 +38,11 @@ returns-in_err-check_sub c =
     let s = c.sub-item.result in
     let i = c.loop-number.number in
     let e = c.in_err-check_sub.field-0.0 in
-    let lt : i < length subs = omega (arith, ap length c.as_slice-sub-items.ensures) in
-    let is : s ≡ get_or subs i s = c.sub-item.is ∙ ap (λ (l : List Sub). get_or l i s) c.as_slice-sub-items.ensures in
-    let at : sub_at d i ≡ sub_of s = get_map_at sub_of subs i s (record { desc = no_desc; needed = AtLeast 0 }) lt is in
-    let first : IsFirst (sub_fault w.structs w.number d i (sub_of s)) e = subst (λ (x : sets.Sub). IsFirst (sub_fault w.structs w.number d i x) e) at c.in_err-check_sub.ensures in
+    let of = sub_is (goal.at.returns-in_err-check_sub c).After-sub-item in
+    let first : IsFirst (sub_fault w.structs w.number d i (sub_of s)) e = subst (λ (x : sets.Sub). IsFirst (sub_fault w.structs w.number d i x) e) of.at c.in_err-check_sub.ensures in
     let whole = subs_from w.structs w.number d 0 d.subs in
     stops_by whole c.from_residual-in_err-check_sub.result e c.from_residual-in_err-check_sub.ensures.1
-    (place_stops (sub_fault w.structs w.number d) sub_of subs i s whole e lt is first c.loop-number.invariant.good)
+    (place_stops (sub_fault w.structs w.number d) sub_of subs i s whole e of.lt of.is first c.loop-number.invariant.good)
 
 pub loop-number-preserved : goal.loop-number-preserved
 loop-number-preserved c =
@@ -36,13 +51,11 @@ loop-number-preserved c =
     let d = device_of w.device.now in
     let s = c.sub-item.result in
     let i = c.loop-number.number in
-    let lt : i < length subs = omega (arith, ap length c.as_slice-sub-items.ensures) in
-    let is : s ≡ get_or subs i s = c.sub-item.is ∙ ap (λ (l : List Sub). get_or l i s) c.as_slice-sub-items.ensures in
-    let at : sub_at d i ≡ sub_of s = get_map_at sub_of subs i s (record { desc = no_desc; needed = AtLeast 0 }) lt is in
-    let good : sub_fault w.structs w.number d i (sub_of s) ≡ None = ap (λ (x : sets.Sub). sub_fault w.structs w.number d i x) (sym at) ∙ c.in_ok-check_sub.ensures in
+    let of = sub_is (goal.at.loop-number-preserved c).After-sub-item in
+    let good : sub_fault w.structs w.number d i (sub_of s) ≡ None = ap (λ (x : sets.Sub). sub_fault w.structs w.number d i x) (sym of.at) ∙ c.in_ok-check_sub.ensures in
     let after : (n : List ℕ) → has_name c.add_name.new.names n ≡ with_name (has_name c.loop-number.names) s.desc.name n =
     subst (λ (x : List ℕ). (n : List ℕ) → has_name c.add_name.new.names n ≡ with_name (has_name c.loop-number.names) x n) c.as_str.ensures c.in_ok-is_new.ensures.added in
     record {
-      names = sub_names_more subs i s (has_name c.loop-number.names) (has_name c.add_name.new.names) lt is c.loop-number.invariant.names after;
-      good = place_good (sub_fault w.structs w.number d) sub_of subs i s (subs_from w.structs w.number d 0 d.subs) lt is good c.loop-number.invariant.good;
+      names = sub_names_more subs i s (has_name c.loop-number.names) (has_name c.add_name.new.names) of.lt of.is c.loop-number.invariant.names after;
+      good = place_good (sub_fault w.structs w.number d) sub_of subs i s (subs_from w.structs w.number d 0 d.subs) of.lt of.is good c.loop-number.invariant.good;
     }

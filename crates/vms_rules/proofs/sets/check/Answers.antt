@@ -8,7 +8,18 @@ use Rattle.vms_rules.specs.Judged.{IsFirst, Judges}
 use Rattle.vms_rules.specs.Walks.{structs_from}
 use Rattle.vms_rules.proofs.SetLaws.{set_stops, structs_stop, devices_stop, items_left}
 use Rattle.vms_rules.proofs.WalkLaws.{stops_by}
+use Rattle.vms_rules.proofs.sets.check.Goals.{In_ok-check_structs, In_ok-lowest}
 use Rattle.vms_rules.proofs.sets.check.Goals as goal
+
+-- the set's own rules hold
+own_good : (c : In_ok-lowest) → failing 1 (set_rules (set_of c.args.parts.now)) (here parts.Set) ≡ None
+own_good c =
+    let set = set_of c.args.parts.now in
+    ap (λ (q : Place). failing 1 (set_rules set) q) (sym c.here-place.ensures) ∙ ap (λ (r : List Bool). failing 1 r c.here-place.result) (sym c.in_ok-set_rules.ensures) ∙ c.in_ok-lowest.ensures
+
+-- and so do those of its structures
+structs_good : (c : In_ok-check_structs) → structs_from (set_of c.args.parts.now).structs 0 (set_of c.args.parts.now).structs ≡ None
+structs_good c = ap (λ (l : List Desc). structs_from (map desc_of l) 0 (map desc_of l)) (sym c.as_slice.ensures) ∙ c.in_ok-check_structs.ensures
 
 pub returns-in_err-lowest : goal.returns-in_err-lowest
 returns-in_err-lowest c =
@@ -22,8 +33,7 @@ pub returns-in_err-check_structs : goal.returns-in_err-check_structs
 returns-in_err-check_structs c =
     let set = set_of c.args.parts.now in
     let e = c.in_err-check_structs.field-0.0 in
-    let good : failing 1 (set_rules set) (here parts.Set) ≡ None =
-    ap (λ (q : Place). failing 1 (set_rules set) q) (sym c.here-place.ensures) ∙ ap (λ (r : List Bool). failing 1 r c.here-place.result) (sym c.in_ok-set_rules.ensures) ∙ c.in_ok-lowest.ensures in
+    let good = own_good (goal.at.returns-in_err-check_structs c).In_ok-lowest in
     let first : IsFirst (structs_from set.structs 0 set.structs) e = subst (λ (l : List Desc). IsFirst (structs_from (map desc_of l) 0 (map desc_of l)) e) c.as_slice.ensures c.in_err-check_structs.ensures in
     stops_by (first_fault set) c.from_residual-in_err-check_structs.result e c.from_residual-in_err-check_structs.ensures.1 (structs_stop set e good first)
 
@@ -31,17 +41,15 @@ pub returns-in_err-check_devices : goal.returns-in_err-check_devices
 returns-in_err-check_devices c =
     let set = set_of c.args.parts.now in
     let e = c.in_err-check_devices.field-0.0 in
-    let good : failing 1 (set_rules set) (here parts.Set) ≡ None =
-    ap (λ (q : Place). failing 1 (set_rules set) q) (sym c.here-place.ensures) ∙ ap (λ (r : List Bool). failing 1 r c.here-place.result) (sym c.in_ok-set_rules.ensures) ∙ c.in_ok-lowest.ensures in
-    let structs : structs_from set.structs 0 set.structs ≡ None = ap (λ (l : List Desc). structs_from (map desc_of l) 0 (map desc_of l)) (sym c.as_slice.ensures) ∙ c.in_ok-check_structs.ensures in
+    let good = own_good (goal.at.returns-in_err-check_devices c).In_ok-lowest in
+    let structs = structs_good (goal.at.returns-in_err-check_devices c).In_ok-check_structs in
     stops_by (first_fault set) c.from_residual-in_err-check_devices.result e c.from_residual-in_err-check_devices.ensures.1 (devices_stop set e good structs c.in_err-check_devices.ensures)
 
 pub returns : goal.returns
 returns c =
     let set = set_of c.args.parts.now in
-    let good : failing 1 (set_rules set) (here parts.Set) ≡ None =
-    ap (λ (q : Place). failing 1 (set_rules set) q) (sym c.here-place.ensures) ∙ ap (λ (r : List Bool). failing 1 r c.here-place.result) (sym c.in_ok-set_rules.ensures) ∙ c.in_ok-lowest.ensures in
-    let structs : structs_from set.structs 0 set.structs ≡ None = ap (λ (l : List Desc). structs_from (map desc_of l) 0 (map desc_of l)) (sym c.as_slice.ensures) ∙ c.in_ok-check_structs.ensures in
+    let good = own_good (goal.at.returns c).In_ok-lowest in
+    let structs = structs_good (goal.at.returns c).In_ok-check_structs in
     let left : first_fault set ≡ failing 1 c.in_ok-size_rules.field-0 c.here-place.result =
     items_left set good structs c.in_ok-check_devices.ensures ∙ ap (λ (r : List Bool). failing 1 r (here parts.Set)) (sym c.in_ok-size_rules.ensures)
     ∙ ap (λ (q : Place). failing 1 c.in_ok-size_rules.field-0 q) (sym c.here-place.ensures) in

@@ -9,6 +9,7 @@ use Rattle.vms_rules.specs.NameSets.{has_name, with_name}
 use Rattle.vms_rules.specs.Walks.{structs_from, desc_at}
 use Rattle.vms_rules.proofs.StructLaws.{struct_names_more, depths_long, depth_at}
 use Rattle.vms_rules.proofs.WalkLaws.{stops_by, place_good, place_stops}
+use Rattle.vms_rules.proofs.structs.check_structs.Goals.{After-index-structs-number}
 use Rattle.vms_rules.proofs.structs.check_structs.Goals as goal
 
 pub index-requires : goal.index-requires
@@ -17,6 +18,9 @@ index-requires c = omega (arith, depths_long c.args.structs.now c.in_ok-depths.d
 pub struct_rules-rules-requires-clause-depth : goal.struct_rules-rules-requires-clause-depth
 struct_rules-rules-requires-clause-depth c = depth_at c.args.structs.now c.in_ok-depths.depths.items c.loop-number.number c.index.result.now c.loop-number-test.true c.in_ok-depths.ensures c.index.ensures
 
+desc_is : (c : After-index-structs-number) → desc_at (map desc_of c.args.structs.now) c.loop-number.number ≡ desc_of c.index-structs-number.result
+desc_is c = get_map_at desc_of c.args.structs.now c.loop-number.number c.index-structs-number.result no_desc c.loop-number-test.true c.index-structs-number.is
+
 pub returns-in_err-check_struct : goal.returns-in_err-check_struct
 returns-in_err-check_struct c =
     let structs = c.args.structs.now in
@@ -24,7 +28,7 @@ returns-in_err-check_struct c =
     let d = c.index-structs-number.result in
     let i = c.loop-number.number in
     let e = c.in_err-check_struct.field-0.0 in
-    let at : desc_at ds i ≡ desc_of d = get_map_at desc_of structs i d no_desc c.loop-number-test.true c.index-structs-number.is in
+    let at = desc_is (goal.at.returns-in_err-check_struct c).After-index-structs-number in
     let first : IsFirst (struct_fault ds i (desc_of d)) e = subst (λ (x : sets.Desc). IsFirst (struct_fault ds i x) e) at c.in_err-check_struct.ensures in
     stops_by (structs_from ds 0 ds) c.from_residual-in_err-check_struct.result e c.from_residual-in_err-check_struct.ensures.1
     (place_stops (struct_fault ds) desc_of structs i d (structs_from ds 0 ds) e c.loop-number-test.true c.index-structs-number.is first c.loop-number.invariant.good)
@@ -35,7 +39,7 @@ loop-number-preserved c =
     let ds = map desc_of structs in
     let d = c.index-structs-number.result in
     let i = c.loop-number.number in
-    let at : desc_at ds i ≡ desc_of d = get_map_at desc_of structs i d no_desc c.loop-number-test.true c.index-structs-number.is in
+    let at = desc_is (goal.at.loop-number-preserved c).After-index-structs-number in
     let good : struct_fault ds i (desc_of d) ≡ None = ap (λ (x : sets.Desc). struct_fault ds i x) (sym at) ∙ c.in_ok-check_struct.ensures in
     let after : (n : List ℕ) → has_name c.add_name.new.names n ≡ with_name (has_name c.loop-number.names) d.name n =
     subst (λ (x : List ℕ). (n : List ℕ) → has_name c.add_name.new.names n ≡ with_name (has_name c.loop-number.names) x n) c.as_str.ensures c.in_ok-is_new.ensures.added in

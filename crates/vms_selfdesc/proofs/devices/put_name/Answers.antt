@@ -1,15 +1,15 @@
-use Rattle.std.proofs.Common.{ℕ, List, codes, sym, subst}
+use Rattle.std.proofs.Common.{ℕ, List, codes, sym, subst, refl}
 use Rattle.serde_json.specs.Data.{string}
 use Rattle.vms_selfdesc.specs.Drafts.{IsPlain, Puts}
 use Rattle.vms_selfdesc.proofs.Following.{further}
-use Rattle.vms_selfdesc.proofs.Keys.{plain_instance_id, plain_name}
 use Rattle.vms_selfdesc.proofs.devices.put_name.Goals as goal
+use Rattle.vms_selfdesc.proofs.Plain.{name_plain}
 
 pub put_natural-requires : goal.put_natural-requires
-put_natural-requires c = plain_instance_id
+put_natural-requires c = name_plain (codes "instance_id") refl
 
 pub put_text-requires-clause-key : goal.put_text-requires-clause-key
-put_text-requires-clause-key c = plain_name
+put_text-requires-clause-key c = name_plain (codes "name") refl
 
 pub put_text-requires-clause-value : goal.put_text-requires-clause-value
 put_text-requires-clause-value c = subst IsPlain (sym c.as_str.ensures) c.requires

@@ -1,23 +1,23 @@
-use Rattle.std.proofs.Common.{ℕ, List, codes, sym, subst}
+use Rattle.std.proofs.Common.{ℕ, List, codes, sym, subst, refl}
 use Rattle.std.proofs.lemmas.Result.{on_ok_weaker}
 use Rattle.serde_json.specs.Data.{string}
 use Rattle.vms_selfdesc.specs.Drafts.{IsPlain, Puts, PutsSub}
 use Rattle.vms_selfdesc.specs.Tree.{natural}
 use Rattle.vms_selfdesc.proofs.Following.{further}
-use Rattle.vms_selfdesc.proofs.Keys.{plain_name, plain_sent, plain_version}
 use Rattle.vms_selfdesc.proofs.devices.put_sub_head.Goals as goal
+use Rattle.vms_selfdesc.proofs.Plain.{name_plain}
 
 pub put_text-requires-clause-key : goal.put_text-requires-clause-key
-put_text-requires-clause-key c = plain_name
+put_text-requires-clause-key c = name_plain (codes "name") refl
 
 pub put_text-requires-clause-value : goal.put_text-requires-clause-value
 put_text-requires-clause-value c = subst IsPlain (sym c.as_str.ensures) c.requires
 
 pub put_flag-requires : goal.put_flag-requires
-put_flag-requires c = plain_sent
+put_flag-requires c = name_plain (codes "sent") refl
 
 pub put_natural-requires : goal.put_natural-requires
-put_natural-requires c = plain_version
+put_natural-requires c = name_plain (codes "version") refl
 
 pub returns : goal.returns
 returns c =

@@ -1,4 +1,4 @@
-use Rattle.std.proofs.Common.{[], ◌∷◌, true, ap, ◌∙◌, subst, arith, refl, sym}
+use Rattle.std.proofs.Common.{[], ◌∷◌, true, ap, ◌∙◌, subst, arith, refl, sym, codes}
 use Rattle.serde_json.specs.Data.{Data, array, object}
 use Rattle.serde_json.specs.View.{items_of}
 use Rattle.vms_spec.specs.Sets.{Device}
@@ -11,11 +11,11 @@ use Rattle.vms_selfdesc.specs.Entries.{part_entries}
 use Rattle.vms_selfdesc.specs.Tree.{entry_tree, list_tree, sub_trees, device_members}
 use Rattle.vms_selfdesc.specs.declared.draft.Draft.{Draft}
 use Rattle.vms_selfdesc.proofs.Following.{further}
-use Rattle.vms_selfdesc.proofs.Keys.{plain_version}
 use Rattle.vms_selfdesc.proofs.PlainNames.{device_plain}
 use Rattle.vms_selfdesc.proofs.ReadBack.{device_sound}
 use Rattle.vms_selfdesc.proofs.Trees.{fields_adds, tail_members, device_text}
 use Rattle.vms_selfdesc.proofs.devices.write_device.Goals as goal
+use Rattle.vms_selfdesc.proofs.Plain.{name_plain}
 
 pub write_fields-requires-clause-place : goal.write_fields-requires-clause-place
 write_fields-requires-clause-place c =
@@ -35,7 +35,7 @@ pub write_subs-requires-clause-no_path : goal.write_subs-requires-clause-no_path
 write_subs-requires-clause-no_path c = c.in_ok-write_fields.ensures.path ∙ c.in_ok-begin.ensures.keeps.path ∙ c.requires.no_path
 
 pub put_natural-requires : goal.put_natural-requires
-put_natural-requires c = plain_version
+put_natural-requires c = name_plain (codes "version") refl
 
 pub returns : goal.returns
 returns c =

@@ -1,16 +1,16 @@
 use Rattle.std.proofs.lemmas.Result.{on_ok_weaker}
-use Rattle.std.proofs.Common.{codes}
+use Rattle.std.proofs.Common.{codes, refl}
 use Rattle.serde_json.specs.Data.{string}
 use Rattle.vms_selfdesc.specs.Drafts.{Puts, PutsSize}
 use Rattle.vms_selfdesc.proofs.Following.{further}
-use Rattle.vms_selfdesc.proofs.Keys.{plain_size, plain_type}
 use Rattle.vms_selfdesc.proofs.entry.put_size.Goals as goal
+use Rattle.vms_selfdesc.proofs.Plain.{name_plain}
 
 pub put_natural-requires : goal.put_natural-requires
-put_natural-requires c = plain_size
+put_natural-requires c = name_plain (codes "size") refl
 
 pub put_text-requires-clause-key : goal.put_text-requires-clause-key
-put_text-requires-clause-key c = plain_type
+put_text-requires-clause-key c = name_plain (codes "type") refl
 
 pub returns : goal.returns
 returns c =

@@ -1,4 +1,4 @@
-use Rattle.std.proofs.Common.{rules, arith, sym, ap, ◌∙◌, subst, ◌≡◌, ℕ, ◌+◌, ◌*◌, ◌-◌, ◌<◌, ◌^◌, List, ◌++◌, length, map, codes, OnOk, string_bytes, decimal}
+use Rattle.std.proofs.Common.{rules, arith, sym, ap, ◌∙◌, subst, ◌≡◌, ℕ, ◌+◌, ◌*◌, ◌-◌, ◌<◌, ◌^◌, List, ◌++◌, length, map, codes, OnOk, string_bytes, decimal, refl}
 use Rattle.vms_spec.specs.declared.Count.{Count}
 use Rattle.vms_spec.specs.Sets.{Desc, Field}
 use Rattle.vms_spec.specs.Layout.{item_size, struct_cells, capacity_of}
@@ -15,8 +15,7 @@ use Rattle.vms_selfdesc.proofs.FieldNeeds.{field_needs, some_elements, array_man
 use Rattle.vms_selfdesc.specs.declared.draft.Draft.{Draft}
 use Rattle.vms_selfdesc.specs.Drafts.{IsPlain}
 use Rattle.vms_selfdesc.specs.Needs.{HasElements}
-use Rattle.vms_selfdesc.proofs.Keys.{plain_equal, plain_unused}
-use Rattle.vms_selfdesc.proofs.Plain.{plain_append, element_plain, dot_plain}
+use Rattle.vms_selfdesc.proofs.Plain.{plain_append, element_plain, dot_plain, name_plain}
 use Rattle.vms_selfdesc.proofs.PlainNames.{field_plain}
 use Rattle.vms_selfdesc.proofs.Paths.{path_long, enters}
 use Rattle.vms_selfdesc.proofs.fields.+list.Goals as goal
@@ -54,10 +53,10 @@ list_item-returns-in_ok-list_part-in-Struct t c =
     (leave_path draft c.push_str.new.self c.leave.new.path c.list_part.new.draft _ c.in_ok-list_part-in-Struct.ensures (c.leave.ensures ∙ entered.back))
 
 pub list_item-list_sent-requires-clause-word : goal.list_item-list_sent-requires-clause-word
-list_item-list_sent-requires-clause-word t c = plain_equal
+list_item-list_sent-requires-clause-word t c = name_plain (codes "equal") refl
 
 pub list_item-list_sent-requires-in-Unused-clause-word : goal.list_item-list_sent-requires-in-Unused-clause-word
-list_item-list_sent-requires-in-Unused-clause-word t c = plain_unused
+list_item-list_sent-requires-in-Unused-clause-word t c = name_plain (codes "unused") refl
 
 -- ---- elements
 
