@@ -1,11 +1,11 @@
--- What a call that reads a board's stream says of what is told, and of what is heard.
+-- What a call that reads a board's stream says of what is told, and how much is given.
 use Rattle.std.proofs.Common.{◌≡◌, ◌≤◌, ℕ, ◌+◌, inl, inr, List, Option, Some, None, IfSome, Result, Ok, Err, arith}
 use Rattle.vms_io.proofs.ReadingLemmas.{reads_told}
 use Rattle.vms_io.specs.Causes.{capped}
 use Rattle.vms_io.specs.Told.{Intake}
 use Rattle.vms_frames.specs.declared.fault.Refusal.{Refusal}
 use Rattle.vms_load.specs.Staging.{most_given}
-use Rattle.vms_board.specs.Comes.{ComesTo, HearsBoard, IsRefused, RestoreReads}
+use Rattle.vms_board.specs.Comes.{ComesTo, IsRefused, RestoreReads}
 use Rattle.vms_board.specs.Family.{Family}
 use Rattle.vms_board.specs.Restoring.{Refused, Restores}
 use Rattle.vms_board.specs.Standing.{Standing}
@@ -21,11 +21,6 @@ module _ {S : Type 0} (f : Family S) (number : ℕ) (new : Standing S) {a b : In
   content (Ok u) p = reads_told (λ input left. ComesTo f number new input left (Ok u)) tt p
   content (Err (faults.Refused r)) p = reads_told (λ input left. ComesTo f number new input left (Err (faults.Refused r))) tt p
   content (Err faults.ReadFault) p = nothing a.left
-
-  pub heard : (r : Result Unit RestoreFault) → RestoreReads f number a b new r → HearsBoard f number a.given b.given new r
-  heard (Ok u) p = record { bytes = p.bytes; octets = p.takes.octets; given = p.takes.given; says = λ more e. p.says more (inl e) }
-  heard (Err (faults.Refused r)) p = record { bytes = p.bytes; octets = p.takes.octets; given = p.takes.given; says = λ more e. p.says more (inl e) }
-  heard (Err faults.ReadFault) p = tt
 
   pub back_given : RestoreReads f number a b new (Ok tt) → b.given ≡ capped (a.given + new.taken)
   back_given p = omega (arith, p.takes.given, p.long.0)

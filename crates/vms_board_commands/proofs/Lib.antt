@@ -1,5 +1,4 @@
 pub mod CourseLemmas
-pub mod HeardLemmas
 pub mod LoadLemmas
 pub mod LoadOutcome
 pub mod PlayLemmas
@@ -7,3 +6,4 @@ pub mod PlayOutcome
 pub mod SaveLemmas
 pub mod ScriptLemmas
 pub mod ScriptSteps
+pub mod SeenLemmas

@@ -1,5 +1,5 @@
 -- An input and a script have one outcome of `load`.
-use Rattle.std.proofs.Common.{◌≡◌, inl, inr, ℕ, ◌+◌, List, [], ◌∷◌, Option, ap, ◌∙◌}
+use Rattle.std.proofs.Common.{◌≡◌, inl, inr, ℕ, ◌+◌, List, [], ◌∷◌, Option, ap, ◌∙◌, sym}
 use Rattle.vms_board.specs.Restoring.{IsFaultAt, IsMisfitAt, Restore, Back, Refused, Restores}
 use Rattle.vms_board.specs.Family.{Family}
 use Rattle.vms_board_streams.proofs.BytesLaws.{bytes_come, no_fault, one_restore}
@@ -70,3 +70,7 @@ module _ {S : Type 0} (kind : Family S) (well : WellFormed (kind.set kind.newest
   loads_one =
       let some = bytes_come kind well heads level bytes ok in
       by some.0 some.1
+
+  -- so two are the same
+  pub loads_same : (x y : Outcome) → Loads kind level lines bytes held x → Loads kind level lines bytes held y → y ≡ x
+  loads_same x y p q = loads_one.only y q ∙ sym (loads_one.only x p)

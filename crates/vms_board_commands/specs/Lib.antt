@@ -1,7 +1,7 @@
 pub mod Causes
 pub mod Drill
-pub mod Heard
 pub mod Load
 pub mod Play
 pub mod Save
 pub mod Scripts
+pub mod Seen

@@ -1,20 +1,19 @@
--- The command `load`: its outcome, and what is heard of its input.
+-- The command `load`: its outcome, and what is seen of its input.
 use Rattle.std.specs.Prelude.{◌≡◌, ℕ, ◌+◌, ◌≤◌, List, [], ◌∷◌, Option, IsSomeAnd}
 use Rattle.vms_board.specs.Family.{Family}
 use Rattle.vms_board.specs.Restoring.{Back, IsMisfitAt, Restores}
 use Rattle.vms_board_streams.specs.Streams.{answers_to, trace_of}
 use Rattle.vms_io.specs.Shelves.{Held}
-use Rattle.vms_io.specs.Told.{Intake, Outlet}
+use Rattle.vms_io.specs.Told.{Intake}
 use Rattle.vms_load.specs.Staging.{most_given}
 use Rattle.vms_commands.specs.Lines.{refused_line}
 use Rattle.vms_commands.specs.Outcomes.{Outcome, done, ended}
 use Rattle.vms_commands.specs.Steps.{Step, Ends, HasBy}
-use Rattle.vms_commands.specs.declared.ending.Ending.{Ending}
 use Rattle.vms_session.specs.Events.{events_of}
 use Rattle.vms_script.specs.Lines.{ScriptLine}
 use Rattle.vms_spec.specs.declared.Reason.{Reason}
 use Rattle.vms_stream.specs.Faults.{Fault}
-use Rattle.vms_board_commands.specs.Heard.{HearsBy}
+use Rattle.vms_board_commands.specs.Seen.{WithGiven}
 
 -- the trace of the script's events on the board that the input restores; or where and why the input is refused, up to the end
 -- of the unit at fault, or because the stream is no board's; the shelf tells the same as before
@@ -37,7 +36,6 @@ abbrev pub LoadGives : {A S : Type 0} → Family S → Step A → Intake → Int
 LoadGives f (Ends status line) input input' = input' ≡ input
 LoadGives f step input input' = input'.given ≤ input.given + most_given (f.set f.newest)
 
--- what is heard of a stream or of a refusal: the script that the step gave, and bytes that the outcome takes to the last
-abbrev pub LoadHears : {S : Type 0} → Family S → ℕ → Step (List ScriptLine) → Option Held → (before now : ℕ) (out out' : Outlet) → Ending → Type 0
-LoadHears f number step held before now out out' ending =
-    HearsBy (List ScriptLine) step (λ lines bytes o. Loads f number lines bytes held o) held before now out out' ending
+-- the outcome of these bytes with the script that the step gave, or may have given where it isn't told
+abbrev pub LoadsWith : {S : Type 0} → Family S → ℕ → Step (List ScriptLine) → Option Held → List ℕ → Outcome → Type 0
+LoadsWith f number step held = WithGiven step (λ lines bytes o. Loads f number lines bytes held o)

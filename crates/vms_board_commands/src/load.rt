@@ -2,7 +2,6 @@
 ghost use Rattle.std.specs.Prelude.{◌≡◌, ◌+◌, ◌≤◌, IsSomeAnd, None, Option};
 ghost use Rattle.dev_board.specs.Laws.{AreEvents};
 ghost use Rattle.vms_board.specs.Family.{IsNumber};
-ghost use Rattle.vms_io.specs.Shelves.{Held};
 ghost use Rattle.vms_io.specs.Told.{Stock, intake, outlet, stock};
 ghost use Rattle.vms_load.specs.Staging.{most_given};
 ghost use Rattle.vms_commands.specs.Endings.{EndsAs, WritesAs};
@@ -11,9 +10,9 @@ ghost use Rattle.vms_session.specs.Events.{trace_from};
 ghost use Rattle.vms_script.specs.Views.{event_lines};
 ghost use Rattle.vms_commands.specs.Courses.{EndsSo};
 ghost use Rattle.vms_board_commands.specs.Causes.{load_course};
-ghost use Rattle.vms_board_commands.specs.Heard.{HearsEnd};
-ghost use Rattle.vms_board_commands.specs.Load.{LoadGives, LoadHears, Loads, LoadsBy};
+ghost use Rattle.vms_board_commands.specs.Load.{LoadGives, Loads, LoadsBy, LoadsWith};
 ghost use Rattle.vms_board_commands.specs.Scripts.{scripted};
+ghost use Rattle.vms_board_commands.specs.Seen.{SeenAs};
 
 use crate::asked::OnBoard;
 use crate::scripts::events_of;
@@ -46,10 +45,12 @@ pub fn load_board<M: Machine, I: Source, O: Sink, H: Shelf>(
         (stock H.Shelf shelf.old) (stock H.Shelf shelf.new) load_course result }
     ensures given { LoadGives M.family (scripted None (H.held shelf.old) asked.entry.script.now)
         (intake I.Source input.old) (intake I.Source input.new) }
-    ensures heard { LoadHears M.family asked.entry.number
-        (scripted None (H.held shelf.old) asked.entry.script.now) (H.held shelf.old)
-        (I.given input.old) (I.given input.new)
-        (outlet O.Sink out.old) (outlet O.Sink out.new) result }
+    ensures seen { let held = H.held shelf.old in
+        let lines = scripted None held asked.entry.script.now in
+        SeenAs (LoadsWith M.family asked.entry.number lines held)
+        (intake I.Source input.old) (intake I.Source input.new)
+        (outlet O.Sink out.old) (outlet O.Sink out.new)
+        (stock H.Shelf shelf.old) (stock H.Shelf shelf.new) result }
 {
     match events_of(alloc, asked.script, shelf) {
         Ok(events) => load_events::<M, I, O>(alloc, asked.number, &events, input, out),
@@ -76,10 +77,10 @@ fn load_events<M: Machine, I: Source, O: Sink>(
         (outlet O.Sink out.old) (outlet O.Sink out.new) shelf shelf load_course result }
     ensures given { let most = most_given (M.family.set M.family.newest) in
         I.given input.new ≤ I.given input.old + most }
-    ensures heard { (held : Option Held)
-        → HearsEnd (λ bytes o. Loads M.family number (event_lines events.now) bytes held o) held
-        (I.given input.old) (I.given input.new)
-        (outlet O.Sink out.old) (outlet O.Sink out.new) result }
+    ensures seen { (shelf shelf' : Stock) → shelf'.held ≡ shelf.held
+        → SeenAs (λ bytes o. Loads M.family number (event_lines events.now) bytes shelf.held o)
+        (intake I.Source input.old) (intake I.Source input.new)
+        (outlet O.Sink out.old) (outlet O.Sink out.new) shelf shelf' result }
 {
     let Ok(mut board) = MachineBoard::<M>::new(alloc, number) else {
         return Ending::NoMemory;
@@ -105,10 +106,11 @@ fn load_on<M: Machine, I: Source, O: Sink>(
         (outlet O.Sink out.old) (outlet O.Sink out.new) shelf shelf load_course result }
     ensures given { let most = most_given (M.family.set M.family.newest) in
         I.given input.new ≤ I.given input.old + most }
-    ensures heard { (held : Option Held) → let number = M.family.number board.old.state in
-        HearsEnd (λ bytes o. Loads M.family number (event_lines events.now) bytes held o) held
-        (I.given input.old) (I.given input.new)
-        (outlet O.Sink out.old) (outlet O.Sink out.new) result }
+    ensures seen { (shelf shelf' : Stock) → shelf'.held ≡ shelf.held
+        → let number = M.family.number board.old.state in
+        SeenAs (λ bytes o. Loads M.family number (event_lines events.now) bytes shelf.held o)
+        (intake I.Source input.old) (intake I.Source input.new)
+        (outlet O.Sink out.old) (outlet O.Sink out.new) shelf shelf' result }
 {
     match board.restore(input) {
         Ok(()) => go_on(board, events, out),

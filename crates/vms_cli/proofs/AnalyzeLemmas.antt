@@ -6,7 +6,9 @@ use Rattle.vms_io.specs.Causes.{capped}
 use Rattle.vms_io.specs.Reading.{Takes, Reads, Course, On, Last}
 use Rattle.vms_io.specs.Shelves.{Held}
 use Rattle.vms_io.specs.Told.{Intake, Outlet, Stock}
-use Rattle.vms_io.proofs.ReadingLemmas.{nothing_follows, reads_told}
+use Rattle.vms_io.proofs.ReadingLemmas.{nothing_follows, reads_as}
+use Rattle.arrayvec.specs.ArrayVec.{ArrayVec}
+use Rattle.vms_kinds.specs.Bytes.{IsBytes}
 use Rattle.vms_analyze.specs.Calls.{Analyzes, IsListed, IsTooMuch, ListsTaken}
 use Rattle.vms_analyze.specs.Laws.{HasListing}
 use Rattle.vms_analyze.specs.Listing.{Listing, Text, Refused, Lists, longest_input}
@@ -18,11 +20,12 @@ use Rattle.vms_analyze.proofs.One.{one_holds}
 use Rattle.vms_analyze.proofs.Total.{total_holds}
 use Rattle.vms_commands.specs.declared.ending.Ending.{Ending}
 use Rattle.vms_commands.specs.declared.ending.Ending.TheVariants as endings
-use Rattle.vms_commands.specs.Endings.{EndsAs, EndsWith, WritesAs}
-use Rattle.vms_commands.specs.Outcomes.{Outcome, TakesBytes, done, ended}
-use Rattle.vms_commands.proofs.EndLemmas.{comes_to_nothing, same_keeps, text_written}
-use Rattle.vms_board_commands.specs.Heard.{Hears, HearsDone, HearsEnd}
-use Rattle.vms_cli.specs.Analyze.{EndsLike, IsDone, IsRefused, FailsReading, FailsWriting, LacksMemory, GivesListed, IsListing, ListCause, ListHears, bytes_taken, listing_outcome, unlisted_line}
+use Rattle.vms_commands.specs.Endings.{EndsAs, WritesAs}
+use Rattle.vms_commands.specs.Outcomes.{Outcome, done, ended}
+use Rattle.vms_commands.proofs.EndLemmas.{comes_to_nothing, same_keeps}
+use Rattle.vms_board_commands.specs.Seen.{Seen, SeenAs, Sees}
+use Rattle.vms_board_commands.proofs.SeenLemmas.{TakesSo, content_seen, other_seen, reads_all, seen_refused, seen_written}
+use Rattle.vms_cli.specs.Analyze.{EndsLike, IsDone, IsRefused, FailsReading, FailsWriting, LacksMemory, GivesListed, IsListing, ListCause, bytes_taken, listing_outcome, unlisted_line}
 
 -- ---- an input has one outcome
 
@@ -35,31 +38,22 @@ pub only_listing : (input : List ℕ) (held : Option Held) (a b : Outcome) → I
 only_listing input held a b p q =
     p.is ∙ ap (λ (l : Listing). listing_outcome l input held) (one_holds input p.listing q.listing p.lists q.lists) ∙ sym q.is
 
-outcome_is : (input : List ℕ) (held : Option Held) (listing : Listing) (x : Outcome) → Lists input listing → IsListing held input x → x ≡ listing_outcome listing input held
-outcome_is input held listing x lists p =
-    only_listing input held x (listing_outcome listing input held) p (record { listing = listing; lists = lists; is = refl })
-
 -- ---- what is taken
 
--- bytes that were taken, with this listing, and as many as are taken of an input with it
-record Took (i i' : Intake) (listing : Listing) : Type 0 where
-  bytes : List ℕ
-  takes : Takes i i' bytes
-  few : length bytes ≤ longest_input + 1
-  lists : Lists bytes listing
-  told : IfSome i.left (λ input. Lists input listing)
-  all : IfSome i.left (λ input. (bytes_taken input ≡ length bytes) × (i'.left ≡ Some (drop (length bytes) input)))
+-- bytes with this listing, and as many as are taken of an input with it
+abbrev HasListed : Listing → List ℕ → ℕ → Type 0
+HasListed listing input n = Lists input listing × (bytes_taken input ≡ n)
 
-rest_of : (left left' : Option (List ℕ)) (bytes : List ℕ) → Consumes left left' bytes → (enough : (input rest : List ℕ) → left' ≡ Some rest → input ≡ bytes ++ rest → bytes_taken input ≡ length bytes)
-    → IfSome left (λ input. (bytes_taken input ≡ length bytes) × (left' ≡ Some (drop (length bytes) input)))
-rest_of None left' bytes took enough = tt
-rest_of (Some input) None bytes took enough = absurd took
-rest_of (Some input) (Some rest) bytes took enough =
-    (enough input rest refl took, ap (λ (l : List ℕ). Some l) (sym (ap (drop (length bytes)) took ∙ drop_at bytes rest (length bytes) refl)))
+abbrev Took : Intake → Intake → Listing → Type 0
+Took i i' listing = Reads Last i i' (λ n. n ≤ longest_input + 1) (TakesSo (HasListed listing))
 
-some_end : (left : Option (List ℕ)) (rest : List ℕ) → left ≡ Some rest → IsAtEnd left → rest ≡ []
-some_end None rest e end = cc
-some_end (Some l) rest e end = let same : l ≡ rest = cc in sym same ∙ end
+took_so : (listing : Listing) (bytes more : List ℕ) → length bytes ≡ bytes_taken (bytes ++ more) → Lists (bytes ++ more) listing → TakesSo (HasListed listing) (bytes ++ more) more
+took_so listing bytes more all lists = record {
+  taken = bytes_taken (bytes ++ more);
+  says = (lists, refl);
+  within = omega arith;
+  rest = ap (λ (l : List ℕ). Some l) (sym (drop_at bytes more (bytes_taken (bytes ++ more)) all));
+}
 
 listed_took : {i i' : Intake} {listing : Listing} → IsListed i i' listing → Took i i' listing
 listed_took {i} {i'} {listing} p =
@@ -67,12 +61,11 @@ listed_took {i} {i'} {listing} p =
     record {
       bytes = r.bytes;
       takes = r.takes;
-      few = omega (arith, r.long);
-      lists = subst (λ (l : List ℕ). Lists l listing) (append-nil r.bytes) (r.says [] (inl refl));
-      told = reads_told (λ (rest : List ℕ) (o : Option (List ℕ)). Lists rest listing) tt r;
-      all = rest_of i.left i'.left r.bytes r.takes.told (λ input rest is e.
-          let none = some_end i'.left rest is p.end in
-          omega (arith, r.long, ap length e, length-append r.bytes rest, ap length none));
+      long = omega (arith, r.long);
+      says = λ more f.
+          let none = nothing_follows i'.left more p.end f in
+          took_so listing r.bytes more (omega (arith, r.long, ap length none, length-append r.bytes more)) (r.says more f);
+      cause = tt;
     }
 
 too_much_took : {i i' : Intake} {listing : Listing} → IsTooMuch i i' listing → Took i i' listing
@@ -81,10 +74,9 @@ too_much_took {i} {i'} {listing} p =
     record {
       bytes = r.bytes;
       takes = r.takes;
-      few = omega (arith, r.long);
-      lists = subst (λ (l : List ℕ). Lists l listing) (append-nil r.bytes) (r.says [] tt);
-      told = reads_told (λ (rest : List ℕ) (o : Option (List ℕ)). Lists rest listing) tt r;
-      all = rest_of i.left i'.left r.bytes r.takes.told (λ input rest is e. omega (arith, r.long, ap length e, length-append r.bytes rest));
+      long = omega (arith, r.long);
+      says = λ more f. took_so listing r.bytes more (omega (arith, r.long, length-append r.bytes more)) (r.says more tt);
+      cause = tt;
     }
 
 refused_took : {i i' : Intake} (at : ℕ) (reason : AnalyzeReason) → ListsTaken i i' (Err (faults.Refused at reason)) → Took i i' (Refused at reason)
@@ -93,55 +85,51 @@ refused_took at reasons.NoDescription p = listed_took p
 refused_took at reasons.Shape p = listed_took p
 refused_took at reasons.Mismatch p = listed_took p
 
--- ---- the outcome
-
--- what the outcome of an input is whose listing is known
-told_outcome : (i i' : Intake) (held : Option Held) (listing : Listing) (t : Took i i' listing) (x : Outcome) → IsSomeAnd i.left (λ bytes. IsListing held bytes x)
-    → (input : List ℕ) × (i.left ≡ Some input) × (x ≡ listing_outcome listing input held) × (bytes_taken input ≡ length t.bytes) × (i'.left ≡ Some (drop (length t.bytes) input))
-told_outcome i i' held listing t x is = by i.left is t.told t.all
-  where
-    by : (left : Option (List ℕ)) → IsSomeAnd left (λ bytes. IsListing held bytes x) → IfSome left (λ input. Lists input listing)
-        → IfSome left (λ input. (bytes_taken input ≡ length t.bytes) × (i'.left ≡ Some (drop (length t.bytes) input)))
-        → (input : List ℕ) × (left ≡ Some input) × (x ≡ listing_outcome listing input held) × (bytes_taken input ≡ length t.bytes) × (i'.left ≡ Some (drop (length t.bytes) input))
-    by None is told all = absurd is
-    by (Some input) is told all = (input, refl, outcome_is input held listing x told is, all.0, all.1)
-
-if_left : (left left' : Option (List ℕ)) (n : ℕ) → IfSome left (λ input. (bytes_taken input ≡ n) × (left' ≡ Some (drop n input))) → IfSome left (λ input. left' ≡ Some (drop n input))
-if_left None left' n h = tt
-if_left (Some input) left' n h = h.1
+-- ---- what is seen
 
 module _ (i i' : Intake) (o o' : Outlet) where
-  all_taken : {listing : Listing} (t : Took i i' listing) → TakesBytes i i' (length t.bytes)
-  all_taken t = record { left = if_left i.left i'.left (length t.bytes) t.all; given = t.takes.given }
+  -- this outcome is that of the listing, with as many bytes as were taken
+  listing_sees : (s : Stock) (listing : Listing) (t : Took i i' listing) (x : Outcome) → ((n : ℕ) (input : List ℕ) → bytes_taken input ≡ n → n ≡ length t.bytes → x ≡ listing_outcome listing input s.held)
+      → x.taken ≡ length t.bytes → Sees (IsListing s.held) i i' x
+  listing_sees s listing t x same all =
+      let r = reads_all (HasListed listing) t (λ input left so. so) in
+      reads_as {M = λ n. n ≡ x.taken} {Q = λ input left. IsListing s.held input x} (λ n l. l ∙ sym all)
+      (λ input left l. record { listing = listing; lists = l.0; is = same (length t.bytes) input l.1 refl }) r
 
-  refuses_with : (s : Stock) (at : ℕ) (reason : AnalyzeReason) (line : List ℕ) (x : Outcome) → Took i i' (Refused at reason) → line ≡ unlisted_line at reason
-      → IsSomeAnd i.left (λ bytes. IsListing s.held bytes x) → EndsWith 1 line i i' x
-  refuses_with s at reason line x t said is =
-      let known = told_outcome i i' s.held (Refused at reason) t x is in
-      let same : x ≡ ended 1 (unlisted_line at reason) (length t.bytes) = known.2 ∙ ap (λ (n : ℕ). ended 1 (unlisted_line at reason) n) known.3 in
-      record {
-        status_is = ap (λ (y : Outcome). y.status) same;
-        parts = ap (λ (y : Outcome). y.parts) same;
-        note = ap (λ (y : Outcome). y.note) same ∙ sym said;
-        taken = subst (λ (n : ℕ). TakesBytes i i' n) (sym (ap (λ (y : Outcome). y.taken) same)) (all_taken t);
-      }
+  text_seen : (s : Stock) (text : List ℕ) (e : Ending) → IsListed i i' (Text text) → WritesAs text o o' e → Seen (IsListing s.held) i i' o o' s s e
+  text_seen s text e p w =
+      let t = listed_took p in
+      let n = length t.bytes in
+      seen_written {P = IsListing s.held} text n e refl
+      (listing_sees s (Text text) t (done text s.held n) (λ k input all is. ap (λ (m : ℕ). done text s.held m) (sym (all ∙ is))) refl) w
 
-  shows_as : (s : Stock) (text : List ℕ) (x : Outcome) (e : Ending) (t : Took i i' (Text text)) → WritesAs text o o' e → IsSomeAnd i.left (λ bytes. IsListing s.held bytes x)
-      → EndsAs i i' o o' s s e x
-  shows_as s text x e t w is =
-      let known = told_outcome i i' s.held (Text text) t x is in
-      let same : x ≡ done text s.held (length t.bytes) = known.2 ∙ ap (λ (n : ℕ). done text s.held n) known.3 in
-      subst (λ (y : Outcome). EndsAs i i' o o' s s e y) (sym same) (text_written text i i' o o' s s (length t.bytes) e w refl (all_taken t))
+  refusal_seen : (s : Stock) (at : ℕ) (reason : AnalyzeReason) (line : ArrayVec ℕ) → ListsTaken i i' (Err (faults.Refused at reason)) → line.items ≡ unlisted_line at reason
+      → Seen (IsListing s.held) i i' o o' s s (endings.Refused line)
+  refusal_seen s at reason line p said =
+      let t = refused_took at reason p in
+      let n = length t.bytes in
+      seen_refused {P = IsListing s.held} line n
+      (listing_sees s (Refused at reason) t (ended 1 line.items n)
+      (λ k input all is. ap (λ (l : List ℕ). ended 1 l n) said ∙ ap (λ (m : ℕ). ended 1 (unlisted_line at reason) m) (sym (all ∙ is))) refl)
+
+  pub list_seen : (r : Result (Unit {0}) AnalyzeFault) (e : Ending) → EndsLike r e → Analyzes i i' o o' r → (s : Stock) → SeenAs (IsListing s.held) i i' o o' s s e
+  list_seen _ _ (IsDone u) a s = λ among. text_seen s a.text endings.Done a.listed a.written
+  list_seen _ _ (IsRefused at reason line said) a s = λ among. refusal_seen s at reason line a.0 said
+  list_seen _ _ FailsReading a s = other_seen endings.ReadFault refl
+  list_seen _ _ FailsWriting a s = λ among. text_seen s a.text endings.WriteFault a.listed a.written
+  list_seen _ _ LacksMemory a s = other_seen endings.NoMemory refl
 
   -- the outcome of an input that is told
-  pub list_content : (r : Result (Unit {0}) AnalyzeFault) (e : Ending) → EndsLike r e → Analyzes i i' o o' r → (s : Stock) (x : Outcome) → IsSomeAnd i.left (λ bytes. IsListing s.held bytes x)
-      → EndsAs i i' o o' s s e x
-  list_content _ _ (IsDone u) a s x is = shows_as s a.text x endings.Done (listed_took a.listed) a.written is
-  list_content _ _ (IsRefused at reason line said) a s x is = refuses_with s at reason line.items x (refused_took at reason a.0) said is
-  list_content _ _ FailsReading a s x is = comes_to_nothing o o' s s x.parts (same_keeps o o' a.1) refl
-  list_content _ _ FailsWriting a s x is =
-      shows_as s a.text x endings.WriteFault (listed_took a.listed) a.written is
-  list_content _ _ LacksMemory a s x is = comes_to_nothing o o' s s x.parts (same_keeps o o' a.1) refl
+  told_content : (s : Stock) (e : Ending) (x : Outcome) → IfSome i.left IsBytes → Seen (IsListing s.held) i i' o o' s s e → IsSomeAnd i.left (λ bytes. IsListing s.held bytes x) → EndsAs i i' o o' s s e x
+  told_content s e x octets v is = content_seen {o = o} {o' = o'} {s = s} {s' = s} {P = IsListing s.held} e x (λ bytes y ok p q. only_listing bytes s.held y x q p) octets v is
+
+  pub list_content : (r : Result (Unit {0}) AnalyzeFault) (e : Ending) → EndsLike r e → Analyzes i i' o o' r → IfSome i.left IsBytes → (s : Stock) (x : Outcome)
+      → IsSomeAnd i.left (λ bytes. IsListing s.held bytes x) → EndsAs i i' o o' s s e x
+  list_content _ _ (IsDone u) a octets s x is = told_content s endings.Done x octets (text_seen s a.text endings.Done a.listed a.written) is
+  list_content _ _ (IsRefused at reason line said) a octets s x is = told_content s (endings.Refused line) x octets (refusal_seen s at reason line a.0 said) is
+  list_content _ _ FailsReading a octets s x is = comes_to_nothing o o' s s x.parts (same_keeps o o' a.1) refl
+  list_content _ _ FailsWriting a octets s x is = told_content s endings.WriteFault x octets (text_seen s a.text endings.WriteFault a.listed a.written) is
+  list_content _ _ LacksMemory a octets s x is = comes_to_nothing o o' s s x.parts (same_keeps o o' a.1) refl
 
   -- why it ends so
   pub list_cause : (r : Result (Unit {0}) AnalyzeFault) (e : Ending) → EndsLike r e → Analyzes i i' o o' r → ListCause i i' o o' e
@@ -157,39 +145,11 @@ module _ (i i' : Intake) (o o' : Outlet) where
   few_given bytes t few = let given = t.given in omega (arith, few, given)
 
   pub list_given : (r : Result (Unit {0}) AnalyzeFault) → Analyzes i i' o o' r → GivesListed i.given i'.given
-  list_given (Ok u) a = let t = listed_took a.listed in few_given t.bytes t.takes t.few
-  list_given (Err (faults.Refused at reason)) a = let t = refused_took at reason a.0 in few_given t.bytes t.takes t.few
+  list_given (Ok u) a = let t = listed_took a.listed in few_given t.bytes t.takes t.long
+  list_given (Err (faults.Refused at reason)) a = let t = refused_took at reason a.0 in few_given t.bytes t.takes t.long
   list_given (Err faults.ReadFault) a = few_given a.0.bytes a.0.takes a.0.few
-  list_given (Err faults.WriteFault) a = let t = listed_took a.listed in few_given t.bytes t.takes t.few
+  list_given (Err faults.WriteFault) a = let t = listed_took a.listed in few_given t.bytes t.takes t.long
   list_given (Err faults.NoMemory) a = few_given a.0.bytes a.0.takes a.0.few
-
-  of_all : (held : Option Held) (listing : Listing) (t : Took i i' listing) (x : Outcome) → x ≡ listing_outcome listing t.bytes held → IsListing held t.bytes x
-  of_all held listing t x e = record { listing = listing; lists = t.lists; is = e }
-
-  all_of : {listing : Listing} (t : Took i i' listing) → length t.bytes ≡ bytes_taken t.bytes
-  all_of t = omega (arith, t.few)
-
-  pub list_hears : (r : Result (Unit {0}) AnalyzeFault) (e : Ending) → EndsLike r e → Analyzes i i' o o' r → (held : Option Held) → ListHears held i.given i'.given o o' e
-  list_hears _ _ (IsDone u) a held =
-      let t = listed_took a.listed in
-      record {
-        bytes = t.bytes;
-        text = a.text;
-        is = of_all held (Text a.text) t (done a.text held (length t.bytes)) (ap (λ (n : ℕ). done a.text held n) (all_of t));
-        written = a.written.told;
-        given = t.takes.given;
-      }
-  list_hears _ _ (IsRefused at reason line said) a held =
-      let t = refused_took at reason a.0 in
-      record {
-        bytes = t.bytes;
-        is = of_all held (Refused at reason) t (ended 1 line.items (length t.bytes))
-            (ap (λ (l : List ℕ). ended 1 l (length t.bytes)) said ∙ ap (λ (n : ℕ). ended 1 (unlisted_line at reason) n) (all_of t));
-        given = t.takes.given;
-      }
-  list_hears _ _ FailsReading a held = tt
-  list_hears _ _ FailsWriting a held = tt
-  list_hears _ _ LacksMemory a held = tt
 
   -- counts and promises
   pub record Stands : Type 0 where

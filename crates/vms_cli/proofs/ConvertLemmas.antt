@@ -3,10 +3,9 @@ use Rattle.std.proofs.Common.{◌≡◌, ℕ, ◌+◌, ◌<◌, ◌≤◌, ◌^�
 use Rattle.std.specs.Io.KnownBytes.{Keeps}
 use Rattle.std.specs.Prelude.{string_bytes}
 use Rattle.arrayvec.specs.ArrayVec.{ArrayVec}
-use Rattle.vms_io.specs.Causes.{capped}
 use Rattle.vms_io.specs.Shelves.{Held}
 use Rattle.vms_io.specs.Told.{Intake, Outlet, Stock}
-use Rattle.vms_io.proofs.ReadingLemmas.{reads_told}
+use Rattle.vms_io.proofs.ReadingLemmas.{reads_as}
 use Rattle.vms_io.proofs.ShelvingLemmas.{reaches_none}
 use Rattle.vms_kinds.specs.Bytes.{IsBytes}
 use Rattle.vms_spec.specs.declared.Reason.{Reason}
@@ -18,11 +17,8 @@ use Rattle.vms_stream.specs.Streams.{Takes}
 use Rattle.vms_stream.proofs.Stated.{one_stream_holds, never_both_holds, one_fault_holds}
 use Rattle.vms_frames.specs.declared.fault.Refusal.{Refusal}
 use Rattle.vms_load.specs.Going.{LoadReads}
-use Rattle.vms_load.specs.Hearing.{HearsLoad}
-use Rattle.vms_load.specs.Loads.{Loads}
 use Rattle.vms_load.specs.Staging.{most_given, name_of}
 use Rattle.vms_load.specs.declared.fault.LoadFault.TheVariants as loads
-use Rattle.vms_load.proofs.ExactLoads.{fault_within, heard_holds}
 use Rattle.vms_load.proofs.LoadReads.{loads_kept}
 use Rattle.vms_check.specs.Comparing.{Compatible, first_mismatch}
 use Rattle.vms_check.specs.declared.mismatch.Mismatch.{Mismatch}
@@ -34,14 +30,15 @@ use Rattle.vms_commands.specs.declared.ending.Ending.TheVariants as endings
 use Rattle.vms_commands.specs.Courses.{EndsSo, Risen, is_among}
 use Rattle.vms_commands.specs.Endings.{EndsAs, EndsWith, WritesAs, status_of}
 use Rattle.vms_commands.specs.Lines.{refused_line}
-use Rattle.vms_commands.specs.Outcomes.{Outcome, TakesBytes, done, ended}
+use Rattle.vms_commands.specs.Outcomes.{Outcome, done, ended}
 use Rattle.vms_commands.specs.SetLines.{mismatch_line}
 use Rattle.vms_commands.specs.Steps.{Step, Gives, Ends}
 use Rattle.vms_commands.proofs.CourseLemmas.{wrong}
-use Rattle.vms_commands.proofs.EndLemmas.{comes_to_nothing, ends_with, same_keeps, takes_front, text_written}
-use Rattle.vms_board_commands.proofs.HeardLemmas.{all_of, heard_so, written_end}
+use Rattle.vms_commands.proofs.EndLemmas.{comes_to_nothing, ends_with, same_keeps}
+use Rattle.vms_board_commands.specs.Seen.{Seen, SeenAs}
+use Rattle.vms_board_commands.proofs.SeenLemmas.{content_seen, load_seen, other_seen, seen_lost, seen_written, sees_as}
 use Rattle.vms_cli.specs.Statuses.{convert_course}
-use Rattle.vms_cli.specs.Convert.{Converts, ConvertGives, ConvertHears, ConvertsBy, ConvertsWell, EndsLike, FailsReading, FailsWriting, IsDone, IsLost, IsMismatch, IsRefused, LacksMemory, MayLackMemory, NamesCell, Refuses, Rewrites, WouldLose, agreed, agrees, lost_line, newest}
+use Rattle.vms_cli.specs.Convert.{Converts, ConvertGives, ConvertsBy, ConvertsWith, EndsLike, FailsReading, FailsWriting, IsDone, IsLost, IsMismatch, IsRefused, LacksMemory, MayLackMemory, NamesCell, Refuses, Rewrites, WouldLose, agreed, agrees, lost_line, newest}
 use Rattle.vms_cli.proofs.AnalyzeLemmas.{Stands}
 use Rattle.vms_cli.proofs.Conversions.{lost_inside, never_both, newest_fit, one_loss, one_stream}
 
@@ -107,6 +104,12 @@ module _ (to : Set) (fit : IsFit to) (compatible : Compatible to newest) (bytes 
       ∙ ap (λ (r : Reason). ended 1 (refused_line newest place section r) (place + size')) same.reasons
       ∙ ap (λ (n : ℕ). ended 1 (refused_line newest place section reason) (place + n)) same.sizes
 
+  -- so an input has one
+  pub converts_same : (x y : Outcome) → Converts to bytes held x → Converts to bytes held y → y ≡ x
+  converts_same x y (Rewrites taken machine images stream takes p) q = rewritten_is taken machine images stream y takes p q
+  converts_same x y (WouldLose taken machine images section cell takes p) q = lost_is taken machine images section cell y takes p q
+  converts_same x y (Refuses place section reason size fault) q = refused_is place section reason size y fault q
+
 -- ---- the step that compares
 
 pub agreed_gives : (to : Set) → Compatible to newest → agrees to ≡ Gives to
@@ -115,73 +118,38 @@ agreed_gives to compatible = ap (agreed to) compatible
 agreed_ends : (to : Set) (m : Mismatch) → first_mismatch to newest ≡ Some m → agrees to ≡ Ends 4 (mismatch_line m)
 agreed_ends to m first = ap (agreed to) first
 
--- ---- what is taken
+-- ---- what is seen
 
--- a stream was taken, told or not
-record Took (i i' : Intake) (taken : ℕ) (machine : Option (List ℕ)) (images : List Image) : Type 0 where
-  left : IfSome i.left (λ input. Takes newest newest.machines input taken machine images × (i'.left ≡ Some (drop taken input)))
-  takes : TakesBytes i i' taken
-  few : i'.given ≤ i.given + most_given newest
+module _ (to : Set) where
+  abbrev OfSet : Option Held → List ℕ → Outcome → Type 0
+  OfSet held bytes x = Converts to bytes held x
 
-rest_of : (left left' : Option (List ℕ)) (taken : ℕ) (machine : Option (List ℕ)) (images : List Image)
-    → IfSome left (λ input. Takes newest newest.machines input taken machine images × (left' ≡ Some (drop taken input))) → IfSome left (λ input. left' ≡ Some (drop taken input))
-rest_of None left' taken machine images h = tt
-rest_of (Some input) left' taken machine images h = h.1
+  -- a stream was taken, and it was written under the set, or some of it
+  stream_seen : {i i' : Intake} {o o' : Outlet} {s s' : Stock} (images : List Image) (taken : ℕ) (machine : Option ℕ) (stream : List ℕ) (e : Ending) → s'.held ≡ s.held
+      → LoadReads i i' newest newest.machines images taken (Ok machine) → IsStreamFor to newest (name_of newest machine) images stream → WritesAs stream o o' e → Seen (OfSet s.held) i i' o o' s s' e
+  stream_seen {i} {i'} {o} {o'} {s} images taken machine stream e same reads is w =
+      seen_written {P = OfSet s.held} stream taken e same
+      (reads_as {M = λ n. n ≡ taken} {Q = λ input left. OfSet s.held input (done stream s.held taken)} (λ n l. l.0)
+      (λ input left l. Rewrites taken (name_of newest machine) images stream l.0 is) reads) w
 
-took : (i i' : Intake) (images : List Image) (taken : ℕ) (machine : Option ℕ) → LoadReads i i' newest newest.machines images taken (Ok machine)
-    → Took i i' taken (name_of newest machine) images
-took i i' images taken machine r =
-    let left = reads_told (λ (input : List ℕ) (left : Option (List ℕ)). Loads newest newest.machines input left images taken (Ok machine)) tt r in
-    let given = r.takes.given in
-    let long = r.long in
-    record {
-      left = left;
-      takes = record { left = rest_of i.left i'.left taken (name_of newest machine) images left; given = given ∙ ap (λ (n : ℕ). capped (i.given + n)) long.0 };
-      few = omega (arith, given, long.0, long.1);
-    }
+  loss_seen : {i i' : Intake} {o o' : Outlet} {s s' : Stock} (images : List Image) (taken : ℕ) (machine section cell : Option ℕ) (line : ArrayVec ℕ)
+      → LoadReads i i' newest newest.machines images taken (Ok machine) → LosesFirst to newest (name_of newest machine) images section cell → line.items ≡ lost_line newest section cell
+      → Seen (OfSet s.held) i i' o o' s s' (endings.WouldLose line)
+  loss_seen {i} {i'} {o} {o'} {s} images taken machine section cell line reads is said =
+      seen_lost {P = OfSet s.held} line taken
+      (reads_as {M = λ n. n ≡ taken} {Q = λ input left. OfSet s.held input (ended 11 line.items taken)} (λ n l. l.0)
+      (λ input left l. subst (λ (li : List ℕ). OfSet s.held input (ended 11 li taken)) (sym said) (WouldLose taken (name_of newest machine) images section cell l.0 is))
+      reads)
 
--- of an input that is told
-of_told : {P : Type 0} {A B C : List ℕ → Type 0} (left : Option (List ℕ)) → IfSome left A → IfSome left B → IsSomeAnd left C → ((bytes : List ℕ) → A bytes → B bytes → C bytes → P) → P
-of_told None a b c f = absurd c
-of_told (Some bytes) a b c f = f bytes a b c
+  refusal_seen : {i i' : Intake} {o o' : Outlet} {s s' : Stock} (images : List Image) (taken : ℕ) (r : Refusal) (line : ArrayVec ℕ)
+      → LoadReads i i' newest newest.machines images taken (Err (loads.Refused r)) → line.items ≡ refused_line newest r.at r.section r.reason → Seen (OfSet s.held) i i' o o' s s' (endings.Refused line)
+  refusal_seen {i} {i'} {o} {o'} {s} images taken r line reads said =
+      load_seen {P = OfSet s.held} newest newest.machines images taken r line reads
+      (λ input size fault. subst (λ (li : List ℕ). OfSet s.held input (ended 1 li (r.at + size))) (sym said) (Refuses r.at r.section r.reason size fault))
 
 -- ---- the outcome
 
 module _ (to : Set) (fit : IsFit to) (i i' : Intake) (o o' : Outlet) where
-  -- an outcome of a status of its own, with its line
-  with_line : (k : ℕ) (line said : List ℕ) (n : ℕ) (x : Outcome) → x ≡ ended k said n → line ≡ said → TakesBytes i i' n → EndsWith k line i i' x
-  with_line k line said n x is same t = record {
-    status_is = ap (λ (y : Outcome). y.status) is;
-    parts = ap (λ (y : Outcome). y.parts) is;
-    note = ap (λ (y : Outcome). y.note) is ∙ sym same;
-    taken = subst (λ (m : ℕ). TakesBytes i i' m) (sym (ap (λ (y : Outcome). y.taken) is)) t;
-  }
-
-  module _ (compatible : Compatible to newest) (ok : IfSome i.left IsBytes) (s s' : Stock) (same : s'.held ≡ s.held) (x : Outcome) (has : IsSomeAnd i.left (λ bytes. Converts to bytes s.held x)) where
-    rewrites : (images : List Image) (taken : ℕ) (machine : Option (List ℕ)) (stream : List ℕ) (e : Ending) → Took i i' taken machine images
-        → IsStreamFor to newest machine images stream → WritesAs stream o o' e → EndsAs i i' o o' s s' e x
-    rewrites images taken machine stream e t p w =
-        of_told i.left ok t.left has (λ bytes ok l has.
-        subst (λ (y : Outcome). EndsAs i i' o o' s s' e y) (sym (rewritten_is to fit compatible bytes s.held ok taken machine images stream x l.0 p has))
-        (text_written stream i i' o o' s s' taken e w same t.takes))
-
-    loses : (images : List Image) (taken : ℕ) (machine : Option (List ℕ)) (section cell : Option ℕ) (line : List ℕ) → Took i i' taken machine images
-        → LosesFirst to newest machine images section cell → line ≡ lost_line newest section cell → EndsWith 11 line i i' x
-    loses images taken machine section cell line t p said =
-        of_told i.left ok t.left has (λ bytes ok l has.
-        with_line 11 line (lost_line newest section cell) taken x (lost_is to fit compatible bytes s.held ok taken machine images section cell x l.0 p has) said t.takes)
-
-    refuses : (r : Refusal) (line : List ℕ) → RefusesFirst to newest i i' o o' (loads.Refused r) → line ≡ refused_line newest r.at r.section r.reason → EndsWith 1 line i i' x
-    refuses r line f said = by i.left refl ok (reads_told (λ (input : List ℕ) (left : Option (List ℕ)). Loads newest newest.machines input left f.images f.taken (Err (loads.Refused r))) tt f.reads) has
-      where
-        by : (left : Option (List ℕ)) → left ≡ i.left → IfSome left IsBytes → IfSome left (λ input. Loads newest newest.machines input i'.left f.images f.taken (Err (loads.Refused r)))
-            → IsSomeAnd left (λ bytes. Converts to bytes s.held x) → EndsWith 1 line i i' x
-        by None e ok l has = absurd has
-        by (Some bytes) e ok l has =
-            with_line 1 line (refused_line newest r.at r.section r.reason) (r.at + l.0) x
-            (refused_is to fit compatible bytes s.held ok r.at r.section r.reason l.0 x l.1 has) said
-            (takes_front i i' f.reads.bytes bytes (r.at + l.0) f.reads.takes (sym e) l.2 (fault_within newest newest.machines bytes r.at r.section r.reason l.0 l.1))
-
   -- by the step that gave the set
   given_set : (compatible : Compatible to newest) (s : Stock) (x : Outcome) → ConvertsBy (agrees to) i.left s.held x → IsSomeAnd i.left (λ bytes. Converts to bytes s.held x)
   given_set compatible s x has = subst (λ (step : Step Set). ConvertsBy step i.left s.held x) (agreed_gives to compatible) has
@@ -196,24 +164,29 @@ module _ (to : Set) (fit : IsFit to) (i i' : Intake) (o o' : Outlet) where
   unwritten faults.ReadFault may c = absurd may
   unwritten faults.WriteFault may c = absurd may
 
+  -- the outcome of an input that is told
+  told_content : (s s' : Stock) (e : Ending) (x : Outcome) → Compatible to newest → IfSome i.left IsBytes → Seen (λ bytes y. Converts to bytes s.held y) i i' o o' s s' e → ConvertsBy (agrees to) i.left s.held x
+      → EndsAs i i' o o' s s' e x
+  told_content s s' e x compatible ok v has =
+      content_seen {o = o} {o' = o'} {s = s} {s' = s'} {P = λ bytes y. Converts to bytes s.held y} e x (λ bytes y octets p q. converts_same to fit compatible bytes s.held octets x y p q) ok v (given_set compatible s x has)
+
   pub convert_content : (r : Result (Unit {0}) ConvertFault) (e : Ending) → EndsLike r e → Calls to newest i i' o o' r → IfSome i.left IsBytes → i.given < 2 ^ 64
       → (s s' : Stock) (x : Outcome) → s'.held ≡ s.held → ConvertsBy (agrees to) i.left s.held x → EndsAs i i' o o' s s' e x
   convert_content _ _ (IsDone u) c ok few s s' x same has =
       let t = c.1 in
-      let p = t.converts in
-      rewrites c.0 ok s s' same x (given_set c.0 s x has) t.images t.taken (name_of newest t.machine) p.bytes endings.Done (took i i' t.images t.taken t.machine t.reads) p.is p.puts
+      told_content s s' endings.Done x c.0 ok (stream_seen to t.images t.taken t.machine t.converts.bytes endings.Done same t.reads t.converts.is t.converts.puts) has
   convert_content _ _ (IsMismatch m line said) c ok few s s' x same has =
       let ends : x ≡ ended 4 (mismatch_line m) 0 = subst (λ (step : Step Set). ConvertsBy step i.left s.held x) (agreed_ends to m c.0) has in
       subst (λ (now : Intake). EndsWith 4 (string_bytes line) i now x) (sym c.1) (ends_with 4 (string_bytes line) i x few (ends ∙ ap (λ (l : List ℕ). ended 4 l 0) (sym said)))
-  convert_content _ _ (IsRefused r line said) c ok few s s' x same has = refuses c.0 ok s s' same x (given_set c.0 s x has) r line.items c.1 said
+  convert_content _ _ (IsRefused r line said) c ok few s s' x same has =
+      told_content s s' (endings.Refused line) x c.0 ok (refusal_seen to c.1.images c.1.taken r line c.1.reads said) has
   convert_content _ _ (IsLost section cell line said) c ok few s s' x same has =
       let t = c.1 in
-      loses c.0 ok s s' same x (given_set c.0 s x has) t.images t.taken (name_of newest t.machine) section cell line.items (took i i' t.images t.taken t.machine t.reads) t.converts.0 said
+      told_content s s' (endings.WouldLose line) x c.0 ok (loss_seen to t.images t.taken t.machine section cell line t.reads t.converts.0 said) has
   convert_content _ _ FailsReading c ok few s s' x same has = comes_to_nothing o o' s s' x.parts (same_keeps o o' c.1.none) same
   convert_content _ _ FailsWriting c ok few s s' x same has =
       let t = c.1 in
-      let p = t.converts in
-      rewrites c.0 ok s s' same x (given_set c.0 s x has) t.images t.taken (name_of newest t.machine) p.bytes endings.WriteFault (took i i' t.images t.taken t.machine t.reads) p.is p.puts
+      told_content s s' endings.WriteFault x c.0 ok (stream_seen to t.images t.taken t.machine t.converts.bytes endings.WriteFault same t.reads t.converts.is t.converts.puts) has
   convert_content _ _ (LacksMemory fault may) c ok few s s' x same has = comes_to_nothing o o' s s' x.parts (same_keeps o o' (unwritten fault may c)) same
 
   -- ---- told or not
@@ -225,7 +198,7 @@ module _ (to : Set) (fit : IsFit to) (i i' : Intake) (o o' : Outlet) where
   few_before fault f long = let given = f.reads.takes.given in omega (arith, given, long)
 
   taken_few : (r : Result (Unit {0}) ConvertFault) (t : TakesFirst to newest i i' o o' r) → i'.given ≤ i.given + most_given newest
-  taken_few r t = (took i i' t.images t.taken t.machine t.reads).few
+  taken_few r t = let given = t.reads.takes.given in omega (arith, given, t.reads.long.0, t.reads.long.1)
 
   pub convert_given : (r : Result (Unit {0}) ConvertFault) → Calls to newest i i' o o' r → ConvertGives (agrees to) i i'
   convert_given (Ok u) c = within c.0 (taken_few (Ok u) c.1)
@@ -241,73 +214,29 @@ module _ (to : Set) (fit : IsFit to) (i i' : Intake) (o o' : Outlet) where
       nothing step e = omega (arith, ap (λ (x : Intake). x.given) e)
   convert_given (Err faults.NoMemory) (Behind compatible t) = within compatible (taken_few (Err faults.NoMemory) t)
 
-  -- ---- what is heard
+  -- ---- what is seen
 
-  module _ (held : Option Held) (compatible : Compatible to newest) where
-    abbrev Well : List ℕ → Outcome → Type 0
-    Well = ConvertsWell held to
+  -- of a set that is well formed, and that the newest reads
+  with_set : (s s' : Stock) (e : Ending) → Compatible to newest → Seen (λ bytes y. Converts to bytes s.held y) i i' o o' s s' e → SeenAs (ConvertsWith (agrees to) s.held) i i' o o' s s' e
+  with_set s s' e compatible v = λ among.
+      subst (λ (step : Step Set). Seen (ConvertsWith step s.held) i i' o o' s s' e) (sym (agreed_gives to compatible))
+      (sees_as {P = λ bytes y. Converts to bytes s.held y} {Q = ConvertsWith (Gives to) s.held} (λ bytes y p. (to, refl, (fit, compatible, p))) v)
 
-    -- a stream was taken from all of the bytes
-    record HasHeard (images : List Image) (taken : ℕ) (machine : Option (List ℕ)) : Type 0 where
-      bytes : List ℕ
-      takes : Takes newest newest.machines bytes taken machine images
-      all : length bytes ≡ taken
-      given : i'.given ≡ capped (i.given + length bytes)
-
-    has_heard : (images : List Image) (taken : ℕ) (machine : Option ℕ) → LoadReads i i' newest newest.machines images taken (Ok machine) → HasHeard images taken (name_of newest machine)
-    has_heard images taken machine r = record {
-      bytes = r.bytes;
-      takes = subst (λ (l : List ℕ). Takes newest newest.machines l taken (name_of newest machine) images) (append-nil r.bytes) (r.says [] (inl refl)).0;
-      all = r.long.0;
-      given = r.takes.given;
-    }
-
-    heard_rewritten : (images : List Image) (taken : ℕ) (machine : Option (List ℕ)) (stream : List ℕ) (e : Ending) → HasHeard images taken machine
-        → IsStreamFor to newest machine images stream → WritesAs stream o o' e → ConvertHears (Gives to) held i.given i'.given o o' e
-    heard_rewritten images taken machine stream e h p w =
-        heard_so Set (Gives to) (ConvertsWell held) to held i.given i'.given o o' e refl
-        (written_end Well held h.bytes stream taken i.given i'.given o o' e (fit, compatible, Rewrites taken machine images stream h.takes p) h.all h.given w)
-
-    heard_lost : (images : List Image) (taken : ℕ) (machine : Option (List ℕ)) (section cell : Option ℕ) (line : ArrayVec ℕ) → HasHeard images taken machine
-        → LosesFirst to newest machine images section cell → line.items ≡ lost_line newest section cell → ConvertHears (Gives to) held i.given i'.given o o' (endings.WouldLose line)
-    heard_lost images taken machine section cell line h p said = (
-      to,
-      refl,
-      all_of Well 11 h.bytes (lost_line newest section cell) line.items taken i.given i'.given
-          (fit, compatible, WouldLose taken machine images section cell h.takes p) said h.all h.given,
-    )
-
-    heard_refused : (r : Refusal) (line : ArrayVec ℕ) → RefusesFirst to newest i i' o o' (loads.Refused r) → line.items ≡ refused_line newest r.at r.section r.reason
-        → ConvertHears (Gives to) held i.given i'.given o o' (endings.Refused line)
-    heard_refused r line f said =
-        let reads = f.reads in
-        let h : HearsLoad newest newest.machines i.given i'.given f.images f.taken (Err (loads.Refused r)) =
-        record { bytes = reads.bytes; octets = reads.takes.octets; given = reads.takes.given; says = λ more none. reads.says more (inl none) } in
-        let e = heard_holds newest newest.machines i.given i'.given f.images f.taken r h in (
-          to,
-          refl,
-          all_of Well 1 e.bytes (refused_line newest r.at r.section r.reason) line.items (r.at + e.size) i.given i'.given
-              (fit, compatible, Refuses r.at r.section r.reason e.size e.fault) said e.ends (e.given ∙ ap (λ (n : ℕ). capped (i.given + n)) (sym e.ends)),
-        )
-
-  heard_by : (held : Option Held) (e : Ending) (compatible : Compatible to newest) → ConvertHears (Gives to) held i.given i'.given o o' e → ConvertHears (agrees to) held i.given i'.given o o' e
-  heard_by held e compatible h = subst (λ (step : Step Set). ConvertHears step held i.given i'.given o o' e) (sym (agreed_gives to compatible)) h
-
-  pub convert_hears : (r : Result (Unit {0}) ConvertFault) (e : Ending) → EndsLike r e → Calls to newest i i' o o' r → (held : Option Held)
-      → ConvertHears (agrees to) held i.given i'.given o o' e
-  convert_hears _ _ (IsDone u) c held =
+  pub convert_seen : (r : Result (Unit {0}) ConvertFault) (e : Ending) → EndsLike r e → Calls to newest i i' o o' r → (s s' : Stock) → s'.held ≡ s.held
+      → SeenAs (ConvertsWith (agrees to) s.held) i i' o o' s s' e
+  convert_seen _ _ (IsDone u) c s s' same =
       let t = c.1 in
-      heard_by held endings.Done c.0 (heard_rewritten held c.0 t.images t.taken (name_of newest t.machine) t.converts.bytes endings.Done
-      (has_heard held c.0 t.images t.taken t.machine t.reads) t.converts.is t.converts.puts)
-  convert_hears _ _ (IsRefused r line said) c held = heard_by held (endings.Refused line) c.0 (heard_refused held c.0 r line c.1 said)
-  convert_hears _ _ (IsLost section cell line said) c held =
+      with_set s s' endings.Done c.0 (stream_seen to t.images t.taken t.machine t.converts.bytes endings.Done same t.reads t.converts.is t.converts.puts)
+  convert_seen _ _ (IsRefused r line said) c s s' same = with_set s s' (endings.Refused line) c.0 (refusal_seen to c.1.images c.1.taken r line c.1.reads said)
+  convert_seen _ _ (IsLost section cell line said) c s s' same =
       let t = c.1 in
-      heard_by held (endings.WouldLose line) c.0 (heard_lost held c.0 t.images t.taken (name_of newest t.machine) section cell line
-      (has_heard held c.0 t.images t.taken t.machine t.reads) t.converts.0 said)
-  convert_hears _ _ (IsMismatch m line said) c held = tt
-  convert_hears _ _ FailsReading c held = tt
-  convert_hears _ _ FailsWriting c held = tt
-  convert_hears _ _ (LacksMemory fault may) c held = tt
+      with_set s s' (endings.WouldLose line) c.0 (loss_seen to t.images t.taken t.machine section cell line t.reads t.converts.0 said)
+  convert_seen _ _ (IsMismatch m line said) c s s' same = other_seen (endings.NotCompatible line) refl
+  convert_seen _ _ FailsReading c s s' same = other_seen endings.ReadFault refl
+  convert_seen _ _ FailsWriting c s s' same =
+      let t = c.1 in
+      with_set s s' endings.WriteFault c.0 (stream_seen to t.images t.taken t.machine t.converts.bytes endings.WriteFault same t.reads t.converts.is t.converts.puts)
+  convert_seen _ _ (LacksMemory fault may) c s s' same = other_seen endings.NoMemory refl
 
   -- ---- counts and promises
 

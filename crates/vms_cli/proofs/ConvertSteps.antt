@@ -8,7 +8,7 @@ use Rattle.vms_io.proofs.WritingLemmas.{serves_none}
 use Rattle.vms_load.specs.Staging.{most_given}
 use Rattle.vms_spec.specs.Sets.{Set}
 use Rattle.vms_commands.specs.declared.ending.Ending.{Ending}
-use Rattle.vms_commands.specs.declared.ending.Ending.TheVariants.{Done, Refused, BadText, ShelfFault, NotThere, TooLarge, NoMemory, WouldLose}
+use Rattle.vms_commands.specs.declared.ending.Ending.TheVariants.{BadText, ShelfFault, NotThere, TooLarge, NoMemory}
 use Rattle.vms_commands.specs.Outcomes.{Outcome}
 use Rattle.vms_commands.specs.Courses.{EndsSo, Risen, is_among}
 use Rattle.vms_commands.specs.Endings.{SetCause, status_of}
@@ -17,7 +17,8 @@ use Rattle.vms_io.proofs.ShelvingLemmas.{looks_reaches}
 use Rattle.vms_commands.proofs.CourseLemmas.{draws_none, so_since}
 use Rattle.vms_cli.specs.Statuses.{convert_course}
 use Rattle.vms_commands.specs.Steps.{Step, Untold, Gives, Ends, HasBy, next}
-use Rattle.vms_board_commands.specs.Heard.{HearsBy, IsGiven}
+use Rattle.vms_board_commands.specs.Seen.{IsGiven, SeenAs, WithGiven}
+use Rattle.vms_board_commands.proofs.SeenLemmas.{sees_as}
 use Rattle.vms_cli.specs.Convert.{ConvertGives, ConvertsBy, agrees, newest}
 
 -- the outcome once the set is there
@@ -32,17 +33,15 @@ converts_next input held (Ends status line) x h = h
 
 module _ {A B T : Type 0} (m : T → A) (f : A → Step B) where
   -- what the second step gave, both gave
-  given_next : (s : Step A) (t : T) (b : B) → StepAs m s (Ok t) → IsGiven B (f (m t)) b → IsGiven B (next s f) b
+  given_next : (s : Step A) (t : T) (b : B) → StepAs m s (Ok t) → IsGiven (f (m t)) b → IsGiven (next s f) b
   given_next Untold t b h g = tt
-  given_next (Gives a) t b h g = subst (λ (x : A). IsGiven B (f x) b) h g
+  given_next (Gives a) t b h g = subst (λ (x : A). IsGiven (f x) b) h g
   given_next (Ends status line) t b h g = absurd h
 
-  pub hears_next : (outcome : B → List ℕ → Outcome → Type 0) (held : Option Held) (before now : ℕ) (o o' : Outlet) (e : Ending) (s : Step A) (t : T) → StepAs m s (Ok t)
-      → HearsBy B (f (m t)) outcome held before now o o' e → HearsBy B (next s f) outcome held before now o o' e
-  hears_next outcome held before now o o' Done s t h g = (g.0, given_next s t g.0 h g.1, g.2)
-  hears_next outcome held before now o o' (Refused line) s t h g = (g.0, given_next s t g.0 h g.1, g.2)
-  hears_next outcome held before now o o' (WouldLose line) s t h g = (g.0, given_next s t g.0 h g.1, g.2)
-  hears_next outcome held before now o o' e s t h g = tt
+  pub seen_next : (P : B → List ℕ → Outcome → Type 0) {i i' : Intake} {o o' : Outlet} {shelf shelf' : Stock} (e : Ending) (s : Step A) (t : T) → StepAs m s (Ok t)
+      → SeenAs (WithGiven (f (m t)) P) i i' o o' shelf shelf' e → SeenAs (WithGiven (next s f) P) i i' o o' shelf shelf' e
+  seen_next P e s t h seen = λ among.
+      sees_as {P = WithGiven (f (m t)) P} {Q = WithGiven (next s f) P} (λ bytes x p. (p.0, given_next s t p.0 h p.1, p.2)) (seen among)
 
 -- ---- how many bytes the input gives
 

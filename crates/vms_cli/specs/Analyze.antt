@@ -14,7 +14,6 @@ use Rattle.vms_analyze.specs.declared.fault.AnalyzeReason.TheVariants as reasons
 use Rattle.vms_commands.specs.Outcomes.{Outcome, done, ended}
 use Rattle.vms_commands.specs.declared.ending.Ending.{Ending}
 use Rattle.vms_commands.specs.declared.ending.Ending.TheVariants as endings
-use Rattle.vms_board_commands.specs.Heard.{HearsEnd}
 
 abbrev pub analyze_reason_name : AnalyzeReason → List ℕ
 analyze_reason_name reasons.TooLong = codes "TooLong"
@@ -61,10 +60,6 @@ ListCause input input' out out' endings.ReadFault =
 ListCause input input' out out' endings.WriteFault = Rose out.faults out'.faults
 ListCause input input' out out' endings.NoMemory = Keeps out.written out'.written
 ListCause input input' out out' _ = ⊥
-
--- what is heard of the input: bytes, as many as were given, of which the outcome is that of their listing
-abbrev pub ListHears : Option Held → (before now : ℕ) (out out' : Outlet) → Ending → Type 0
-ListHears held before now out out' ending = HearsEnd (IsListing held) held before now out out' ending
 
 -- at most so many bytes are given
 abbrev pub GivesListed : (before now : ℕ) → Type 0

@@ -1,22 +1,12 @@
 -- The endings of the commands' steps with their causes, told or not.
-use Rattle.std.specs.Prelude.{◌≡◌, ℕ, Bool, true, Option, Some, None}
+use Rattle.std.specs.Prelude.{◌≡◌, Bool, true}
 use Rattle.std.specs.Io.KnownBytes.{Keeps}
 use Rattle.vms_io.specs.Causes.{Rose}
-use Rattle.vms_io.specs.Shelves.{Held}
 use Rattle.vms_io.specs.Told.{Intake, Outlet}
 use Rattle.vms_io.specs.Writing.{Serves}
 use Rattle.vms_commands.specs.declared.ending.Ending.{Ending}
 use Rattle.vms_commands.specs.declared.ending.Ending.TheVariants.{Done, Refused, BadText, NotCompatible, ReadFault, WriteFault, NoMemory}
 use Rattle.vms_commands.specs.Courses.{Draws}
-use Rattle.vms_commands.specs.Fetching.{word_set}
-use Rattle.vms_board.specs.Clock.{clock}
-use Rattle.vms_board.specs.Isa.{isa}
-use Rattle.vms_board_commands.specs.Load.{LoadHears}
-use Rattle.vms_board_commands.specs.Scripts.{scripted}
-use Rattle.vms_cli.specs.Analyze.{ListHears}
-use Rattle.vms_cli.specs.Commands.{Asked, IsaBoard, ClockBoard, Show, Convert, Analyze, Load}
-use Rattle.vms_cli.specs.Convert.{ConvertHears, target}
-use Rattle.vms_cli.specs.Show.{ShowHears}
 
 -- once the set of `show` is there
 abbrev pub StreamCause : (input input' : Intake) (out out' : Outlet) → Ending → Type 0
@@ -62,15 +52,3 @@ FindCause asks out out' (BadText line) = (asks ≡ true) × Keeps out.written ou
 FindCause asks out out' WriteFault = Rose out.faults out'.faults
 FindCause asks out out' NoMemory = Keeps out.written out'.written
 FindCause asks out out' ending = ⊥
-
--- ---- what is heard of the input, by what the command goes by
-
-abbrev pub HearsAs : Option Asked → Option Held → (before now : ℕ) (out out' : Outlet) → Ending → Type 0
-HearsAs (Some (Show set)) held before now out out' ending = ShowHears (word_set held set) held before now out out' ending
-HearsAs (Some (Convert set)) held before now out out' ending = ConvertHears (target held set) held before now out out' ending
-HearsAs (Some Analyze) held before now out out' ending = ListHears held before now out out' ending
-HearsAs (Some (Load (IsaBoard level) script)) held before now out out' ending =
-    LoadHears isa level (scripted None held script) held before now out out' ending
-HearsAs (Some (Load (ClockBoard version) script)) held before now out out' ending =
-    LoadHears clock version (scripted None held script) held before now out out' ending
-HearsAs asked held before now out out' ending = Unit {0}

@@ -1,11 +1,11 @@
--- The command `convert`: its outcome, and what is heard of its input.
+-- The command `convert`: its outcome, and what is seen of its input.
 use Rattle.std.specs.Prelude.{◌≡◌, ℕ, ◌+◌, ◌<◌, ◌≤◌, List, [], ◌∷◌, ◌++◌, length, Option, Some, None, IsSomeAnd, Result, Ok, Err, codes, string_bytes}
 use Rattle.std.specs.declared.alloc.Global.{Global}
 use Rattle.std.specs.declared.string.String.{String}
 use Rattle.arrayvec.specs.ArrayVec.{ArrayVec}
 use Rattle.dev_base.specs.declared.limits.TheConstants.{NEWEST}
 use Rattle.vms_io.specs.Shelves.{Held}
-use Rattle.vms_io.specs.Told.{Intake, Outlet}
+use Rattle.vms_io.specs.Told.{Intake}
 use Rattle.vms_spec.specs.declared.Reason.{Reason}
 use Rattle.vms_spec.specs.Good.{IsFit}
 use Rattle.vms_spec.specs.Images.{Image}
@@ -31,7 +31,7 @@ use Rattle.vms_commands.specs.SetWords.{SetWord}
 use Rattle.vms_commands.specs.Steps.{Step, Gives, Ends, HasBy, next}
 use Rattle.vms_commands.specs.declared.ending.Ending.{Ending}
 use Rattle.vms_commands.specs.declared.ending.Ending.TheVariants as endings
-use Rattle.vms_board_commands.specs.Heard.{HearsBy}
+use Rattle.vms_board_commands.specs.Seen.{WithGiven}
 
 -- the set whose streams are read
 abbrev pub newest : Set
@@ -86,10 +86,9 @@ ConvertGives step input input' = input'.given ≤ input.given + most_given newes
 abbrev pub ConvertsWell : Option Held → Set → List ℕ → Outcome → Type 0
 ConvertsWell held to bytes o = IsFit to × Compatible to newest × Converts to bytes held o
 
--- what is heard of a stream, of what would be lost or of a refusal: the set that the step gave, and bytes that the outcome takes to
--- the last
-abbrev pub ConvertHears : Step Set → Option Held → (before now : ℕ) (out out' : Outlet) → Ending → Type 0
-ConvertHears step held before now out out' ending = HearsBy Set step (ConvertsWell held) held before now out out' ending
+-- the outcome of these bytes under the set that the step gave, or may have given where it isn't told
+abbrev pub ConvertsWith : Step Set → Option Held → List ℕ → Outcome → Type 0
+ConvertsWith step held = WithGiven step (ConvertsWell held)
 
 -- ---- how it ends, and why, told or not
 

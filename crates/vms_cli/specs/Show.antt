@@ -1,7 +1,7 @@
--- The command `show`: its outcome, and what is heard of its input.
+-- The command `show`: its outcome, and what is seen of its input.
 use Rattle.std.specs.Prelude.{◌≡◌, ◌⊎◌, ℕ, ◌+◌, ◌≤◌, List, Option, IsSomeAnd}
 use Rattle.vms_io.specs.Shelves.{Held}
-use Rattle.vms_io.specs.Told.{Intake, Outlet}
+use Rattle.vms_io.specs.Told.{Intake}
 use Rattle.vms_spec.specs.declared.Reason.{Reason}
 use Rattle.vms_spec.specs.Images.{Image}
 use Rattle.vms_spec.specs.Sets.{Set}
@@ -13,8 +13,7 @@ use Rattle.vms_load.specs.Staging.{most_given}
 use Rattle.vms_commands.specs.Lines.{refused_line}
 use Rattle.vms_commands.specs.Outcomes.{Outcome, done, ended}
 use Rattle.vms_commands.specs.Steps.{Step, Untold, Gives, Ends, HasBy}
-use Rattle.vms_commands.specs.declared.ending.Ending.{Ending}
-use Rattle.vms_board_commands.specs.Heard.{HearsBy}
+use Rattle.vms_board_commands.specs.Seen.{WithGiven}
 
 -- the values text of the stream that the input takes, or where and why the input is refused, up to the end of the unit at
 -- fault; the shelf tells the same as before
@@ -40,6 +39,6 @@ GivesWithin (Ends status line) input input' = input' ≡ input
 abbrev pub ShowsWell : Option Held → Set → List ℕ → Outcome → Type 0
 ShowsWell held set bytes o = WellFormed set × Shows set bytes held o
 
--- what is heard of a stream or of a refusal: the set that the step gave, and bytes that the outcome takes to the last
-abbrev pub ShowHears : Step Set → Option Held → (before now : ℕ) (out out' : Outlet) → Ending → Type 0
-ShowHears step held before now out out' ending = HearsBy Set step (ShowsWell held) held before now out out' ending
+-- the outcome of these bytes under the set that the step gave, or may have given where it isn't told
+abbrev pub ShowsWith : Step Set → Option Held → List ℕ → Outcome → Type 0
+ShowsWith step held = WithGiven step (ShowsWell held)

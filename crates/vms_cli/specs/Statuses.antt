@@ -1,6 +1,6 @@
 -- What each command can answer, and at which statuses it touches what.
 use Rattle.std.specs.Prelude.{ℕ, Bool, false, List, [], ◌∷◌, Option, Some, None}
-use Rattle.vms_commands.specs.Courses.{Course, text_course}
+use Rattle.vms_commands.specs.Courses.{Course, is_among, text_course}
 use Rattle.vms_commands.specs.Fetching.{is_on_shelf}
 use Rattle.vms_board_commands.specs.Causes.{drill_course, load_course, play_course, save_course}
 use Rattle.vms_cli.specs.Check.{asks_shelf}
@@ -57,3 +57,7 @@ stores_at asked = (course_of asked).stores
 -- whether the shelf is asked for anything
 abbrev pub asks : Option Asked → Bool
 asks asked = (course_of asked).asks
+
+-- whether the command reads its input: something of it may be taken where all is done
+abbrev pub reads : Option Asked → Bool
+reads asked = is_among (takes_at asked) 0

@@ -1,11 +1,11 @@
 // The command `analyze`: the values text of a stream by its own description.
-ghost use Rattle.std.specs.Prelude.{◌≡◌, IsSomeAnd, Option, Err};
-ghost use Rattle.vms_io.specs.Shelves.{Held};
+ghost use Rattle.std.specs.Prelude.{◌≡◌, IsSomeAnd, Err};
 ghost use Rattle.vms_io.specs.Told.{Stock, intake, outlet};
 ghost use Rattle.vms_commands.specs.Courses.{EndsSo};
 ghost use Rattle.vms_commands.specs.Endings.{EndsAs};
 ghost use Rattle.vms_commands.specs.Outcomes.{Outcome};
-ghost use Rattle.vms_cli.specs.Analyze.{EndsLike, GivesListed, IsListing, ListHears, analyze_reason_name, unlisted_line};
+ghost use Rattle.vms_board_commands.specs.Seen.{SeenAs};
+ghost use Rattle.vms_cli.specs.Analyze.{EndsLike, GivesListed, IsListing, analyze_reason_name, unlisted_line};
 ghost use Rattle.vms_cli.specs.Statuses.{analyze_course};
 
 use arrayvec::ArrayVec;
@@ -23,8 +23,9 @@ pub(crate) fn analyze_input<I: Source, O: Sink>(alloc: Global, input: &mut I, ou
     ensures so { (shelf : Stock) → EndsSo (intake I.Source input.old) (intake I.Source input.new)
         (outlet O.Sink out.old) (outlet O.Sink out.new) shelf shelf analyze_course result }
     ensures given { GivesListed (I.given input.old) (I.given input.new) }
-    ensures heard { (held : Option Held) → ListHears held (I.given input.old) (I.given input.new)
-        (outlet O.Sink out.old) (outlet O.Sink out.new) result }
+    ensures seen { (shelf : Stock) → SeenAs (IsListing shelf.held)
+        (intake I.Source input.old) (intake I.Source input.new)
+        (outlet O.Sink out.old) (outlet O.Sink out.new) shelf shelf result }
 {
     ending_of(analyze(alloc, input, out))
 }

@@ -1,6 +1,5 @@
 // The command `convert`: the stream of the same state under another set, or what would be lost.
-ghost use Rattle.std.specs.Prelude.{◌≡◌, ◌<◌, Bool, length, IfOk, MatchResult, Option, Err};
-ghost use Rattle.vms_io.specs.Shelves.{Held};
+ghost use Rattle.std.specs.Prelude.{◌≡◌, ◌<◌, Bool, length, IfOk, MatchResult, Err};
 ghost use Rattle.vms_io.specs.Supplies.{store};
 ghost use Rattle.vms_io.specs.Told.{Stock, intake, outlet, stock};
 ghost use Rattle.vms_spec.specs.Layout.{device_cells};
@@ -11,8 +10,9 @@ ghost use Rattle.vms_commands.specs.Endings.{EndsAs};
 ghost use Rattle.vms_commands.specs.Fetching.{is_on_shelf};
 ghost use Rattle.vms_commands.specs.Outcomes.{Outcome};
 ghost use Rattle.vms_commands.specs.Courses.{EndsSo};
+ghost use Rattle.vms_board_commands.specs.Seen.{SeenAs};
 ghost use Rattle.vms_cli.specs.Statuses.{convert_course};
-ghost use Rattle.vms_cli.specs.Convert.{ConvertGives, ConvertHears, ConvertsBy, EndsLike, MayLackMemory, IsInNewest, NamesCell, agrees, line_of, lost_line, newest, target};
+ghost use Rattle.vms_cli.specs.Convert.{ConvertGives, ConvertsBy, ConvertsWith, EndsLike, MayLackMemory, IsInNewest, NamesCell, agrees, line_of, lost_line, newest, target};
 
 use arrayvec::ArrayVec;
 use dev_base::NEWEST;
@@ -47,10 +47,11 @@ pub(crate) fn convert<I: Source, O: Sink, H: Shelf>(
         (convert_course (is_on_shelf (set_asked set.entry))) result }
     ensures given { ConvertGives (target (H.held shelf.old) (set_asked set.entry))
         (intake I.Source input.old) (intake I.Source input.new) }
-    ensures heard { let held = H.held shelf.old in
-        ConvertHears (target held (set_asked set.entry)) held
-        (I.given input.old) (I.given input.new)
-        (outlet O.Sink out.old) (outlet O.Sink out.new) result }
+    ensures seen { let held = H.held shelf.old in
+        SeenAs (ConvertsWith (target held (set_asked set.entry)) held)
+        (intake I.Source input.old) (intake I.Source input.new)
+        (outlet O.Sink out.old) (outlet O.Sink out.new)
+        (stock H.Shelf shelf.old) (stock H.Shelf shelf.new) result }
 {
     let text = match fetch_set(alloc, set, shelf) {
         Ok(text) => text,
@@ -73,9 +74,10 @@ fn convert_to<I: Source, O: Sink>(alloc: Global, to: &DescSet, input: &mut I, ou
         (outlet O.Sink out.old) (outlet O.Sink out.new) shelf shelf (convert_course asks) result }
     ensures given { ConvertGives (agrees (described to.now))
         (intake I.Source input.old) (intake I.Source input.new) }
-    ensures heard { (held : Option Held) → ConvertHears (agrees (described to.now)) held
-        (I.given input.old) (I.given input.new)
-        (outlet O.Sink out.old) (outlet O.Sink out.new) result }
+    ensures seen { (shelf shelf' : Stock) → shelf'.held ≡ shelf.held
+        → SeenAs (ConvertsWith (agrees (described to.now)) shelf.held)
+        (intake I.Source input.old) (intake I.Source input.new)
+        (outlet O.Sink out.old) (outlet O.Sink out.new) shelf shelf' result }
 {
     ending_of(alloc, vms_convert::convert(alloc, input, to, out))
 }

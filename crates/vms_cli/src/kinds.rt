@@ -6,11 +6,11 @@ ghost use Rattle.vms_commands.specs.Outcomes.{Outcome};
 ghost use Rattle.vms_commands.specs.Texts.{TextContent};
 ghost use Rattle.vms_cli.specs.Answers.{HasOutcome, saved_on};
 ghost use Rattle.vms_cli.specs.Asks.{board_asked, saved_asked};
-ghost use Rattle.vms_cli.specs.Causes.{HearsAs};
 ghost use Rattle.vms_cli.specs.Commands.{Load};
-ghost use Rattle.vms_cli.specs.Rows.{Gives};
+ghost use Rattle.vms_cli.specs.Rows.{Gives, OutcomeWith};
 ghost use Rattle.vms_commands.specs.Courses.{EndsSo};
 ghost use Rattle.vms_board_commands.specs.Causes.{load_course, save_course};
+ghost use Rattle.vms_board_commands.specs.Seen.{SeenAs};
 
 use crate::boards::{BoardWord, Loading, SavedBoard};
 use std::alloc::Global;
@@ -74,9 +74,11 @@ pub(crate) fn load<I: Source, O: Sink, H: Shelf>(
         (stock H.Shelf shelf.old) (stock H.Shelf shelf.new) load_course result }
     ensures given { Gives (Some (Load (board_asked loading.entry.board) loading.entry.script.now))
         (H.held shelf.old) (intake I.Source input.old) (intake I.Source input.new) }
-    ensures heard { HearsAs (Some (Load (board_asked loading.entry.board) loading.entry.script.now))
-        (H.held shelf.old) (I.given input.old) (I.given input.new)
-        (outlet O.Sink out.old) (outlet O.Sink out.new) result }
+    ensures seen { let asked = Load (board_asked loading.entry.board) loading.entry.script.now in
+        SeenAs (OutcomeWith (Some asked) (H.held shelf.old))
+        (intake I.Source input.old) (intake I.Source input.new)
+        (outlet O.Sink out.old) (outlet O.Sink out.new)
+        (stock H.Shelf shelf.old) (stock H.Shelf shelf.new) result }
 {
     let script = loading.script;
     match loading.board {

@@ -1,6 +1,5 @@
 // The command `show`: the values text of a stream.
-ghost use Rattle.std.specs.Prelude.{◌≡◌, ◌+◌, ◌≤◌, ◌<◌, length, IfSome, IsSomeAnd, Option};
-ghost use Rattle.vms_io.specs.Shelves.{Held};
+ghost use Rattle.std.specs.Prelude.{◌≡◌, ◌+◌, ◌≤◌, ◌<◌, length, IfSome, IsSomeAnd};
 ghost use Rattle.vms_io.specs.Told.{Stock, intake, outlet, stock};
 ghost use Rattle.vms_spec.specs.Values.{values_text};
 ghost use Rattle.vms_load.specs.Kept.{loads, kept};
@@ -13,8 +12,8 @@ ghost use Rattle.vms_cli.specs.Causes.{StreamEnds};
 ghost use Rattle.vms_cli.specs.Statuses.{show_course};
 ghost use Rattle.vms_commands.specs.Fetching.{is_on_shelf, word_set};
 ghost use Rattle.vms_commands.specs.Outcomes.{Outcome};
-ghost use Rattle.vms_board_commands.specs.Heard.{HearsEnd};
-ghost use Rattle.vms_cli.specs.Show.{GivesWithin, ShowHears, Shows, ShowsBy, ShowsWell};
+ghost use Rattle.vms_board_commands.specs.Seen.{SeenAs};
+ghost use Rattle.vms_cli.specs.Show.{GivesWithin, Shows, ShowsBy, ShowsWell, ShowsWith};
 
 use std::alloc::Global;
 use vms_commands::{Ending, SetWord, loader_of, refused_line};
@@ -40,10 +39,11 @@ pub(crate) fn show<I: Source, O: Sink, H: Shelf>(
         (show_course (is_on_shelf (set_asked set.entry))) result }
     ensures given { GivesWithin (word_set (H.held shelf.old) (set_asked set.entry))
         (intake I.Source input.old) (intake I.Source input.new) }
-    ensures heard { let held = H.held shelf.old in
-        ShowHears (word_set held (set_asked set.entry)) held
-        (I.given input.old) (I.given input.new)
-        (outlet O.Sink out.old) (outlet O.Sink out.new) result }
+    ensures seen { let held = H.held shelf.old in
+        SeenAs (ShowsWith (word_set held (set_asked set.entry)) held)
+        (intake I.Source input.old) (intake I.Source input.new)
+        (outlet O.Sink out.old) (outlet O.Sink out.new)
+        (stock H.Shelf shelf.old) (stock H.Shelf shelf.new) result }
 {
     match loader_of(alloc, set, shelf) {
         Ok(mut loader) => show_stream(&mut loader, input, out),
@@ -60,9 +60,10 @@ fn show_stream<I: Source, O: Sink>(loader: &mut Loader, input: &mut I, out: &mut
     ensures so { StreamEnds (intake I.Source input.old) (intake I.Source input.new)
         (outlet O.Sink out.old) (outlet O.Sink out.new) result }
     ensures given { I.given input.new ≤ I.given input.old + most_given (loads loader.old) }
-    ensures heard { (held : Option Held) → HearsEnd (ShowsWell held (loads loader.old)) held
-        (I.given input.old) (I.given input.new)
-        (outlet O.Sink out.old) (outlet O.Sink out.new) result }
+    ensures seen { (shelf shelf' : Stock) → shelf'.held ≡ shelf.held
+        → SeenAs (ShowsWell shelf.held (loads loader.old))
+        (intake I.Source input.old) (intake I.Source input.new)
+        (outlet O.Sink out.old) (outlet O.Sink out.new) shelf shelf' result }
 {
     match loader.load(input, None) {
         Ok(machine) => write_values(loader, machine, out),

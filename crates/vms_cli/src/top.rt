@@ -1,14 +1,14 @@
 // The top call.
-ghost use Rattle.std.specs.Prelude.{◌≡◌, None};
+ghost use Rattle.std.specs.Prelude.{◌≡◌, true, None};
 ghost use Rattle.vms_io.specs.Told.{intake, outlet, stock};
 ghost use Rattle.vms_io.specs.Writing.{Serves};
 ghost use Rattle.vms_cli.specs.Answers.{HasOutcome, Answers};
 ghost use Rattle.vms_cli.specs.Commands.{asked_of};
 ghost use Rattle.vms_commands.specs.Endings.{EndsAs, Tells};
 ghost use Rattle.vms_commands.specs.Courses.{EndsSo};
-ghost use Rattle.vms_cli.specs.Causes.{HearsAs};
-ghost use Rattle.vms_cli.specs.Rows.{Gives};
-ghost use Rattle.vms_cli.specs.Statuses.{course_of};
+ghost use Rattle.vms_board_commands.specs.Seen.{SeenAs};
+ghost use Rattle.vms_cli.specs.Rows.{Gives, OutcomeWith};
+ghost use Rattle.vms_cli.specs.Statuses.{course_of, reads};
 ghost use Rattle.vms_commands.specs.Outcomes.{Outcome};
 
 use crate::analyze::analyze_input;
@@ -103,9 +103,11 @@ fn run<I: Source, O: Sink, H: Shelf>(
         (stock H.Shelf shelf.old) (stock H.Shelf shelf.new) (course_of (asked_of words.now)) result }
     ensures given { Gives (asked_of words.now) (H.held shelf.old)
         (intake I.Source input.old) (intake I.Source input.new) }
-    ensures heard { HearsAs (asked_of words.now) (H.held shelf.old)
-        (I.given input.old) (I.given input.new)
-        (outlet O.Sink out.old) (outlet O.Sink out.new) result }
+    ensures seen { reads (asked_of words.now) ≡ true
+        → SeenAs (OutcomeWith (asked_of words.now) (H.held shelf.old))
+        (intake I.Source input.old) (intake I.Source input.new)
+        (outlet O.Sink out.old) (outlet O.Sink out.new)
+        (stock H.Shelf shelf.old) (stock H.Shelf shelf.new) result }
     ensures unnamed { asked_of words.now ≡ None → outlet O.Sink out.new ≡ outlet O.Sink out.old }
 {
     match words.command() {

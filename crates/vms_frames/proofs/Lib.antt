@@ -7,4 +7,3 @@ pub mod ReadsParts
 pub mod ReadsUnits
 pub mod ReadsFirst
 pub mod ReadsCalls
-pub mod HeardLemmas

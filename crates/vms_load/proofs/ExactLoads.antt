@@ -1,6 +1,7 @@
 -- A load answers exactly by what the input is.
-use Rattle.std.proofs.Common.{◌≡◌, ℕ, ◌+◌, ◌≤◌, List, [], ◌++◌, length, drop, Option, Ok, Err, refl, ap, ◌∙◌, subst, arith, length-append, length-drop, append-nil}
-use Rattle.vms_io.specs.Causes.{capped}
+use Rattle.std.proofs.Common.{◌≡◌, ℕ, ◌+◌, ◌≤◌, List, [], ◌++◌, length, drop, Option, Some, Ok, Err, refl, ap, ◌∙◌, subst, arith, length-append, length-drop, append-nil}
+use Rattle.vms_io.proofs.ReadingLemmas.{reads_as}
+use Rattle.vms_frames.specs.declared.fault.Refusal.{Refusal}
 use Rattle.vms_spec.specs.Units.{Piece, spell, spelled}
 use Rattle.std.specs.Prelude.{Result}
 use Rattle.std.proofs.lemmas.Option.{same_Some}
@@ -13,9 +14,9 @@ use Rattle.vms_stream.specs.Streams.{Takes}
 use Rattle.vms_spec.specs.WellFormed.{WellFormed}
 use Rattle.vms_spec.specs.Heads.{FitsHeads}
 use Rattle.vms_stream.proofs.Stated.{one_stream_holds, never_both_holds, one_fault_holds}
-use Rattle.vms_load.specs.Exact.{GivesStream, IsRefusedAt, ExactLaw, HeardLaw}
+use Rattle.vms_load.specs.Exact.{EndsAtUnit, GivesStream, IsRefusedAt, ExactLaw, UnitLaw}
 use Rattle.vms_load.specs.Loads.{Loads}
-use Rattle.vms_load.specs.Staging.{name_of}
+use Rattle.vms_load.specs.Staging.{most_given, name_of}
 use Rattle.vms_load.specs.declared.fault.LoadFault.{LoadFault}
 use Rattle.vms_load.specs.declared.fault.LoadFault.TheVariants as faults
 
@@ -44,7 +45,7 @@ exact_holds set names well heads input ok left images taken result l = record {
   fault = refuses set names well heads input ok left images taken result l;
 }
 
--- ---- what is heard of a refusal
+-- ---- what a refusal takes
 
 -- the unit at fault stands within the input
 unit_within : (set : Set) (names : List (List ℕ)) (u : List Piece) (rest : List ℕ) (section : Option ℕ) (reason : Reason) (size : ℕ) → Why set names u rest section reason size → size ≤ length rest
@@ -56,19 +57,15 @@ pub fault_within : (set : Set) (names : List (List ℕ)) (input : List ℕ) (pla
 fault_within set names input place section reason size f =
     omega (arith, ap length f.whole, length-append (spelled f.units) f.rest, f.long, unit_within set names f.units f.rest section reason size f.why)
 
-pub heard_holds : HeardLaw
-heard_holds set names before now images taken r h =
-    let said = h.says [] refl in
-    let size = said.0 in
-    let fault = said.1 in
-    let none : [] ≡ drop (r.at + size) (h.bytes ++ []) = same_Some [] (drop (r.at + size) (h.bytes ++ [])) said.2 in
-    let all : length (h.bytes ++ []) ≡ length h.bytes = ap length (append-nil h.bytes) in
-    let ends : length h.bytes ≡ r.at + size =
-    omega (arith, all, ap length none, length-drop (r.at + size) (h.bytes ++ []), fault_within set names (h.bytes ++ []) r.at r.section r.reason size fault) in
+ends_at : (set : Set) (names : List (List ℕ)) (r : Refusal) (images : List Image) (taken : ℕ) (input left : List ℕ) → Loads set names input (Some left) images taken (Err (faults.Refused r)) → EndsAtUnit set names r input left
+ends_at set names r images taken input left l =
+    let rest = same_Some left (drop (r.at + l.0) input) l.2 in
     record {
-      bytes = h.bytes;
-      size = size;
-      fault = subst (λ (l : List ℕ). Fault set names l r.at r.section r.reason size) (append-nil h.bytes) fault;
-      ends = ends;
-      given = h.given ∙ ap (λ (n : ℕ). capped (before + n)) ends;
+      size = l.0;
+      fault = l.1;
+      ends = omega (arith, ap length rest, length-drop (r.at + l.0) input, fault_within set names input r.at r.section r.reason l.0 l.1);
     }
+
+pub unit_holds : UnitLaw
+unit_holds set names old new images taken r reads =
+    reads_as {M = λ n. n ≤ most_given set} {Q = EndsAtUnit set names r} (λ n l. l) (λ input left l. ends_at set names r images taken input left l) reads

@@ -1,12 +1,11 @@
--- What a load says of what is told, and of what is heard.
-use Rattle.std.proofs.Common.{◌≡◌, ◌≤◌, ℕ, ◌+◌, List, Option, Some, None, Result, Ok, Err, IfSome, inl, arith}
+-- What a load says of what is told, and how much is given.
+use Rattle.std.proofs.Common.{◌≡◌, ◌≤◌, ℕ, ◌+◌, List, Option, Some, None, Result, Ok, Err, IfSome, arith}
 use Rattle.vms_io.specs.Causes.{capped}
 use Rattle.vms_io.specs.Told.{Intake}
 use Rattle.vms_io.proofs.ReadingLemmas.{reads_told}
 use Rattle.vms_spec.specs.Sets.{Set}
 use Rattle.vms_spec.specs.Images.{Image}
 use Rattle.vms_load.specs.Going.{LoadReads}
-use Rattle.vms_load.specs.Hearing.{HearsLoad}
 use Rattle.vms_load.specs.Loads.{Loads}
 use Rattle.vms_load.specs.Staging.{most_given}
 use Rattle.vms_load.specs.declared.fault.LoadFault.{LoadFault}
@@ -21,11 +20,6 @@ module _ (set : Set) (names : List (List ℕ)) (images : List Image) (taken : �
       none : (old : Option (List ℕ)) → IfSome old (λ input. Unit {0})
       none None = tt
       none (Some input) = tt
-
-  pub heard : (r : Result (Option ℕ) LoadFault) → LoadReads a b set names images taken r → HearsLoad set names a.given b.given images taken r
-  heard (Ok machine) p = record { bytes = p.bytes; octets = p.takes.octets; given = p.takes.given; says = λ more f. p.says more (inl f) }
-  heard (Err (faults.Refused e)) p = record { bytes = p.bytes; octets = p.takes.octets; given = p.takes.given; says = λ more f. p.says more (inl f) }
-  heard (Err faults.ReadFault) p = tt
 
   pub given : (machine : Option ℕ) → LoadReads a b set names images taken (Ok machine) → b.given ≡ capped (a.given + taken)
   given machine p = omega (arith, p.takes.given, p.long.0)

@@ -1,6 +1,7 @@
 -- A load answers exactly by what the input is.
-use Rattle.std.specs.Prelude.{◌≡◌, ℕ, ◌+◌, List, length, Option, Result, Ok, Err}
-use Rattle.vms_io.specs.Causes.{capped}
+use Rattle.std.specs.Prelude.{◌≡◌, ℕ, ◌+◌, ◌≤◌, List, length, Option, Result, Ok, Err}
+use Rattle.vms_io.specs.Reading.{Last, Reads}
+use Rattle.vms_io.specs.Told.{Intake}
 use Rattle.vms_spec.specs.declared.Reason.{Reason}
 use Rattle.vms_stream.specs.Faults.{Fault}
 use Rattle.vms_spec.specs.Images.{Image}
@@ -10,9 +11,9 @@ use Rattle.vms_stream.specs.Streams.{Takes}
 use Rattle.vms_spec.specs.WellFormed.{WellFormed}
 use Rattle.vms_spec.specs.Heads.{FitsHeads}
 use Rattle.vms_frames.specs.declared.fault.Refusal.{Refusal}
-use Rattle.vms_load.specs.Hearing.{HearsLoad}
+use Rattle.vms_load.specs.Going.{LoadReads}
 use Rattle.vms_load.specs.Loads.{Loads}
-use Rattle.vms_load.specs.Staging.{name_of}
+use Rattle.vms_load.specs.Staging.{most_given, name_of}
 use Rattle.vms_load.specs.declared.fault.LoadFault.{LoadFault}
 use Rattle.vms_load.specs.declared.fault.LoadFault.TheVariants as faults
 
@@ -42,15 +43,13 @@ ExactLaw = (set : Set) (names : List (List ℕ)) → WellFormed set → FitsHead
     → (left : Option (List ℕ)) (images : List Image) (taken : ℕ) (result : Result (Option ℕ) LoadFault)
     → Loads set names input left images taken result → IsExact set names input images taken result
 
--- A refusal, whether or not the source tells its bytes: of some bytes, as many as were given, it is the fault, and they end
--- with the unit at fault.
-pub record EndsAtUnit (set : Set) (names : List (List ℕ)) (before now : ℕ) (r : Refusal) : Type 0 where
-  pub bytes : List ℕ
+-- the input has this fault, and what is left of it begins behind the unit at fault
+pub record EndsAtUnit (set : Set) (names : List (List ℕ)) (r : Refusal) (input left : List ℕ) : Type 0 where
   pub size : ℕ
-  pub fault : Fault set names bytes r.at r.section r.reason size
-  pub ends : length bytes ≡ r.at + size
-  pub given : now ≡ capped (before + (r.at + size))
+  pub fault : Fault set names input r.at r.section r.reason size
+  pub ends : length input ≡ (r.at + size) + length left
 
-abbrev pub HeardLaw : Type 0
-HeardLaw = (set : Set) (names : List (List ℕ)) (before now : ℕ) (images : List Image) (taken : ℕ) (r : Refusal)
-    → HearsLoad set names before now images taken (Err (faults.Refused r)) → EndsAtUnit set names before now r
+-- Of a refused load, whether or not the source tells its bytes: those that were taken end with the unit at fault.
+abbrev pub UnitLaw : Type 0
+UnitLaw = (set : Set) (names : List (List ℕ)) (old new : Intake) (images : List Image) (taken : ℕ) (r : Refusal)
+    → LoadReads old new set names images taken (Err (faults.Refused r)) → Reads Last old new (λ n. n ≤ most_given set) (EndsAtUnit set names r)

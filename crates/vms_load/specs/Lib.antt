@@ -4,7 +4,6 @@ pub mod Exact
 pub mod Going
 pub mod Good
 pub mod Heads
-pub mod Hearing
 pub mod Kept
 pub mod Loads
 pub mod Parts

@@ -39,7 +39,6 @@ impl Loader {
     ghost use Rattle.vms_load.specs.Kept.{loads, kept, taken_by};
     ghost use Rattle.vms_io.specs.Told.{intake};
     ghost use Rattle.vms_load.specs.Going.{LoadReads};
-    ghost use Rattle.vms_load.specs.Hearing.{HearsLoad};
     ghost use Rattle.vms_load.specs.Staging.{IsMachine, accepted_of};
 
     /// A loader that has taken no stream yet: each image is at its defaults. All memory that a load needs is

@@ -8,14 +8,14 @@ use Rattle.vms_commands.specs.Outcomes.{Outcome}
 use Rattle.vms_commands.proofs.StepLemmas.{ended_by, had_by}
 use Rattle.vms_script.specs.Lines.{ScriptLine}
 use Rattle.vms_script.specs.Views.{event_lines}
-use Rattle.vms_board_commands.proofs.HeardLemmas.{given_so, heard_so, other_heard, script_other}
 use Rattle.vms_board_commands.proofs.LoadLemmas.{gives_none, gives_some, loads_under}
 use Rattle.vms_commands.proofs.CourseLemmas.{so_since}
 use Rattle.vms_board_commands.proofs.CourseLemmas.{load_asks, script_so}
 use Rattle.vms_board_commands.specs.Causes.{load_course}
-use Rattle.vms_board_commands.specs.Heard.{HearsEnd}
 use Rattle.vms_board_commands.specs.Load.{Loads}
 use Rattle.vms_board_commands.specs.Scripts.{scripted}
+use Rattle.vms_board_commands.specs.Seen.{SeenAs}
+use Rattle.vms_board_commands.proofs.SeenLemmas.{other_seen, script_other, seen_given}
 use Rattle.vms_board_commands.proofs.load.load_board.Goals as goal
 
 abbrev view : Vec Event Global → List ScriptLine
@@ -55,25 +55,23 @@ pub returns-in-Err-clause-given : goal.returns-in-Err-clause-given
 returns-in-Err-clause-given g c =
     gives_none g.M.Machine.family (scripted None (g.H.Shelf.held c.args.shelf.now) c.args.asked.script.now) (intake g.I.Source c.args.input.now)
 
--- ---- what is heard
+-- ---- what is seen
 
-pub returns-in-Ok-clause-heard : goal.returns-in-Ok-clause-heard
-returns-in-Ok-clause-heard g c =
+pub returns-in-Ok-clause-seen : goal.returns-in-Ok-clause-seen
+returns-in-Ok-clause-seen g c =
     let held = g.H.Shelf.held c.args.shelf.now in
     let level = c.args.asked.number in
     let outcome : List ScriptLine → List ℕ → Outcome → Type 0 = λ lines bytes o. Loads g.M.Machine.family level lines bytes held o in
-    let before = g.I.Source.given c.args.input.now in
-    let now = g.I.Source.given c.load_events.new.input in
+    let input = intake g.I.Source c.args.input.now in
+    let input' = intake g.I.Source c.load_events.new.input in
     let out = outlet g.O.Sink c.args.out.now in
     let out' = outlet g.O.Sink c.load_events.new.out in
-    heard_so (List ScriptLine) (scripted None held c.args.asked.script.now) outcome (view c.in-Ok.events) held before now out out' c.load_events.result
-    (given_so (List ScriptLine) (Vec Event Global) view (scripted None held c.args.asked.script.now) c.in-Ok.events c.in-Ok.ensures.read)
-    (subst (λ (l : List Event). HearsEnd (outcome (event_lines l)) held before now out out' c.load_events.result) c.deref.ensures.value (c.load_events.ensures.heard held))
+    let shelf = stock g.H.Shelf c.args.shelf.now in
+    let shelf' = stock g.H.Shelf c.events_of.new.shelf in
+    seen_given {P = outcome} view (scripted None held c.args.asked.script.now) c.in-Ok.events c.load_events.result c.in-Ok.ensures.read
+    (subst (λ (l : List Event). SeenAs (outcome (event_lines l)) input input' out out' shelf shelf' c.load_events.result) c.deref.ensures.value
+    (c.load_events.ensures.seen shelf shelf' c.in-Ok.ensures.asks.looks.held))
 
-pub returns-in-Err-clause-heard : goal.returns-in-Err-clause-heard
-returns-in-Err-clause-heard g c =
-    let held = g.H.Shelf.held c.args.shelf.now in
-    let given = g.I.Source.given c.args.input.now in
-    let out = outlet g.O.Sink c.args.out.now in
-    other_heard (List ScriptLine) (scripted None held c.args.asked.script.now) (λ lines bytes o. Loads g.M.Machine.family c.args.asked.number lines bytes held o) held given given out out c.in-Err.ending
-    (script_other (stock g.H.Shelf c.args.shelf.now) (stock g.H.Shelf c.events_of.new.shelf) c.in-Err.ending c.in-Err.ensures.asks.cause)
+pub returns-in-Err-clause-seen : goal.returns-in-Err-clause-seen
+returns-in-Err-clause-seen g c =
+    other_seen c.in-Err.ending (script_other (stock g.H.Shelf c.args.shelf.now) (stock g.H.Shelf c.events_of.new.shelf) c.in-Err.ending c.in-Err.ensures.asks.cause)

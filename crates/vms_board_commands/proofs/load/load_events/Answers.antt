@@ -8,8 +8,9 @@ use Rattle.vms_board_commands.proofs.LoadLemmas.{loads_under}
 use Rattle.vms_commands.proofs.CourseLemmas.{same_so}
 use Rattle.vms_commands.specs.declared.ending.Ending.TheVariants.{NoMemory}
 use Rattle.vms_board_commands.specs.Causes.{load_course}
-use Rattle.vms_board_commands.specs.Heard.{HearsEnd}
 use Rattle.vms_board_commands.specs.Load.{Loads}
+use Rattle.vms_board_commands.specs.Seen.{SeenAs}
+use Rattle.vms_board_commands.proofs.SeenLemmas.{other_seen}
 use Rattle.vms_board_commands.proofs.load.load_events.Goals as goal
 
 pub returns-clause-content : goal.returns-clause-content
@@ -30,9 +31,12 @@ returns-clause-so g c = c.load_on.ensures.so
 pub returns-in_default-clause-so : goal.returns-in_default-clause-so
 returns-in_default-clause-so g c = λ shelf. same_so (intake g.I.Source c.args.input.now) (outlet g.O.Sink c.args.out.now) shelf load_course NoMemory refl tt
 
-pub returns-clause-heard : goal.returns-clause-heard
-returns-clause-heard g c = λ held.
+pub returns-clause-seen : goal.returns-clause-seen
+returns-clause-seen g c = λ shelf shelf' held.
     let number = ap g.M.Machine.family.number c.in-Ok.ensures.state ∙ g.met.M.Machine.stands.begun c.args.number in
-    subst (λ (l : ℕ). HearsEnd (λ bytes o. Loads g.M.Machine.family l (event_lines c.args.events.now) bytes held o) held (g.I.Source.given c.args.input.now) (g.I.Source.given c.load_on.new.input)
-    (outlet g.O.Sink c.args.out.now) (outlet g.O.Sink c.load_on.new.out) c.load_on.result)
-    number (c.load_on.ensures.heard held)
+    subst (λ (l : ℕ). SeenAs (λ bytes o. Loads g.M.Machine.family l (event_lines c.args.events.now) bytes shelf.held o) (intake g.I.Source c.args.input.now) (intake g.I.Source c.load_on.new.input)
+    (outlet g.O.Sink c.args.out.now) (outlet g.O.Sink c.load_on.new.out) shelf shelf' c.load_on.result)
+    number (c.load_on.ensures.seen shelf shelf' held)
+
+pub returns-in_default-clause-seen : goal.returns-in_default-clause-seen
+returns-in_default-clause-seen g c = λ shelf shelf' held. other_seen NoMemory refl

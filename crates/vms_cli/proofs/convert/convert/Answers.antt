@@ -7,7 +7,9 @@ use Rattle.vms_commands.specs.StepEndings.{ReadCause, text_of}
 use Rattle.vms_commands.proofs.EndLemmas.{quiet_same}
 use Rattle.vms_commands.proofs.StepLemmas.{ended_by, first_err, had_by, then_as}
 use Rattle.vms_cli.specs.Convert.{ConvertsWell, agrees}
-use Rattle.vms_cli.proofs.ConvertSteps.{behind_so, converts_after, converts_next, gives_next, hears_next, unfetched, unread, unset_so}
+use Rattle.vms_cli.proofs.ConvertSteps.{behind_so, converts_after, converts_next, gives_next, seen_next, unfetched, unread, unset_so}
+use Rattle.vms_board_commands.proofs.SeenLemmas.{other_seen}
+use Rattle.vms_cli.proofs.ShowLemmas.{set_other}
 use Rattle.vms_cli.proofs.convert.convert.Goals as goal
 
 pub returns-in-Ok-read_fetched-clause-content : goal.returns-in-Ok-read_fetched-clause-content
@@ -28,14 +30,14 @@ returns-in-Ok-read_fetched-clause-given g c =
     let had = then_as text_of described set_in (fetched_set held word) c.in-Ok.text (Ok set) c.in-Ok.ensures.fetched c.in-Ok-read_fetched.ensures.read in
     gives_next described agrees (word_set held word) set (intake g.I.Source c.args.input.now) (intake g.I.Source c.convert_to.new.input) had c.convert_to.ensures.given
 
-pub returns-in-Ok-read_fetched-clause-heard : goal.returns-in-Ok-read_fetched-clause-heard
-returns-in-Ok-read_fetched-clause-heard g c =
+pub returns-in-Ok-read_fetched-clause-seen : goal.returns-in-Ok-read_fetched-clause-seen
+returns-in-Ok-read_fetched-clause-seen g c =
     let held = g.H.Shelf.held c.args.shelf.now in
     let word = set_asked c.args.set in
     let set = c.in-Ok-read_fetched.set in
     let had = then_as text_of described set_in (fetched_set held word) c.in-Ok.text (Ok set) c.in-Ok.ensures.fetched c.in-Ok-read_fetched.ensures.read in
-    hears_next described agrees (ConvertsWell held) held (g.I.Source.given c.args.input.now) (g.I.Source.given c.convert_to.new.input)
-    (outlet g.O.Sink c.args.out.now) (outlet g.O.Sink c.convert_to.new.out) c.convert_to.result (word_set held word) set had (c.convert_to.ensures.heard held)
+    seen_next described agrees (ConvertsWell held) c.convert_to.result (word_set held word) set had
+    (c.convert_to.ensures.seen (stock g.H.Shelf c.args.shelf.now) (stock g.H.Shelf c.fetch_set.new.shelf) c.in-Ok.ensures.asks.looks.held)
 
 pub returns-in-Err-clause-content : goal.returns-in-Err-clause-content
 returns-in-Err-clause-content g c = λ o has.
@@ -87,3 +89,20 @@ returns-clause-so g c =
     let ending = c.in-Err-read_fetched.ending in
     unset_so (intake g.I.Source c.args.input.now) (outlet g.O.Sink c.args.out.now) s s' fetched.asks.looks
     b fetched.asks.unasked ending (unread b s s' ending (subst (λ (x : Bool). ReadCause {T = ℕ} x (Err ending)) fetched.text c.in-Err-read_fetched.ensures.ends))
+
+-- ---- what isn't seen
+
+pub returns-in-Err-clause-seen : goal.returns-in-Err-clause-seen
+returns-in-Err-clause-seen g c =
+    let b = is_on_shelf (set_asked c.args.set) in
+    let s = stock g.H.Shelf c.args.shelf.now in
+    let s' = stock g.H.Shelf c.fetch_set.new.shelf in
+    other_seen c.in-Err.ending (set_other b s s' c.in-Err.ending (unfetched b s s' c.in-Err.ending c.in-Err.ensures.asks.cause))
+
+pub returns-clause-seen : goal.returns-clause-seen
+returns-clause-seen g c =
+    let b = is_on_shelf (set_asked c.args.set) in
+    let s = stock g.H.Shelf c.args.shelf.now in
+    let s' = stock g.H.Shelf c.fetch_set.new.shelf in
+    let ending = c.in-Err-read_fetched.ending in
+    other_seen ending (set_other b s s' ending (unread b s s' ending (subst (λ (x : Bool). ReadCause {T = ℕ} x (Err ending)) c.in-Ok.ensures.text c.in-Err-read_fetched.ensures.ends)))

@@ -1,7 +1,7 @@
 use Rattle.vms_io.specs.Told.{intake, outlet}
 use Rattle.vms_desc.specs.Described.{described}
 use Rattle.vms_desc.proofs.Bounds.{fit_of}
-use Rattle.vms_cli.proofs.ConvertLemmas.{convert_content, convert_given, convert_hears, convert_so, names_cell}
+use Rattle.vms_cli.proofs.ConvertLemmas.{convert_content, convert_given, convert_seen, convert_so, names_cell}
 use Rattle.vms_cli.proofs.convert.convert_to.Goals as goal
 
 pub ending_of-requires : goal.ending_of-requires
@@ -29,8 +29,8 @@ returns-clause-given g c =
     convert_given (described to) (fit_of (described to) to.well_formed to.heads) (intake g.I.Source c.args.input.now) (intake g.I.Source c.convert.new.source)
     (outlet g.O.Sink c.args.out.now) (outlet g.O.Sink c.convert.new.sink) c.convert.result c.convert.ensures
 
-pub returns-clause-heard : goal.returns-clause-heard
-returns-clause-heard g c = λ held.
+pub returns-clause-seen : goal.returns-clause-seen
+returns-clause-seen g c = λ shelf shelf' held.
     let to = c.args.to.now in
-    convert_hears (described to) (fit_of (described to) to.well_formed to.heads) (intake g.I.Source c.args.input.now) (intake g.I.Source c.convert.new.source)
-    (outlet g.O.Sink c.args.out.now) (outlet g.O.Sink c.convert.new.sink) c.convert.result c.ending_of.result c.ending_of.ensures c.convert.ensures held
+    convert_seen (described to) (fit_of (described to) to.well_formed to.heads) (intake g.I.Source c.args.input.now) (intake g.I.Source c.convert.new.source)
+    (outlet g.O.Sink c.args.out.now) (outlet g.O.Sink c.convert.new.sink) c.convert.result c.ending_of.result c.ending_of.ensures c.convert.ensures shelf shelf' held

@@ -9,10 +9,8 @@ use Rattle.vms_commands.proofs.CourseLemmas.{draws_none}
 use Rattle.vms_io.proofs.ShelvingLemmas.{looks_reaches}
 use Rattle.vms_commands.proofs.EndLemmas.{quiet_same}
 use Rattle.vms_commands.proofs.StepLemmas.{ended_by, had_by}
-use Rattle.vms_board_commands.proofs.HeardLemmas.{given_so, heard_so, other_heard}
+use Rattle.vms_board_commands.proofs.SeenLemmas.{other_seen, seen_given}
 use Rattle.vms_load.proofs.SetFacts.{well_of}
-use Rattle.vms_load.specs.declared.loader.Loader.{Loader}
-use Rattle.vms_spec.specs.Sets.{Set}
 use Rattle.vms_cli.specs.Show.{ShowsWell}
 use Rattle.vms_cli.proofs.EndsSo.{show_ends}
 use Rattle.vms_cli.proofs.ShowLemmas.{set_other, gives_none, gives_within, shows_under}
@@ -71,20 +69,14 @@ pub returns-in-Err-clause-given : goal.returns-in-Err-clause-given
 returns-in-Err-clause-given g c =
     gives_none (word_set (g.H.Shelf.held c.args.shelf.now) (set_asked c.args.set)) (intake g.I.Source c.args.input.now)
 
--- ---- what is heard
+-- ---- what is seen
 
-pub returns-in-Ok-clause-heard : goal.returns-in-Ok-clause-heard
-returns-in-Ok-clause-heard g c =
+pub returns-in-Ok-clause-seen : goal.returns-in-Ok-clause-seen
+returns-in-Ok-clause-seen g c =
     let held = g.H.Shelf.held c.args.shelf.now in
-    let step = word_set held (set_asked c.args.set) in
-    heard_so Set step (ShowsWell held) (loads c.in-Ok.loader) held (g.I.Source.given c.args.input.now) (g.I.Source.given c.show_stream.new.input)
-    (outlet g.O.Sink c.args.out.now) (outlet g.O.Sink c.show_stream.new.out) c.show_stream.result
-    (given_so Set Loader loads step c.in-Ok.loader c.in-Ok.ensures.had) (c.show_stream.ensures.heard held)
+    seen_given {P = ShowsWell held} loads (word_set held (set_asked c.args.set)) c.in-Ok.loader c.show_stream.result c.in-Ok.ensures.had
+    (c.show_stream.ensures.seen (stock g.H.Shelf c.args.shelf.now) (stock g.H.Shelf c.loader_of.new.shelf) c.in-Ok.ensures.asks.looks.held)
 
-pub returns-in-Err-clause-heard : goal.returns-in-Err-clause-heard
-returns-in-Err-clause-heard g c =
-    let held = g.H.Shelf.held c.args.shelf.now in
-    let given = g.I.Source.given c.args.input.now in
-    let out = outlet g.O.Sink c.args.out.now in
-    other_heard Set (word_set held (set_asked c.args.set)) (ShowsWell held) held given given out out c.in-Err.ending
-    (set_other (is_on_shelf (set_asked c.args.set)) (stock g.H.Shelf c.args.shelf.now) (stock g.H.Shelf c.loader_of.new.shelf) c.in-Err.ending c.in-Err.ensures.asks.cause)
+pub returns-in-Err-clause-seen : goal.returns-in-Err-clause-seen
+returns-in-Err-clause-seen g c =
+    other_seen c.in-Err.ending (set_other (is_on_shelf (set_asked c.args.set)) (stock g.H.Shelf c.args.shelf.now) (stock g.H.Shelf c.loader_of.new.shelf) c.in-Err.ending c.in-Err.ensures.asks.cause)

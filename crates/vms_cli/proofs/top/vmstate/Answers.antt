@@ -7,5 +7,5 @@ returns g c =
     let run = c.run-ending.ensures in
     answers (intake g.I.Source c.args.input.now) (intake g.I.Source c.run-ending.new.input) (outlet g.O.Sink c.args.out.now) (outlet g.O.Sink c.run-ending.new.out)
     (outlet g.N.Sink c.args.notes.now) (outlet g.N.Sink c.tell.new.notes) (stock g.H.Shelf c.args.shelf.now) (stock g.H.Shelf c.run-ending.new.shelf)
-    c.args.words.now c.run-ending.result c.tell.result run.content (record { so = run.so; given = run.given; heard = run.heard; unnamed = run.unnamed })
+    c.args.words.now c.run-ending.result c.tell.result run.content (record { so = run.so; given = run.given; seen = run.seen; unnamed = run.unnamed })
     c.tell.ensures.tells c.tell.ensures.serves
