@@ -2,7 +2,6 @@
 use Rattle.std.proofs.Common.{◌⊎◌, inl, inr, ℕ, suc, ◌+◌, ◌≤◌, Bool, true, false, List, [], ◌∷◌, length, sum_by, Option, Some, None, ℤ, ap, subst, arith, if◌then◌else◌}
 use Rattle.std.proofs.lemmas.List.{length-append, length-map}
 use Rattle.std.proofs.lemmas.List.Sums.{sum_by-cons}
-use Rattle.std.specs.List.{flat_map}
 use Rattle.vms_spec.specs.declared.ValuesReason.{ValuesReason}
 use Rattle.vms_spec.specs.Sets.{Desc, Sub, Device, Set}
 use Rattle.vms_spec.specs.Layout.{Cell, desc_cells, struct_cells}
@@ -14,6 +13,7 @@ use Rattle.vms_elements.specs.Entries.{Entry, OfNumber, number_entries, subs_ent
 use Rattle.vms_elements.specs.Reading.{Refused, Reads}
 use Rattle.vms_elements.proofs.CellsOf.{elements_cells}
 use Rattle.vms_values_laws.specs.Laws.{device_lines, most_lines, LineLaw}
+use Rattle.vms_values_laws.proofs.ReadyParts.{sub_cells}
 use Rattle.vms_values_laws.proofs.Rights.{IsNumberOf, IsNoNumber, view}
 use Rattle.vms_values_laws.proofs.Stated.{read_holds}
 
@@ -33,9 +33,6 @@ few_numbers : (set : Set) (d : Desc) (n : List ℤ) (at : ℕ) → length (numbe
 few_numbers set d n at =
     let xs = elements_in set d d.version n at in
     omega (arith, length-map (printed xs) (λ x. OfNumber x n), few_printed xs, ap (λ (l : List Cell). length l) (elements_cells set d d.version n at))
-
-abbrev sub_cells : Set → List Sub → List Cell
-sub_cells set subs = flat_map (λ s. desc_cells (struct_cells set) s.desc) subs
 
 few_subs : (set : Set) (d : Device) (image : Image) (j at : ℕ) (subs : List Sub) (came : List (Option ℕ)) → length (subs_entries set d image j at subs came) ≤ length subs + length (sub_cells set subs)
 few_subs set d image j at [] came = omega arith

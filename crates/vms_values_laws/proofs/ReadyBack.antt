@@ -2,7 +2,7 @@
 use Rattle.std.proofs.Common.{◌≡◌, ℕ, suc, ◌+◌, ◌<◌, ◌≤◌, Bool, true, false, nat_lt, List, ◌∷◌, ◌++◌, length, get_or, Option, Some, None, ℤ, pos, refl, sym, ap, ◌∙◌, subst, arith, codes, []}
 use Rattle.std.proofs.lemmas.Bool.{ltb-true, ltb-false, or_from, or_parts, or_left, or_right}
 use Rattle.std.proofs.Math.ListN.{get_or-eq_default}
-use Rattle.std.specs.List.{flat_map, slice_get}
+use Rattle.std.specs.List.{slice_get}
 use Rattle.std.specs.Str.{bytes_eq}
 use Rattle.std.proofs.lemmas.Slice.Eq.{bytes_eq-Decides}
 use Rattle.vms_spec.specs.declared.ValuesReason.TheVariants as reasons
@@ -31,7 +31,7 @@ use Rattle.vms_values_laws.proofs.SecondPass.{desc_rules}
 use Rattle.vms_values_laws.proofs.Numbers.{AreShort}
 use Rattle.vms_values_laws.proofs.AllCome.{are_short}
 use Rattle.vms_values_laws.proofs.Rights.{AreRight, AreBare}
-use Rattle.vms_values_laws.proofs.ReadyParts.{AreGood}
+use Rattle.vms_values_laws.proofs.ReadyParts.{AreGood, sub_cells}
 use Rattle.vms_elements.proofs.Counting.{elements_counted}
 use Rattle.vms_values_laws.proofs.ReadySays.{bare_bytes, below_bytes, above_bytes, right_front, right_back, right_said, bare_have}
 
@@ -88,9 +88,6 @@ bytes_same a b e = ap (λ (l : List ℕ). if_not (bytes_eq a l) reasons.Form) (s
 module _ (set : Set) (d : Device) (image : Image) (short_all : AreShort image.numbers) where
   abbrev n : List ℤ
   n = image.numbers
-
-  abbrev sub_cells : List Sub → List Cell
-  sub_cells subs = flat_map (λ s. desc_cells (struct_cells set) s.desc) subs
 
   came_below : (at : ℕ) (subs : List Sub) (came : List (Option ℕ)) (k : ℕ) → k < at → has_cell (came_slots set d n at subs came) k ≡ false
   came_below at [] came k lt = refl
@@ -168,7 +165,7 @@ module _ (set : Set) (d : Device) (image : Image) (short_all : AreShort image.nu
           unsaid = λ k e. later.unsaid k (or_parts (has_line numbers k) (has_line others k) (sym (lines_both numbers others k) ∙ e)).1;
         }
 
-  subs_say : (j at : ℕ) (subs : List Sub) (came : List (Option ℕ)) → ComeAsNeeded set d image j subs came → AreRight n at (sub_cells subs) (came_slots set d n at subs came) → RulesHold (came_slots set d n at subs came)
+  subs_say : (j at : ℕ) (subs : List Sub) (came : List (Option ℕ)) → ComeAsNeeded set d image j subs came → AreRight n at (sub_cells set subs) (came_slots set d n at subs came) → RulesHold (came_slots set d n at subs came)
       → SubsSay j at subs came
   subs_say j at [] [] needed right rules = record { long = refl; versions = tt; fine = tt; good = tt; unsaid = λ k e. refl }
   subs_say j at [] (o ∷ came) needed right rules = absurd (cc)
@@ -177,16 +174,16 @@ module _ (set : Set) (d : Device) (image : Image) (short_all : AreShort image.nu
       let own = desc_cells (struct_cells set) s.desc in
       let next = at + length own in
       let later = came_slots set d n next subs came in
-      it_did_not s j at subs came needed.0 (right_front n at own (sub_cells subs) [] later (λ k lt. came_below next subs came k lt) right)
-      (subs_say (suc j) next subs came needed.1 (right_back n at own (sub_cells subs) [] later (λ k le. refl) right) rules)
+      it_did_not s j at subs came needed.0 (right_front n at own (sub_cells set subs) [] later (λ k lt. came_below next subs came k lt) right)
+      (subs_say (suc j) next subs came needed.1 (right_back n at own (sub_cells set subs) [] later (λ k le. refl) right) rules)
   subs_say j at (s ∷ subs) (Some v ∷ came) needed right rules =
       let own = desc_cells (struct_cells set) s.desc in
       let next = at + length own in
       let mine = sub_slots set s v n at in
       let later = came_slots set d n next subs came in
       let p = rules_split mine later rules in
-      it_came s j at subs came v needed.1 needed.0 (right_front n at own (sub_cells subs) mine later (λ k lt. came_below next subs came k lt) right) p.0
-      (subs_say (suc j) next subs came needed.2 (right_back n at own (sub_cells subs) mine later (λ k le. desc_above set n short_all s.desc v at k le) right) p.1)
+      it_came s j at subs came v needed.1 needed.0 (right_front n at own (sub_cells set subs) mine later (λ k lt. came_below next subs came k lt) right) p.0
+      (subs_say (suc j) next subs came needed.2 (right_back n at own (sub_cells set subs) mine later (λ k le. desc_above set n short_all s.desc v at k le) right) p.1)
 
   -- what the lines of a device are
   pub record DeviceSays : Type 0 where
@@ -203,7 +200,7 @@ module _ (set : Set) (d : Device) (image : Image) (short_all : AreShort image.nu
       let numbers = number_entries set d.desc n 0 in
       let others = subs_entries set d image 0 (own_cells set d) d.subs image.came in
       let start : 0 + length own ≡ own_cells set d = omega arith in
-      let all : AreRight n 0 (own ++ sub_cells d.subs) (mine ++ later) =
+      let all : AreRight n 0 (own ++ sub_cells set d.subs) (mine ++ later) =
       record {
         right = λ c k lt e. let same : k ≡ c = omega arith in
             record {
@@ -214,8 +211,8 @@ module _ (set : Set) (d : Device) (image : Image) (short_all : AreShort image.nu
       let rules = rules_split mine later ready.valid in
       let subs : SubsSay 0 (own_cells set d) d.subs image.came =
       subs_say 0 (own_cells set d) d.subs image.came ready.needed
-      (subst (λ (i : ℕ). AreRight n i (sub_cells d.subs) later) start (right_back n 0 own (sub_cells d.subs) mine later (λ k le. desc_above set n short_all d.desc image.version 0 k le) all)) rules.1 in
-      let front : AreRight n 0 own mine = right_front n 0 own (sub_cells d.subs) mine later (λ k lt. came_below (own_cells set d) d.subs image.came k (omega arith)) all in
+      (subst (λ (i : ℕ). AreRight n i (sub_cells set d.subs) later) start (right_back n 0 own (sub_cells set d.subs) mine later (λ k le. desc_above set n short_all d.desc image.version 0 k le) all)) rules.1 in
+      let front : AreRight n 0 own mine = right_front n 0 own (sub_cells set d.subs) mine later (λ k lt. came_below (own_cells set d) d.subs image.came k (omega arith)) all in
       let at_version : AreRight n 0 own (own_slots set d d.desc.version n) = subst (λ (v : ℕ). AreRight n 0 own (own_slots set d v n)) ready.version front in
       record {
         shaped = record { version = ready.version; subs = subs.long; versions = subs.versions; cells = ready.normal.cells.long; short = are_short n short_all };

@@ -83,14 +83,15 @@ module _ (set : Set) (n : List ℤ) (short : AreShort n) where
       above_lines n at (elements_in set d d.version n at) (elements_laid set d d.version n at) k
       (omega (arith, ap (λ (l : List Cell). length l) (elements_cells set d d.version n at)))
 
+-- the cells of subsections
+abbrev pub sub_cells : Set → List Sub → List Cell
+sub_cells set subs = flat_map (λ s. desc_cells (struct_cells set) s.desc) subs
+
 -- ---- a device
 
 module _ (set : Set) (d : Device) (image : Image) (short : AreShort image.numbers) where
   abbrev n : List ℤ
   n = image.numbers
-
-  abbrev sub_cells : List Sub → List Cell
-  sub_cells subs = flat_map (λ s. desc_cells (struct_cells set) s.desc) subs
 
   pub below_subs : (j at : ℕ) (subs : List Sub) (came : List (Option ℕ)) (k : ℕ) → k < at → has_line (subs_entries set d image j at subs came) k ≡ false
   below_subs j at [] came k lt = refl
@@ -103,7 +104,7 @@ module _ (set : Set) (d : Device) (image : Image) (short : AreShort image.number
 
   -- what is so of the subsections
   pub record SubsReady (j at : ℕ) (subs : List Sub) (came : List (Option ℕ)) : Type 0 where
-    pub right : AreRight n at (sub_cells subs) (came_slots set d n at subs came)
+    pub right : AreRight n at (sub_cells set subs) (came_slots set d n at subs came)
     pub valid : RulesHold (came_slots set d n at subs came)
     pub needed : ComeAsNeeded set d image j subs came
 
@@ -116,7 +117,7 @@ module _ (set : Set) (d : Device) (image : Image) (short : AreShort image.number
         → SubsReady (suc j) next subs came → SubsReady j at (s ∷ subs) (Some v ∷ came)
     it_came v same right true needed holds well later =
         record {
-          right = right_both n at (desc_cells (struct_cells set) s.desc) (sub_cells subs) (sub_slots set s v n at) (came_slots set d n next subs came)
+          right = right_both n at (desc_cells (struct_cells set) s.desc) (sub_cells set subs) (sub_slots set s v n at) (came_slots set d n next subs came)
               (subst (λ (w : ℕ). AreRight n at (desc_cells (struct_cells set) s.desc) (sub_slots set s w n at)) (sym same) right) later.right;
           valid = rules_append (sub_slots set s v n at) (came_slots set d n next subs came) (rules_are (sub_slots set s v n at) (sym (desc_rules set s.desc v n at) ∙ holds)) later.valid;
           needed = (needed, same, later.needed);
@@ -128,7 +129,7 @@ module _ (set : Set) (d : Device) (image : Image) (short : AreShort image.number
     it_did_not defaults true needed well later = cc
     it_did_not defaults false needed well later =
         record {
-          right = right_both n at (desc_cells (struct_cells set) s.desc) (sub_cells subs) [] (came_slots set d n next subs came)
+          right = right_both n at (desc_cells (struct_cells set) s.desc) (sub_cells set subs) [] (came_slots set d n next subs came)
               (default_right set n short at (desc_cells (struct_cells set) s.desc) [] defaults (desc_bare set n short s.desc at well)) later.right;
           valid = later.valid;
           needed = (needed, later.needed);
@@ -145,7 +146,7 @@ module _ (set : Set) (d : Device) (image : Image) (short : AreShort image.number
         it_did_not defaults (is_needed set d image s j) refl (two_none true well good).1 later
 
   pub subs_ready : (j at : ℕ) (subs : List Sub) (came : List (Option ℕ)) → length came ≡ length subs → AreAtVersions subs came → AreFine (subs_entries set d image j at subs came)
-      → AreGood set (subs_entries set d image j at subs came) → DefaultsFit (sub_cells subs) → AreBare n at (sub_cells subs) (λ k. has_line (subs_entries set d image j at subs came) k)
+      → AreGood set (subs_entries set d image j at subs came) → DefaultsFit (sub_cells set subs) → AreBare n at (sub_cells set subs) (λ k. has_line (subs_entries set d image j at subs came) k)
       → SubsReady j at subs came
   subs_ready j at [] [] long versions fine good defaults bare = record { right = right_none n at []; valid = tt; needed = refl }
   subs_ready j at [] (o ∷ came) long versions fine good defaults bare = absurd (omega (arith, long))
@@ -158,13 +159,13 @@ module _ (set : Set) (d : Device) (image : Image) (short : AreShort image.number
       let f = fine_both numbers others fine.1 in
       let g = good_both set numbers others good.1 in
       let front : AreBare n at own (λ k. has_line numbers k) =
-      bare_front n at own (sub_cells subs) (λ k. has_line numbers k) (λ k. has_line (subs_entries set d image j at (s ∷ subs) (o ∷ came)) k)
+      bare_front n at own (sub_cells set subs) (λ k. has_line numbers k) (λ k. has_line (subs_entries set d image j at (s ∷ subs) (o ∷ came)) k)
       (λ k lt e. lines_both numbers others k ∙ or_from (has_line numbers k) (has_line others k) e (below_subs (suc j) next subs came k lt)) bare in
-      let back : AreBare n next (sub_cells subs) (λ k. has_line others k) =
-      bare_back n at own (sub_cells subs) (λ k. has_line others k) (λ k. has_line (subs_entries set d image j at (s ∷ subs) (o ∷ came)) k)
+      let back : AreBare n next (sub_cells set subs) (λ k. has_line others k) =
+      bare_back n at own (sub_cells set subs) (λ k. has_line others k) (λ k. has_line (subs_entries set d image j at (s ∷ subs) (o ∷ came)) k)
       (λ k le e. lines_both numbers others k ∙ or_from (has_line numbers k) (has_line others k) (above_desc set n short s.desc at k le) e) bare in
-      by_line s j at subs came o versions.0 (desc_right set n short s.desc at f.0 (fit_front own (sub_cells subs) defaults) front) (fit_front own (sub_cells subs) defaults) good.0
-      (subs_ready (suc j) next subs came (omega (arith, long)) versions.1 f.1 g.1 (fit_back own (sub_cells subs) defaults) back)
+      by_line s j at subs came o versions.0 (desc_right set n short s.desc at f.0 (fit_front own (sub_cells set subs) defaults) front) (fit_front own (sub_cells set subs) defaults) good.0
+      (subs_ready (suc j) next subs came (omega (arith, long)) versions.1 f.1 g.1 (fit_back own (sub_cells set subs) defaults) back)
 
   -- ---- the whole
 
@@ -187,22 +188,22 @@ module _ (set : Set) (d : Device) (image : Image) (short : AreShort image.number
       let f = fine_both numbers others fine.1 in
       let g = good_both set numbers others good.1 in
       let next : own_cells set d ≡ 0 + length own = omega arith in
-      let bare : AreBare n 0 (own ++ sub_cells d.subs) (λ k. has_line (device_entries set d image) k) =
+      let bare : AreBare n 0 (own ++ sub_cells set d.subs) (λ k. has_line (device_entries set d image) k) =
       λ c k lt e h. let same : k ≡ c = omega arith in
       unsaid k (omega (arith, shaped.cells)) h ∙ ap (λ (i : ℕ). (get_or (device_cells set d) i no_cell).default) same in
       let front : AreBare n 0 own (λ k. has_line numbers k) =
-      bare_front n 0 own (sub_cells d.subs) (λ k. has_line numbers k) (λ k. has_line (device_entries set d image) k)
+      bare_front n 0 own (sub_cells set d.subs) (λ k. has_line numbers k) (λ k. has_line (device_entries set d image) k)
       (λ k lt e. lines_both numbers others k ∙ or_from (has_line numbers k) (has_line others k) e (below_subs 0 (own_cells set d) d.subs image.came k (omega arith))) bare in
-      let back : AreBare n (0 + length own) (sub_cells d.subs) (λ k. has_line others k) =
-      bare_back n 0 own (sub_cells d.subs) (λ k. has_line others k) (λ k. has_line (device_entries set d image) k)
+      let back : AreBare n (0 + length own) (sub_cells set d.subs) (λ k. has_line others k) =
+      bare_back n 0 own (sub_cells set d.subs) (λ k. has_line others k) (λ k. has_line (device_entries set d image) k)
       (λ k le e. lines_both numbers others k ∙ or_from (has_line numbers k) (has_line others k) (above_desc set n short d.desc 0 k le) e) bare in
-      let subs = subs_ready 0 (own_cells set d) d.subs image.came shaped.subs shaped.versions f.1 g.1 (fit_back own (sub_cells d.subs) defaults)
-      (subst (λ (i : ℕ). AreBare n i (sub_cells d.subs) (λ k. has_line others k)) (sym next) back) in
-      let mine : AreRight n 0 own (own_slots set d d.desc.version n) = desc_right set n short d.desc 0 f.0 (fit_front own (sub_cells d.subs) defaults) front in
+      let subs = subs_ready 0 (own_cells set d) d.subs image.came shaped.subs shaped.versions f.1 g.1 (fit_back own (sub_cells set d.subs) defaults)
+      (subst (λ (i : ℕ). AreBare n i (sub_cells set d.subs) (λ k. has_line others k)) (sym next) back) in
+      let mine : AreRight n 0 own (own_slots set d d.desc.version n) = desc_right set n short d.desc 0 f.0 (fit_front own (sub_cells set d.subs) defaults) front in
       let theirs : AreRight n 0 own (own_slots set d image.version n) = subst (λ (v : ℕ). AreRight n 0 own (own_slots set d v n)) (sym shaped.version) mine in
       let all : AreRight n 0 (device_cells set d) (image_slots set d image) =
-      right_both n 0 own (sub_cells d.subs) (own_slots set d image.version n) (came_slots set d n (own_cells set d) d.subs image.came) theirs
-      (subst (λ (i : ℕ). AreRight n i (sub_cells d.subs) (came_slots set d n (own_cells set d) d.subs image.came)) next subs.right) in
+      right_both n 0 own (sub_cells set d.subs) (own_slots set d image.version n) (came_slots set d n (own_cells set d) d.subs image.came) theirs
+      (subst (λ (i : ℕ). AreRight n i (sub_cells set d.subs) (came_slots set d n (own_cells set d) d.subs image.came)) next subs.right) in
       record {
         normal = record {
           version = (let v = shaped.version in omega arith, let v = shaped.version in omega arith);
