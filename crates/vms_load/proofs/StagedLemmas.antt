@@ -1,15 +1,12 @@
 -- What is read of a stream so far, device by device.
-use Rattle.std.proofs.Common.{◌≡◌, ℕ, zero, suc, ◌+◌, ◌<◌, ◌≤◌, List, [], ◌∷◌, ◌++◌, length, length-append, get_or, map, replicate, drop, slice_set, Option, Some, None, Bool, true, false, ◌||◌, nat_lt, if◌then◌else◌, Ok, refl, sym, ap, ◌∙◌, subst, arith}
+use Rattle.std.proofs.Common.{◌≡◌, ℕ, zero, suc, ◌+◌, ◌<◌, ◌≤◌, List, [], ◌∷◌, ◌++◌, length, length-append, get_or, map, replicate, slice_set, Option, Some, None, Bool, true, false, nat_lt, if◌then◌else◌, Ok, refl, sym, ap, ◌∙◌, subst, arith}
 use Rattle.std.specs.List.{slice_get}
-use Rattle.std.specs.Str.{bytes_eq}
-use Rattle.std.proofs.lemmas.List.{length-map, length-set, drop_more, ext_get_or, get_or-map, map-set, get_or_default}
+use Rattle.std.proofs.lemmas.List.{length-map, length-set, ext_get_or, get_or-map, map-set, get_or_default}
 use Rattle.std.proofs.Math.ListN.{get_or-append}
 use Rattle.std.proofs.Math.Seq.{get_or-append_seam}
-use Rattle.std.proofs.lemmas.Slice.Eq.{bytes_eq-Decides}
 use Rattle.std.proofs.lemmas.Option.{slice_get-get_or}
 use Rattle.vms_spec.specs.Sets.{Device, Set}
 use Rattle.vms_spec.specs.Images.{Image, default_image}
-use Rattle.vms_spec.specs.Streams.{is_one_of}
 use Rattle.vms_spec.specs.declared.Reason.TheVariants as reasons
 use Rattle.vms_spec.specs.Lookup.{find_device}
 use Rattle.vms_stream.specs.SoFar.{Unknown}
@@ -17,7 +14,7 @@ use Rattle.vms_stream.specs.State.{State, Before, at_start}
 use Rattle.vms_parts.specs.Devices.{device_at}
 use Rattle.vms_load.specs.Heads.{unfit, opened_at, opened_unless, reason_against, section_opened}
 use Rattle.vms_image.specs.Typed.{Typed, state_of as untyped, default_at, IsImageOf, AreImagesOf}
-use Rattle.vms_load.specs.Staging.{AreShaped, begun_at, image_at, no_image, IsAccepted, section_bytes, sections_due}
+use Rattle.vms_load.specs.Staging.{AreShaped, begun_at, image_at, no_image, section_bytes, sections_due}
 use Rattle.vms_load.proofs.HeadLemmas.{unknown, known, device_below}
 
 pub get_set : {X : Type 0} (xs : List X) (k : ℕ) (x d : X) → k < length xs → get_or (slice_set xs k x) k d ≡ x
@@ -165,18 +162,6 @@ are_images set images s = record {
       let lt : k < length images = h.0 in
       subst (λ (x : Typed). IsImageOf set k x) h.1 (s.each k (omega (arith, lt, s.all)));
 }
-
--- ---- machines
-
-pub machine_found : (machines : List (List ℕ)) (i : ℕ) (name machine : List ℕ) → i < length machines → machine ≡ get_or machines i machine → bytes_eq machine name ≡ true
-    → is_one_of (drop i machines) name ≡ is_one_of machines name → IsAccepted machines None name (Some i)
-machine_found machines i name machine lt is same inv = (
-  sym inv ∙ ap (λ (l : List (List ℕ)). is_one_of l name) (drop_more machines i machine lt)
-      ∙ ap (λ (l : List ℕ). bytes_eq l name || is_one_of (drop (i + 1) machines) name) (sym is)
-      ∙ ap (λ (t : Bool). t || is_one_of (drop (i + 1) machines) name) same,
-  get_or_default machines i [] machine lt ∙ sym is ∙ (bytes_eq-Decides machine name).0 same,
-  lt,
-)
 
 -- ---- the start
 

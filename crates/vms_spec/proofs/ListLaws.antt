@@ -1,11 +1,12 @@
 -- Lists, and tests of them.
-use Rattle.std.proofs.Common.{◌≡◌, ℕ, zero, suc, ◌+◌, ◌*◌, ◌-◌, ◌<◌, ◌≤◌, min, Bool, true, false, ◌&&◌, nat_le, if◌then◌else◌, List, ◌∷◌, ◌++◌, length, drop, Option, Some, None, refl, sym, ap, ◌∙◌, arith, ◌||◌, []}
+use Rattle.std.proofs.Common.{◌≡◌, ℕ, zero, suc, ◌+◌, ◌*◌, ◌-◌, ◌<◌, ◌≤◌, min, Bool, true, false, ◌&&◌, nat_le, if◌then◌else◌, List, ◌∷◌, ◌++◌, length, get_or, drop, Option, Some, None, refl, sym, ap, ◌∙◌, arith, ◌||◌, []}
 use Rattle.std.specs.List.{AllByRecursion, slice_get}
 use Rattle.std.specs.Str.{bytes_eq}
 use Rattle.std.proofs.Math.Bool.{or_assoc, or_comm}
 use Rattle.std.proofs.Math.Seq.{drop-append_seam}
 use Rattle.std.proofs.lemmas.Bool.{and_from, and_parts, leb-true, le-leb}
-use Rattle.std.proofs.lemmas.List.{drop-drop}
+use Rattle.std.proofs.lemmas.List.{drop-drop, drop_more, get_or_read}
+use Rattle.std.proofs.lemmas.Slice.Eq.{bytes_eq-Decides}
 use Rattle.vms_spec.specs.Lists.{or_else, position}
 use Rattle.vms_spec.specs.Sets.{Sub}
 use Rattle.vms_spec.specs.Images.{AreVersionsOf}
@@ -98,3 +99,13 @@ versions_long (s ∷ subs) (Some v ∷ came) h = ap suc (versions_long subs came
 pub natural_up : (n : ℕ) (bs : List ℕ) → n ≤ natural_from n bs
 natural_up n [] = omega arith
 natural_up n (b ∷ bs) = omega (arith, natural_up (n * 10 + (b - 48)) bs)
+
+-- a name that is found, where no earlier one is it
+pub found_one : (names : List (List ℕ)) (i : ℕ) (name one : List ℕ) → i < length names → one ≡ get_or names i one → bytes_eq one name ≡ true → is_one_of (drop i names) name ≡ is_one_of names name
+    → (is_one_of names name ≡ true) × (get_or names i [] ≡ name)
+found_one names i name one lt is same inv = (
+  sym inv ∙ ap (λ (l : List (List ℕ)). is_one_of l name) (drop_more names i one lt)
+      ∙ ap (λ (l : List ℕ). bytes_eq l name || is_one_of (drop (i + 1) names) name) (sym is)
+      ∙ ap (λ (t : Bool). t || is_one_of (drop (i + 1) names) name) same,
+  sym (get_or_read names i one lt is []) ∙ (bytes_eq-Decides one name).0 same,
+)

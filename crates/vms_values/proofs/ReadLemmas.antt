@@ -1,12 +1,7 @@
 -- A text that is read line by line.
-use Rattle.std.proofs.Common.{◌≡◌, ℕ, ◌+◌, ◌<◌, Bool, true, false, ◌&&◌, ◌||◌, ◌==◌, List, [], ◌∷◌, ◌++◌, length, get_or, drop, Option, Some, None, Ok, Err, refl, sym, ap, ◌∙◌, subst, arith, drop-drop, length-append, MatchOption}
-use Rattle.std.proofs.lemmas.List.{drop_more, get_or_read}
+use Rattle.std.proofs.Common.{◌≡◌, ℕ, ◌+◌, Bool, true, false, ◌&&◌, ◌==◌, List, [], ◌∷◌, ◌++◌, length, drop, Option, Some, None, Ok, Err, refl, sym, ap, ◌∙◌, subst, arith, drop-drop, length-append, MatchOption}
 use Rattle.std.proofs.lemmas.Bool.{eqb-true}
-use Rattle.std.proofs.lemmas.Slice.Eq.{bytes_eq-Decides}
-use Rattle.std.specs.Str.{bytes_eq}
 use Rattle.std.specs.Borrow.{Bor}
-use Rattle.vms_spec.specs.Streams.{is_one_of}
-use Rattle.vms_values.specs.Machines.{IsMachine}
 use Rattle.vms_spec.specs.Spelling.{begins_with}
 use Rattle.vms_spec.specs.ValuesReading.{BadLine, Standing, Read}
 use Rattle.vms_values.specs.declared.fault.LineFault.{LineFault}
@@ -42,18 +37,6 @@ reached (Err b) now e = absurd e
 pub stopped : (part whole : Read) (now later : Standing) (e : LineFault) → ((b : BadLine) → part ≡ Err b → whole ≡ Err b) → Reaches part now (Err e) → Reaches whole later (Err e)
 stopped (Ok p) whole now later e h r = absurd r
 stopped (Err b) whole now later e h r = subst (λ (x : Read). Reaches x later (Err e)) (sym (h b refl)) r
-
--- ---- machines
-
-pub machine_found : (machines : List (List ℕ)) (i : ℕ) (name machine : List ℕ) → i < length machines → machine ≡ get_or machines i machine → bytes_eq machine name ≡ true
-    → is_one_of (drop i machines) name ≡ is_one_of machines name → IsMachine machines name (Some i)
-machine_found machines i name machine lt is same inv = (
-  sym inv ∙ ap (λ (l : List (List ℕ)). is_one_of l name) (drop_more machines i machine lt)
-      ∙ ap (λ (l : List ℕ). bytes_eq l name || is_one_of (drop (i + 1) machines) name) (sym is)
-      ∙ ap (λ (t : Bool). t || is_one_of (drop (i + 1) machines) name) same,
-  lt,
-  sym (get_or_read machines i machine lt is []) ∙ (bytes_eq-Decides machine name).0 same,
-)
 
 -- ---- ends
 

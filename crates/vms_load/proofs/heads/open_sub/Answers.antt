@@ -1,4 +1,4 @@
-use Rattle.std.proofs.Common.{◌≡◌, ◌<◌, sym, ap, ◌∙◌, arith, length, Option, Some, None, ℕ, Err, List, map}
+use Rattle.std.proofs.Common.{◌≡◌, ◌<◌, sym, ap, ◌∙◌, arith, length, get_or, Option, Some, None, ℕ, Err, List, map}
 use Rattle.std.proofs.lemmas.List.{length-map}
 use Rattle.vms_spec.specs.Sets.{Sub}
 use Rattle.vms_spec.specs.Lookup.{find_sub}
@@ -9,6 +9,7 @@ use Rattle.vms_desc.specs.Parts.{sub_at}
 use Rattle.vms_load.specs.Heads.{reason_against_sub}
 use Rattle.vms_load.proofs.HeadLemmas.{opens_sub, sub_below}
 use Rattle.vms_load.proofs.heads.open_sub.Goals as goal
+use Rattle.vms_load.proofs.heads.open_sub.Goals.{After-against_sub, In-Some}
 
 -- the subsection that is found by its name
 found_sub : (subs : List CodeSub) (there name wanted : _) (found : Option ℕ) (j : ℕ) → there ≡ subs → name ≡ wanted → found ≡ find_sub 0 (map sub_of there) name → found ≡ Some j
@@ -19,33 +20,40 @@ found_sub subs there name wanted found j e f h is =
 below_subs : (subs : List CodeSub) (name : List ℕ) (j : ℕ) → find_sub 0 (map sub_of subs) name ≡ Some j → j < length subs
 below_subs subs name j e = omega (arith, sub_below (map sub_of subs) name j e, length-map subs sub_of)
 
+found : (c : goal.In-Some) → find_sub 0 (map sub_of c.args.device.now.subs) c.args.name.now.items ≡ Some c.in-Some.sub
+found c =
+    found_sub c.args.device.now.subs c.as_slice.result.now c.deref.result.now c.args.name.now.items c.find_sub.result c.in-Some.sub c.as_slice.ensures c.deref.ensures.0 c.find_sub.ensures c.in-Some.is
+
+-- it is opened or refused by what it is
+judged : (c : goal.After-against_sub) → find_sub 0 (map sub_of c.args.device.now.subs) c.args.name.now.items ≡ Some c.in-Some.sub → (let d = device_of c.args.device.now in let j = c.in-Some.sub in
+    c.against_sub.result ≡ reason_against_sub (sub_at d j) (get_or c.args.image.now.came j None) c.args.version)
+judged c it =
+    let subs = c.args.device.now.subs in
+    let j = c.in-Some.sub in
+    let below = below_subs subs c.args.name.now.items j it in
+    let here = get_map_at sub_of subs j c.index-as_slice-sub.result _ below (rw c.as_slice-2.ensures at c.index-as_slice-sub.is) in
+    c.against_sub.ensures ∙ ap (λ (s : Sub). reason_against_sub s c.came.result c.args.version) (sym here)
+    ∙ ap (λ (o : Option ℕ). reason_against_sub (sub_at (device_of c.args.device.now) j) o c.args.version) c.came.ensures
+
 pub bounds-as_slice-sub : goal.bounds-as_slice-sub
 bounds-as_slice-sub c =
-    let found = found_sub c.args.device.now.subs c.as_slice.result.now c.deref.result.now c.args.name.now.items c.find_sub.result c.in-Some.sub c.as_slice.ensures c.deref.ensures.0 c.find_sub.ensures c.in-Some.is in
-    omega (arith, below_subs c.args.device.now.subs c.args.name.now.items c.in-Some.sub found, ap length c.as_slice-2.ensures)
+    let below = below_subs c.args.device.now.subs c.args.name.now.items c.in-Some.sub (found (goal.at.bounds-as_slice-sub c).In-Some) in
+    omega (arith, below, ap length c.as_slice-2.ensures)
 
 pub came-requires : goal.came-requires
 came-requires c =
-    let found = found_sub c.args.device.now.subs c.as_slice.result.now c.deref.result.now c.args.name.now.items c.find_sub.result c.in-Some.sub c.as_slice.ensures c.deref.ensures.0 c.find_sub.ensures c.in-Some.is in
-    omega (arith, below_subs c.args.device.now.subs c.args.name.now.items c.in-Some.sub found, length-map c.args.device.now.subs sub_of, c.requires.long)
+    let below = below_subs c.args.device.now.subs c.args.name.now.items c.in-Some.sub (found (goal.at.came-requires c).In-Some) in
+    omega (arith, below, length-map c.args.device.now.subs sub_of, c.requires.long)
 
 pub returns-in-None-against_sub-clause-opened : goal.returns-in-None-against_sub-clause-opened
 returns-in-None-against_sub-clause-opened c =
-    let subs = c.args.device.now.subs in
-    let j = c.in-Some.sub in
-    let found = found_sub subs c.as_slice.result.now c.deref.result.now c.args.name.now.items c.find_sub.result j c.as_slice.ensures c.deref.ensures.0 c.find_sub.ensures c.in-Some.is in
-    let here = get_map_at sub_of subs j c.index-as_slice-sub.result _ (below_subs subs c.args.name.now.items j found) (rw c.as_slice-2.ensures at c.index-as_slice-sub.is) in
-    let reason = sym c.in-None-against_sub.is ∙ c.against_sub.ensures ∙ ap (λ (s : Sub). reason_against_sub s c.came.result c.args.version) (sym here)
-    ∙ ap (λ (o : Option ℕ). reason_against_sub (sub_at (device_of c.args.device.now) j) o c.args.version) c.came.ensures in
-    opens_sub c.args.number (device_of c.args.device.now) c.args.image.now.came c.args.name.now.items c.args.version c.args.at j None c.requires.long found reason
+    let h = goal.at.returns-in-None-against_sub-clause-opened c in
+    opens_sub c.args.number (device_of c.args.device.now) c.args.image.now.came c.args.name.now.items c.args.version c.args.at c.in-Some.sub None c.requires.long (found h.In-Some)
+    (sym c.in-None-against_sub.is ∙ judged h.After-against_sub (found h.In-Some))
 
 pub returns-in-Some-against_sub-clause-opened : goal.returns-in-Some-against_sub-clause-opened
 returns-in-Some-against_sub-clause-opened c =
-    let subs = c.args.device.now.subs in
-    let j = c.in-Some.sub in
-    let found = found_sub subs c.as_slice.result.now c.deref.result.now c.args.name.now.items c.find_sub.result j c.as_slice.ensures c.deref.ensures.0 c.find_sub.ensures c.in-Some.is in
-    let here = get_map_at sub_of subs j c.index-as_slice-sub.result _ (below_subs subs c.args.name.now.items j found) (rw c.as_slice-2.ensures at c.index-as_slice-sub.is) in
-    let reason = sym c.in-Some-against_sub.is ∙ c.against_sub.ensures ∙ ap (λ (s : Sub). reason_against_sub s c.came.result c.args.version) (sym here)
-    ∙ ap (λ (o : Option ℕ). reason_against_sub (sub_at (device_of c.args.device.now) j) o c.args.version) c.came.ensures in
+    let h = goal.at.returns-in-Some-against_sub-clause-opened c in
     ap (λ x. Err x) c.refused-in-Some-against_sub.ensures
-    ∙ opens_sub c.args.number (device_of c.args.device.now) c.args.image.now.came c.args.name.now.items c.args.version c.args.at j (Some c.in-Some-against_sub.reason) c.requires.long found reason
+    ∙ opens_sub c.args.number (device_of c.args.device.now) c.args.image.now.came c.args.name.now.items c.args.version c.args.at c.in-Some.sub (Some c.in-Some-against_sub.reason) c.requires.long (found h.In-Some)
+    (sym c.in-Some-against_sub.is ∙ judged h.After-against_sub (found h.In-Some))
