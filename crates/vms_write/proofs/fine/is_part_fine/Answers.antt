@@ -29,11 +29,7 @@ returns-in-Ok c =
 pub returns-in-Err : goal.returns-in-Err
 returns-in-Err c =
     let set = described c.args.set.now in
-    let spot = c.args.spot in
     let n = c.args.image.now.numbers in
-    let forms = c.args.forms.now in
-    let judge = c.walk.new.walker in
     let stopped = c.in-Err.ensures.err in
-    let steps = λ (m : List ℤ). steps_of (spot_slots set spot m) in
-    let same : judge.image.now.numbers ≡ n = ap (λ image. image.now.numbers) stopped.0 in
-    part_unfit set spot forms n (ap (λ (m : List ℤ). are_steps_fine forms n spot.base (steps m)) (sym same) ∙ stopped.1)
+    let same : c.walk.new.walker.image.now.numbers ≡ n = ap (λ image. image.now.numbers) stopped.0 in
+    part_unfit set c.args.spot c.args.forms.now n (ap (λ (m : List ℤ). are_steps_fine c.args.forms.now n c.args.spot.base (steps_of (spot_slots set c.args.spot m))) (sym same) ∙ stopped.1)

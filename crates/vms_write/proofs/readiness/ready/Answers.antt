@@ -1,56 +1,57 @@
-use Rattle.std.proofs.Common.{◌&&◌, arith, ap, sym, ◌∙◌, refl, Bool}
+use Rattle.std.proofs.Common.{◌≡◌, ◌&&◌, arith, ap, sym, ◌∙◌, refl, Bool, true, false}
+use Rattle.std.specs.Bool.{OnTrue, OnFalse}
+use Rattle.vms_spec.specs.Streams.{IsReady}
 use Rattle.vms_desc.specs.Described.{described, device_at}
 use Rattle.vms_image.specs.Typed.{state_of}
 use Rattle.vms_desc.proofs.AskLaws.{few_cells}
 use Rattle.vms_desc.proofs.Bounds.{good_of}
-use Rattle.vms_write.specs.Judged.{forms_of, all_subs_fine}
-use Rattle.vms_write.proofs.FineReady.{ready_by, other_by}
+use Rattle.vms_write.specs.Judged.{IsOfDevice, forms_of, all_subs_fine}
+use Rattle.vms_write.proofs.FineReady.{device_fine, ready_by, other_by}
 use Rattle.vms_write.proofs.readiness.ready.Goals as goal
+use Rattle.vms_write.proofs.readiness.ready.Goals.{After-is_own_fine, Start}
+
+of_device : (c : goal.Start) → IsOfDevice (described c.args.set.now) c.args.device (state_of c.args.image.now)
+of_device c =
+    let few = few_cells (described c.args.set.now) c.args.set.now.well_formed c.args.device in
+    record { is_device = c.requires.is_device; cells = c.requires.cells; subs = c.requires.subs; few = omega (arith, few, c.requires.cells) }
+
+-- what says whether the device is fine says whether its image is ready
+judged : (c : goal.Start) (b : Bool) → (let set = described c.args.set.now in let d = device_at set c.args.device in let image = state_of c.args.image.now in
+    b ≡ device_fine set d (forms_of set d) image → OnTrue b (IsReady set d image) × OnFalse b (IsReady set d image → ⊥))
+judged c b is =
+    let set = described c.args.set.now in
+    let good = good_of set c.args.set.now.well_formed c.args.set.now.heads in
+    let forms = forms_of set (device_at set c.args.device) in
+    let image = state_of c.args.image.now in (
+      ready_by set c.args.set.now.well_formed good c.args.device c.requires.is_device image c.requires.cells c.requires.subs forms refl b is,
+      other_by set c.args.set.now.well_formed good c.args.device c.requires.is_device image c.requires.cells c.requires.subs forms refl b is,
+    )
+
+fine : (c : goal.After-is_own_fine) → (let set = described c.args.set.now in let d = device_at set c.args.device in (b : Bool) → c.is_own_fine.result ≡ b → (b && all_subs_fine set d (state_of c.args.image.now)) ≡ device_fine set d (forms_of set d) (state_of c.args.image.now))
+fine c b is = ap (λ (b : Bool). b && all_subs_fine (described c.args.set.now) (device_at (described c.args.set.now) c.args.device) (state_of c.args.image.now)) (sym is ∙ c.is_own_fine.ensures)
 
 pub is_own_fine-requires : goal.is_own_fine-requires
-is_own_fine-requires c =
-    let set = described c.args.set.now in
-    let few = few_cells set c.args.set.now.well_formed c.args.device in
-    record { device = record { is_device = c.requires.is_device; cells = c.requires.cells; subs = c.requires.subs; few = omega (arith, few, c.requires.cells) } }
+is_own_fine-requires c = record { device = of_device c }
 
 pub are_subs_fine-requires : goal.are_subs_fine-requires
-are_subs_fine-requires c =
-    let set = described c.args.set.now in
-    let few = few_cells set c.args.set.now.well_formed c.args.device in
-    record { device = record { is_device = c.requires.is_device; cells = c.requires.cells; subs = c.requires.subs; few = omega (arith, few, c.requires.cells) } }
+are_subs_fine-requires c = record { device = of_device (goal.at.are_subs_fine-requires c).Start }
 
 pub returns-then-is_own_fine-clause-ready : goal.returns-then-is_own_fine-clause-ready
 returns-then-is_own_fine-clause-ready c =
-    let set = described c.args.set.now in
-    let d = device_at set c.args.device in
-    let image = state_of c.args.image.now in
-    let good = good_of set c.args.set.now.well_formed c.args.set.now.heads in
-    ready_by set c.args.set.now.well_formed good c.args.device c.requires.is_device image c.requires.cells c.requires.subs (forms_of set d) refl _
-    (c.are_subs_fine.ensures ∙ ap (λ (b : Bool). b && all_subs_fine set d image) (sym c.if-is_own_fine.true ∙ c.is_own_fine.ensures))
+    let h = goal.at.returns-then-is_own_fine-clause-ready c in
+    (judged h.Start _ (c.are_subs_fine.ensures ∙ fine h.After-is_own_fine true c.if-is_own_fine.true)).0
 
 pub returns-then-is_own_fine-clause-other : goal.returns-then-is_own_fine-clause-other
 returns-then-is_own_fine-clause-other c =
-    let set = described c.args.set.now in
-    let d = device_at set c.args.device in
-    let image = state_of c.args.image.now in
-    let good = good_of set c.args.set.now.well_formed c.args.set.now.heads in
-    other_by set c.args.set.now.well_formed good c.args.device c.requires.is_device image c.requires.cells c.requires.subs (forms_of set d) refl _
-    (c.are_subs_fine.ensures ∙ ap (λ (b : Bool). b && all_subs_fine set d image) (sym c.if-is_own_fine.true ∙ c.is_own_fine.ensures))
+    let h = goal.at.returns-then-is_own_fine-clause-other c in
+    (judged h.Start _ (c.are_subs_fine.ensures ∙ fine h.After-is_own_fine true c.if-is_own_fine.true)).1
 
 pub returns-else-is_own_fine-clause-ready : goal.returns-else-is_own_fine-clause-ready
 returns-else-is_own_fine-clause-ready c =
-    let set = described c.args.set.now in
-    let d = device_at set c.args.device in
-    let image = state_of c.args.image.now in
-    let good = good_of set c.args.set.now.well_formed c.args.set.now.heads in
-    ready_by set c.args.set.now.well_formed good c.args.device c.requires.is_device image c.requires.cells c.requires.subs (forms_of set d) refl _
-    (c.if-is_own_fine.false ∙ ap (λ (b : Bool). b && all_subs_fine set d image) (sym c.if-is_own_fine.false ∙ c.is_own_fine.ensures))
+    let h = goal.at.returns-else-is_own_fine-clause-ready c in
+    (judged h.Start _ (c.if-is_own_fine.false ∙ fine h.After-is_own_fine false c.if-is_own_fine.false)).0
 
 pub returns-else-is_own_fine-clause-other : goal.returns-else-is_own_fine-clause-other
 returns-else-is_own_fine-clause-other c =
-    let set = described c.args.set.now in
-    let d = device_at set c.args.device in
-    let image = state_of c.args.image.now in
-    let good = good_of set c.args.set.now.well_formed c.args.set.now.heads in
-    other_by set c.args.set.now.well_formed good c.args.device c.requires.is_device image c.requires.cells c.requires.subs (forms_of set d) refl _
-    (c.if-is_own_fine.false ∙ ap (λ (b : Bool). b && all_subs_fine set d image) (sym c.if-is_own_fine.false ∙ c.is_own_fine.ensures))
+    let h = goal.at.returns-else-is_own_fine-clause-other c in
+    (judged h.Start _ (c.if-is_own_fine.false ∙ fine h.After-is_own_fine false c.if-is_own_fine.false)).1

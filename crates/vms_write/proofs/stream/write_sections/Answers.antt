@@ -1,4 +1,4 @@
-use Rattle.std.proofs.Common.{◌≡◌, ◌<◌, length, map, arith, refl, Some}
+use Rattle.std.proofs.Common.{◌≡◌, ◌+◌, ◌<◌, ◌++◌, length, drop, map, arith, refl, Some}
 use Rattle.std.specs.List.{slice_get}
 use Rattle.vms_desc.specs.Described.{described, device_at}
 use Rattle.vms_image.specs.Typed.{state_of}
@@ -6,21 +6,28 @@ use Rattle.vms_image.proofs.States.{states_long, state_at, at_state, image_at}
 use Rattle.std.proofs.lemmas.Result.{err_from_is_err_and}
 use Rattle.std.proofs.lemmas.Option.{slice_get-get_or}
 use Rattle.vms_io.proofs.WritingLemmas.{leaves_all, leaves_rest, leaves_stop, wrote_fault}
+use Rattle.vms_spec.specs.Streams.{written_section, written_sections}
 use Rattle.vms_write.proofs.Sections.{sections_at}
+use Rattle.vms_write.proofs.stream.write_sections.Given.{Over}
 use Rattle.vms_write.proofs.stream.write_sections.Goals as goal
+use Rattle.vms_write.proofs.stream.write_sections.Goals.{After-write_section-arg-1}
 
 pub loop-device-init : goal.loop-device-init
 loop-device-init g c = leaves_all _ _ _ refl
 
-pub loop-device-preserved : goal.loop-device-preserved
-loop-device-preserved g c =
+-- the section of the device whose turn it is, and those after it
+next_section : (g : Over) (c : goal.After-write_section-arg-1 g) → (let set = described c.args.set.now in let i = c.loop-device.device in let images = map state_of c.args.images.now in
+    written_sections set i (drop i set.devices) (drop i images) ≡ written_section set (device_at set i) (state_of c.index-images-device.result) i ++ written_sections set (i + 1) (drop (i + 1) set.devices) (drop (i + 1) images))
+next_section g c =
     let set = described c.args.set.now in
     let i = c.loop-device.device in
     let image = c.index-images-device.result in
-    let images = map state_of c.args.images.now in
-    let lt : i < length images = omega (arith, states_long c.args.images.now) in
-    let ltd : i < length set.devices = omega (arith, c.requires.of.one_each) in
-    let next = sections_at set i images (state_of image) ltd lt (state_at c.args.images.now i image c.loop-device-test.true c.index-images-device.is) in
+    let lt : i < length (map state_of c.args.images.now) = omega (arith, states_long c.args.images.now) in
+    sections_at set i (map state_of c.args.images.now) (state_of image) (omega (arith, c.requires.of.one_each)) lt (state_at c.args.images.now i image c.loop-device-test.true c.index-images-device.is)
+
+pub loop-device-preserved : goal.loop-device-preserved
+loop-device-preserved g c =
+    let next = next_section g (goal.at.loop-device-preserved g c).After-write_section-arg-1 in
     leaves_rest _ next c.loop-device.invariant c.in_ok-write_section.ensures
 
 pub write_section-requires-clause-kinds : goal.write_section-requires-clause-kinds
@@ -40,12 +47,6 @@ write_section-requires-clause-ready g c =
 
 pub returns-in_err-write_section : goal.returns-in_err-write_section
 returns-in_err-write_section g c =
-    let set = described c.args.set.now in
-    let i = c.loop-device.device in
-    let image = c.index-images-device.result in
-    let images = map state_of c.args.images.now in
-    let lt : i < length images = omega (arith, states_long c.args.images.now) in
-    let ltd : i < length set.devices = omega (arith, c.requires.of.one_each) in
-    let next = sections_at set i images (state_of image) ltd lt (state_at c.args.images.now i image c.loop-device-test.true c.index-images-device.is) in
+    let next = next_section g (goal.at.returns-in_err-write_section g c).After-write_section-arg-1 in
     let p = err_from_is_err_and c.from_residual.result c.from_residual.ensures.1 in
     wrote_fault _ _ p.1 (leaves_stop _ next c.loop-device.invariant c.in_err-write_section.ensures)
