@@ -5,7 +5,6 @@
 mod cells;
 mod devices;
 mod event;
-mod hooked;
 mod laws;
 mod misfit;
 mod ports;

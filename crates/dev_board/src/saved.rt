@@ -11,11 +11,10 @@ ghost use Rattle.vms_kinds.specs.declared.TheConstants.{MOST_CELLS};
 
 use crate::cells::BoardCells;
 use crate::devices::Devices;
-use crate::hooked::{load_pair, load_pit, load_serial, save_pair, save_pit, save_serial};
 use crate::misfit::{MASTER_DEVICE, Misfit, PIT_DEVICE, SERIAL_DEVICE, TIMER_DEVICE};
 use crate::wires::is_high;
 use arrayvec::ArrayVec;
-use dev_base::{LAST_MOMENT, append, moment_at};
+use dev_base::{LAST_MOMENT, NEWEST, append, load_device, moment_at, save_device};
 use dev_pic::{ChipFault, PicPair};
 use dev_pit::Pit;
 use dev_serial::Serial;
@@ -31,13 +30,13 @@ impl Devices {
         requires { MaySaveUnder self.now.level set }
         ensures { result ≡ saved set self.now }
     {
-        let (master, slave) = halves(&save_pair(self.level, set, self.moment, &self.pair));
+        let (master, slave) = halves(&save_device(self.level, set, self.moment, &self.pair));
         BoardCells {
             timer: moment_cells(self.moment),
             master,
             slave,
-            pit: save_pit(self.level, set, self.moment, &self.pit),
-            serial: save_serial(self.level, set, self.moment, &self.serial),
+            pit: save_device(self.level, set, self.moment, &self.pit),
+            serial: save_device(self.level, set, self.moment, &self.serial),
         }
     }
 
@@ -118,7 +117,7 @@ fn restore_pair(
     ensures { result ≡ pair_back level master.now.items slave.now.items }
 {
     let cells = joined(master, slave);
-    match load_pair(level, moment, &cells) {
+    match load_device::<PicPair>(level, NEWEST, moment, &cells) {
         Ok(pair) => Ok(pair),
         Err(fault) => {
             let fault = ChipFault::of_rule(fault.rule);
@@ -137,7 +136,7 @@ fn restore_pit(level: u8, moment: u64, cells: &DevCells) -> Result<Pit, Misfit>
     requires cells { IsPitCells cells.now.items }
     ensures { result ≡ pit_back level moment cells.now.items }
 {
-    load_pit(level, moment, cells).map_err(|fault| Misfit::Unsound {
+    load_device::<Pit>(level, NEWEST, moment, cells).map_err(|fault| Misfit::Unsound {
         device: PIT_DEVICE,
         rule: fault.rule,
     })
@@ -150,7 +149,7 @@ fn restore_serial(level: u8, moment: u64, cells: &DevCells) -> Result<Serial, Mi
     requires cells { IsPortCells cells.now.items }
     ensures { result ≡ serial_back level moment cells.now.items }
 {
-    load_serial(level, moment, cells).map_err(|fault| Misfit::Unsound {
+    load_device::<Serial>(level, NEWEST, moment, cells).map_err(|fault| Misfit::Unsound {
         device: SERIAL_DEVICE,
         rule: fault.rule,
     })

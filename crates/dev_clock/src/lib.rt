@@ -4,7 +4,6 @@
 
 mod cells;
 mod devices;
-mod hooked;
 mod laws;
 mod saved;
 

@@ -10,11 +10,10 @@ ghost use Rattle.dev_clock.specs.Saved.{IsPlaced, clock_back, later as later_of,
 
 use crate::cells::ClockCells;
 use crate::devices::ClockDevices;
-use crate::hooked::{load_clock, save_clock};
-use dev_base::{NEWEST, byte_at, has, moment_at};
+use dev_base::{NEWEST, byte_at, has, load_device, moment_at, save_device};
 use dev_board::{Devices, Misfit};
 use vms_kinds::DevCells;
-use vms_rtc::Rtc;
+use vms_rtc::{NEWEST_CLOCK, Rtc};
 
 /// The place of the chip among the devices of a clock set; those of the board follow.
 pub(crate) const CLOCK_DEVICE: u32 = 0;
@@ -36,7 +35,7 @@ impl ClockDevices {
         ensures { result ≡ saved set self.now }
     {
         ClockCells {
-            clock: save_clock(self.clock.version(), set, self.board.now(), &self.clock),
+            clock: save_device(self.clock.version(), set, self.board.now(), &self.clock),
             board: self.board.cells(NEWEST),
         }
     }
@@ -78,7 +77,7 @@ fn restore_clock(version: u8, moment: u64, line: bool, cells: &DevCells) -> Resu
     requires cells { AreOf (kinds NEWEST_CLOCK) cells.now.items }
     ensures { result ≡ clock_back version line cells.now.items }
 {
-    match load_clock(version, moment, cells) {
+    match load_device::<Rtc>(version, NEWEST_CLOCK, moment, cells) {
         Ok(clock) if is_same(line, clock.line()) => Ok(clock),
         Ok(_) => Err(unsound(LINE_RULE)),
         Err(fault) => Err(unsound(fault.rule)),

@@ -14,7 +14,7 @@ use Rattle.dev_images.specs.Images.{image_of}
 use Rattle.dev_images.specs.Laws.{carried_numbers, SerialIsCarried, serial_at_1, serial_at_2, serial_at_3, serial_at_4}
 use Rattle.dev_images.proofs.Parts.{front, shape}
 use Rattle.std.specs.Prelude.{codes}
-use Rattle.dev_images.proofs.SerialReady.{serial_since_2, needs_sign, needs_timer, needs_fifo, needs_ring, no-sign, no-timer, no-ring, HasFifo, has-fifo-2, has-fifo-3, has-fifo-4, rx_elements, tx_elements, rx-zeros, tx-zeros, no-fifo}
+use Rattle.dev_images.proofs.SerialReady.{serial_since_2, new_name, former_names, needs_sign, needs_timer, needs_fifo, needs_ring, no-sign, no-timer, no-ring, HasFifo, has-fifo-2, has-fifo-3, has-fifo-4, rx_elements, tx_elements, rx-zeros, tx-zeros, no-fifo}
 
 -- the numbers of cells one after the other
 abbrev run : List ℤ → ℕ → ℕ → List ℤ
@@ -116,19 +116,15 @@ serial-3 : (numbers : List ℤ) → AreSaved 3 numbers → carried_numbers set_3
 unfolding first serial_carried
 serial-3 numbers are =
     let h = has-fifo-3 numbers are in
-    let name = codes "divisor" in
-    let former = codes "divider" ∷ [] in
     same-parts (run numbers 0 12) (part set_3 serial_at_3 numbers thr_ipending) (part set_3 serial_at_3 numbers fifo) (part set_3 serial_at_3 numbers timeout) (replicate 36 (pos 0)) _ _ _ _
-    (thr set_3 3 name former (timeout ∷ []) numbers _ refl (no-sign _ (are.of_kinds.in_range 12 (omega arith)))) (fifo-part set_3 3 name former (timeout ∷ []) numbers h _ refl (no-fifo numbers h)) (due set_3 3 name former [] numbers _ refl (no-timer _ (are.of_kinds.in_range 47 (omega arith)))) refl
+    (thr set_3 3 new_name former_names (timeout ∷ []) numbers _ refl (no-sign _ (are.of_kinds.in_range 12 (omega arith)))) (fifo-part set_3 3 new_name former_names (timeout ∷ []) numbers h _ refl (no-fifo numbers h)) (due set_3 3 new_name former_names [] numbers _ refl (no-timer _ (are.of_kinds.in_range 47 (omega arith)))) refl
 
 serial-4 : (numbers : List ℤ) → AreSaved 4 numbers → carried_numbers set_4 serial_at_4 serial_at_4 numbers ≡ serial_carried 4 numbers
 unfolding first serial_carried
 serial-4 numbers are =
     let h = has-fifo-4 numbers are in
-    let name = codes "divisor" in
-    let former = codes "divider" ∷ [] in
     same-parts (run numbers 0 12) (part set_4 serial_at_4 numbers thr_ipending) (part set_4 serial_at_4 numbers fifo) (part set_4 serial_at_4 numbers timeout) (part set_4 serial_at_4 numbers ring) _ _ _ _
-    (thr set_4 4 name former (timeout ∷ ring ∷ []) numbers _ refl (no-sign _ (are.of_kinds.in_range 12 (omega arith)))) (fifo-part set_4 4 name former (timeout ∷ ring ∷ []) numbers h _ refl (no-fifo numbers h)) (due set_4 4 name former (ring ∷ []) numbers _ refl (no-timer _ (are.of_kinds.in_range 47 (omega arith)))) (ring-4 numbers _ refl (no-ring numbers are))
+    (thr set_4 4 new_name former_names (timeout ∷ ring ∷ []) numbers _ refl (no-sign _ (are.of_kinds.in_range 12 (omega arith)))) (fifo-part set_4 4 new_name former_names (timeout ∷ ring ∷ []) numbers h _ refl (no-fifo numbers h)) (due set_4 4 new_name former_names (ring ∷ []) numbers _ refl (no-timer _ (are.of_kinds.in_range 47 (omega arith)))) (ring-4 numbers _ refl (no-ring numbers are))
 
 pub serial_is_carried : SerialIsCarried
 serial_is_carried = record { first = serial-1; second = serial-2; third = serial-3; fourth = serial-4 }

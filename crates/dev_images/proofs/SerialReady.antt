@@ -57,6 +57,13 @@ abbrev pub serial_since_2 : ℕ → List ℕ → List (List ℕ) → List Sub �
 serial_since_2 version name former more =
     serial version (record (number U16 name) { former = former } ∷ serial_fields ++ fcr ∷ []) (thr_ipending ∷ fifo ∷ more)
 
+-- its names from set 3 on
+abbrev pub new_name : List ℕ
+new_name = codes "divisor"
+
+abbrev pub former_names : List (List ℕ)
+former_names = codes "divider" ∷ []
+
 -- the latch's cell, and the timeout's; no item of the port is a structure
 thr-1 : (numbers : List ℤ) (needed : Bool) → needs_sign (get_or numbers 11 (pos 0)) ≡ needed → (needed ≡ false → get_or numbers 11 (pos 0) ≡ negsuc 0) → IsFineSub set_1 serial_at_1 numbers thr_ipending 0 11
 unfolding first
@@ -69,7 +76,7 @@ module _ (set : Set) (version : ℕ) (name : List ℕ) (former : List (List ℕ)
   thr true e off = record { kept = rw e refl; rules = rw e (refl, tt) }
   thr false e off = record { kept = rw (e, off refl) refl; rules = rw e tt }
 
-  due : (needed : Bool) → needs_timer (get_or numbers 47 (pos 0)) ≡ needed → (needed ≡ false → get_or numbers 47 (pos 0) ≡ pos never) → IsFineSub set (serial_since_2 version name former (timeout ∷ more)) numbers timeout 2 47
+  due : (needed : Bool) → needs_timer (get_or numbers 47 (pos 0)) ≡ needed → (needed ≡ false → get_or numbers 47 (pos 0) ≡ pos never) → IsFineSub set (serial_since_2 version new_name former_names (timeout ∷ more)) numbers timeout 2 47
   unfolding first
   due true e off = record { kept = rw e refl; rules = rw e (refl, tt) }
   due false e off = record { kept = rw (e, off refl) refl; rules = rw e tt }
@@ -215,10 +222,8 @@ serial-3 : (numbers : List ℤ) → AreSaved 3 numbers → ReadyOf set_3 serial_
 unfolding first
 serial-3 numbers are =
     let h = has-fifo-3 numbers are in
-    let name = codes "divisor" in
-    let former = codes "divider" ∷ [] in
     ready-parts set_3 serial_at_3 numbers (omega arith) (omega arith, (omega arith, (omega arith, tt))) are.of_kinds (counts-by (device_cells set_3 serial_at_3) numbers (rw (well-rx numbers h, well-tx numbers h) refl)) refl (refl, tt)
-    (thr set_3 3 name former (timeout ∷ []) numbers _ refl (no-sign _ (are.of_kinds.in_range 12 (omega arith))), (fifos numbers h set_3 3 name former (timeout ∷ []) _ refl (no-fifo numbers h), (due set_3 3 name former [] numbers _ refl (no-timer _ (are.of_kinds.in_range 47 (omega arith))), tt)))
+    (thr set_3 3 new_name former_names (timeout ∷ []) numbers _ refl (no-sign _ (are.of_kinds.in_range 12 (omega arith))), (fifos numbers h set_3 3 new_name former_names (timeout ∷ []) _ refl (no-fifo numbers h), (due set_3 3 new_name former_names [] numbers _ refl (no-timer _ (are.of_kinds.in_range 47 (omega arith))), tt)))
 
 pub no-ring : (numbers : List ℤ) → AreSaved 4 numbers → needs_ring numbers ≡ false → take 36 (drop 48 numbers) ≡ replicate 36 (pos 0)
 no-ring numbers are e =
@@ -229,11 +234,9 @@ serial-4 : (numbers : List ℤ) → AreSaved 4 numbers → ReadyOf set_4 serial_
 unfolding first
 serial-4 numbers are =
     let h = has-fifo-4 numbers are in
-    let name = codes "divisor" in
-    let former = codes "divider" ∷ [] in
     let more = timeout ∷ ring ∷ [] in
     ready-parts set_4 serial_at_4 numbers (omega arith) (omega arith, (omega arith, (omega arith, (omega arith, tt)))) are.of_kinds (counts-by (device_cells set_4 serial_at_4) numbers (rw (well-rx numbers h, well-tx numbers h) refl)) refl (refl, tt)
-    (thr set_4 4 name former more numbers _ refl (no-sign _ (are.of_kinds.in_range 12 (omega arith))), (fifos numbers h set_4 4 name former more _ refl (no-fifo numbers h), (due set_4 4 name former (ring ∷ []) numbers _ refl (no-timer _ (are.of_kinds.in_range 47 (omega arith))), (ring-4 numbers _ refl (no-ring numbers are), tt))))
+    (thr set_4 4 new_name former_names more numbers _ refl (no-sign _ (are.of_kinds.in_range 12 (omega arith))), (fifos numbers h set_4 4 new_name former_names more _ refl (no-fifo numbers h), (due set_4 4 new_name former_names (ring ∷ []) numbers _ refl (no-timer _ (are.of_kinds.in_range 47 (omega arith))), (ring-4 numbers _ refl (no-ring numbers are), tt))))
 
 pub serial_is_ready : SerialIsReady
 serial_is_ready = record { first = serial-1; second = serial-2; third = serial-3; fourth = serial-4 }

@@ -8,7 +8,7 @@ use crate::chip::Role;
 use crate::fault::ChipFault;
 use crate::pair::PicPair;
 use arrayvec::ArrayVec;
-use dev_base::hook_result;
+use dev_base::{HasHooks, hook_result};
 use vms_hooks::{HookFault, Hooked, Pass};
 use vms_kinds::DevCells;
 
@@ -35,7 +35,7 @@ impl Hooked for PicPair {
 impl PicPair {
     ghost use Rattle.dev_base.specs.Levels.{MayRestore};
     ghost use Rattle.dev_pic.specs.Cells.{saved_cells, IsChipCells};
-    ghost use Rattle.dev_pic.specs.Saved.{chip_at, CanSave, CanRestore, restored_pair, pair_cells, hook_restored};
+    ghost use Rattle.dev_pic.specs.Saved.{chip_at, CanSave, restored_pair};
 
     /// The cells of one chip under the pass's set: 0 is the master, 1 the slave.
     pub fn cells(&self, pass: &Pass, chip: u8) -> DevCells
@@ -79,24 +79,19 @@ impl PicPair {
             Err(rule) => Err(ChipFault { chip: SLAVE, rule }),
         }
     }
+}
 
-    /// What the stored closure of the pair's hooks saves: the master's cells and then the slave's.
-    pub fn save(&self, pass: &Pass) -> DevCells
-        requires { CanSave pass.now self.now }
-        ensures { result.items ≡ pair_cells pass.now.set self.now }
-    {
+impl HasHooks for PicPair {
+    /// The master's cells and then the slave's.
+    fn save(&self, pass: &Pass) -> DevCells {
         let mut cells = self.cells(pass, MASTER);
         let _fits = cells.try_extend_from_slice(&self.cells(pass, SLAVE));
         cells
     }
 
-    /// What the stored closure of the pair's hooks restores. A rule of the slave has 10 added to its
-    /// number.
+    /// A rule of the slave has 10 added to its number.
     #[tactic(auto, unfolding(crate::specs::Saved::by_number))]
-    pub fn load(pass: &Pass, cells: &DevCells) -> Result<PicPair, HookFault>
-        requires { CanRestore pass.now cells.now.items }
-        ensures { result ≡ hook_restored pass.now cells.now.items }
-    {
+    fn load(pass: &Pass, cells: &DevCells) -> Result<PicPair, HookFault> {
         let (master, slave) = cells.split_at(CELL_COUNT);
         let pair = PicPair::of_cells(pass, &chip_cells(master), &chip_cells(slave));
         hook_result(pair.map_err(hook_rule))

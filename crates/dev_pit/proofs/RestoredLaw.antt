@@ -16,15 +16,14 @@ use Rattle.dev_pit.specs.Counter.{LoadedBy, powered_on}
 use Rattle.dev_pit.specs.Laws.{RestoredIsSound}
 use Rattle.dev_pit.specs.Mode.{access_of}
 use Rattle.dev_pit.specs.Saved.{three_hold, rules, pit_of, restored_pit}
-use Rattle.dev_pit.specs.Sound.{HeldBelow, IsSoundPit}
+use Rattle.dev_pit.specs.Sound.{HeldBelow, IsSoundCounter, IsSoundPit}
 use Rattle.dev_pit.specs.declared.channel.Channel.{Channel}
 use Rattle.dev_pit.specs.declared.limits.TheConstants.{READ_BACK_LEVEL}
 use Rattle.dev_pit.specs.declared.mode.Access.{Access}
 use Rattle.dev_pit.specs.declared.mode.Access.TheVariants.{LowByte, HighByte, LowThenHigh}
 use Rattle.dev_pit.specs.declared.pit.Pit.{Pit}
 use Rattle.dev_pit.proofs.Chips.{each_of}
-use Rattle.dev_pit.proofs.PlainSound.{PlainSound, StatusFits, TogglesFit}
-use Rattle.dev_pit.proofs.SoundLaws.{PlainPit, pit-from_plain}
+use Rattle.dev_pit.proofs.PlainSound.{PlainSound, StatusFits, TogglesFit, sound-from_plain}
 
 -- the fields of a channel in their ranges
 record HasRanges (channel : Channel) : Type 0 where
@@ -105,15 +104,15 @@ each rule cells e =
     let b : (rule (channel_at 1 cells) ≡ true) × (rule (channel_at 2 cells) ≡ true) = and_parts _ _ a.1 in
     each_of (λ k. rule (channel_at k cells) ≡ true) a.0 b.0 b.1
 
-pit_of-sound : (level now : ℕ) (cells : List ℤ) → IsLevel level → now ≤ LAST_MOMENT → IsPitCells cells → AllTrue (rules level now cells) → PlainPit now (pit_of level cells)
+pit_of-sound : (level now : ℕ) (cells : List ℤ) → IsLevel level → now ≤ LAST_MOMENT → IsPitCells cells → AllTrue (rules level now cells) → IsSoundPit now (pit_of level cells)
 unfolding pit_of
 pit_of-sound level now cells l m h hold =
-    let counter : (k : ℕ) → k < 3 → PlainSound level now (counter_from (channel_at k cells)) = λ k b. counter-sound level now (channel_at k cells) (channel-ranges cells h k b) (each (moment_holds now) cells hold.1.0 k b) (each (status_holds level) cells hold.1.1.0 k b) (each toggles_hold cells hold.1.1.1.0 k b) in
+    let counter : (k : ℕ) → k < 3 → IsSoundCounter level now (counter_from (channel_at k cells)) = λ k b. sound-from_plain level now _ (counter-sound level now (channel_at k cells) (channel-ranges cells h k b) (each (moment_holds now) cells hold.1.0 k b) (each (status_holds level) cells hold.1.1.0 k b) (each toggles_hold cells hold.1.1.1.0 k b)) in
     record {
       level = l;
       moment = m;
       count = refl;
-      counters = each_of (λ k. PlainSound level now (slice_index_or (counter_from (channel_at 0 cells) ∷ counter_from (channel_at 1 cells) ∷ counter_from (channel_at 2 cells) ∷ []) k powered_on)) (counter 0 (omega arith)) (counter 1 (omega arith)) (counter 2 (omega arith));
+      counters = each_of (λ k. IsSoundCounter level now (slice_index_or (counter_from (channel_at 0 cells) ∷ counter_from (channel_at 1 cells) ∷ counter_from (channel_at 2 cells) ∷ []) k powered_on)) (counter 0 (omega arith)) (counter 1 (omega arith)) (counter 2 (omega arith));
     }
 
 pit_of-level : (level : ℕ) (cells : List ℤ) → (pit_of level cells).level ≡ level
@@ -123,7 +122,7 @@ pit_of-level level cells = refl
 pub pit-restored : (level now : ℕ) (cells : List ℤ) (pit : Pit) → IsLevel level → now ≤ LAST_MOMENT → IsPitCells cells → restored_pit level now cells ≡ Ok pit → IsSoundPit now pit × (pit.level ≡ level)
 pit-restored level now cells pit l m h e =
     let ok = judged-ok (rules level now cells) (pit_of level cells) pit e in
-    subst (λ (p : Pit). IsSoundPit now p × (p.level ≡ level)) ok.1 (pit-from_plain now _ (pit_of-sound level now cells l m h ok.0), pit_of-level level cells)
+    subst (λ (p : Pit). IsSoundPit now p × (p.level ≡ level)) ok.1 (pit_of-sound level now cells l m h ok.0, pit_of-level level cells)
 
 pub restored_is_sound : RestoredIsSound
 restored_is_sound = record {

@@ -8,7 +8,7 @@ use Rattle.dev_base.specs.declared.limits.TheConstants.{LAST_MOMENT}
 use Rattle.dev_pit.specs.Control.{control_word}
 use Rattle.dev_pit.specs.Laws.{SoundStays, StepsKeepLevel}
 use Rattle.dev_pit.specs.Pit.{counter_of, with_counter, new_pit, pit_read, asked_back, controlled, pit_written}
-use Rattle.dev_pit.specs.Sound.{IsSoundPit}
+use Rattle.dev_pit.specs.Sound.{IsSoundCounter, IsSoundPit}
 use Rattle.dev_pit.specs.declared.control.ControlWord.{ControlWord}
 use Rattle.dev_pit.specs.declared.control.ControlWord.TheVariants.{LatchCount, SetMode, ReadBack}
 use Rattle.dev_pit.specs.declared.counter.Counter.{Counter}
@@ -21,47 +21,22 @@ use Rattle.dev_pit.proofs.Moments.{loaded_by-later}
 use Rattle.dev_pit.proofs.PlainSound.{PlainSound, sound-from_plain, plain-from_sound}
 use Rattle.dev_pit.proofs.SoundSteps.{powered_on-sound, latched-sound, read_back-sound, programmed-sound, written-sound, read-sound}
 
--- the chip's counters, as the rules say of themselves
-pub record PlainPit (now : ℕ) (pit : Pit) : Type 0 where
-  pub level : IsLevel pit.level
-  pub moment : now ≤ LAST_MOMENT
-  pub count : length pit.counters ≡ 3
-  pub counters : (k : ℕ) → k < 3 → PlainSound pit.level now (counter_of k pit)
-
-pub pit-from_plain : (now : ℕ) (pit : Pit) → PlainPit now pit → IsSoundPit now pit
-pit-from_plain now pit s = record {
-  level = s.level;
-  moment = s.moment;
-  count = s.count;
-  counters = λ k h. sound-from_plain pit.level now (counter_of k pit) (s.counters k h);
-}
-
-pub plain-from_pit : (now : ℕ) (pit : Pit) → IsSoundPit now pit → PlainPit now pit
-plain-from_pit now pit s = record {
-  level = s.level;
-  moment = s.moment;
-  count = s.count;
-  counters = λ k h. plain-from_sound pit.level now (counter_of k pit) (s.counters k h);
-}
-
-new-plain : (level now : ℕ) → IsLevel level → now ≤ LAST_MOMENT → PlainPit now (new_pit level)
+new-sound : (level now : ℕ) → IsLevel level → now ≤ LAST_MOMENT → IsSoundPit now (new_pit level)
 unfolding new_pit
-new-plain level now l m = record {
+new-sound level now l m = record {
   level = l;
   moment = m;
   count = refl;
-  counters = each_of (λ k. PlainSound level now (slice_index_or (powered_on ∷ powered_on ∷ powered_on ∷ []) k powered_on)) (powered_on-sound level now) (powered_on-sound level now) (powered_on-sound level now);
+  counters = let on = sound-from_plain level now powered_on (powered_on-sound level now) in
+      each_of (λ k. IsSoundCounter level now (slice_index_or (powered_on ∷ powered_on ∷ powered_on ∷ []) k powered_on)) on on on;
 }
 
-later : (level now after : ℕ) (counter : Counter) → now ≤ after → PlainSound level now counter → PlainSound level after counter
-later level now after counter h s = record {
-  widths = s.widths;
-  loaded = loaded_by-later counter.loaded_at now after s.loaded h;
-  status = s.status;
-  toggles = s.toggles;
-}
+later : (level now after : ℕ) (counter : Counter) → now ≤ after → IsSoundCounter level now counter → IsSoundCounter level after counter
+later level now after counter h s =
+    let p = plain-from_sound level now counter s in
+    sound-from_plain level after counter (record { widths = p.widths; loaded = loaded_by-later counter.loaded_at now after p.loaded h; status = p.status; toggles = p.toggles })
 
-pit-later : (now after : ℕ) (pit : Pit) → now ≤ after → after ≤ LAST_MOMENT → PlainPit now pit → PlainPit after pit
+pit-later : (now after : ℕ) (pit : Pit) → now ≤ after → after ≤ LAST_MOMENT → IsSoundPit now pit → IsSoundPit after pit
 pit-later now after pit h m s = record {
   level = s.level;
   moment = m;
@@ -70,56 +45,56 @@ pit-later now after pit h m s = record {
 }
 
 -- a step of counter j that keeps it sound
-step-plain : (j now : ℕ) (step : Counter → Counter) (pit : Pit) → ((counter : Counter) → PlainSound pit.level now counter → PlainSound pit.level now (step counter)) → PlainPit now pit → PlainPit now (with_counter j (step (counter_of j pit)) pit)
-step-plain j now step pit keeps s = record {
+step-sound : (j now : ℕ) (step : Counter → Counter) (pit : Pit) → ((counter : Counter) → PlainSound pit.level now counter → PlainSound pit.level now (step counter)) → IsSoundPit now pit → IsSoundPit now (with_counter j (step (counter_of j pit)) pit)
+step-sound j now step pit keeps s = record {
   level = s.level;
   moment = s.moment;
   count = count-with j (step (counter_of j pit)) pit ∙ s.count;
-  counters = λ k l. at_counter (PlainSound pit.level now) k j (step (counter_of j pit)) pit
-      (λ here. keeps (counter_of j pit) (subst (λ (i : ℕ). PlainSound pit.level now (counter_of i pit)) here (s.counters k l))) (s.counters k l);
+  counters = λ k l. at_counter (IsSoundCounter pit.level now) k j (step (counter_of j pit)) pit
+      (λ here. sound-from_plain _ _ _ (keeps (counter_of j pit) (plain-from_sound _ _ _ (subst (λ (i : ℕ). IsSoundCounter pit.level now (counter_of i pit)) here (s.counters k l))))) (s.counters k l);
 }
 
-read-plain : (k now : ℕ) (pit : Pit) → PlainPit now pit → PlainPit now (pit_read k now pit).1
+pit_read-sound : (k now : ℕ) (pit : Pit) → IsSoundPit now pit → IsSoundPit now (pit_read k now pit).1
 unfolding pit_read
-read-plain k now pit s = step-plain k now (λ c. (read_of now c).1) pit (λ c p. read-sound pit.level now c p) s
+pit_read-sound k now pit s = step-sound k now (λ c. (read_of now c).1) pit (λ c p. read-sound pit.level now c p) s
 
-asked-plain : (count status chosen : Bool) (k now : ℕ) (pit : Pit) → READ_BACK_LEVEL ≤ pit.level → PlainPit now pit → PlainPit now (asked_back count status chosen k now pit)
+asked-sound : (count status chosen : Bool) (k now : ℕ) (pit : Pit) → READ_BACK_LEVEL ≤ pit.level → IsSoundPit now pit → IsSoundPit now (asked_back count status chosen k now pit)
 unfolding asked_back
-asked-plain count status chosen k now pit h s =
-    step-plain k now (read_back (count && chosen) (status && chosen) now) pit (λ c p. read_back-sound _ _ pit.level now c h p) s
+asked-sound count status chosen k now pit h s =
+    step-sound k now (read_back (count && chosen) (status && chosen) now) pit (λ c p. read_back-sound _ _ pit.level now c h p) s
 
 asked-level : (count status chosen : Bool) (k now : ℕ) (pit : Pit) → (asked_back count status chosen k now pit).level ≡ pit.level
 unfolding asked_back
 asked-level count status chosen k now pit = refl
 
-all-asked : (count status first second third : Bool) (now : ℕ) (pit : Pit) → READ_BACK_LEVEL ≤ pit.level → PlainPit now pit → PlainPit now (asked_back count status third 2 now (asked_back count status second 1 now (asked_back count status first 0 now pit)))
+all-asked : (count status first second third : Bool) (now : ℕ) (pit : Pit) → READ_BACK_LEVEL ≤ pit.level → IsSoundPit now pit → IsSoundPit now (asked_back count status third 2 now (asked_back count status second 1 now (asked_back count status first 0 now pit)))
 unfolding asked_back
 all-asked count status first second third now pit h s =
-    asked-plain count status third 2 now _ h (asked-plain count status second 1 now _ h (asked-plain count status first 0 now pit h s))
+    asked-sound count status third 2 now _ h (asked-sound count status second 1 now _ h (asked-sound count status first 0 now pit h s))
 
-controlled-plain : (word : ControlWord) (now : ℕ) (pit : Pit) → PlainPit now pit → PlainPit now (controlled word now pit)
+controlled-sound : (word : ControlWord) (now : ℕ) (pit : Pit) → IsSoundPit now pit → IsSoundPit now (controlled word now pit)
 unfolding controlled
-controlled-plain (LatchCount k) now pit s = step-plain k now (latched now) pit (λ c p. latched-sound pit.level now c p) s
-controlled-plain (SetMode k access mode bcd) now pit s = step-plain k now (programmed access mode bcd) pit (λ c p. programmed-sound access mode bcd pit.level now c p) s
-controlled-plain (ReadBack count status first second third) now pit s =
+controlled-sound (LatchCount k) now pit s = step-sound k now (latched now) pit (λ c p. latched-sound pit.level now c p) s
+controlled-sound (SetMode k access mode bcd) now pit s = step-sound k now (programmed access mode bcd) pit (λ c p. programmed-sound access mode bcd pit.level now c p) s
+controlled-sound (ReadBack count status first second third) now pit s =
     ⊎_elim (λ e. let h : READ_BACK_LEVEL ≤ pit.level = grind (arith, nat_tests) in
     rw e (all-asked count status first second third now pit h s))
     (λ e. rw e s)
     (cases_Bool (nat_le READ_BACK_LEVEL pit.level))
 
-written-plain : (port value now : ℕ) (pit : Pit) → value < 256 → PlainPit now pit → PlainPit now (pit_written port value now pit)
+pit_written-sound : (port value now : ℕ) (pit : Pit) → value < 256 → IsSoundPit now pit → IsSoundPit now (pit_written port value now pit)
 unfolding pit_written
-written-plain port value now pit v s =
-    either (PlainPit now) (port == 0x43) _ _ (controlled-plain (control_word value) now pit s)
-    (step-plain (port - 0x40) now (written value now) pit (λ c p. written-sound value pit.level now c s.moment v p) s)
+pit_written-sound port value now pit v s =
+    either (IsSoundPit now) (port == 0x43) _ _ (controlled-sound (control_word value) now pit s)
+    (step-sound (port - 0x40) now (written value now) pit (λ c p. written-sound value pit.level now c s.moment v p) s)
 
 pub sound_stays : SoundStays
 sound_stays = record {
-  power_on = λ level now l m. pit-from_plain now (new_pit level) (new-plain level now l m);
-  in_time = λ now after pit h m s. pit-from_plain after pit (pit-later now after pit h m (plain-from_pit now pit s));
-  in_reads = λ k now pit s. pit-from_plain now (pit_read k now pit).1 (read-plain k now pit (plain-from_pit now pit s));
-  in_writes = λ port value now pit v s. pit-from_plain now (pit_written port value now pit) (written-plain port value now pit v (plain-from_pit now pit s));
-  loaded = λ now pit s k l. ((plain-from_pit now pit s).counters k l).loaded;
+  power_on = new-sound;
+  in_time = pit-later;
+  in_reads = pit_read-sound;
+  in_writes = pit_written-sound;
+  loaded = λ now pit s k l. (plain-from_sound _ _ _ (s.counters k l)).loaded;
 }
 
 -- the level

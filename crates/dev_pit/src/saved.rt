@@ -4,8 +4,8 @@ ghost use Rattle.std.specs.Prelude.{◌≡◌, ◌≤◌, length, IfErr};
 use crate::channel::Channel;
 use crate::limits::CELLS;
 use crate::pit::Pit;
-use dev_base::first_failing;
-use vms_hooks::{Hooked, Pass};
+use dev_base::{HasHooks, first_failing, hook_result};
+use vms_hooks::{HookFault, Hooked, Pass};
 use vms_kinds::DevCells;
 
 impl Hooked for Pit {
@@ -71,5 +71,15 @@ impl Pit {
             }),
             Some(rule) => Err(rule),
         }
+    }
+}
+
+impl HasHooks for Pit {
+    fn save(&self, pass: &Pass) -> DevCells {
+        self.cells(pass)
+    }
+
+    fn load(pass: &Pass, cells: &DevCells) -> Result<Pit, HookFault> {
+        hook_result(Pit::of_cells(pass, cells))
     }
 }

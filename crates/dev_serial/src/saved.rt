@@ -4,7 +4,8 @@ ghost use Rattle.dev_serial.specs.declared.stored.TheConstants.{PORT_CELLS};
 
 use crate::numbers::PortNumbers;
 use crate::serial::Serial;
-use vms_hooks::{Hooked, Pass};
+use dev_base::{HasHooks, hook_result};
+use vms_hooks::{HookFault, Hooked, Pass};
 use vms_kinds::DevCells;
 
 impl Hooked for Serial {
@@ -42,5 +43,15 @@ impl Serial {
         ensures rule { IfErr result (λ rule. (1 ≤ rule) × (rule ≤ 10)) }
     {
         PortNumbers::of_cells(cells).restore(pass.level(), pass.now())
+    }
+}
+
+impl HasHooks for Serial {
+    fn save(&self, pass: &Pass) -> DevCells {
+        self.cells(pass)
+    }
+
+    fn load(pass: &Pass, cells: &DevCells) -> Result<Serial, HookFault> {
+        hook_result(Serial::of_cells(pass, cells))
     }
 }

@@ -1,5 +1,5 @@
 -- Worked drills: the events that seeds give.
-use Rattle.std.proofs.Common.{◌≡◌, [], ◌∷◌, true, false, refl}
+use Rattle.std.proofs.Common.{◌≡◌, [], ◌∷◌, map, true, false, refl}
 use Rattle.dev_board.specs.declared.event.Event.TheVariants.{Read, Write, Byte, Wait, Wire, Ack}
 use Rattle.vms_drill.specs.Events.{next_number, event_by, event_of, events_after}
 use Rattle.vms_drill.specs.Fold.{is_save_due, set_of}
@@ -18,21 +18,15 @@ goes_on_from_the_greatest_seed = refl
 
 -- ---- saves
 
-record SavesInTurn : Type 0 where
-  saves_after_a_thousand : is_save_due 1000 ≡ true
-  saves_not_before : is_save_due 999 ≡ false
-  begins_with_the_level : set_of 3 0 ≡ 3
-  turns_to_the_newest : set_of 3 1 ≡ 4
-  turns_back_to_the_level : set_of 3 2 ≡ 3
-  keeps_to_the_newest : set_of 4 7 ≡ 4
+saves_after_a_thousand : (is_save_due 999 ≡ false) × (is_save_due 1000 ≡ true)
+unfolding is_save_due
+saves_after_a_thousand = (refl, refl)
 
-saves_in_turn : SavesInTurn
-unfolding is_save_due set_of
-saves_in_turn = record {
-  saves_after_a_thousand = refl;
-  saves_not_before = refl;
-  begins_with_the_level = refl;
-  turns_to_the_newest = refl;
-  turns_back_to_the_level = refl;
-  keeps_to_the_newest = refl;
-}
+-- the level's set, the newest, and the level's again; the newest alone where it is the level's
+turns_by_saves : map (set_of 3) (0 ∷ 1 ∷ 2 ∷ []) ≡ 3 ∷ 4 ∷ 3 ∷ []
+unfolding set_of
+turns_by_saves = refl
+
+keeps_to_the_newest : set_of 4 7 ≡ 4
+unfolding set_of
+keeps_to_the_newest = refl

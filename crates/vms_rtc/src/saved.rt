@@ -4,8 +4,8 @@ ghost use Rattle.std.specs.Prelude.{◌≡◌, ◌≤◌, length, IfErr};
 use crate::cells::{byte_cells, has_registers, registers_at};
 use crate::limits::NMI_SINCE;
 use crate::rtc::Rtc;
-use dev_base::{append, byte_at, flag_at};
-use vms_hooks::{Hooked, Pass};
+use dev_base::{HasHooks, append, byte_at, flag_at, hook_result};
+use vms_hooks::{HookFault, Hooked, Pass};
 use vms_kinds::DevCells;
 
 impl Hooked for Rtc {
@@ -70,5 +70,15 @@ impl Rtc {
             nmi_mask,
             pf: flag_at(cells, 66),
         })
+    }
+}
+
+impl HasHooks for Rtc {
+    fn save(&self, pass: &Pass) -> DevCells {
+        self.cells(pass)
+    }
+
+    fn load(pass: &Pass, cells: &DevCells) -> Result<Rtc, HookFault> {
+        hook_result(Rtc::of_cells(pass, cells))
     }
 }

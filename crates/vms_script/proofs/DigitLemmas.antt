@@ -3,6 +3,7 @@ use Rattle.std.proofs.Common.{◌≡◌, ℕ, ◌+◌, ◌-◌, ◌*◌, ◌/◌
 use Rattle.std.specs.List.{list_all}
 use Rattle.std.proofs.lemmas.Bool.{ne_eqb, le-leb, lt-leb, leb-true, and_parts, ltb-true, ltb-false}
 use Rattle.std.proofs.lemmas.Bool.Decides.{nat_tests}
+use Rattle.std.proofs.lemmas.Nat.{div-mul-add, mod-mul-add}
 use Rattle.std.specs.Char.{digit_char}
 use Rattle.vms_spec.specs.Spelling.{is_digit}
 use Rattle.vms_script.specs.Grammar.{port_text}
@@ -103,6 +104,13 @@ joins base None low v e = cc
 joins base (Some a) None v e = cc
 joins base (Some a) (Some b) v e = record { a = a; b = b; first = refl; second = refl; value = some_same (a * base + b) v e }
 
+-- two texts of the parts of a number
+both : (base v a b : ℕ) (text_of : ℕ → List ℕ) (first second : List ℕ) → v ≡ a * base + b → b < base → first ≡ text_of a → second ≡ text_of b → first ++ second ≡ text_of (v / base) ++ text_of (v % base)
+both base v a b text_of first second value small f s =
+    let high : v / base ≡ a = ap (λ n. n / base) value ∙ div-mul-add a base b small in
+    let low : v % base ≡ b = ap (λ n. n % base) value ∙ mod-mul-add a base b small in
+    ap (λ (t : List ℕ). t ++ second) (f ∙ ap text_of (sym high)) ∙ ap (λ (t : List ℕ). text_of (v / base) ++ t) (s ∙ ap text_of (sym low))
+
 -- a text of a byte and of a port that are read
 pub record IsByteOf (text : List ℕ) (v : ℕ) : Type 0 where
   pub small : v < 256
@@ -115,11 +123,9 @@ byte_is (a ∷ b ∷ []) v e =
     let j = joins 16 (digit_spelled a) (digit_spelled b) v e in
     let x = digit_is a j.a j.first in
     let y = digit_is b j.b j.second in
-    let high : v / 16 ≡ j.a = omega (arith, j.value, y.small) in
-    let low : v % 16 ≡ j.b = omega (arith, j.value, y.small) in
     record {
       small = omega (arith, j.value, x.small, y.small);
-      text_is = ap (λ (c : ℕ). c ∷ b ∷ []) (x.char ∙ ap digit_char (sym high)) ∙ ap (λ (c : ℕ). digit_char (v / 16) ∷ c ∷ []) (y.char ∙ ap digit_char (sym low));
+      text_is = both 16 v j.a j.b (λ d. digit_char d ∷ []) (a ∷ []) (b ∷ []) j.value y.small (ap (λ c. c ∷ []) x.char) (ap (λ c. c ∷ []) y.char);
     }
 byte_is (a ∷ b ∷ c ∷ text) v e = cc
 
@@ -136,11 +142,9 @@ port_is (a ∷ b ∷ c ∷ d ∷ []) p e =
     let j = joins 256 (byte_spelled (a ∷ b ∷ [])) (byte_spelled (c ∷ d ∷ [])) p e in
     let x = byte_is (a ∷ b ∷ []) j.a j.first in
     let y = byte_is (c ∷ d ∷ []) j.b j.second in
-    let high : p / 256 ≡ j.a = omega (arith, j.value, y.small) in
-    let low : p % 256 ≡ j.b = omega (arith, j.value, y.small) in
     record {
       small = omega (arith, j.value, x.small, y.small);
-      text_is = ap (λ (t : List ℕ). t ++ c ∷ d ∷ []) (x.text_is ∙ ap byte_text (sym high)) ∙ ap (λ (t : List ℕ). byte_text (p / 256) ++ t) (y.text_is ∙ ap byte_text (sym low));
+      text_is = both 256 p j.a j.b byte_text (a ∷ b ∷ []) (c ∷ d ∷ []) j.value y.small x.text_is y.text_is;
     }
 port_is (a ∷ b ∷ c ∷ d ∷ f ∷ text) p e = cc
 
