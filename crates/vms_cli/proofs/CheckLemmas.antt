@@ -11,16 +11,7 @@ use Rattle.vms_commands.specs.SetWords.{SetWord}
 use Rattle.vms_commands.specs.StepEndings.{StepAs, TextEnds}
 use Rattle.vms_commands.specs.Steps.{Both, Ends, Gives, Step, Untold, both, next}
 use Rattle.vms_commands.proofs.StepLemmas.{IsSound, regroup, sound_next, sound_sets}
-use Rattle.vms_cli.specs.Causes.{CompareCause}
 use Rattle.vms_cli.specs.Check.{checked, compared, verdict}
-
-pub compare_quiet : (asks : Bool) (o o' : Outlet) (e : Ending) → CompareCause asks o o' e → Quiet o o' e
-compare_quiet asks o o' Done c = tt
-compare_quiet asks o o' (BadText line) c = c.1
-compare_quiet asks o o' (NotCompatible line) c = c
-compare_quiet asks o o' WriteFault c = tt
-compare_quiet asks o o' NoMemory c = c
-compare_quiet asks o o' e c = absurd c
 
 sound_verdict : (held : Option Held) (m : Option Mismatch) → IsSound held (verdict m)
 sound_verdict held None = tt

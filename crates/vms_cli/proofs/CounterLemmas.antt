@@ -33,16 +33,8 @@ use Rattle.vms_commands.specs.SetWords.{SetWord}
 use Rattle.vms_commands.specs.Steps.{Both, Ends, Gives, HasText, Step, Untold, both, next}
 use Rattle.vms_commands.proofs.FileSets.{FitStep, fit_text}
 use Rattle.vms_commands.proofs.StepLemmas.{IsSound, sound_next, sound_sets}
-use Rattle.vms_cli.specs.Causes.{FindCause}
 use Rattle.vms_cli.specs.Counter.{Tells, Answers, CountersBy, counted, counter_text, no_state}
 use Rattle.vms_cli.proofs.ShowLemmas.{are_of}
-
-pub find_quiet : (asks : Bool) (o o' : Outlet) (e : Ending) → FindCause asks o o' e → Quiet o o' e
-find_quiet asks o o' Done c = tt
-find_quiet asks o o' (BadText line) c = c.1
-find_quiet asks o o' WriteFault c = tt
-find_quiet asks o o' NoMemory c = c
-find_quiet asks o o' e c = absurd c
 
 -- ---- both sets are well formed
 

@@ -1,5 +1,5 @@
 -- Each ending of a command, by what it touches.
-use Rattle.std.proofs.Common.{◌≡◌, ℕ, Bool, true, false, ◌||◌, ◌==◌, List, [], ◌∷◌, ◌++◌, Option, refl, ap, subst, ◌∙◌}
+use Rattle.std.proofs.Common.{◌≡◌, ℕ, Bool, true, false, ◌||◌, ◌==◌, List, [], ◌∷◌, ◌++◌, Option, refl, sym, ap, subst, ◌∙◌}
 use Rattle.std.proofs.lemmas.Bool.{or_right}
 use Rattle.std.specs.Io.KnownBytes.{Keeps}
 use Rattle.std.proofs.KnownBytes.{Keeps-refl}
@@ -12,40 +12,35 @@ use Rattle.vms_io.specs.Writing.{Serves}
 use Rattle.vms_board_commands.specs.Causes.{save_course}
 use Rattle.vms_commands.specs.declared.ending.Ending.{Ending}
 use Rattle.vms_commands.specs.declared.ending.Ending.TheVariants.{Done, BadText, NotCompatible, ReadFault, WriteFault, ShelfFault, NotThere, TooLarge, NoMemory}
-use Rattle.vms_commands.specs.Endings.{Caused, SetCause, status_of}
+use Rattle.vms_commands.specs.Endings.{Caused, Quiet, SetCause, status_of}
 use Rattle.vms_commands.specs.Courses.{Draws, EndsSo, Risen, is_among, of_shelf, text_course}
-use Rattle.vms_commands.specs.Texts.{TextCause}
 use Rattle.vms_commands.proofs.CourseLemmas.{draws_none, so_since, wrong}
+use Rattle.vms_cli.specs.Causes.{WriteCause}
 use Rattle.vms_cli.specs.Commands.{Asked}
 use Rattle.vms_cli.specs.Statuses.{check_course, counter_course, course_of, stores_at, writes_at}
 use Rattle.vms_cli.proofs.RowTables.{stores_one, writes_one}
 
 -- ---- the causes of commands, by those of their steps
 
--- of `check`, where `asks` says whether the shelf is asked
-abbrev CheckCause : Bool → (out out' : Outlet) (shelf shelf' : Stock) → Ending → Type 0
-CheckCause asks out out' shelf shelf' Done = Unit {0}
-CheckCause asks out out' shelf shelf' (BadText line) = (asks ≡ true) × Keeps out.written out'.written
-CheckCause asks out out' shelf shelf' (NotCompatible line) = Keeps out.written out'.written
-CheckCause asks out out' shelf shelf' WriteFault = Rose out.faults out'.faults
-CheckCause asks out out' shelf shelf' ShelfFault =
-    (asks ≡ true) × Rose shelf.faults shelf'.faults × Keeps out.written out'.written
-CheckCause asks out out' shelf shelf' (NotThere line) = (asks ≡ true) × Keeps out.written out'.written
-CheckCause asks out out' shelf shelf' (TooLarge line) = (asks ≡ true) × Keeps out.written out'.written
-CheckCause asks out out' shelf shelf' NoMemory = Keeps out.written out'.written
-CheckCause asks out out' shelf shelf' _ = ⊥
+-- by whether the shelf is asked, and whether two sets are compared
+abbrev TextCause : (asks compares : Bool) (out out' : Outlet) (shelf shelf' : Stock) → Ending → Type 0
+TextCause asks compares out out' shelf shelf' Done = Unit {0}
+TextCause asks compares out out' shelf shelf' (BadText line) = (asks ≡ true) × Keeps out.written out'.written
+TextCause asks compares out out' shelf shelf' (NotCompatible line) = (compares ≡ true) × Keeps out.written out'.written
+TextCause asks compares out out' shelf shelf' WriteFault = Rose out.faults out'.faults
+TextCause asks compares out out' shelf shelf' ShelfFault = (asks ≡ true) × Rose shelf.faults shelf'.faults × Keeps out.written out'.written
+TextCause asks compares out out' shelf shelf' (NotThere line) = (asks ≡ true) × Keeps out.written out'.written
+TextCause asks compares out out' shelf shelf' (TooLarge line) = (asks ≡ true) × Keeps out.written out'.written
+TextCause asks compares out out' shelf shelf' NoMemory = Keeps out.written out'.written
+TextCause asks compares out out' shelf shelf' _ = ⊥
 
--- of `counter`
-abbrev CounterCause : Bool → (out out' : Outlet) (shelf shelf' : Stock) → Ending → Type 0
-CounterCause asks out out' shelf shelf' Done = Unit {0}
-CounterCause asks out out' shelf shelf' (BadText line) = (asks ≡ true) × Keeps out.written out'.written
-CounterCause asks out out' shelf shelf' WriteFault = Rose out.faults out'.faults
-CounterCause asks out out' shelf shelf' ShelfFault =
-    (asks ≡ true) × Rose shelf.faults shelf'.faults × Keeps out.written out'.written
-CounterCause asks out out' shelf shelf' (NotThere line) = (asks ≡ true) × Keeps out.written out'.written
-CounterCause asks out out' shelf shelf' (TooLarge line) = (asks ≡ true) × Keeps out.written out'.written
-CounterCause asks out out' shelf shelf' NoMemory = Keeps out.written out'.written
-CounterCause asks out out' shelf shelf' _ = ⊥
+pub write_quiet : (asks compares : Bool) (o o' : Outlet) (e : Ending) → WriteCause asks compares o o' e → Quiet o o' e
+write_quiet asks compares o o' Done c = tt
+write_quiet asks compares o o' (BadText line) c = c.1
+write_quiet asks compares o o' (NotCompatible line) c = c.1
+write_quiet asks compares o o' WriteFault c = tt
+write_quiet asks compares o o' NoMemory c = c
+write_quiet asks compares o o' e c = absurd c
 
 -- ---- lists of statuses
 
@@ -61,6 +56,10 @@ among_left (n ∷ xs) ys k e = or_here (n == k) (is_among xs k) (is_among (xs ++
 among_right : (xs ys : List ℕ) (k : ℕ) → is_among ys k ≡ true → is_among (xs ++ ys) k ≡ true
 among_right [] ys k e = e
 among_right (n ∷ xs) ys k e = or_right (n == k) (is_among (xs ++ ys) k) (among_right xs ys k e)
+
+-- those of what the shelf holds come where it is asked
+shelf_has : (own : List ℕ) (asks : Bool) (k : ℕ) → asks ≡ true → is_among (of_shelf true) k ≡ true → is_among (own ++ of_shelf asks) k ≡ true
+shelf_has own asks k is one = among_right own (of_shelf asks) k (ap (λ (x : Bool). is_among (of_shelf x) k) is ∙ one)
 
 -- ---- a set that a word names
 
@@ -79,14 +78,11 @@ module _ (own takes : List ℕ) (ten : is_among own 10 ≡ true) (i : Intake) (o
     reaches = looks_reaches looks;
   }
 
-  among : (k : ℕ) → b ≡ true → is_among (of_shelf true) k ≡ true → is_among (own ++ of_shelf b) k ≡ true
-  among k is one = among_right own (of_shelf b) k (ap (λ (x : Bool). is_among (of_shelf x) k) is ∙ one)
-
   pub unset_so : (e : Ending) → SetCause b s s' e → EndsSo i i o o s s' (text_course own takes b) e
-  unset_so (BadText line) c = without (BadText line) (among 3 c refl) tt
-  unset_so ShelfFault c = without ShelfFault (among 7 c.0 refl) c.1
-  unset_so (NotThere line) c = without (NotThere line) (among 8 c refl) tt
-  unset_so (TooLarge line) c = without (TooLarge line) (among 9 c refl) tt
+  unset_so (BadText line) c = without (BadText line) (shelf_has own b 3 c refl) tt
+  unset_so ShelfFault c = without ShelfFault (shelf_has own b 7 c.0 refl) c.1
+  unset_so (NotThere line) c = without (NotThere line) (shelf_has own b 8 c refl) tt
+  unset_so (TooLarge line) c = without (TooLarge line) (shelf_has own b 9 c refl) tt
   unset_so NoMemory c = without NoMemory (among_left own (of_shelf b) 10 ten) tt
   unset_so e c = absurd c
 
@@ -96,51 +92,41 @@ pub behind_so : (own takes : List ℕ) (b : Bool) {i i' : Intake} {o o' : Outlet
 behind_so own takes true e same looks g = so_since e refl looks g
 behind_so own takes false {i} {i'} {o} {o'} {s} {s'} e same looks g = subst (λ (x : Stock). EndsSo i i' o o' x s' (text_course own takes false) e) (same refl) g
 
+-- ---- a text
+
+-- a list of own statuses has those of each text, and that of sets that are compared
+record HasOwn (own : List ℕ) (compares : Bool) : Type 0 where
+  none : is_among own 0 ≡ true
+  six : is_among own 6 ≡ true
+  ten : is_among own 10 ≡ true
+  four : compares ≡ true → is_among own 4 ≡ true
+
+compares_none : (own : List ℕ) → is_among own 0 ≡ true → is_among own 6 ≡ true → is_among own 10 ≡ true → HasOwn own false
+compares_none own none six ten = record { none = none; six = six; ten = ten; four = λ f. absurd (wrong (sym f)) }
+
 module _ (i i' : Intake) (o o' : Outlet) (s s' : Stock) where
   -- ---- which ending it is, by the lists of a command
 
   abbrev IsOf : (all writes : List ℕ) → Ending → Type 0
   IsOf all writes e = (is_among all (status_of e) ≡ true) × Risen i i' o o' s s' e × (is_among writes (status_of e) ≡ false → Keeps o.written o'.written)
 
-  abbrev own_text : List ℕ
-  own_text = 0 ∷ 6 ∷ 10 ∷ []
-
   abbrev text_at : List ℕ
   text_at = 0 ∷ 6 ∷ []
 
-  text_so : (e : Ending) → TextCause o o' s s' e → IsOf (own_text ++ of_shelf true) text_at e
-  text_so Done c = (refl, tt, λ f. absurd (wrong f))
-  text_so (BadText line) c = (refl, tt, λ f. c)
-  text_so WriteFault c = (refl, c, λ f. absurd (wrong f))
-  text_so ShelfFault c = (refl, c.0, λ f. c.1)
-  text_so (NotThere line) c = (refl, tt, λ f. c)
-  text_so (TooLarge line) c = (refl, tt, λ f. c)
-  text_so NoMemory c = (refl, tt, λ f. c)
-  text_so e c = absurd c
+  module _ (own : List ℕ) (asks compares : Bool) (has : HasOwn own compares) where
+    own_has : (k : ℕ) → is_among own k ≡ true → is_among (own ++ of_shelf asks) k ≡ true
+    own_has k is = among_left own (of_shelf asks) k is
 
-  counter_so : (b : Bool) (e : Ending) → CounterCause b o o' s s' e → IsOf (own_text ++ of_shelf b) text_at e
-  counter_so b Done c = (refl, tt, λ f. absurd (wrong f))
-  counter_so b (BadText line) c = (ap (λ (x : Bool). is_among (own_text ++ of_shelf x) 3) c.0, tt, λ f. c.1)
-  counter_so b WriteFault c = (refl, c, λ f. absurd (wrong f))
-  counter_so b ShelfFault c = (ap (λ (x : Bool). is_among (own_text ++ of_shelf x) 7) c.0, c.1, λ f. c.2)
-  counter_so b (NotThere line) c = (ap (λ (x : Bool). is_among (own_text ++ of_shelf x) 8) c.0, tt, λ f. c.1)
-  counter_so b (TooLarge line) c = (ap (λ (x : Bool). is_among (own_text ++ of_shelf x) 9) c.0, tt, λ f. c.1)
-  counter_so b NoMemory c = (refl, tt, λ f. c)
-  counter_so b e c = absurd c
-
-  abbrev own_check : List ℕ
-  own_check = 0 ∷ 4 ∷ 6 ∷ 10 ∷ []
-
-  check_so : (b : Bool) (e : Ending) → CheckCause b o o' s s' e → IsOf (own_check ++ of_shelf b) text_at e
-  check_so b Done c = (refl, tt, λ f. absurd (wrong f))
-  check_so b (BadText line) c = (ap (λ (x : Bool). is_among (own_check ++ of_shelf x) 3) c.0, tt, λ f. c.1)
-  check_so b (NotCompatible line) c = (refl, tt, λ f. c)
-  check_so b WriteFault c = (refl, c, λ f. absurd (wrong f))
-  check_so b ShelfFault c = (ap (λ (x : Bool). is_among (own_check ++ of_shelf x) 7) c.0, c.1, λ f. c.2)
-  check_so b (NotThere line) c = (ap (λ (x : Bool). is_among (own_check ++ of_shelf x) 8) c.0, tt, λ f. c.1)
-  check_so b (TooLarge line) c = (ap (λ (x : Bool). is_among (own_check ++ of_shelf x) 9) c.0, tt, λ f. c.1)
-  check_so b NoMemory c = (refl, tt, λ f. c)
-  check_so b e c = absurd c
+    text_so : (e : Ending) → TextCause asks compares o o' s s' e → IsOf (own ++ of_shelf asks) text_at e
+    text_so Done c = (own_has 0 has.none, tt, λ f. absurd (wrong f))
+    text_so (BadText line) c = (shelf_has own asks 3 c.0 refl, tt, λ f. c.1)
+    text_so (NotCompatible line) c = (own_has 4 (has.four c.0), tt, λ f. c.1)
+    text_so WriteFault c = (own_has 6 has.six, c, λ f. absurd (wrong f))
+    text_so ShelfFault c = (shelf_has own asks 7 c.0 refl, c.1, λ f. c.2)
+    text_so (NotThere line) c = (shelf_has own asks 8 c.0 refl, tt, λ f. c.1)
+    text_so (TooLarge line) c = (shelf_has own asks 9 c.0 refl, tt, λ f. c.1)
+    text_so NoMemory c = (own_has 10 has.ten, tt, λ f. c)
+    text_so e c = absurd c
 
   -- ---- so a command ends
 
@@ -185,11 +171,17 @@ module _ (i : Intake) (o o' : Outlet) (s s' : Stock) where
     reaches = l.reaches;
   }
 
-  pub pack_ends : (e : Ending) → TextCause o o' s s' e → Left i i o o' s s' true → EndsSo i i o o' s s' save_course e
-  pack_ends e c l = text_by (0 ∷ 6 ∷ 10 ∷ []) true e (text_so i i o o' s s' e c) l
+  pub pack_ends : (e : Ending) → TextCause true false o o' s s' e → Left i i o o' s s' true → EndsSo i i o o' s s' save_course e
+  pack_ends e c l =
+      let own = 0 ∷ 6 ∷ 10 ∷ [] in
+      text_by own true e (text_so i i o o' s s' own true false (compares_none own refl refl refl) e c) l
 
-  pub check_ends : (b : Bool) (e : Ending) → CheckCause b o o' s s' e → Left i i o o' s s' b → EndsSo i i o o' s s' (check_course b) e
-  check_ends b e c l = text_by (0 ∷ 4 ∷ 6 ∷ 10 ∷ []) b e (check_so i i o o' s s' b e c) l
+  pub check_ends : (b : Bool) (e : Ending) → TextCause b true o o' s s' e → Left i i o o' s s' b → EndsSo i i o o' s s' (check_course b) e
+  check_ends b e c l =
+      let own = 0 ∷ 4 ∷ 6 ∷ 10 ∷ [] in
+      text_by own b e (text_so i i o o' s s' own b true (record { none = refl; six = refl; ten = refl; four = λ f. refl }) e c) l
 
-  pub counter_ends : (b : Bool) (e : Ending) → CounterCause b o o' s s' e → Left i i o o' s s' b → EndsSo i i o o' s s' (counter_course b) e
-  counter_ends b e c l = text_by (0 ∷ 6 ∷ 10 ∷ []) b e (counter_so i i o o' s s' b e c) l
+  pub counter_ends : (b : Bool) (e : Ending) → TextCause b false o o' s s' e → Left i i o o' s s' b → EndsSo i i o o' s s' (counter_course b) e
+  counter_ends b e c l =
+      let own = 0 ∷ 6 ∷ 10 ∷ [] in
+      text_by own b e (text_so i i o o' s s' own b false (compares_none own refl refl refl) e c) l

@@ -28,7 +28,6 @@ use Rattle.vms_commands.specs.SetWords.{SetWord}
 use Rattle.vms_commands.specs.StepEndings.{StepAs, TextEnds, WrittenAs}
 use Rattle.vms_commands.specs.Steps.{Step, Untold, Gives, Ends, next}
 use Rattle.vms_commands.proofs.StepLemmas.{IsSound, err_text, regroup, sound_fetch, sound_next, sound_set, sound_word, then_text}
-use Rattle.vms_cli.specs.Causes.{WriteCause}
 use Rattle.vms_cli.specs.Pack.{Texts, described_stream, fetched_texts, packed, packed_by, packed_texts, packs}
 use Rattle.vms_cli.specs.ValuesLines.{values_line}
 
@@ -113,13 +112,6 @@ module _ (held : Option Held) (word : SetWord) (name : List ℕ) (set : Set) (te
   pub pack_gives : word_set held word ≡ Gives set → fetched longest_file held name ≡ Gives text → packed set text ≡ Gives stream
       → packs held word name ≡ Gives stream
   pack_gives there values reads = gives_by (fetched_set held word) there values reads
-
-pub write_quiet : (o o' : Outlet) (e : Ending) → WriteCause o o' e → Quiet o o' e
-write_quiet o o' Done c = tt
-write_quiet o o' (BadText line) c = c
-write_quiet o o' WriteFault c = tt
-write_quiet o o' NoMemory c = c
-write_quiet o o' e c = absurd c
 
 sound_read : (held : Option Held) (set : Set) (r : ValuesRead) → IsSound held (packed_by set r)
 sound_read held set (Values machine images) = tt

@@ -1,11 +1,11 @@
 // The command `check`: whether a newer set reads what an older one writes.
-ghost use Rattle.std.specs.Prelude.{◌≡◌, ◌≤◌, ◌||◌, false};
+ghost use Rattle.std.specs.Prelude.{◌≡◌, ◌≤◌, ◌||◌, true, false};
 ghost use Rattle.vms_io.specs.Told.{Intake, outlet, stock};
 ghost use Rattle.vms_desc.specs.Described.{described};
 ghost use Rattle.vms_check.specs.Comparing.{first_mismatch};
 ghost use Rattle.vms_commands.specs.Asks.{set_asked};
 ghost use Rattle.vms_cli.specs.Check.{asks_shelf, checked, compared, verdict};
-ghost use Rattle.vms_cli.specs.Causes.{CompareCause, WritesBy};
+ghost use Rattle.vms_cli.specs.Causes.{WritesBy};
 ghost use Rattle.vms_cli.specs.Statuses.{check_course};
 ghost use Rattle.vms_commands.specs.Courses.{EndsSo};
 ghost use Rattle.vms_commands.specs.Fetching.{is_text, set_in, sets_in};
@@ -50,7 +50,7 @@ fn check_texts<O: Sink>(alloc: Global, old: &SetText, new: &SetText, out: &mut O
     ensures ends { TextEnds
         (next (sets_in (record { old = text_of old.now; new = text_of new.now })) compared)
         (outlet O.Sink out.old) (outlet O.Sink out.new) result }
-    ensures so { WritesBy (CompareCause (is_text (text_of old.now) || is_text (text_of new.now)))
+    ensures so { WritesBy (is_text (text_of old.now) || is_text (text_of new.now)) true
         (outlet O.Sink out.old) (outlet O.Sink out.new) result }
 {
     match read_fetched(alloc, old) {
@@ -64,7 +64,7 @@ fn check_text<O: Sink>(alloc: Global, old: &DescSet, new: &SetText, out: &mut O)
     ensures ends { TextEnds
         (next (set_in (text_of new.now)) (λ set. verdict (first_mismatch (described old.now) set)))
         (outlet O.Sink out.old) (outlet O.Sink out.new) result }
-    ensures so { WritesBy (CompareCause (is_text (text_of new.now)))
+    ensures so { WritesBy (is_text (text_of new.now)) true
         (outlet O.Sink out.old) (outlet O.Sink out.new) result }
 {
     match read_fetched(alloc, new) {
@@ -76,7 +76,7 @@ fn check_text<O: Sink>(alloc: Global, old: &DescSet, new: &SetText, out: &mut O)
 fn compare<O: Sink>(alloc: Global, old: &DescSet, new: &DescSet, out: &mut O) -> Ending
     ensures ends { TextEnds (verdict (first_mismatch (described old.now) (described new.now)))
         (outlet O.Sink out.old) (outlet O.Sink out.new) result }
-    ensures so { WritesBy (CompareCause false)
+    ensures so { WritesBy false true
         (outlet O.Sink out.old) (outlet O.Sink out.new) result }
 {
     match vms_check::check(old, new) {

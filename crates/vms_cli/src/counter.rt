@@ -17,7 +17,7 @@ ghost use Rattle.vms_commands.specs.Outcomes.{Outcome};
 ghost use Rattle.vms_commands.specs.SetLines.{mismatch_line};
 ghost use Rattle.vms_commands.specs.StepEndings.{TextEnds, WrittenAs, text_of};
 ghost use Rattle.vms_commands.specs.Steps.{next};
-ghost use Rattle.vms_cli.specs.Causes.{FindCause, WritesBy};
+ghost use Rattle.vms_cli.specs.Causes.{WritesBy};
 ghost use Rattle.vms_cli.specs.Statuses.{counter_course};
 ghost use Rattle.vms_commands.specs.Courses.{EndsSo};
 ghost use Rattle.vms_cli.specs.Check.{asks_shelf};
@@ -67,7 +67,7 @@ fn counter_texts<O: Sink>(alloc: Global, old: &SetText, new: &SetText, out: &mut
     ensures ends { TextEnds
         (next (sets_in (record { old = text_of old.now; new = text_of new.now })) counted)
         (outlet O.Sink out.old) (outlet O.Sink out.new) result }
-    ensures so { WritesBy (FindCause (is_text (text_of old.now) || is_text (text_of new.now)))
+    ensures so { WritesBy (is_text (text_of old.now) || is_text (text_of new.now)) false
         (outlet O.Sink out.old) (outlet O.Sink out.new) result }
 {
     match read_fetched(alloc, old) {
@@ -82,7 +82,7 @@ fn counter_text<O: Sink>(alloc: Global, old: &DescSet, new: &SetText, out: &mut 
         (next (set_in (text_of new.now))
         (λ set. counted (record { old = described old.now; new = set })))
         (outlet O.Sink out.old) (outlet O.Sink out.new) result }
-    ensures so { WritesBy (FindCause (is_text (text_of new.now)))
+    ensures so { WritesBy (is_text (text_of new.now)) false
         (outlet O.Sink out.old) (outlet O.Sink out.new) result }
 {
     match read_fetched(alloc, new) {
@@ -95,7 +95,7 @@ fn find<O: Sink>(alloc: Global, old: &DescSet, new: DescSet, out: &mut O) -> End
     ensures ends { WrittenAs (counter_text (described old.now) (described new)
         (computed (described old.now) (described new)))
         (outlet O.Sink out.old) (outlet O.Sink out.new) result }
-    ensures so { WritesBy (FindCause false) (outlet O.Sink out.old) (outlet O.Sink out.new) result }
+    ensures so { WritesBy false false (outlet O.Sink out.old) (outlet O.Sink out.new) result }
 {
     match Loader::new(alloc, new) {
         Ok(mut loader) => find_with(alloc, old, &mut loader, out),
@@ -108,7 +108,7 @@ fn find_with<O: Sink>(alloc: Global, old: &DescSet, new: &mut Loader, out: &mut 
     ensures ends { WrittenAs (counter_text (described old.now) (loads new.old)
         (computed (described old.now) (loads new.old)))
         (outlet O.Sink out.old) (outlet O.Sink out.new) result }
-    ensures so { WritesBy (FindCause false) (outlet O.Sink out.old) (outlet O.Sink out.new) result }
+    ensures so { WritesBy false false (outlet O.Sink out.old) (outlet O.Sink out.new) result }
 {
     match vms_counter::counter(alloc, old, new) {
         Ok(finding) => write_finding(alloc, old, new.set(), &finding, out),
@@ -127,7 +127,7 @@ fn write_finding<O: Sink>(
     ensures ends { WrittenAs (counter_text (described old.now) (described new.now)
         (answer_of (described old.now) finding.now))
         (outlet O.Sink out.old) (outlet O.Sink out.new) result }
-    ensures so { WritesBy (FindCause false) (outlet O.Sink out.old) (outlet O.Sink out.new) result }
+    ensures so { WritesBy false false (outlet O.Sink out.old) (outlet O.Sink out.new) result }
 {
     match finding {
         Finding::Compatible => write_text(b"compatible\n", out),
@@ -152,7 +152,7 @@ fn write_finding<O: Sink>(
 
 fn write_text<O: Sink>(text: &[u8], out: &mut O) -> Ending
     ensures ends { WrittenAs text.now (outlet O.Sink out.old) (outlet O.Sink out.new) result }
-    ensures so { WritesBy (FindCause false) (outlet O.Sink out.old) (outlet O.Sink out.new) result }
+    ensures so { WritesBy false false (outlet O.Sink out.old) (outlet O.Sink out.new) result }
 {
     match write_all_of(out, text) {
         Ok(()) => Ending::Done,

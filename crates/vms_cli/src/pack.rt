@@ -1,5 +1,5 @@
 // The command `pack`: the stream of a values text on the shelf.
-ghost use Rattle.std.specs.Prelude.{◌≡◌, ◌<◌, ◌≤◌, length, map, IfSome};
+ghost use Rattle.std.specs.Prelude.{◌≡◌, ◌<◌, ◌≤◌, true, false, length, map, IfSome};
 ghost use Rattle.vms_io.specs.Told.{Intake, outlet, stock};
 ghost use Rattle.vms_spec.specs.Lists.{at_option};
 ghost use Rattle.vms_spec.specs.Streams.{AreReady};
@@ -11,7 +11,7 @@ ghost use Rattle.vms_commands.specs.StepEndings.{TextEnds, WrittenAs, text_of};
 ghost use Rattle.vms_commands.specs.Texts.{TextContent};
 ghost use Rattle.vms_commands.specs.Courses.{EndsSo};
 ghost use Rattle.vms_board_commands.specs.Causes.{save_course};
-ghost use Rattle.vms_cli.specs.Causes.{WriteCause, WritesBy};
+ghost use Rattle.vms_cli.specs.Causes.{WritesBy};
 ghost use Rattle.vms_cli.specs.Pack.{described_stream, packed, packed_texts, packs};
 
 use crate::values_notes::values_line;
@@ -52,7 +52,7 @@ fn pack_texts<O: Sink>(alloc: Global, set: &SetText, text: &[u8], out: &mut O) -
     requires { length text.now ≤ longest_file }
     ensures ends { TextEnds (packed_texts (record { set = text_of set.now; values = text.now }))
         (outlet O.Sink out.old) (outlet O.Sink out.new) result }
-    ensures so { WritesBy WriteCause (outlet O.Sink out.old) (outlet O.Sink out.new) result }
+    ensures so { WritesBy true false (outlet O.Sink out.old) (outlet O.Sink out.new) result }
 {
     match read_fetched(alloc, set) {
         Ok(set) => pack_text(alloc, &set, text, out),
@@ -65,7 +65,7 @@ fn pack_text<O: Sink>(alloc: Global, set: &DescSet, text: &[u8], out: &mut O) ->
     requires { length text.now ≤ longest_file }
     ensures ends { TextEnds (packed (described set.now) text.now) (outlet O.Sink out.old)
         (outlet O.Sink out.new) result }
-    ensures so { WritesBy WriteCause (outlet O.Sink out.old) (outlet O.Sink out.new) result }
+    ensures so { WritesBy true false (outlet O.Sink out.old) (outlet O.Sink out.new) result }
 {
     match read_values(alloc, set, text) {
         Ok(values) => write(alloc, set, &values, out),
@@ -86,7 +86,7 @@ fn write<O: Sink>(alloc: Global, set: &DescSet, values: &Values, out: &mut O) ->
         let machine = at_option set.machines values.now.machine in
         WrittenAs (described_stream set machine (map state_of values.now.images.items))
         (outlet O.Sink out.old) (outlet O.Sink out.new) result }
-    ensures so { WritesBy WriteCause (outlet O.Sink out.old) (outlet O.Sink out.new) result }
+    ensures so { WritesBy true false (outlet O.Sink out.old) (outlet O.Sink out.new) result }
 {
     let Ok(text) = describe(alloc, set, &values.images) else {
         return Ending::NoMemory;

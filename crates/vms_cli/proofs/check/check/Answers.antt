@@ -8,9 +8,8 @@ use Rattle.vms_commands.specs.StepEndings.{StepAs, text_of}
 use Rattle.vms_commands.specs.Steps.{both, next}
 use Rattle.vms_commands.proofs.StepLemmas.{both_give, first_ends, regroup, second_ends, text_ends}
 use Rattle.vms_commands.proofs.EndLemmas.{quiet_same}
-use Rattle.vms_cli.proofs.CheckLemmas.{compare_quiet}
 use Rattle.vms_commands.proofs.CourseLemmas.{draws_none}
-use Rattle.vms_cli.proofs.EndsSo.{check_ends}
+use Rattle.vms_cli.proofs.EndsSo.{check_ends, write_quiet}
 use Rattle.vms_cli.proofs.check.check.Goals as goal
 
 pub returns-clause-content : goal.returns-clause-content
@@ -24,7 +23,7 @@ returns-clause-content g c = λ input o few has.
     subst (λ (h : Option Held). StepAs text_of (fetched_set h new) (Ok c.in-Ok-fetch_set.text)) c.in-Ok.ensures.asks.looks.held c.in-Ok-fetch_set.ensures.fetched in
     text_ends (checked held old new) input out out' (stock g.H.Shelf c.args.shelf.now) (stock g.H.Shelf c.fetch_set-2.new.shelf) c.check_texts.result o few
     (c.in-Ok-fetch_set.ensures.asks.looks.held ∙ c.in-Ok.ensures.asks.looks.held)
-    (compare_quiet _ out out' c.check_texts.result c.check_texts.ensures.so.cause)
+    (write_quiet _ _ out out' c.check_texts.result c.check_texts.ensures.so.cause)
     (regroup (both (fetched_set held old) (fetched_set held new)) sets_in compared out out' c.check_texts.result
     (both_give text_of (λ texts. next (sets_in texts) compared) out out' c.check_texts.result (fetched_set held old) (fetched_set held new)
     c.in-Ok.text c.in-Ok-fetch_set.text c.in-Ok.ensures.fetched second c.check_texts.ensures.ends)) has

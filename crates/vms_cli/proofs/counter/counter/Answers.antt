@@ -8,10 +8,10 @@ use Rattle.vms_commands.specs.Steps.{both, next}
 use Rattle.vms_commands.proofs.StepLemmas.{both_give, first_ends, regroup, second_ends, text_ends}
 use Rattle.vms_commands.proofs.EndLemmas.{quiet_same}
 use Rattle.vms_cli.specs.Counter.{counted}
-use Rattle.vms_cli.proofs.CounterLemmas.{counters_text, find_quiet, fit_sets}
+use Rattle.vms_cli.proofs.CounterLemmas.{counters_text, fit_sets}
 use Rattle.vms_commands.proofs.CourseLemmas.{draws_none}
 use Rattle.vms_cli.specs.Check.{asks_shelf}
-use Rattle.vms_cli.proofs.EndsSo.{counter_ends}
+use Rattle.vms_cli.proofs.EndsSo.{counter_ends, write_quiet}
 use Rattle.vms_cli.proofs.counter.counter.Goals as goal
 
 pub returns-clause-content : goal.returns-clause-content
@@ -25,7 +25,7 @@ returns-clause-content g c = λ input o few has.
     subst (λ (h : Option Held). StepAs text_of (fetched_set h new) (Ok c.in-Ok-fetch_set.text)) c.in-Ok.ensures.asks.looks.held c.in-Ok-fetch_set.ensures.fetched in
     text_ends (next (named_sets held old new) counted) input out out' (stock g.H.Shelf c.args.shelf.now) (stock g.H.Shelf c.fetch_set-2.new.shelf) c.counter_texts.result o few
     (c.in-Ok-fetch_set.ensures.asks.looks.held ∙ c.in-Ok.ensures.asks.looks.held)
-    (find_quiet _ out out' c.counter_texts.result c.counter_texts.ensures.so.cause)
+    (write_quiet _ _ out out' c.counter_texts.result c.counter_texts.ensures.so.cause)
     (regroup (both (fetched_set held old) (fetched_set held new)) sets_in counted out out' c.counter_texts.result
     (both_give text_of (λ texts. next (sets_in texts) counted) out out' c.counter_texts.result (fetched_set held old) (fetched_set held new)
     c.in-Ok.text c.in-Ok-fetch_set.text c.in-Ok.ensures.fetched second c.counter_texts.ensures.ends))

@@ -9,9 +9,9 @@ use Rattle.vms_commands.specs.StepEndings.{StepAs, TextEnds, text_of}
 use Rattle.vms_commands.proofs.EndLemmas.{quiet_same}
 use Rattle.vms_commands.proofs.StepLemmas.{text_ends}
 use Rattle.vms_cli.specs.Pack.{packed_texts, packs}
-use Rattle.vms_cli.proofs.PackLemmas.{set_ends, texts_end, values_end, write_quiet}
+use Rattle.vms_cli.proofs.PackLemmas.{set_ends, texts_end, values_end}
 use Rattle.vms_commands.proofs.CourseLemmas.{draws_none, wrong}
-use Rattle.vms_cli.proofs.EndsSo.{pack_ends}
+use Rattle.vms_cli.proofs.EndsSo.{pack_ends, write_quiet}
 use Rattle.vms_cli.proofs.pack.pack.Goals as goal
 
 abbrev bytes : Vec ℕ Global → List ℕ
@@ -28,7 +28,7 @@ returns-in-Ok-fetch-clause-content g c = λ input o few has.
     let second : StepAs bytes (fetched longest_file held name) (Ok c.in-Ok-fetch.text) =
     subst (λ (h : Option Held). StepAs bytes (fetched longest_file h name) (Ok c.in-Ok-fetch.text)) c.in-Ok.ensures.asks.looks.held c.in-Ok-fetch.ensures.fetched in
     text_ends (packs held word name) input out out' (stock g.H.Shelf c.args.shelf.now) (stock g.H.Shelf c.fetch.new.shelf) ending o few
-    (c.in-Ok-fetch.ensures.asks.looks.held ∙ c.in-Ok.ensures.asks.looks.held) (write_quiet out out' ending c.pack_texts.ensures.so.cause)
+    (c.in-Ok-fetch.ensures.asks.looks.held ∙ c.in-Ok.ensures.asks.looks.held) (write_quiet _ _ out out' ending c.pack_texts.ensures.so.cause)
     (texts_end held word name out out' ending text_of bytes c.in-Ok.text c.in-Ok-fetch.text c.in-Ok.ensures.fetched second
     (subst (λ (l : List ℕ). TextEnds (packed_texts (record { set = text_of c.in-Ok.text; values = l })) out out' ending) c.deref.ensures.value
     c.pack_texts.ensures.ends)) has
