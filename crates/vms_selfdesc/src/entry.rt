@@ -60,6 +60,7 @@ fn begin_entry(draft: &mut Draft) -> Result<(), AllocError>
 }
 
 // A cell that stands in the stream.
+#[inline(always)]
 fn write_present(draft: &mut Draft, kind: Kind) -> Result<(), AllocError>
     requires { IsPlain (string_bytes draft.old.path) }
     ensures { let entry = cell_entry true (string_bytes draft.old.path) kind (pos 0) in

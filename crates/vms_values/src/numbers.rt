@@ -6,6 +6,7 @@ ghost use Rattle.vms_values.specs.Spelled.{natural_spelled, read_from, with_digi
 use vms_kinds::Kind;
 
 /// The number that a text spells, or `None` exactly where it spells none or one that the kind doesn't hold.
+#[inline(always)]
 pub(crate) fn read_number(kind: Kind, text: &[u8]) -> Option<i128>
     ensures { result ≡ held kind (number_spelled text.now) }
 {

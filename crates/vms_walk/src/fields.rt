@@ -157,8 +157,11 @@ fn run_kind(item: &Item, most: Option<u32>, count: u32) -> Option<Kind>
     ensures free { IfSome result (λ kind. most ≡ None) }
     ensures any { IfSome result (λ kind. kind ≡ Kind.Bool → ⊥) }
 {
+    if count < SHORTEST_RUN {
+        return None;
+    }
     match (item, most) {
-        (Item::Num(kind), None) if count >= SHORTEST_RUN && *kind != Kind::Bool => Some(*kind),
+        (Item::Num(kind), None) if *kind != Kind::Bool => Some(*kind),
         _ => None,
     }
 }
