@@ -28,6 +28,7 @@ use Rattle.vms_frames.proofs.ReadsUnits.{unit_passed, unit_short}
 use Rattle.vms_frames.proofs.Calls.Cursors.{as_seen, magic_seen, version_seen}
 use Rattle.vms_frames.proofs.Calls.Answered.{answers, between_answers, number_answers, skip_answers, end_answers, end_fails}
 use Rattle.vms_frames.proofs.Calls.Behind.{behind_answers, behind_fails, held_of, after_of}
+use Rattle.vms_marks.specs.declared.sub_head.TheConstants.{LONGEST_SUB_HEAD}
 
 -- of a unit of which nothing came before
 bare : {X : Type 0} (long : X → ℕ) (most : ℕ) (r : Result X FrameFault) (n : ℕ) → IsLong long most r (0 + n) → IsLong long most r n
@@ -52,7 +53,7 @@ calls_no_filler n at e s =
 
 -- ---- behind fields
 
-after_long : (x : Behind) (n : ℕ) → n ≡ behind_long x → IsLong after_given 261 (after_of (Ok x)) n
+after_long : (x : Behind) (n : ℕ) → n ≡ behind_long x → IsLong after_given LONGEST_SUB_HEAD (after_of (Ok x)) n
 after_long (Sub name version) n e = e
 after_long (Next b) n e = e
 after_long Done n e = e
@@ -62,12 +63,12 @@ behind_course (Sub name version) = refl
 behind_course (Next b) = refl
 behind_course Done = refl
 
-pub calls_behind : {a b : Intake} (t : Tail) (id at : ℕ) (x : Behind) → ReadsUnit a b behind_long 261 (behind_found t id) [] at (Ok x) → BehindReads a b t id at (held_of (Ok x)) (after_of (Ok x))
+pub calls_behind : {a b : Intake} (t : Tail) (id at : ℕ) (x : Behind) → ReadsUnit a b behind_long LONGEST_SUB_HEAD (behind_found t id) [] at (Ok x) → BehindReads a b t id at (held_of (Ok x)) (after_of (Ok x))
 calls_behind {a} {b} t id at x h =
-    subst (λ (c : Course). Reads c a b (IsLong after_given 261 (after_of (Ok x))) (λ rest left. AnswersBehind (tail_of t) id at rest (held_of (Ok x)) (Some left) (after_of (Ok x)))) (sym (behind_course x))
-    (reads_as (λ n l. after_long x n (bare behind_long 261 (Ok x) n l)) (λ rest left p. behind_answers t id at (Some rest) (Some left) (Ok x) p) h)
+    subst (λ (c : Course). Reads c a b (IsLong after_given LONGEST_SUB_HEAD (after_of (Ok x))) (λ rest left. AnswersBehind (tail_of t) id at rest (held_of (Ok x)) (Some left) (after_of (Ok x)))) (sym (behind_course x))
+    (reads_as (λ n l. after_long x n (bare behind_long LONGEST_SUB_HEAD (Ok x) n l)) (λ rest left p. behind_answers t id at (Some rest) (Some left) (Ok x) p) h)
 
-pub calls_none_behind : {a b : Intake} (t : Tail) (id at : ℕ) (held : Option ℕ) (e : FrameFault) → ReadsUnit a b behind_long 261 (behind_found t id) [] at (Err e) → BehindReads a b t id at held (Err e)
+pub calls_none_behind : {a b : Intake} (t : Tail) (id at : ℕ) (held : Option ℕ) (e : FrameFault) → ReadsUnit a b behind_long LONGEST_SUB_HEAD (behind_found t id) [] at (Err e) → BehindReads a b t id at held (Err e)
 calls_none_behind t id at held e h = reads_as (λ n l. omega (arith, l)) (λ rest left p. behind_fails t id at (Some rest) (Some left) held e p) h
 
 -- ---- behind the end mark

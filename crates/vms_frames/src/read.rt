@@ -8,6 +8,7 @@ ghost use Rattle.vms_io.specs.Told.{intake};
 ghost use Rattle.vms_frames.specs.Reads.{ReadsUnit, ReadsStep, ReadsMarked, ReadsTrailer};
 ghost use Rattle.vms_frames.specs.declared.read.TheConstants.{LONGEST_DESCRIPTION};
 ghost use Rattle.vms_marks.specs.declared.head.TheConstants.{LONGEST_HEAD};
+ghost use Rattle.vms_marks.specs.declared.sub_head.TheConstants.{LONGEST_SUB_HEAD};
 
 use crate::fault::refused;
 use crate::fill::{Unit, fill, grow, pass};
@@ -188,7 +189,7 @@ pub(crate) fn behind<S: Source>(
     tail: Tail,
 ) -> Result<Behind, FrameFault>
     ensures reads { ReadsUnit (intake S.Source source.old) (intake S.Source source.new)
-        behind_long 261 (behind_found tail id) [] at result }
+        behind_long LONGEST_SUB_HEAD (behind_found tail id) [] at result }
     ensures next { IfOk result (λ behind. IsNext behind → tail ≡ Tail.Footed → ⊥) }
 {
     let mut unit = Unit::new();
@@ -206,7 +207,7 @@ fn behind_marked<S: Source>(
 ) -> Result<Behind, FrameFault>
     requires { length unit.items ≡ 1 }
     ensures reads { ReadsUnit (intake S.Source source.old) (intake S.Source source.new)
-        behind_long 261 (λ all. behind_mark_found tail id (get_or unit.items 0 0) all
+        behind_long LONGEST_SUB_HEAD (λ all. behind_mark_found tail id (get_or unit.items 0 0) all
         (mark_of (get_or unit.items 0 0))) unit.items at result }
     ensures next { IfOk result (λ behind. IsNext behind → tail ≡ Tail.Footed → ⊥) }
 {
@@ -236,7 +237,7 @@ fn begins(tail: Tail, mark: Option<Mark>) -> Begins
 fn subsection<S: Source>(source: &mut S, at: u64, unit: Unit) -> Result<Behind, FrameFault>
     requires { length unit.items ≡ 1 }
     ensures reads { ReadsUnit (intake S.Source source.old) (intake S.Source source.new)
-        behind_long 261 sub_found unit.items at result }
+        behind_long LONGEST_SUB_HEAD sub_found unit.items at result }
     ensures next { IfOk result (λ behind. IsNext behind → ⊥) }
 {
     let mut unit = unit;
@@ -251,7 +252,7 @@ fn subsection<S: Source>(source: &mut S, at: u64, unit: Unit) -> Result<Behind, 
 fn footer<S: Source>(source: &mut S, at: u64, id: u32, unit: Unit) -> Result<Behind, FrameFault>
     requires { length unit.items ≡ 1 }
     ensures reads { ReadsUnit (intake S.Source source.old) (intake S.Source source.new)
-        behind_long 261 (foot_found id) unit.items at result }
+        behind_long LONGEST_SUB_HEAD (foot_found id) unit.items at result }
     ensures next { IfOk result (λ behind. IsNext behind → ⊥) }
 {
     let mut unit = unit;

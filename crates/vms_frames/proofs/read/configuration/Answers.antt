@@ -9,6 +9,7 @@ use Rattle.vms_frames.specs.declared.units.Step.TheVariants.{Configuration}
 use Rattle.vms_frames.specs.Found.{configuration_found, step_long}
 use Rattle.vms_frames.proofs.CutLemmas.{configuration_cut, configuration_above, configuration_whole}
 use Rattle.vms_frames.proofs.ReadsUnits.{unit_on, unit_whole, unit_refused, unit_short}
+use Rattle.vms_marks.specs.declared.head.TheConstants.{LONGEST_HEAD}
 use Rattle.vms_frames.proofs.read.configuration.Goals as goal
 
 pub returns-in_err-grow-2 : goal.returns-in_err-grow-2
@@ -20,8 +21,8 @@ returns-in_err-grow-2 g c =
     let p = err_from_is_err_and c.from_residual-in_err-grow-2.result c.from_residual-in_err-grow-2.ensures.1 in
     rw (p.1, p.2) (record {
       reads =
-          unit_on step_long 269 configuration_found c.args.at (Err c.in_err-grow-2.field-0.0) one
-          (unit_short step_long 269 configuration_found unit c.args.at c.in_err-grow-2.field-0.0 (omega (arith, c.requires, one.long, low)) c.in_err-grow-2.ensures.cut
+          unit_on step_long LONGEST_HEAD configuration_found c.args.at (Err c.in_err-grow-2.field-0.0) one
+          (unit_short step_long LONGEST_HEAD configuration_found unit c.args.at c.in_err-grow-2.field-0.0 (omega (arith, c.requires, one.long, low)) c.in_err-grow-2.ensures.cut
           (λ rest lt. configuration_cut unit rest (omega (arith, c.requires, one.long)) (omega (arith, same, low)) (omega (arith, lt, same, c.requires, one.long))));
     })
 
@@ -32,8 +33,8 @@ returns-then-length-gt255 g c =
     let long : length unit ≡ 5 = omega (arith, c.requires, one.long) in
     let high : 255 < number_at 4 1 unit = search rules in
     record {
-      reads = unit_on step_long 269 configuration_found c.args.at (Err c.refused.result) one
-          (unit_refused step_long 269 configuration_found unit c.args.at 5 reasons.WrongMachine c.refused.result c.refused.ensures (g.met.S.Source.counted c.grow.new.source) long (omega arith)
+      reads = unit_on step_long LONGEST_HEAD configuration_found c.args.at (Err c.refused.result) one
+          (unit_refused step_long LONGEST_HEAD configuration_found unit c.args.at 5 reasons.WrongMachine c.refused.result c.refused.ensures (g.met.S.Source.counted c.grow.new.source) long (omega arith)
           (λ rest. configuration_above unit rest long high));
     }
 
@@ -50,8 +51,8 @@ returns g c =
     let named : name.items ≡ bytes_at (number_at 4 1 unit) 5 unit = ap (λ (x : AConfiguration). x.machine.items) (c.of.ensures ∙ ap configuration_in c.deref-2.ensures.0) in
     let few : length name.items ≡ n = ap length named ∙ length-take-le (number_at 4 1 unit) (drop 5 unit) (omega (arith, long, same, length-drop 5 unit)) ∙ sym same in
     record {
-      reads = unit_on step_long 269 configuration_found c.args.at (Ok (Configuration name)) one
-          (unit_on step_long 269 configuration_found c.args.at (Ok (Configuration name)) two
-          (unit_whole step_long 269 configuration_found unit c.args.at (Configuration name) (g.met.S.Source.counted c.grow-2.new.source) (omega (arith, long, few))
+      reads = unit_on step_long LONGEST_HEAD configuration_found c.args.at (Ok (Configuration name)) one
+          (unit_on step_long LONGEST_HEAD configuration_found c.args.at (Ok (Configuration name)) two
+          (unit_whole step_long LONGEST_HEAD configuration_found unit c.args.at (Configuration name) (g.met.S.Source.counted c.grow-2.new.source) (omega (arith, long, few))
           (λ rest. configuration_whole unit rest name (omega (arith, long, same)) (omega (arith, same, low)) named)));
     }

@@ -8,6 +8,7 @@ use Rattle.vms_frames.specs.Found.{sub_found, behind_long}
 use Rattle.vms_frames.proofs.HeadLemmas.{kept_byte, sub_long, sub_is}
 use Rattle.vms_frames.proofs.ReadsUnits.{unit_on, unit_whole, unit_short}
 use Rattle.vms_frames.proofs.CutLemmas.{sub_cut}
+use Rattle.vms_marks.specs.declared.sub_head.TheConstants.{LONGEST_SUB_HEAD}
 use Rattle.vms_frames.proofs.read.subsection.Goals as goal
 
 pub of-name-requires : goal.of-name-requires
@@ -31,9 +32,9 @@ returns-clause-reads g c =
     let same : head ≡ sub_head_in unit = c.of-name.ensures ∙ ap sub_head_in c.deref-2.ensures.0 in
     let named : head.name.items ≡ bytes_at n 2 unit = ap (λ (h : SubHead). h.name.items) same in
     let numbered : head.version ≡ number_at 4 (2 + n) unit = ap (λ (h : SubHead). h.version) same in
-    unit_on behind_long 261 sub_found c.args.at (Ok (Sub head.name head.version)) one
-    (unit_on behind_long 261 sub_found c.args.at (Ok (Sub head.name head.version)) two
-    (unit_whole behind_long 261 sub_found unit c.args.at (Sub head.name head.version) (g.met.S.Source.counted c.grow-2.new.source)
+    unit_on behind_long LONGEST_SUB_HEAD sub_found c.args.at (Ok (Sub head.name head.version)) one
+    (unit_on behind_long LONGEST_SUB_HEAD sub_found c.args.at (Ok (Sub head.name head.version)) two
+    (unit_whole behind_long LONGEST_SUB_HEAD sub_found unit c.args.at (Sub head.name head.version) (g.met.S.Source.counted c.grow-2.new.source)
     (sub_long unit head.name head.version long named) (λ rest. sub_is unit rest head.name head.version long named numbered)))
 
 pub returns-in_err-grow-2-clause-reads : goal.returns-in_err-grow-2-clause-reads
@@ -44,6 +45,6 @@ returns-in_err-grow-2-clause-reads g c =
     let small : c.name_length-ahead.result < 256 = search rules in
     let p = err_from_is_err_and c.from_residual-in_err-grow-2.result c.from_residual-in_err-grow-2.ensures.1 in
     rw (p.1, p.2)
-    (unit_on behind_long 261 sub_found c.args.at (Err c.in_err-grow-2.field-0.0) one
-    (unit_short behind_long 261 sub_found unit c.args.at c.in_err-grow-2.field-0.0 (omega (arith, small, c.requires, one.long)) c.in_err-grow-2.ensures.cut
+    (unit_on behind_long LONGEST_SUB_HEAD sub_found c.args.at (Err c.in_err-grow-2.field-0.0) one
+    (unit_short behind_long LONGEST_SUB_HEAD sub_found unit c.args.at c.in_err-grow-2.field-0.0 (omega (arith, small, c.requires, one.long)) c.in_err-grow-2.ensures.cut
     (λ rest lt. sub_cut unit rest (omega (arith, c.requires, one.long)) (omega (arith, lt, at1, c.requires, one.long)))))
