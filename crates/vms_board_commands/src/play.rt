@@ -34,7 +34,8 @@ pub fn play_board<O: Sink, H: Shelf>(
         (H.held shelf.old) o
         → EndsAs input input (outlet O.Sink out.old) (outlet O.Sink out.new)
         (stock H.Shelf shelf.old) (stock H.Shelf shelf.new) result o }
-    ensures so { (input : Intake) → EndsSo input input (outlet O.Sink out.old) (outlet O.Sink out.new)
+    ensures so { (input : Intake) → EndsSo input input
+        (outlet O.Sink out.old) (outlet O.Sink out.new)
         (stock H.Shelf shelf.old) (stock H.Shelf shelf.new) play_course result }
 {
     match session_of(alloc, asked.script, asked.number, shelf) {
@@ -57,7 +58,8 @@ fn play_lines<O: Sink, H: Shelf>(
         → IsSomeAnd (H.held shelf.old) (λ map. PlaysAll level (lines_view lines.now) map o)
         → EndsAs input input (outlet O.Sink out.old) (outlet O.Sink out.new)
         (stock H.Shelf shelf.old) (stock H.Shelf shelf.new) result o }
-    ensures so { (input : Intake) → EndsSo input input (outlet O.Sink out.old) (outlet O.Sink out.new)
+    ensures so { (input : Intake) → EndsSo input input
+        (outlet O.Sink out.old) (outlet O.Sink out.new)
         (stock H.Shelf shelf.old) (stock H.Shelf shelf.new) play_course result }
 {
     let Ok(mut board) = Board::new(alloc, level) else {

@@ -36,7 +36,8 @@ pub fn save_board<M: Machine, O: Sink, H: Shelf>(
         (saved_after M.family said.number said.set (H.held shelf.old) said.script.now)
         (outlet O.Sink out.old) (outlet O.Sink out.new)
         (stock H.Shelf shelf.old) (stock H.Shelf shelf.new) result }
-    ensures so { (input : Intake) → EndsSo input input (outlet O.Sink out.old) (outlet O.Sink out.new)
+    ensures so { (input : Intake) → EndsSo input input
+        (outlet O.Sink out.old) (outlet O.Sink out.new)
         (stock H.Shelf shelf.old) (stock H.Shelf shelf.new) save_course result }
 {
     match events_of(alloc, asked.script, shelf) {

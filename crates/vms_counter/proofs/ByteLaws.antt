@@ -18,6 +18,7 @@ use Rattle.vms_load.specs.Parts.{bytes_of}
 use Rattle.vms_load.specs.Staging.{subs_bytes, devices_most}
 use Rattle.vms_load.proofs.Bounding.{most_small}
 use Rattle.vms_counter.specs.Room.{subs_in, device_in, devices_in}
+use Rattle.vms_marks.specs.declared.sub_head.TheConstants.{LONGEST_SUB_HEAD}
 
 capped_item : (bytes : List ℕ) (n : ℕ) (item : Item) → in_u32 (n * item_bytes (map in_u32 bytes) item) ≡ in_u32 (n * item_bytes bytes item)
 capped_item bytes n (Num kind) = refl
@@ -57,7 +58,7 @@ structs_more structs bytes i d own is lt e s =
 
 -- ---- the sections of a set
 
-subs_are : (set : sets.Set) (subs : List sets.Sub) → subs_in (struct_bytes set.structs (length set.structs)) subs ≡ 261 * length subs + subs_bytes set subs
+subs_are : (set : sets.Set) (subs : List sets.Sub) → subs_in (struct_bytes set.structs (length set.structs)) subs ≡ LONGEST_SUB_HEAD * length subs + subs_bytes set subs
 subs_are set [] = refl
 subs_are set (s ∷ subs) = omega (arith, subs_are set subs)
 

@@ -15,6 +15,7 @@ use Rattle.vms_write.proofs.Formed.{device_short, sub_short}
 use Rattle.vms_counter.specs.Found.{HasRoom}
 use Rattle.vms_stream.proofs.SetParts.{EachSub, EachPart, all_parts}
 use Rattle.vms_counter.proofs.Lengths.{IsShort, stream-short}
+use Rattle.vms_marks.specs.declared.head.TheConstants.{LONGEST_HEAD}
 
 get_sub : (d : Device) (j : ℕ) (s : Sub) → slice_get d.subs j ≡ Some s → sub_at d j ≡ s
 get_sub d j s e = get_or_from_slice_get d.subs j s _ e
@@ -37,5 +38,5 @@ module _ (set : Set) (well : is_well_formed set ≡ true) where
   named_short None h = tt
   named_short (Some name) h = machine_short set (well_of set well) name h
 
-  pub has_room : HasRoom set (269 + devices_most set set.devices)
+  pub has_room : HasRoom set (LONGEST_HEAD + devices_most set set.devices)
   has_room machine images named ready = stream-short set machine images (named_short machine named) (all_parts IsShort set.devices short)

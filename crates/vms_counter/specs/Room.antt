@@ -2,11 +2,12 @@
 use Rattle.std.specs.Prelude.{ℕ, ◌+◌, List, [], ◌∷◌}
 use Rattle.vms_spec.specs.Sets.{Sub, Device}
 use Rattle.vms_load.specs.Bounds.{desc_bytes}
+use Rattle.vms_marks.specs.declared.sub_head.TheConstants.{LONGEST_SUB_HEAD}
 
 -- subsections with their heads
 abbrev pub subs_in : List ℕ → List Sub → ℕ
 subs_in structs [] = 0
-subs_in structs (s ∷ subs) = (desc_bytes structs s.desc + 261) + subs_in structs subs
+subs_in structs (s ∷ subs) = (desc_bytes structs s.desc + LONGEST_SUB_HEAD) + subs_in structs subs
 
 -- a device's section, with its head, its footer and all its subsections
 abbrev pub device_in : List ℕ → Device → ℕ

@@ -13,7 +13,7 @@ use std::alloc::{AllocError, Global};
 use vms_desc::{Desc, DescSet, Device, Field, Sub};
 use vms_io::NoMemory;
 use vms_kinds::Item;
-use vms_marks::LONGEST_HEAD;
+use vms_marks::{LONGEST_HEAD, LONGEST_SUB_HEAD};
 use vms_parts::capacity;
 
 // The bytes of one element, where those of each structure are given.
@@ -59,7 +59,7 @@ fn subs_bytes(structs: &[u32], subs: &[Sub]) -> u32
     let mut sum: u32 = 0;
     for sub in subs {
         let own = fields_bytes(structs, sub.desc.fields.as_slice());
-        sum = sum.saturating_add(own.saturating_add(261));
+        sum = sum.saturating_add(own.saturating_add(LONGEST_SUB_HEAD as u32));
     }
     sum
 }

@@ -21,6 +21,7 @@ use Rattle.vms_frames.specs.Calls.{AnswersEnd, ReadsEnd, Fails}
 use Rattle.vms_frames.specs.Reads.{IsLong, ReadsText, ReadsTrailer}
 use Rattle.vms_frames.proofs.UnitLemmas.{seen_whole}
 use Rattle.vms_frames.proofs.HeadLemmas.{text_seen}
+use Rattle.vms_frames.specs.declared.read.TheConstants.{LONGEST_DESCRIPTION}
 
 -- a description, behind its mark
 pub description_there : (more : List ℕ) → text_seen AfterEnd nothing_known 0x06 longest_text Description (0x06 ∷ more) ≡ seen AfterEnd nothing_known (0x06 ∷ more)
@@ -69,7 +70,7 @@ trailer_other {a} {b} at c fault p other same =
 -- the mark of a description came
 pub trailer_on : {a b c : Intake} (at : ℕ) (r : Result ℕ FrameFault) → Takes a b (0x06 ∷ []) → ReadsText b c (0x06 ∷ []) at r → ReadsTrailer a c at r
 trailer_on at (Ok n) p h =
-    let w = reads_behind {M = IsLong {X = Unit {0}} (λ _. (at + n) - at) 16777221 (Ok tt)} {Q = λ rest left. ReadsEnd at (at + n) (Some rest) (Some left) (Ok tt)} (λ k l. omega (arith, l))
+    let w = reads_behind {M = IsLong {X = Unit {0}} (λ _. (at + n) - at) LONGEST_DESCRIPTION (Ok tt)} {Q = λ rest left. ReadsEnd at (at + n) (Some rest) (Some left) (Ok tt)} (λ k l. omega (arith, l))
     (λ rest left q. subst (λ (s : Seen). AnswersEnd (0x06 ∷ rest) s at (at + n) (Some left) (Ok tt)) (sym q.0) (refl, q.1)) p h in
     reads_last w
 trailer_on at (Err (Refused place reason)) p h = reads_behind (λ k l. l) (λ rest left q. q) p h

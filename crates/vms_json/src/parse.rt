@@ -145,7 +145,8 @@ fn read_members<'a>(
     ensures shorter { OnOk result (length reader.new < length reader.old) }
     ensures err { result ≡ Err NoNode.Syntax
         → converted (λ ms. of_members ms no_members)
-        (members (value depth) (length (key first.now ∷ reader.old)) (key first.now ∷ reader.old)) ≡ None }
+        (members (value depth) (length (key first.now ∷ reader.old)) (key first.now ∷ reader.old))
+        ≡ None }
 {
     // Most objects have a field's name and its kind.
     let mut found = Vec::with_capacity(alloc, 2)?;

@@ -41,6 +41,7 @@ use Rattle.vms_load.proofs.HeadLemmas.{unknown_sub, known_sub, sub_below, sub_is
 use Rattle.vms_load.proofs.HeadRows.{verdict, sub_judged}
 use Rattle.vms_load.proofs.ReadLemmas.{unit_fails, unit_settled, unit_of}
 use Rattle.vms_load.proofs.OpenedReads.{refusal_is}
+use Rattle.vms_marks.specs.declared.sub_head.TheConstants.{LONGEST_SUB_HEAD}
 
 module _ (set : Set) (names : List (List ℕ)) (state : State) (section : Section) (part : Option ℕ) (image : Image) (here : section.device < length set.devices) (room : section.device < length state.images) where
   abbrev go : State → Onward
@@ -209,7 +210,7 @@ sub_new k d came name v j place long e = by_found (find_sub 0 d.subs name) refl
         (omega (arith, u.0, lt), ap (λ (n : ℕ). slice_get came n) u.0 ∙ new)
 
 pub subs_taken : (set : Set) (subs : List Sub) (came : List (Option ℕ)) (j v : ℕ) (none : Sub) → length came ≡ length subs → slice_get came j ≡ Some None
-    → subs_due set subs (slice_set came j (Some v)) + (261 + bytes_of set (get_or subs j none).desc) ≡ subs_due set subs came
+    → subs_due set subs (slice_set came j (Some v)) + (LONGEST_SUB_HEAD + bytes_of set (get_or subs j none).desc) ≡ subs_due set subs came
 subs_taken set subs [] j v none long e = cc
 subs_taken set [] (o ∷ came) j v none long e = absurd (omega arith)
 subs_taken set (s ∷ subs) (None ∷ came) zero v none long e = omega arith

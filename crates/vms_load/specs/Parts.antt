@@ -17,6 +17,7 @@ use Rattle.vms_load.specs.Bounds.{desc_bytes, struct_bytes}
 use Rattle.vms_load.specs.Reads.{Onward}
 use Rattle.vms_load.specs.declared.parts.Section.{Section}
 use Rattle.vms_load.specs.declared.parts.Open.{Open}
+use Rattle.vms_marks.specs.declared.sub_head.TheConstants.{LONGEST_SUB_HEAD}
 
 -- the description of the device's own fields or of a subsection, and where its cells begin
 abbrev pub part_desc : Device → Option ℕ → Desc
@@ -58,7 +59,7 @@ bytes_of_part set d part = bytes_of set (part_desc d part)
 abbrev pub subs_due : Set → List Sub → List (Option ℕ) → ℕ
 subs_due set [] came = 0
 subs_due set (s ∷ subs) [] = 0
-subs_due set (s ∷ subs) (None ∷ came) = 261 + bytes_of set s.desc + subs_due set subs came
+subs_due set (s ∷ subs) (None ∷ came) = LONGEST_SUB_HEAD + bytes_of set s.desc + subs_due set subs came
 subs_due set (s ∷ subs) (Some v ∷ came) = subs_due set subs came
 
 -- from the fields of this part on to the end of the section, with its footer; nothing where it has ended

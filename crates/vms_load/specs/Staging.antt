@@ -21,6 +21,7 @@ use Rattle.vms_load.specs.declared.fault.LoadFault.{LoadFault}
 use Rattle.vms_load.specs.declared.fault.LoadFault.TheVariants as faults
 use Rattle.vms_load.specs.declared.staged.Staged.{Staged}
 use Rattle.vms_marks.specs.declared.head.TheConstants.{LONGEST_HEAD}
+use Rattle.vms_marks.specs.declared.sub_head.TheConstants.{LONGEST_SUB_HEAD}
 
 abbrev pub no_image : Typed
 no_image = record { version = 0; came = []; numbers = []; kinds = [] }
@@ -129,7 +130,7 @@ subs_bytes set (s ∷ subs) = bytes_of set s.desc + subs_bytes set subs
 
 abbrev pub devices_most : Set → List Device → ℕ
 devices_most set [] = 0
-devices_most set (d ∷ devices) = (274 + 261 * length d.subs + (bytes_of set d.desc + subs_bytes set d.subs)) + devices_most set devices
+devices_most set (d ∷ devices) = (274 + LONGEST_SUB_HEAD * length d.subs + (bytes_of set d.desc + subs_bytes set d.subs)) + devices_most set devices
 
 -- so many bytes are given to a load at most
 abbrev pub most_given : Set → ℕ

@@ -8,6 +8,7 @@ ghost use Rattle.vms_io.specs.Told.{intake};
 ghost use Rattle.vms_load.specs.Going.{GoesOn, Moves};
 ghost use Rattle.vms_load.specs.Parts.{IsOpen, OpensNext, part_of, part_due, bytes_of_part, subs_due, in_fields, after_fields, after_part, IsMoved, IsSame, HoldsNone};
 ghost use Rattle.vms_marks.specs.declared.head.TheConstants.{LONGEST_HEAD};
+ghost use Rattle.vms_marks.specs.declared.sub_head.TheConstants.{LONGEST_SUB_HEAD};
 
 use crate::LoadFault;
 use crate::body::read_part;
@@ -101,7 +102,7 @@ fn after<S: Source>(
     requires held { cursor.old.held ≡ None }
     ensures reads { (names : List (List ℕ)) (state : State) (part : Option ℕ)
         → section.old.device < length state.images
-        → GoesOn (intake S.Source source.old) (intake S.Source source.new) 261
+        → GoesOn (intake S.Source source.old) (intake S.Source source.new) LONGEST_SUB_HEAD
         (after_fields (described set.now) names state section.old part (untyped image.old))
         (after_part (described set.now) names state section.new (untyped image.new)) cursor.old
         cursor.new result }

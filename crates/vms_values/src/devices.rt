@@ -116,7 +116,8 @@ fn read_device<'a>(
         let start = start_of (described set.now) d reading.old in
         let whole = device_read (described set.now) d start in
         let image = state_of taken.new.image in
-        DeviceRead (described set.now) d whole reading.old reading.new (map_ok (λ u. image) result) }
+        let done = map_ok (λ u. image) result in
+        DeviceRead (described set.now) d whole reading.old reading.new done }
     ensures of { OnOk result (IsImageOf (described set.now) device taken.new.image) }
 {
     let line = taken.lines.line;

@@ -155,7 +155,8 @@ fn read_elements(
     requires few { length taken.old.image.numbers ≤ MOST_ITEMS }
     requires kinds { let structs = cells_in (table (described set.now)) in
         ElementKinds structs run.field.now.item taken.old.image.kinds run.first run.count }
-    requires short { length path.old + INDEX_ROOM + NUMBER_ROOM + below run.field.now.item ≤ LONGEST }
+    requires short { let item = run.field.now.item in
+        length path.old + INDEX_ROOM + NUMBER_ROOM + below item ≤ LONGEST }
     ensures read { let f = field_of run.entry.field.now in
         let set = described set.now in
         let size = size_in set f.item in

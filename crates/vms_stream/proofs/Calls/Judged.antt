@@ -79,17 +79,17 @@ in_field j (FillerSlot m) k rest x n section reason e f =
     let g = ap (λ (y : Piece). first_row (alone (Field j (FillerSlot m)) k y)) is ∙ f in cc
 in_field j (RuleSlot b) k rest x n section reason e f = cc
 
+never : {A : Type 0} (p : Bool) (x y : A) → (if p && false then x else y) ≡ y
+never true x y = refl
+never false x y = refl
+
 -- where no section may begin, no mark is one of those that may not begin one
 pub not_between : (bad : Line) (p q r : Bool)
     → (if p && false then Some (None, reasons.Iterative) else if q && false then Some (None, reasons.Command) else if r && false then Some (None, reasons.ConfigurationExtra) else bad) ≡ bad
-not_between bad true true true = refl
-not_between bad true true false = refl
-not_between bad true false true = refl
-not_between bad true false false = refl
-not_between bad false true true = refl
-not_between bad false true false = refl
-not_between bad false false true = refl
-not_between bad false false false = refl
+not_between bad p q r =
+    let extra : Line = if r && false then Some (None, reasons.ConfigurationExtra) else bad in
+    let command : Line = if q && false then Some (None, reasons.Command) else extra in
+    never p (Some (None, reasons.Iterative)) command ∙ never q (Some (None, reasons.Command)) extra ∙ never r (Some (None, reasons.ConfigurationExtra)) bad
 
 -- neither a footer nor a subsection head
 pub foot_row : (j : ℕ) (k : Known) (b : ℕ) → first_row (alone (AfterFields j Footed) k (Mark b)) ≡ Some (k.section, reasons.BadFooter)

@@ -6,6 +6,7 @@ use Rattle.vms_parts.specs.Views.{field_of, sub_of}
 use Rattle.vms_load.specs.Bounds.{fields_bytes}
 use Rattle.vms_counter.specs.Room.{subs_in}
 use Rattle.vms_parts.proofs.SizeLaws.{sum_ends, sum_goes}
+use Rattle.vms_marks.specs.declared.sub_head.TheConstants.{LONGEST_SUB_HEAD}
 use Rattle.vms_counter.proofs.room.subs_bytes.Goals as goal
 
 pub loop-sub-preserved : goal.loop-sub-preserved
@@ -15,7 +16,7 @@ loop-sub-preserved c =
     let s = c.sub-item.result in
     let i = c.loop-sub.sub-index in
     let whole : List Sub → ℕ = λ l. subs_in structs (map sub_of l) in
-    let one : Sub → ℕ = λ x. fields_bytes structs (map field_of x.desc.fields) + 261 in
+    let one : Sub → ℕ = λ x. fields_bytes structs (map field_of x.desc.fields) + LONGEST_SUB_HEAD in
     let own : c.fields_bytes-own.result ≡ in_u32 (fields_bytes structs (map field_of s.desc.fields)) =
     c.fields_bytes-own.ensures ∙ ap (λ (l : List Field). in_u32 (fields_bytes structs (map field_of l))) c.as_slice.ensures in
     let has : c.saturating_add.result ≡ in_u32 (one s) = let sum = c.saturating_add.ensures in omega (arith, sum, own) in
@@ -29,4 +30,4 @@ pub returns : goal.returns
 returns c =
     let structs = c.args.structs.now in
     let whole : List Sub → ℕ = λ l. subs_in structs (map sub_of l) in
-    sum_ends whole (λ (x : Sub). fields_bytes structs (map field_of x.desc.fields) + 261) refl (λ x xs. refl) c.args.subs.now c.loop-sub.sub-index c.loop-sub.sum _ c.loop-sub-test.false c.loop-sub.invariant.small c.loop-sub.invariant.whole
+    sum_ends whole (λ (x : Sub). fields_bytes structs (map field_of x.desc.fields) + LONGEST_SUB_HEAD) refl (λ x xs. refl) c.args.subs.now c.loop-sub.sub-index c.loop-sub.sum _ c.loop-sub-test.false c.loop-sub.invariant.small c.loop-sub.invariant.whole

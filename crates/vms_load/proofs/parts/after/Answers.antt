@@ -20,6 +20,7 @@ use Rattle.vms_load.proofs.GoingLemmas.{goes_refused, same_course}
 use Rattle.vms_load.proofs.AfterReads.{after_fault, after_settled, after_next, foot_settled, sub_settled, sub_refused, sub_new, subs_taken}
 use Rattle.vms_load.proofs.SetFacts.{few_subs}
 use Rattle.vms_image.specs.Typed.{Typed, state_of as untyped}
+use Rattle.vms_marks.specs.declared.sub_head.TheConstants.{LONGEST_SUB_HEAD}
 use Rattle.vms_load.proofs.parts.after.Goals as goal
 
 pub open_sub-requires-clause-few : goal.open_sub-requires-clause-few
@@ -96,7 +97,7 @@ returns-in_ok-sub-in-Ok-Sub-clause-reads g c = λ names state part room.
     let from = c.args.cursor.now in
     let to = c.after_fields.new.self in
     let begun : Open = record { sub = Some j; version = v } in
-    let P : Typed → Type 0 = λ image. GoesOn (intake g.S.Source c.args.source.now) (intake g.S.Source c.after_fields.new.source) 261 (after_fields set names state c.args.section.now part (untyped c.args.image.now))
+    let P : Typed → Type 0 = λ image. GoesOn (intake g.S.Source c.args.source.now) (intake g.S.Source c.after_fields.new.source) LONGEST_SUB_HEAD (after_fields set names state c.args.section.now part (untyped c.args.image.now))
     (after_part set names state c.args.section.now (untyped image)) from to (Ok (Some begun)) in
     subst P (sym c.mark.ensures)
     (reads_as (λ n l. omega (arith, l, place, before, now))

@@ -12,6 +12,8 @@ use Rattle.vms_load.specs.Reads.{Onward, reach}
 use Rattle.vms_load.specs.Parts.{IsMoved, part_due, subs_due, bytes_of_part, in_fields, after_fields, after_part}
 use Rattle.vms_load.proofs.GoingLemmas.{goes_here, goes_further, goes_on, goes_still}
 use Rattle.vms_image.specs.Typed.{Typed, state_of as untyped}
+use Rattle.vms_marks.specs.declared.sub_head.TheConstants.{LONGEST_SUB_HEAD}
+use Rattle.vms_marks.specs.declared.head.TheConstants.{LONGEST_HEAD}
 use Rattle.vms_load.proofs.parts.read_section.Goals as goal
 
 pub loop-next-init : goal.loop-next-init
@@ -72,7 +74,7 @@ returns-in_err-fields-clause-reads g c = λ names state room.
     let next : Unit {0} → Onward = λ x. after_fields set names state section c.in-Some.part.sub (untyped c.fields.new.image) in
     let due = ap (λ (o : Option Open). part_due set (device_at set section.device) loop.image.came o) c.in-Some.is in
     let e = c.in_err-fields.field-0.0 in
-    let most = part_due set (device_at set c.args.section.now.device) c.args.image.now.came (Some (record { sub = None; version = c.args.image.now.version })) + 269 in
+    let most = part_due set (device_at set c.args.section.now.device) c.args.image.now.came (Some (record { sub = None; version = c.args.image.now.version })) + LONGEST_HEAD in
     let p = err_from_is_err_and c.from_residual.result c.from_residual.ensures.1 in
     rw (p.1, p.2)
     (goes_still (Unit {0}) (Unit {0}) most here next (λ x. after_part set names state section (untyped c.fields.new.image) None) from end end e
@@ -95,11 +97,11 @@ returns-in_err-next-clause-reads g c = λ names state room.
     let due = ap (λ (o : Option Open). part_due set (device_at set section.device) loop.image.came o) c.in-Some.is in
     let one = c.in_ok-fields.ensures.moves in
     let e = c.in_err-next.field-0.0 in
-    let most = part_due set (device_at set c.args.section.now.device) c.args.image.now.came (Some (record { sub = None; version = c.args.image.now.version })) + 269 in
+    let most = part_due set (device_at set c.args.section.now.device) c.args.image.now.came (Some (record { sub = None; version = c.args.image.now.version })) + LONGEST_HEAD in
     let p = err_from_is_err_and c.from_residual-in_err-next.result c.from_residual-in_err-next.ensures.1 in
     rw (p.1, p.2)
     (goes_still (Option Open) (Unit {0}) most here next (λ x. next None) from end end e
-    (goes_on {X = Option Open} 261 most here middle next from mid end (Err e) (omega (arith, loop.invariant.from, one.0)) tt (omega (arith, loop.invariant.onward, one.1)) tt (omega (arith, due, loop.invariant.place, one.2))
+    (goes_on {X = Option Open} LONGEST_SUB_HEAD most here middle next from mid end (Err e) (omega (arith, loop.invariant.from, one.0)) tt (omega (arith, loop.invariant.onward, one.1)) tt (omega (arith, due, loop.invariant.place, one.2))
     (goes_further here (after_part set names state section (untyped loop.image) (Some c.in-Some.part)) middle from loop.cursor mid loop.invariant.from one.0 loop.invariant.onward one.1
     (rw c.in-Some.is at (loop.invariant.reads names state room)) (c.in_ok-fields.ensures.reads names state inside)) (c.in_err-next.ensures.reads names state sub inside)))
 

@@ -11,6 +11,7 @@ use Rattle.vms_load.specs.Reads.{Onward}
 use Rattle.vms_load.specs.Going.{GoesSoFar}
 use Rattle.vms_load.specs.Staging.{accepted_of, state_of, spot_at, stream_due}
 use Rattle.vms_load.proofs.GoingLemmas.{goes_here, goes_further, goes_on, goes_still}
+use Rattle.vms_marks.specs.declared.head.TheConstants.{LONGEST_HEAD}
 use Rattle.vms_load.proofs.stream.sections.Goals as goal
 
 pub loop-place-init : goal.loop-place-init
@@ -52,13 +53,13 @@ returns-in_err-place-clause-reads g c =
     let here = go (state_of set c.args.staged.now (spot_at (Some First))) in
     let mid = go (state_of set loop.staged (spot_at (Some c.in-Some.between))) in
     let next : Option Between → Onward = λ next. go (state_of set c.turn.new.staged (spot_at next)) in
-    let most = stream_due set c.args.staged.now.came.items (Some First) + 269 in
+    let most = stream_due set c.args.staged.now.came.items (Some First) + LONGEST_HEAD in
     let e = c.in_err-place.field-0.0 in
     let due = ap (λ (o : Option Between). stream_due set loop.staged.came.items o) c.in-Some.is in
     let p = err_from_is_err_and c.from_residual.result c.from_residual.ensures.1 in
     rw (p.1, p.2)
     (goes_still (Option Between) (Unit {0}) most here next (λ x. go (state_of set c.turn.new.staged (spot_at None))) c.args.cursor.now c.turn.new.cursor c.turn.new.cursor e
-    (goes_on {X = Option Between} (stream_due set loop.staged.came.items (Some c.in-Some.between) + 269) most here mid next c.args.cursor.now loop.cursor c.turn.new.cursor (Err e) loop.invariant.from tt loop.invariant.onward tt
+    (goes_on {X = Option Between} (stream_due set loop.staged.came.items (Some c.in-Some.between) + LONGEST_HEAD) most here mid next c.args.cursor.now loop.cursor c.turn.new.cursor (Err e) loop.invariant.from tt loop.invariant.onward tt
     (omega (arith, due, loop.invariant.due)) (rw c.in-Some.is at loop.invariant.reads) c.in_err-place.ensures.reads))
 
 pub loop-place-smaller : goal.loop-place-smaller

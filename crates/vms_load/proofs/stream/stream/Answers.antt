@@ -15,6 +15,7 @@ use Rattle.vms_load.proofs.Bounding.{most_small, all_due}
 use Rattle.vms_load.proofs.GoingLemmas.{goes_further, goes_on, same_course}
 use Rattle.vms_load.proofs.StreamReads.{refused_before, closed}
 use Rattle.vms_frames.specs.declared.units.Between.TheVariants.{First}
+use Rattle.vms_marks.specs.declared.head.TheConstants.{LONGEST_HEAD}
 use Rattle.vms_load.proofs.stream.stream.Goals as goal
 
 pub head-requires-clause-held : goal.head-requires-clause-held
@@ -62,7 +63,7 @@ returns-in_err-sections-clause-reads g c =
     (reads_as (λ n l. l)
     (λ input left h. refused_before set names {X = Unit {0}} c.sections.new.staged start (Some input) (Some left) next c.new-cursor.result c.sections.new.cursor e c.restart.ensures.state
     (ap (λ (s : Stand). s.at) c.new-cursor.ensures) (ap (λ (s : Stand). s.held) c.new-cursor.ensures) h)
-    (goes_on {X = Unit {0}} (stream_due set c.restart.new.staged.came.items (Some First) + 269) (most_given set) (go start) (go (state_of set c.restart.new.staged (Free true false))) next c.new-cursor.result c.head.new.cursor c.sections.new.cursor (Err e)
+    (goes_on {X = Unit {0}} (stream_due set c.restart.new.staged.came.items (Some First) + LONGEST_HEAD) (most_given set) (go start) (go (state_of set c.restart.new.staged (Free true false))) next c.new-cursor.result c.head.new.cursor c.sections.new.cursor (Err e)
     h.0 tt h.1 tt (omega (arith, due, h, ap reach c.new-cursor.ensures)) (c.in_ok-head.ensures.reads set names start) c.in_err-sections.ensures.reads))
 
 pub trailer-requires-clause-place : goal.trailer-requires-clause-place

@@ -71,15 +71,11 @@ walk_items-returns-in_err-walk_item-clause-err g t c =
 
 pub walk_items-walk_item-requires : goal.walk_items-walk_item-requires
 walk_items-walk_item-requires g t c =
-    let N = g.W.Cells.numbers in
     let set = described c.args.set.now in
     let item = c.args.item.now in
-    let first = c.args.first in
-    let i = c.loop-turn._turn in
     let cell = c.loop-turn.cell in
-    let a = c.args.walker.now in
     let inv = c.loop-turn.invariant in
-    let room = room_at i c.args.count (size_in set item) first cell (length (N a)) (omega arith) inv.here c.requires.room in
+    let room = room_at c.loop-turn._turn c.args.count (size_in set item) c.args.first cell (length (g.W.Cells.numbers c.args.walker.now)) (omega arith) inv.here c.requires.room in
     λ κs h. (
       search rules,
       (
@@ -89,7 +85,7 @@ walk_items-walk_item-requires g t c =
           (
             c.requires.reaches,
             (
-              items_may _ _ _ g.W.Walker.may (laws_of g) set (good_of set c.args.set.now.well_formed c.args.set.now.heads) item c.args.most first i cell inv.here a c.loop-turn.walker inv.way c.args.count (omega arith) c.requires.may,
+              items_may _ _ _ g.W.Walker.may (laws_of g) set (good_of set c.args.set.now.well_formed c.args.set.now.heads) item c.args.most c.args.first c.loop-turn._turn cell inv.here c.args.walker.now c.loop-turn.walker inv.way c.args.count (omega arith) c.requires.may,
               (subst (λ (x : ℕ). cell + size_in set item ≤ x) (sym inv.long) room, subst (λ (x : ℕ). x ≤ MOST_ITEMS) (sym inv.long) c.requires.few),
             ),
           ),
