@@ -1,5 +1,5 @@
 -- How the commands of boards end, by their steps.
-use Rattle.std.proofs.Common.{◌≡◌, ℕ, true, List, Result, Ok, Err, refl, sym, subst}
+use Rattle.std.proofs.Common.{◌≡◌, ℕ, Bool, true, List, Result, Ok, Err, refl, sym, subst}
 use Rattle.std.proofs.KnownBytes.{Keeps-refl}
 use Rattle.arrayvec.specs.ArrayVec.{ArrayVec}
 use Rattle.vms_board.specs.Saving.{Saves}
@@ -18,7 +18,7 @@ use Rattle.vms_commands.specs.Courses.{Course, Draws, EndsSo, Risen, is_among}
 use Rattle.vms_commands.specs.Endings.{WritesAs, status_of}
 use Rattle.vms_commands.specs.declared.ending.Ending.{Ending}
 use Rattle.vms_commands.specs.declared.ending.Ending.TheVariants.{Done, Refused, BadText, ReadFault, WriteFault, ShelfFault, NotThere, TooLarge, NoMemory}
-use Rattle.vms_board_commands.specs.Causes.{NoScript, drill_course, load_course, play_course, save_course}
+use Rattle.vms_board_commands.specs.Causes.{NoScript, drill_course, load_course, play_course, save_course, stream_course}
 use Rattle.vms_board_commands.specs.Play.{ending_by}
 use Rattle.vms_board_commands.specs.Save.{ending_by as ending_of}
 
@@ -120,8 +120,9 @@ module _ (i : Intake) (s : Stock) (o o' : Outlet) where
 
 -- ---- a stream is taken
 
-module _ {i i' : Intake} (s : Stock) (draws : Draws i i') where
-  pub traced_so : (text : List ℕ) (o o' : Outlet) (e : Ending) → WritesAs text o o' e → EndsSo i i' o o' s s load_course e
+-- whether or not the shelf may be asked
+module _ {asks : Bool} {i i' : Intake} (s : Stock) (draws : Draws i i') where
+  pub traced_so : (text : List ℕ) (o o' : Outlet) (e : Ending) → WritesAs text o o' e → EndsSo i i' o o' s s (stream_course asks) e
   traced_so text o o' Done w = record {
     can = refl;
     risen = tt;
@@ -146,7 +147,7 @@ module _ {i i' : Intake} (s : Stock) (draws : Draws i i') where
   }
   traced_so text o o' e w = absurd w
 
-  pub refused_so : (o : Outlet) (line : ArrayVec ℕ) → EndsSo i i' o o s s load_course (Refused line)
+  pub refused_so : (o : Outlet) (line : ArrayVec ℕ) → EndsSo i i' o o s s (stream_course asks) (Refused line)
   refused_so o line = record {
     can = refl;
     risen = tt;
@@ -159,7 +160,7 @@ module _ {i i' : Intake} (s : Stock) (draws : Draws i i') where
     reaches = reaches_none s;
   }
 
-  pub unread_so : (o : Outlet) → Rose i.faults i'.faults → EndsSo i i' o o s s load_course ReadFault
+  pub unread_so : (o : Outlet) → Rose i.faults i'.faults → EndsSo i i' o o s s (stream_course asks) ReadFault
   unread_so o rose = record {
     can = refl;
     risen = rose;

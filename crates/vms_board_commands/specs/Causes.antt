@@ -1,5 +1,5 @@
 -- How the commands of boards end, told or not.
-use Rattle.std.specs.Prelude.{true, false, [], ◌∷◌, Result, Ok, Err}
+use Rattle.std.specs.Prelude.{Bool, true, false, [], ◌∷◌, Result, Ok, Err}
 use Rattle.vms_io.specs.Causes.{Rose}
 use Rattle.vms_io.specs.Told.{Stock}
 use Rattle.vms_commands.specs.Courses.{Course, of_shelf, text_course}
@@ -31,8 +31,12 @@ ScriptCause shelf shelf' (Err ending) = NoScript shelf shelf' ending
 abbrev pub save_course : Course
 save_course = text_course (0 ∷ 6 ∷ 10 ∷ []) [] true
 
+-- of a command that reads a stream and takes all memory before
+abbrev pub stream_course : Bool → Course
+stream_course asks = text_course (0 ∷ 1 ∷ 5 ∷ 6 ∷ 10 ∷ []) (0 ∷ 1 ∷ 5 ∷ 6 ∷ []) asks
+
 abbrev pub load_course : Course
-load_course = text_course (0 ∷ 1 ∷ 5 ∷ 6 ∷ 10 ∷ []) (0 ∷ 1 ∷ 5 ∷ 6 ∷ []) true
+load_course = stream_course true
 
 abbrev pub drill_course : Course
 drill_course = text_course (0 ∷ 6 ∷ 10 ∷ []) [] false

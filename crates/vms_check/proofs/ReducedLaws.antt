@@ -4,6 +4,10 @@ use Rattle.std.proofs.Math.Bool.{and-true, and-false, or-true, or-false}
 use Rattle.vms_spec.specs.Sets.{Formula, AtLeast, Below, Cell, Not, And, Or}
 use Rattle.vms_spec.specs.Tests.{truth}
 use Rattle.vms_check.specs.Reducing.{Reduced, Known, Open, not_reduced, and_reduced, or_reduced, reduced, truth_of}
+use Rattle.std.proofs.lemmas.Bool.{and_parts}
+use Rattle.vms_spec.specs.declared.Rel.{Rel}
+use Rattle.vms_spec.specs.declared.Whose.TheVariants.{Own, Parent}
+use Rattle.vms_spec.specs.Rules.{names_well, nobody}
 
 module _ (v : ℕ) (own parent : ℕ → ℕ) where
   abbrev holds : Reduced → Bool
@@ -41,3 +45,48 @@ module _ (v : ℕ) (own parent : ℕ → ℕ) where
 
 pub reduced_holds : (t : Formula) (v : ℕ) (own parent : ℕ → ℕ) → truth_of (reduced v t) v own parent ≡ truth t v own parent
 reduced_holds t v own parent = reduced_holds_at v own parent t
+
+-- ---- what holds of the test that is left
+
+-- where one is left
+abbrev pub IfOpen : (Formula → Type 0) → Reduced → Type 0
+IfOpen P (Known b) = Unit {0}
+IfOpen P (Open t) = P t
+
+-- a test has it by its parts
+pub record IsByParts (P : Formula → Type 0) : Type 0 where
+  pub of_not : (t : Formula) → P t → P (Not t)
+  pub of_and : (s t : Formula) → P s → P t → P (And s t)
+  pub of_or : (s t : Formula) → P s → P t → P (Or s t)
+
+module _ (P : Formula → Type 0) (parts : IsByParts P) where
+  not_open : (r : Reduced) → IfOpen P r → IfOpen P (not_reduced r)
+  not_open (Known b) h = tt
+  not_open (Open t) h = parts.of_not t h
+
+  and_open : (r q : Reduced) → IfOpen P r → IfOpen P q → IfOpen P (and_reduced r q)
+  and_open (Known true) q h g = g
+  and_open (Known false) q h g = tt
+  and_open (Open s) (Known true) h g = h
+  and_open (Open s) (Known false) h g = tt
+  and_open (Open s) (Open t) h g = parts.of_and s t h g
+
+  or_open : (r q : Reduced) → IfOpen P r → IfOpen P q → IfOpen P (or_reduced r q)
+  or_open (Known false) q h g = g
+  or_open (Open s) (Known false) h g = h
+  or_open (Open s) (Open t) h g = parts.of_or s t h g
+  or_open _ _ h g = tt
+
+  -- where each number that the test may name has it
+  pub open_reduced : (ok : ℕ → Bool) → ((field mask : ℕ) (rel : Rel) (value : ℕ) → ok field ≡ true → P (Cell Own field mask rel value)) → (v : ℕ) (t : Formula) → names_well ok nobody t ≡ true → IfOpen P (reduced v t)
+  open_reduced ok has v (AtLeast n) e = tt
+  open_reduced ok has v (Below n) e = tt
+  open_reduced ok has v (Cell Own field mask rel value) e = has field mask rel value e
+  open_reduced ok has v (Cell Parent field mask rel value) e = absurd (cc)
+  open_reduced ok has v (Not t) e = not_open (reduced v t) (open_reduced ok has v t e)
+  open_reduced ok has v (And s t) e =
+      let p = and_parts (names_well ok nobody s) (names_well ok nobody t) e in
+      and_open (reduced v s) (reduced v t) (open_reduced ok has v s p.0) (open_reduced ok has v t p.1)
+  open_reduced ok has v (Or s t) e =
+      let p = and_parts (names_well ok nobody s) (names_well ok nobody t) e in
+      or_open (reduced v s) (reduced v t) (open_reduced ok has v s p.0) (open_reduced ok has v t p.1)

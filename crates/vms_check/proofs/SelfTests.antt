@@ -8,17 +8,19 @@ use Rattle.vms_kinds.specs.declared.Item.{Item}
 use Rattle.vms_kinds.specs.declared.Item.TheVariants.{Num, Equal, Unused, Struct}
 use Rattle.vms_spec.specs.declared.Count.{Count}
 use Rattle.vms_spec.specs.declared.Count.TheVariants.{One, Fixed, Counted}
-use Rattle.vms_spec.specs.declared.Whose.TheVariants.{Own, Parent}
+use Rattle.vms_spec.specs.declared.Whose.TheVariants.{Own}
 use Rattle.vms_spec.specs.Layout.{no_field}
 use Rattle.vms_spec.specs.Rules.{has_no_test, is_num, is_one, is_steady, is_steady_in, names_well, nobody}
-use Rattle.vms_spec.specs.Sets.{Formula, AtLeast, Below, Cell, Not, And, Or, Field, Desc}
+use Rattle.vms_spec.specs.Sets.{Formula, Cell, Field, Desc}
 use Rattle.vms_spec.proofs.NumberLaws.{same_number_itself}
 use Rattle.vms_spec.proofs.WellFormedLaws.{untested}
 use Rattle.vms_check.specs.Comparing.{holds_as_much, is_absent, is_nothing, kind_number, rel_number, same_constant, same_count, same_item, same_place, same_reduced, same_rest, same_test}
-use Rattle.vms_check.specs.Reducing.{Reduced, Known, Open, and_reduced, left_of, not_reduced, or_reduced, presence, reduced}
+use Rattle.vms_check.specs.Reducing.{Reduced, Known, Open, left_of, presence, reduced}
 use Rattle.vms_check.specs.Sides.{field_reduced, position_in}
 use Rattle.vms_check.proofs.PairLaws.{presence_is}
 use Rattle.vms_check.proofs.PositionLaws.{there_is}
+use Rattle.vms_check.proofs.ReducedLaws.{IfOpen, IsByParts, open_reduced}
+use Rattle.vms_spec.specs.declared.Rel.{Rel}
 
 itself : (n : ℕ) → (n == n) ≡ true
 itself n = eq-eqb n n refl
@@ -48,43 +50,26 @@ steady_there d v k low e = by_field (slice_get d.fields k) refl e
 -- ---- tests
 
 module _ (o : ℕ → Option ℕ) where
+  abbrev IsSame : Formula → Type 0
+  IsSame t = same_test o o t t ≡ true
+
   abbrev pub IsSelf : Reduced → Type 0
-  IsSelf (Known b) = Unit {0}
-  IsSelf (Open t) = same_test o o t t ≡ true
+  IsSelf r = IfOpen IsSame r
 
-  not_self : (r : Reduced) → IsSelf r → IsSelf (not_reduced r)
-  not_self (Known b) h = tt
-  not_self (Open t) h = h
-
-  and_self : (r q : Reduced) → IsSelf r → IsSelf q → IsSelf (and_reduced r q)
-  and_self (Known true) q h g = g
-  and_self (Known false) q h g = tt
-  and_self (Open s) (Known true) h g = h
-  and_self (Open s) (Known false) h g = tt
-  and_self (Open s) (Open t) h g = and_from (same_test o o s s) (same_test o o t t) h g
-
-  or_self : (r q : Reduced) → IsSelf r → IsSelf q → IsSelf (or_reduced r q)
-  or_self (Known false) q h g = g
-  or_self (Known true) q h g = tt
-  or_self (Open s) (Known false) h g = h
-  or_self (Open s) (Known true) h g = tt
-  or_self (Open s) (Open t) h g = and_from (same_test o o s s) (same_test o o t t) h g
+  same_by_parts : IsByParts IsSame
+  same_by_parts = record {
+    of_not = λ t h. h;
+    of_and = λ s t h g. and_from (same_test o o s s) (same_test o o t t) h g;
+    of_or = λ s t h g. and_from (same_test o o s s) (same_test o o t t) h g;
+  }
 
   pub reduced_self : (ok : ℕ → Bool) → ((k : ℕ) → ok k ≡ true → HasPosition o k) → (v : ℕ) (t : Formula) → names_well ok nobody t ≡ true → IsSelf (reduced v t)
-  reduced_self ok has v (AtLeast n) e = tt
-  reduced_self ok has v (Below n) e = tt
-  reduced_self ok has v (Cell Own k mask rel value) e =
-      let p = has k e in
-      and_from (same_place (o k) (o k) && mask == mask && rel_number rel == rel_number rel) (value == value)
-      (and_from (same_place (o k) (o k) && mask == mask) (rel_number rel == rel_number rel) (and_from (same_place (o k) (o k)) (mask == mask) (same_here (o k) p.0 p.1) (itself mask)) (itself (rel_number rel))) (itself value)
-  reduced_self ok has v (Cell Parent k mask rel value) e = absurd (cc)
-  reduced_self ok has v (Not t) e = not_self (reduced v t) (reduced_self ok has v t e)
-  reduced_self ok has v (And s t) e =
-      let p = and_parts (names_well ok nobody s) (names_well ok nobody t) e in
-      and_self (reduced v s) (reduced v t) (reduced_self ok has v s p.0) (reduced_self ok has v t p.1)
-  reduced_self ok has v (Or s t) e =
-      let p = and_parts (names_well ok nobody s) (names_well ok nobody t) e in
-      or_self (reduced v s) (reduced v t) (reduced_self ok has v s p.0) (reduced_self ok has v t p.1)
+  reduced_self ok has v t e = open_reduced IsSame same_by_parts ok cell v t e where
+    cell : (k mask : ℕ) (rel : Rel) (value : ℕ) → ok k ≡ true → IsSame (Cell Own k mask rel value)
+    cell k mask rel value e =
+        let p = has k e in
+        and_from (same_place (o k) (o k) && mask == mask && rel_number rel == rel_number rel) (value == value)
+        (and_from (same_place (o k) (o k) && mask == mask) (rel_number rel == rel_number rel) (and_from (same_place (o k) (o k)) (mask == mask) (same_here (o k) p.0 p.1) (itself mask)) (itself (rel_number rel))) (itself value)
 
   pub same_self : (r : Reduced) → IsSelf r → same_reduced o o r r ≡ true
   same_self (Known true) h = refl

@@ -1,16 +1,17 @@
 -- Bytes of both sides at one front: where slots of the newer set are spelled at the front of what the older wrote, they take
 -- the bytes that the older wrote for its own slots, and no others.
-use Rattle.std.proofs.Common.{◌≡◌, ℕ, ◌^◌, ◌<◌, Bool, List, [], ◌∷◌, ◌++◌, length, get_or, refl, sym, ap, ◌∙◌, arith, append_assoc, ℤ, pos, negsuc}
+use Rattle.std.proofs.Common.{◌≡◌, ℕ, ◌^◌, ◌<◌, Bool, List, [], ◌∷◌, ◌++◌, length, get_or, refl, sym, ap, ◌∙◌, arith, append_assoc, ℤ, pos, negsuc, ◌*◌}
 use Rattle.std.proofs.lemmas.List.{length-append}
 use Rattle.byteorder.specs.Endian.{big_number}
 use Rattle.vms_kinds.specs.declared.Kind.{Kind}
-use Rattle.vms_kinds.specs.declared.Kind.TheVariants.{U8, U16, U32, U64, I8, I16, I32, I64, Bool as Truth, Timer}
+use Rattle.vms_kinds.specs.declared.Kind.TheVariants.{U8}
 use Rattle.vms_kinds.specs.Codes.{width, residue, code}
 use Rattle.vms_spec.specs.Layout.{Slot, Number, Constant, Filler, Rule}
 use Rattle.vms_spec.specs.Images.{Spells, zeroed}
 use Rattle.vms_spec.proofs.KindLaws.{length-code, read_back}
 use Rattle.vms_check_laws.specs.Segments.{Aligns}
 use Rattle.vms_check_laws.proofs.Segments.{zeroed_append}
+use Rattle.std.proofs.lemmas.Nat.{mod_below, pow_pos}
 
 -- ---- lists
 
@@ -85,33 +86,13 @@ aligns_rule x y r s = aligns_sized x (Rule r ∷ []) y (Rule s ∷ []) (λ body 
 
 -- ---- numbers by their bytes
 
-low_1 : (z : ℤ) → residue 1 z < 256 ^ 1
-low_1 (pos n) = omega arith
-low_1 (negsuc n) = omega arith
-
-low_2 : (z : ℤ) → residue 2 z < 256 ^ 2
-low_2 (pos n) = omega arith
-low_2 (negsuc n) = omega arith
-
-low_4 : (z : ℤ) → residue 4 z < 256 ^ 4
-low_4 (pos n) = omega arith
-low_4 (negsuc n) = omega arith
-
-low_8 : (z : ℤ) → residue 8 z < 256 ^ 8
-low_8 (pos n) = omega arith
-low_8 (negsuc n) = omega arith
+residue_low : (w : ℕ) (z : ℤ) → residue w z < 2 ^ (8 * w)
+residue_low w (pos n) = mod_below n (2 ^ (8 * w)) (pow_pos (8 * w))
+residue_low w (negsuc n) = omega (arith, pow_pos (8 * w))
 
 low : (kind : Kind) (z : ℤ) → residue (width kind) z < 256 ^ (width kind)
-low U8 z = low_1 z
-low U16 z = low_2 z
-low U32 z = low_4 z
-low U64 z = low_8 z
-low I8 z = low_1 z
-low I16 z = low_2 z
-low I32 z = low_4 z
-low I64 z = low_8 z
-low Truth z = low_1 z
-low Timer z = low_8 z
+low U8 z = residue_low 1 z
+low kind z = residue_low (width kind) z
 
 -- numbers of the same bytes are the same modulo 2 ^ (8 w)
 pub same_code : (kind : Kind) (z u : ℤ) → code kind z ≡ code kind u → residue (width kind) z ≡ residue (width kind) u

@@ -1,7 +1,7 @@
 -- Fields and descriptions at one front: where no rule fails at two fields and the numbers of earlier fields agree, the newer set
 -- reads as many bytes for its field as the older wrote for its own, and a number that tests and counts may name is then the same;
 -- so position by position. A position at which two constants differ, which the newer set can't read.
-use Rattle.std.proofs.Common.{◌≡◌, inl, inr, ℕ, zero, suc, ◌+◌, ◌<◌, ◌≤◌, Bool, true, false, List, [], ◌∷◌, ◌++◌, length, get_or, Option, Some, None, sym, ap, ◌∙◌, subst, arith, replicate, ℤ, pos, if◌then◌else◌, ◌⊎◌, nat_lt, take, refl}
+use Rattle.std.proofs.Common.{◌≡◌, inl, inr, ℕ, zero, suc, ◌+◌, ◌<◌, ◌≤◌, Bool, true, List, [], ◌∷◌, ◌++◌, length, get_or, Option, Some, None, sym, ap, ◌∙◌, subst, arith, replicate, ℤ, pos, if◌then◌else◌, ◌⊎◌, nat_lt, take, refl}
 use Rattle.std.specs.List.{slice_get}
 use Rattle.std.proofs.lemmas.List.{length-append, length-replicate, take_all}
 use Rattle.std.proofs.lemmas.Bool.{eqb-true, and_parts, ltb-true}
@@ -20,17 +20,17 @@ use Rattle.vms_spec.specs.Images.{Spells, zeroed}
 use Rattle.vms_spec.proofs.KindLaws.{length-code}
 use Rattle.vms_spec.proofs.Sizes.{size_same, elements_fit}
 use Rattle.vms_spec.proofs.Prefixes.{ItemBelow}
-use Rattle.vms_check.specs.Comparing.{Entry, same_rest, same_count, same_item, is_covered, Comparer, no_comparer, pair_structs}
+use Rattle.vms_check.specs.Comparing.{Entry, same_count, same_item, is_covered, Comparer, no_comparer, pair_structs}
 use Rattle.vms_check.specs.Carrying.{Carrier}
 use Rattle.vms_check_laws.specs.Segments.{FitsAt, Aligns}
 use Rattle.vms_check_laws.proofs.Presence.{there}
-use Rattle.vms_check_laws.proofs.SameTests.{Agree, same_there, presence_named}
+use Rattle.vms_check_laws.proofs.SameTests.{Agree, presence_named}
 use Rattle.vms_check_laws.proofs.Segments.{fits_left, fits_right, fits_at}
 use Rattle.vms_check_laws.proofs.Pairing.{kinds_same, cells_in, slots_at, IsKnown, entries_slots, AreKnown, FitEntries}
 use Rattle.vms_check_laws.proofs.Linking.{PairGood, Matched, decoded, Zip}
 use Rattle.vms_check_laws.proofs.Describing.{not_covered, steady, steady_rest, rest_none, there_here}
 use Rattle.vms_check_laws.proofs.Premises.{Table, IsSingle, OldGood, NewGood}
-use Rattle.vms_check_laws.proofs.FieldsCarry.{same_elements, EntryGood, OldEntries, covered_slots}
+use Rattle.vms_check_laws.proofs.FieldsCarry.{EntryGood, OldEntries, covered_slots, pair_by}
 use Rattle.vms_check_laws.proofs.Aligned.{apart, same_bytes, aligns_nil, aligns_append, aligns_number, aligns_constant, aligns_filler, same_code, spells_split, behind_first}
 use Rattle.std.proofs.Math.Nat.{eq-or-lt_of_le}
 use Rattle.vms_check_laws.proofs.Positioned.{same_some, Above, Upto, upto_next, upto_here, upto_earlier}
@@ -128,11 +128,6 @@ module _ (ks : List Comparer) (cs : List Carrier) (ms ns : List Meaning) (a b : 
       let s = covered_slots ms ns numbers numbers' own own' i c j d caps caps' x y step step' covers single single' in
       subst (λ (l : List Slot). SlotsAlign slots l) (sym s.1) (aligns_filler numbers numbers' slots s.0 s.2)
 
-  when_there : (s t : Bool) (xs ys : List Slot) → s ≡ t → SlotsAlign xs ys → SlotsAlign (if s then xs else []) (if t then ys else [])
-  when_there true true xs ys e h = h
-  when_there false false xs ys e h = aligns_nil numbers numbers'
-  when_there _ _ xs ys e h = absurd (cc)
-
   abbrev pub OldSlots : Entry → List Slot
   OldSlots e = slots_at ms a.fields v own numbers at e.index e.place e.field
 
@@ -145,22 +140,10 @@ module _ (ks : List Comparer) (cs : List Carrier) (ms ns : List Meaning) (a b : 
   pair_aligns ok e f agree known known' good old new fits =
       let step = length (item_cells (cells_in ms) e.field.item [] (pos 0)) in
       let step' = length (item_cells (cells_in ns) f.field.item [] (pos 0)) in
-      let caps = counted e.index a.fields in
-      let caps' = counted f.index b.fields in
-      let slots = times (elements_of e.field.count own) (item_slots ms e.field.item caps numbers) (at + e.place) step in
-      let slots' = times (elements_of f.field.count own') (item_slots ns f.field.item caps' numbers') (at' + f.place) step' in
-      let same : same_rest o n e.rest f.rest ≡ true → is_there e.field.test e.field.since v own no_parent ≡ is_there f.field.test f.field.since w own' no_parent =
-      λ h. there_here v e.field.test e.field.since e.rest own no_parent known.left ∙ same_there o n ok own own' no_parent no_parent v w agree e.rest f.rest new.rest h
-      ∙ sym (there_here w f.field.test f.field.since f.rest own' no_parent known'.left) in
-      elim (decoded ks a b v w part part' o n e f good) [
-        | inl c ↦ when_there (is_there e.field.test e.field.since v own no_parent) (is_there f.field.test f.field.since w own' no_parent) slots slots' (same c.rest)
-            (covered_aligns e.field.item e.field.count f.field.item f.field.count caps caps' (at + e.place) (at' + f.place) step step' c.covers old.single new.single)
-        | inr m ↦ when_there (is_there e.field.test e.field.since v own no_parent) (is_there f.field.test f.field.since w own' no_parent) slots slots' (same m.rest)
-            (subst (λ (k : ℕ). SlotsAlign slots (times k (item_slots ns f.field.item caps' numbers') (at' + f.place) step'))
-            (same_elements ks cs ms ns a b v w part part' o n numbers numbers' at at' below below' table ok e.field.count f.field.count agree old.count new.count m.count m.room)
-            (items_align e.field.item f.field.item caps caps' e.field.default (elements_of e.field.count own) (capacity_of e.field.count) 0 0
-            (at + e.place) (at' + f.place) step' m.item good.structs old.item new.item (elements_fit e.field.count own) fits))
-      ]
+      pair_by ks cs ms ns a b v w part part' o n numbers numbers' at at' below below' table ok (λ xs ys. Aligns numbers xs numbers' ys) (aligns_nil numbers numbers') e f agree known known' good old new
+      (λ c. covered_aligns e.field.item e.field.count f.field.item f.field.count (counted e.index a.fields) (counted f.index b.fields) (at + e.place) (at' + f.place) step step' c.covers old.single new.single)
+      (λ m is. items_align e.field.item f.field.item (counted e.index a.fields) (counted f.index b.fields) e.field.default (elements_of e.field.count own) (capacity_of e.field.count) 0 0
+      (at + e.place) (at' + f.place) step' m.item good.structs old.item new.item (elements_fit e.field.count own) fits)
 
   -- ---- numbers that may be named
 

@@ -22,7 +22,7 @@ use Rattle.vms_spec.proofs.Sizes.{size_same, elements_fit}
 use Rattle.vms_spec.proofs.Prefixes.{ItemBelow}
 use Rattle.vms_spec.proofs.NumberLaws.{same_number_is}
 use Rattle.vms_check_laws.proofs.Pairing.{kinds_same, cells_in, slots_at, entries_slots, IsKnown, AreKnown, FitEntries}
-use Rattle.vms_check_laws.proofs.Linking.{PairGood, decoded, Linked, linked, carry_item_size}
+use Rattle.vms_check_laws.proofs.Linking.{PairGood, decoded, Linked, linked, carry_item_size, CoveredBy, Matched}
 use Rattle.vms_check_laws.proofs.Describing.{numbers_length, constant_length, there_here}
 use Rattle.vms_check_laws.proofs.Premises.{Table, IsSingle, CountFits, CountNamed, OldGood, NewGood, RulesNamed, OldFields, NewFields}
 use Rattle.std.specs.List.{list_all, list_any}
@@ -122,17 +122,41 @@ module _ (ks : List Comparer) (cs : List Carrier) (ms ns : List Meaning) (a b : 
       let s = covered_slots ms ns numbers numbers' own own' i c j d caps caps' x y step step' covers single single' in
       subst (λ (l : List Slot). Carries numbers slots numbers' l) (sym s.1) (carries_filler numbers numbers' slots s.0 s.2)
 
-  when_there : (s t : Bool) (xs ys : List Slot) → s ≡ t → (s ≡ true → Carries numbers xs numbers' ys) → Carries numbers (if s then xs else []) numbers' (if t then ys else [])
-  when_there true true xs ys e h = h refl
-  when_there false false xs ys e h = carries_nil numbers numbers'
-  when_there _ _ xs ys e h = absurd (cc)
-
   -- a present field of new, with what is left of its test
   pub record EntryGood (f : Entry) : Type 0 where
     pub item : ItemBelow below' f.field.item
     pub single : IsSingle f.field.item f.field.count
     pub count : CountNamed ok f.field.count
     pub rest : NamedRest ok f.rest
+
+  abbrev slots_of : Entry → List Slot
+  slots_of e = times (elements_of e.field.count own) (item_slots ms e.field.item (counted e.index a.fields) numbers) (at + e.place) (length (item_cells (cells_in ms) e.field.item [] (pos 0)))
+
+  abbrev slots_in : ℕ → Entry → List Slot
+  slots_in k f = times k (item_slots ns f.field.item (counted f.index b.fields) numbers') (at' + f.place) (length (item_cells (cells_in ns) f.field.item [] (pos 0)))
+
+  -- a property of slots on both sides, at two fields where no rule fails: of none, of what is covered, and of as many elements
+  module _ (P : List Slot → List Slot → Type 0) (nothing : P [] []) where
+    when_there : (s t : Bool) (xs ys : List Slot) → s ≡ t → (s ≡ true → P xs ys) → P (if s then xs else []) (if t then ys else [])
+    when_there true true xs ys e h = h refl
+    when_there false false xs ys e h = nothing
+    when_there _ _ xs ys e h = absurd (cc)
+
+    pub pair_by : (e f : Entry) → Agree o n ok own own' → IsKnown ms a.fields v numbers at e → IsKnown ns b.fields w numbers' at' f → PairGood ks a b v w part part' o n e f → OldGood below own e.field → EntryGood f
+        → (CoveredBy ks a b v w part part' o n e f → P (slots_of e) (slots_in (elements_of f.field.count own') f))
+        → (Matched ks a b v w part part' o n e f → is_there e.field.test e.field.since v own no_parent ≡ true → P (slots_of e) (slots_in (elements_of e.field.count own) f))
+        → P (slots_at ms a.fields v own numbers at e.index e.place e.field) (slots_at ns b.fields w own' numbers' at' f.index f.place f.field)
+    pair_by e f agree known known' good old new covers items =
+        let there_e = is_there e.field.test e.field.since v own no_parent in
+        let there_f = is_there f.field.test f.field.since w own' no_parent in
+        let same : same_rest o n e.rest f.rest ≡ true → there_e ≡ there_f =
+        λ h. there_here v e.field.test e.field.since e.rest own no_parent known.left ∙ same_there o n ok own own' no_parent no_parent v w agree e.rest f.rest new.rest h
+        ∙ sym (there_here w f.field.test f.field.since f.rest own' no_parent known'.left) in
+        elim (decoded ks a b v w part part' o n e f good) [
+          | inl c ↦ when_there there_e there_f (slots_of e) (slots_in (elements_of f.field.count own') f) (same c.rest) (λ is. covers c)
+          | inr m ↦ when_there there_e there_f (slots_of e) (slots_in (elements_of f.field.count own') f) (same m.rest)
+              (λ is. subst (λ (k : ℕ). P (slots_of e) (slots_in k f)) (same_elements e.field.count f.field.count agree old.count new.count m.count m.room) (items m is))
+        ]
 
   pub pair_carries : (e f : Entry) → Agree o n ok own own' → IsKnown ms a.fields v numbers at e → IsKnown ns b.fields w numbers' at' f → PairGood ks a b v w part part' o n e f
       → Holds numbers' (at' + f.place) (carry_field cs (cells_in ms) (cells_in ns) numbers own v at e f.field)
@@ -143,21 +167,12 @@ module _ (ks : List Comparer) (cs : List Carrier) (ms ns : List Meaning) (a b : 
       let step' = length (item_cells (cells_in ns) f.field.item [] (pos 0)) in
       let caps = counted e.index a.fields in
       let caps' = counted f.index b.fields in
-      let slots = times (elements_of e.field.count own) (item_slots ms e.field.item caps numbers) (at + e.place) step in
-      let slots' = times (elements_of f.field.count own') (item_slots ns f.field.item caps' numbers') (at' + f.place) step' in
-      let same : same_rest o n e.rest f.rest ≡ true → is_there e.field.test e.field.since v own no_parent ≡ is_there f.field.test f.field.since w own' no_parent =
-      λ h. there_here v e.field.test e.field.since e.rest own no_parent known.left ∙ same_there o n ok own own' no_parent no_parent v w agree e.rest f.rest new.rest h
-      ∙ sym (there_here w f.field.test f.field.since f.rest own' no_parent known'.left) in
-      elim (decoded ks a b v w part part' o n e f good) [
-        | inl c ↦ when_there (is_there e.field.test e.field.since v own no_parent) (is_there f.field.test f.field.since w own' no_parent) slots slots' (same c.rest)
-            (λ is. covered_carries e.field.item e.field.count f.field.item f.field.count caps caps' (at + e.place) (at' + f.place) step step' c.covers old.single new.single)
-        | inr m ↦ when_there (is_there e.field.test e.field.since v own no_parent) (is_there f.field.test f.field.since w own' no_parent) slots slots' (same m.rest)
-            (λ is. subst (λ (k : ℕ). Carries numbers slots numbers' (times k (item_slots ns f.field.item caps' numbers') (at' + f.place) step')) (same_elements e.field.count f.field.count agree old.count new.count m.count m.room)
-            (items_carry e.field.item f.field.item caps caps' e.field.default f.field.default (elements_of e.field.count own) (capacity_of e.field.count) (capacity_of f.field.count) 0 0
-            (at + e.place) (at' + f.place) m.item m.constant good.structs old.item new.item (elements_fit e.field.count own) (elements_room e.field.count f.field.count m.count m.room) fits
-            (subst (λ (t : Bool). Holds numbers' (at' + f.place) (carry_items cs (cells_in ms) (cells_in ns) numbers e.field.item f.field.item (defaults (item_cells (cells_in ns) f.field.item [] f.field.default)) step
-            (if t then elements_of e.field.count own else 0) (capacity_of f.field.count) (at + e.place))) is held)))
-      ]
+      pair_by (λ xs ys. Carries numbers xs numbers' ys) (carries_nil numbers numbers') e f agree known known' good old new
+      (λ c. covered_carries e.field.item e.field.count f.field.item f.field.count caps caps' (at + e.place) (at' + f.place) step step' c.covers old.single new.single)
+      (λ m is. items_carry e.field.item f.field.item caps caps' e.field.default f.field.default (elements_of e.field.count own) (capacity_of e.field.count) (capacity_of f.field.count) 0 0
+      (at + e.place) (at' + f.place) m.item m.constant good.structs old.item new.item (elements_fit e.field.count own) (elements_room e.field.count f.field.count m.count m.room) fits
+      (subst (λ (t : Bool). Holds numbers' (at' + f.place) (carry_items cs (cells_in ms) (cells_in ns) numbers e.field.item f.field.item (defaults (item_cells (cells_in ns) f.field.item [] f.field.default)) step
+      (if t then elements_of e.field.count own else 0) (capacity_of f.field.count) (at + e.place))) is held))
 
   abbrev pub OldEntries : List Entry → Type 0
   OldEntries [] = Unit {0}

@@ -1,15 +1,16 @@
 -- The same remaining tests have the same truth where the numbers that they name are the same.
 use Rattle.std.proofs.Common.{◌≡◌, ℕ, Bool, true, false, not, ◌&&◌, ◌||◌, ◌==◌, Option, Some, None, refl, sym, ap, ◌∙◌, subst, nat_le, bit_and, if◌then◌else◌}
-use Rattle.std.proofs.lemmas.Bool.{and_parts, eqb-true}
+use Rattle.std.proofs.lemmas.Bool.{and_parts, eqb-true, and_from}
 use Rattle.vms_spec.specs.declared.Rel.{Rel}
 use Rattle.vms_spec.specs.declared.Rel.TheVariants.{Eq, Ne, Lt, Ge}
-use Rattle.vms_spec.specs.declared.Whose.TheVariants.{Own, Parent}
-use Rattle.vms_spec.specs.Sets.{Formula, AtLeast, Below, Cell, Not, And, Or}
+use Rattle.vms_spec.specs.declared.Whose.TheVariants.{Own}
+use Rattle.vms_spec.specs.Sets.{Formula, Cell, Not, And, Or}
 use Rattle.vms_spec.specs.Tests.{truth, compares}
 use Rattle.vms_spec.specs.Rules.{names_well, nobody}
-use Rattle.vms_check.specs.Reducing.{Reduced, Known, Open, reduced, not_reduced, and_reduced, or_reduced, left_of, presence, truth_of}
+use Rattle.vms_check.specs.Reducing.{Reduced, Known, Open, reduced, left_of, presence, truth_of}
 use Rattle.vms_check.specs.Comparing.{same_place, same_test, same_rest, same_reduced, rel_number}
 use Rattle.vms_check_laws.proofs.Presence.{there}
+use Rattle.vms_check.proofs.ReducedLaws.{IfOpen, IsByParts, open_reduced}
 
 -- a number's relation
 abbrev pub rel_of : ℕ → Rel
@@ -29,37 +30,22 @@ abbrev pub Agree : (o n : ℕ → Option ℕ) → (ok : ℕ → Bool) → (own o
 Agree o n ok own own' = (i j : ℕ) → ok j ≡ true → same_place (o i) (n j) ≡ true → own i ≡ own' j
 
 module _ (ok : ℕ → Bool) where
+  abbrev IsNamed : Formula → Type 0
+  IsNamed t = names_well ok nobody t ≡ true
+
   abbrev pub Named : Reduced → Type 0
-  Named (Known b) = Unit {0}
-  Named (Open t) = names_well ok nobody t ≡ true
+  Named r = IfOpen IsNamed r
 
-  named_not : (r : Reduced) → Named r → Named (not_reduced r)
-  named_not (Known b) h = tt
-  named_not (Open t) h = h
-
-  named_and : (r q : Reduced) → Named r → Named q → Named (and_reduced r q)
-  named_and (Known true) q h k = k
-  named_and (Known false) q h k = tt
-  named_and (Open s) (Known true) h k = h
-  named_and (Open s) (Known false) h k = tt
-  named_and (Open s) (Open t) h k = cc
-
-  named_or : (r q : Reduced) → Named r → Named q → Named (or_reduced r q)
-  named_or (Known true) q h k = tt
-  named_or (Known false) q h k = k
-  named_or (Open s) (Known true) h k = tt
-  named_or (Open s) (Known false) h k = h
-  named_or (Open s) (Open t) h k = cc
+  named_by_parts : IsByParts IsNamed
+  named_by_parts = record {
+    of_not = λ t h. h;
+    of_and = λ s t h g. and_from (names_well ok nobody s) (names_well ok nobody t) h g;
+    of_or = λ s t h g. and_from (names_well ok nobody s) (names_well ok nobody t) h g;
+  }
 
   -- what is left of a test names what the test names
   pub named_left : (u : ℕ) (t : Formula) → names_well ok nobody t ≡ true → Named (reduced u t)
-  named_left u (AtLeast m) h = tt
-  named_left u (Below m) h = tt
-  named_left u (Cell Own field mask rel value) h = h
-  named_left u (Cell Parent field mask rel value) h = h
-  named_left u (Not t) h = named_not (reduced u t) (named_left u t h)
-  named_left u (And s t) h = let p = and_parts (names_well ok nobody s) (names_well ok nobody t) h in named_and (reduced u s) (reduced u t) (named_left u s p.0) (named_left u t p.1)
-  named_left u (Or s t) h = let p = and_parts (names_well ok nobody s) (names_well ok nobody t) h in named_or (reduced u s) (reduced u t) (named_left u s p.0) (named_left u t p.1)
+  named_left u t h = open_reduced IsNamed named_by_parts ok (λ field mask rel value e. e) u t h
 
   abbrev pub NamedRest : Option Formula → Type 0
   NamedRest None = Unit {0}

@@ -1,7 +1,8 @@
 -- From what the listing of an input says to how `analyze` ends.
-use Rattle.std.proofs.Common.{◌≡◌, ℕ, ◌+◌, ◌≤◌, min, List, [], ◌++◌, append-nil, length, length-append, drop, Option, Some, None, Result, Ok, Err, IfSome, IsSomeAnd, refl, sym, ap, ◌∙◌, subst, arith, inl}
+use Rattle.std.proofs.Common.{◌≡◌, ℕ, ◌+◌, ◌≤◌, true, false, List, ◌++◌, length, length-append, Option, Some, Result, Ok, Err, IfSome, IsSomeAnd, refl, sym, ap, ◌∙◌, arith}
 use Rattle.std.proofs.lemmas.List.{drop_at}
-use Rattle.std.specs.Io.KnownBytes.{Consumes, IsAtEnd}
+use Rattle.std.specs.Io.KnownBytes.{Keeps}
+use Rattle.vms_io.proofs.ShelvingLemmas.{reaches_none}
 use Rattle.vms_io.specs.Causes.{capped}
 use Rattle.vms_io.specs.Reading.{Takes, Reads, Course, On, Last}
 use Rattle.vms_io.specs.Shelves.{Held}
@@ -20,12 +21,15 @@ use Rattle.vms_analyze.proofs.One.{one_holds}
 use Rattle.vms_analyze.proofs.Total.{total_holds}
 use Rattle.vms_commands.specs.declared.ending.Ending.{Ending}
 use Rattle.vms_commands.specs.declared.ending.Ending.TheVariants as endings
-use Rattle.vms_commands.specs.Endings.{EndsAs, WritesAs}
+use Rattle.vms_commands.proofs.CourseLemmas.{wrong}
+use Rattle.vms_commands.specs.Courses.{EndsSo, Risen, is_among}
+use Rattle.vms_commands.specs.Endings.{EndsAs, WritesAs, status_of}
 use Rattle.vms_commands.specs.Outcomes.{Outcome, done, ended}
 use Rattle.vms_commands.proofs.EndLemmas.{comes_to_nothing, same_keeps}
 use Rattle.vms_board_commands.specs.Seen.{Seen, SeenAs, Sees}
 use Rattle.vms_board_commands.proofs.SeenLemmas.{TakesSo, content_seen, other_seen, reads_all, seen_refused, seen_written}
-use Rattle.vms_cli.specs.Analyze.{EndsLike, IsDone, IsRefused, FailsReading, FailsWriting, LacksMemory, GivesListed, IsListing, ListCause, bytes_taken, listing_outcome, unlisted_line}
+use Rattle.vms_cli.specs.Statuses.{analyze_course}
+use Rattle.vms_cli.specs.Analyze.{EndsLike, IsDone, IsRefused, FailsReading, FailsWriting, LacksMemory, GivesListed, IsListing, bytes_taken, listing_outcome, unlisted_line}
 
 -- ---- an input has one outcome
 
@@ -131,14 +135,6 @@ module _ (i i' : Intake) (o o' : Outlet) where
   list_content _ _ FailsWriting a octets s x is = told_content s endings.WriteFault x octets (text_seen s a.text endings.WriteFault a.listed a.written) is
   list_content _ _ LacksMemory a octets s x is = comes_to_nothing o o' s s x.parts (same_keeps o o' a.1) refl
 
-  -- why it ends so
-  pub list_cause : (r : Result (Unit {0}) AnalyzeFault) (e : Ending) → EndsLike r e → Analyzes i i' o o' r → ListCause i i' o o' e
-  list_cause _ _ (IsDone u) a = tt
-  list_cause _ _ (IsRefused at reason line said) a = same_keeps o o' a.1
-  list_cause _ _ FailsReading a = (a.0.rose, same_keeps o o' a.1)
-  list_cause _ _ FailsWriting a = a.written.rose
-  list_cause _ _ LacksMemory a = same_keeps o o' a.1
-
   -- ---- told or not
 
   few_given : (bytes : List ℕ) → Takes i i' bytes → length bytes ≤ longest_input + 1 → GivesListed i.given i'.given
@@ -177,3 +173,27 @@ module _ (i i' : Intake) (o o' : Outlet) where
       let p = a.written.puts in
       record { input_count = t.later; out_count = p.later; input_promise = t.promise; out_promise = p.promise }
   list_stands (Err faults.NoMemory) a = stands_same a.0.bytes a.0.takes a.1
+
+  -- ---- what it touches
+
+  -- nothing of the shelf
+  so_by : (s : Stock) (e : Ending) → is_among analyze_course.statuses (status_of e) ≡ true → is_among analyze_course.takes (status_of e) ≡ true → Risen i i' o o' s s e
+      → (is_among analyze_course.writes (status_of e) ≡ false → Keeps o.written o'.written) → Stands → EndsSo i i' o o' s s analyze_course e
+  so_by s e can takes risen out stands = record {
+    can = can;
+    risen = risen;
+    out = out;
+    input = λ f. absurd (wrong (sym takes ∙ f));
+    held = λ f. refl;
+    shelf = λ f. refl;
+    draws = record { later = stands.input_count; promise = stands.input_promise };
+    serves = record { later = stands.out_count; promise = stands.out_promise };
+    reaches = reaches_none s;
+  }
+
+  pub list_so : (r : Result (Unit {0}) AnalyzeFault) (e : Ending) → EndsLike r e → Analyzes i i' o o' r → (s : Stock) → EndsSo i i' o o' s s analyze_course e
+  list_so _ _ (IsDone u) a s = so_by s endings.Done refl refl tt (λ f. absurd (wrong f)) (list_stands (Ok u) a)
+  list_so _ _ (IsRefused at reason line said) a s = so_by s (endings.Refused line) refl refl tt (λ f. same_keeps o o' a.1) (list_stands (Err (faults.Refused at reason)) a)
+  list_so _ _ FailsReading a s = so_by s endings.ReadFault refl refl a.0.rose (λ f. same_keeps o o' a.1) (list_stands (Err faults.ReadFault) a)
+  list_so _ _ FailsWriting a s = so_by s endings.WriteFault refl refl a.written.rose (λ f. absurd (wrong f)) (list_stands (Err faults.WriteFault) a)
+  list_so _ _ LacksMemory a s = so_by s endings.NoMemory refl refl tt (λ f. same_keeps o o' a.1) (list_stands (Err faults.NoMemory) a)

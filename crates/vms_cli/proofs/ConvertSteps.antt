@@ -1,21 +1,14 @@
 -- `convert`, by the step that gives its set and the one that compares it.
 use Rattle.std.proofs.Common.{◌≡◌, ℕ, ◌+◌, ◌≤◌, Bool, true, false, List, Option, Ok, Err, refl, ap, subst, arith}
 use Rattle.vms_io.specs.Shelves.{Held}
-use Rattle.std.proofs.KnownBytes.{Keeps-refl}
-use Rattle.vms_io.specs.Shelving.{Looks}
 use Rattle.vms_io.specs.Told.{Intake, Outlet, Stock}
-use Rattle.vms_io.proofs.WritingLemmas.{serves_none}
 use Rattle.vms_load.specs.Staging.{most_given}
 use Rattle.vms_spec.specs.Sets.{Set}
 use Rattle.vms_commands.specs.declared.ending.Ending.{Ending}
 use Rattle.vms_commands.specs.declared.ending.Ending.TheVariants.{BadText, ShelfFault, NotThere, TooLarge, NoMemory}
 use Rattle.vms_commands.specs.Outcomes.{Outcome}
-use Rattle.vms_commands.specs.Courses.{EndsSo, Risen, is_among}
-use Rattle.vms_commands.specs.Endings.{SetCause, status_of}
+use Rattle.vms_commands.specs.Endings.{SetCause}
 use Rattle.vms_commands.specs.StepEndings.{ReadCause, StepAs, WordCause}
-use Rattle.vms_io.proofs.ShelvingLemmas.{looks_reaches}
-use Rattle.vms_commands.proofs.CourseLemmas.{draws_none, so_since}
-use Rattle.vms_cli.specs.Statuses.{convert_course}
 use Rattle.vms_commands.specs.Steps.{Step, Untold, Gives, Ends, HasBy, next}
 use Rattle.vms_board_commands.specs.Seen.{IsGiven, SeenAs, WithGiven}
 use Rattle.vms_board_commands.proofs.SeenLemmas.{sees_as}
@@ -60,7 +53,7 @@ gives_next m f Untold t i i' h g = gives_few (f (m t)) i i' g
 gives_next {A} m f (Gives a) t i i' h g = subst (λ (x : A). ConvertGives (f x) i i') h g
 gives_next m f (Ends status line) t i i' h g = absurd h
 
--- ---- what is touched
+-- ---- why the set isn't had
 
 -- a set that isn't fetched, or isn't read
 pub unfetched : (asks : Bool) (s s' : Stock) (e : Ending) → WordCause {T = ℕ} asks s s' (Err e) → SetCause asks s s' e
@@ -74,35 +67,3 @@ pub unread : (asks : Bool) (s s' : Stock) (e : Ending) → ReadCause {T = ℕ} a
 unread asks s s' (BadText line) c = c
 unread asks s s' NoMemory c = tt
 unread asks s s' e c = absurd c
-
-module _ (i : Intake) (o : Outlet) (s s' : Stock) (looks : Looks s s') (b : Bool) (same : b ≡ false → s' ≡ s) where
-  without : (e : Ending) → is_among (convert_course b).statuses (status_of e) ≡ true → Risen i i o o s s' e → EndsSo i i o o s s' (convert_course b) e
-  without e can risen = record {
-    can = can;
-    risen = risen;
-    out = λ f. Keeps-refl o.written;
-    input = λ f. refl;
-    held = λ f. looks.held;
-    shelf = same;
-    draws = draws_none i;
-    serves = serves_none o;
-    reaches = looks_reaches looks;
-  }
-
-  among : (k : ℕ) → b ≡ true → is_among (convert_course b).statuses k ≡ is_among (convert_course true).statuses k
-  among k is = ap (λ (x : Bool). is_among (convert_course x).statuses k) is
-
-  -- where the set isn't had, input and out aren't touched
-  pub unset_so : (e : Ending) → SetCause b s s' e → EndsSo i i o o s s' (convert_course b) e
-  unset_so (BadText line) c = without (BadText line) (among 3 c) tt
-  unset_so ShelfFault c = without ShelfFault (among 7 c.0) c.1
-  unset_so (NotThere line) c = without (NotThere line) (among 8 c) tt
-  unset_so (TooLarge line) c = without (TooLarge line) (among 9 c) tt
-  unset_so NoMemory c = without NoMemory refl tt
-  unset_so e c = absurd c
-
--- what is done behind the fetch is done of the shelf as it was before
-pub behind_so : (b : Bool) {i i' : Intake} {o o' : Outlet} {s s' : Stock} (e : Ending) → (b ≡ false → s' ≡ s) → Looks s s' → EndsSo i i' o o' s' s' (convert_course b) e
-    → EndsSo i i' o o' s s' (convert_course b) e
-behind_so true e same looks g = so_since e refl looks g
-behind_so false {i} {i'} {o} {o'} {s} {s'} e same looks g = subst (λ (x : Stock). EndsSo i i' o o' x s' (convert_course false) e) (same refl) g

@@ -1,5 +1,6 @@
 -- From how a call ends and why to what it answers.
-use Rattle.std.proofs.Common.{ℕ, List}
+use Rattle.std.proofs.Common.{ℕ, List, IfSome}
+use Rattle.vms_io.specs.Shelves.{HoldsAll}
 use Rattle.vms_io.specs.Told.{Intake, Outlet, Stock}
 use Rattle.vms_io.specs.Writing.{Serves}
 use Rattle.vms_commands.specs.declared.ending.Ending.{Ending}
@@ -17,8 +18,8 @@ use Rattle.vms_cli.proofs.VerdictLaws.{verdict_so}
 module _ (i i' : Intake) (o o' n n' : Outlet) (s s' : Stock) where
   -- what the call answers
   pub answers : (words : List (List ℕ)) (e : Ending) (status : ℕ) → ((x : Outcome) → HasOutcome (asked_of words) i.left s.held x → EndsAs i i' o o' s s' e x)
-      → RunsSo i i' o o' s s' (asked_of words) e → Tells n n' e status → Serves n n' → Answers words status (around i o n s) (around i' o' n' s')
-  answers words e status content run t serves =
+      → RunsSo i i' o o' s s' (asked_of words) e → Tells n n' e status → Serves n n' → IfSome s.held HoldsAll → Answers words status (around i o n s) (around i' o' n' s')
+  answers words e status content run t serves octets =
       let so = run.so in
       let outcome : (x : Outcome) → HasOutcome (asked_of words) i.left s.held x → DoesOrStops status (around i o n s) (around i' o' n' s') x =
       λ x has. outcome_so i i' o o' n n' s s' e status x (content x has) (caused_so i i' o o' s s' (asked_of words) e so) t in
@@ -29,4 +30,5 @@ module _ (i i' : Intake) (o o' n n' : Outlet) (s s' : Stock) where
         upgrade = upgrade_so (asked_of words) status (around i o n s) (around i' o' n' s') outcome;
         continuation = continues_so (asked_of words) status (around i o n s) (around i' o' n' s') outcome;
         stands = record { input = so.draws; out = so.serves; notes = serves; shelf = so.reaches };
+        octets = octets;
       }

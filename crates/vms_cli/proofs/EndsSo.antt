@@ -1,31 +1,26 @@
 -- Each ending of a command, by what it touches.
-use Rattle.std.proofs.Common.{◌≡◌, ◌⊎◌, ℕ, Bool, true, false, ◌||◌, ◌==◌, List, [], ◌∷◌, ◌++◌, Option, inl, inr, refl, ap, ◌∙◌}
+use Rattle.std.proofs.Common.{◌≡◌, ℕ, Bool, true, false, ◌||◌, ◌==◌, List, [], ◌∷◌, ◌++◌, Option, refl, ap, subst, ◌∙◌}
 use Rattle.std.proofs.lemmas.Bool.{or_right}
 use Rattle.std.specs.Io.KnownBytes.{Keeps}
+use Rattle.std.proofs.KnownBytes.{Keeps-refl}
 use Rattle.vms_io.specs.Causes.{Rose}
-use Rattle.vms_io.specs.Shelving.{Reaches}
+use Rattle.vms_io.specs.Shelving.{Looks, Reaches}
+use Rattle.vms_io.proofs.ShelvingLemmas.{looks_reaches}
+use Rattle.vms_io.proofs.WritingLemmas.{serves_none}
 use Rattle.vms_io.specs.Told.{Intake, Outlet, Stock}
 use Rattle.vms_io.specs.Writing.{Serves}
 use Rattle.vms_board_commands.specs.Causes.{save_course}
 use Rattle.vms_commands.specs.declared.ending.Ending.{Ending}
-use Rattle.vms_commands.specs.declared.ending.Ending.TheVariants.{Done, Refused, BadText, NotCompatible, ReadFault, WriteFault, ShelfFault, NotThere, TooLarge, NoMemory}
+use Rattle.vms_commands.specs.declared.ending.Ending.TheVariants.{Done, BadText, NotCompatible, ReadFault, WriteFault, ShelfFault, NotThere, TooLarge, NoMemory}
 use Rattle.vms_commands.specs.Endings.{Caused, SetCause, status_of}
 use Rattle.vms_commands.specs.Courses.{Draws, EndsSo, Risen, is_among, of_shelf, text_course}
 use Rattle.vms_commands.specs.Texts.{TextCause}
-use Rattle.vms_commands.proofs.CourseLemmas.{wrong}
-use Rattle.vms_cli.specs.Analyze.{ListCause}
-use Rattle.vms_cli.specs.Causes.{StreamCause}
+use Rattle.vms_commands.proofs.CourseLemmas.{draws_none, so_since, wrong}
 use Rattle.vms_cli.specs.Commands.{Asked}
-use Rattle.vms_cli.specs.Statuses.{analyze_course, check_course, counter_course, course_of, show_course, stores_at, writes_at}
+use Rattle.vms_cli.specs.Statuses.{check_course, counter_course, course_of, stores_at, writes_at}
 use Rattle.vms_cli.proofs.RowTables.{stores_one, writes_one}
 
 -- ---- the causes of commands, by those of their steps
-
--- of `show`: the set wasn't had, and input and out weren't touched; or it was
-abbrev ShowCause : Bool → (input input' : Intake) (out out' : Outlet) (shelf shelf' : Stock) → Ending → Type 0
-ShowCause asks input input' out out' shelf shelf' ending =
-    (SetCause asks shelf shelf' ending × (input' ≡ input) × Keeps out.written out'.written)
-    ⊎ StreamCause input input' out out' ending
 
 -- of `check`, where `asks` says whether the shelf is asked
 abbrev CheckCause : Bool → (out out' : Outlet) (shelf shelf' : Stock) → Ending → Type 0
@@ -66,6 +61,40 @@ among_left (n ∷ xs) ys k e = or_here (n == k) (is_among xs k) (is_among (xs ++
 among_right : (xs ys : List ℕ) (k : ℕ) → is_among ys k ≡ true → is_among (xs ++ ys) k ≡ true
 among_right [] ys k e = e
 among_right (n ∷ xs) ys k e = or_right (n == k) (is_among (xs ++ ys) k) (among_right xs ys k e)
+
+-- ---- a set that a word names
+
+-- where it isn't had, input and out aren't touched
+module _ (own takes : List ℕ) (ten : is_among own 10 ≡ true) (i : Intake) (o : Outlet) (s s' : Stock) (looks : Looks s s') (b : Bool) (same : b ≡ false → s' ≡ s) where
+  without : (e : Ending) → is_among (own ++ of_shelf b) (status_of e) ≡ true → Risen i i o o s s' e → EndsSo i i o o s s' (text_course own takes b) e
+  without e can risen = record {
+    can = can;
+    risen = risen;
+    out = λ f. Keeps-refl o.written;
+    input = λ f. refl;
+    held = λ f. looks.held;
+    shelf = same;
+    draws = draws_none i;
+    serves = serves_none o;
+    reaches = looks_reaches looks;
+  }
+
+  among : (k : ℕ) → b ≡ true → is_among (of_shelf true) k ≡ true → is_among (own ++ of_shelf b) k ≡ true
+  among k is one = among_right own (of_shelf b) k (ap (λ (x : Bool). is_among (of_shelf x) k) is ∙ one)
+
+  pub unset_so : (e : Ending) → SetCause b s s' e → EndsSo i i o o s s' (text_course own takes b) e
+  unset_so (BadText line) c = without (BadText line) (among 3 c refl) tt
+  unset_so ShelfFault c = without ShelfFault (among 7 c.0 refl) c.1
+  unset_so (NotThere line) c = without (NotThere line) (among 8 c refl) tt
+  unset_so (TooLarge line) c = without (TooLarge line) (among 9 c refl) tt
+  unset_so NoMemory c = without NoMemory (among_left own (of_shelf b) 10 ten) tt
+  unset_so e c = absurd c
+
+-- what is done behind the fetch is done of the shelf as it was before
+pub behind_so : (own takes : List ℕ) (b : Bool) {i i' : Intake} {o o' : Outlet} {s s' : Stock} (e : Ending) → (b ≡ false → s' ≡ s) → Looks s s' → EndsSo i i' o o' s' s' (text_course own takes b) e
+    → EndsSo i i' o o' s s' (text_course own takes b) e
+behind_so own takes true e same looks g = so_since e refl looks g
+behind_so own takes false {i} {i'} {o} {o'} {s} {s'} e same looks g = subst (λ (x : Stock). EndsSo i i' o o' x s' (text_course own takes false) e) (same refl) g
 
 module _ (i i' : Intake) (o o' : Outlet) (s s' : Stock) where
   -- ---- which ending it is, by the lists of a command
@@ -113,49 +142,6 @@ module _ (i i' : Intake) (o o' : Outlet) (s s' : Stock) where
   check_so b NoMemory c = (refl, tt, λ f. c)
   check_so b e c = absurd c
 
-  -- ---- of those that read the input
-
-  abbrev Reads : (all takes : List ℕ) → Ending → Type 0
-  Reads all takes e = IsOf all text_at e × (is_among takes (status_of e) ≡ false → i' ≡ i)
-
-  abbrev own_stream : List ℕ
-  own_stream = 0 ∷ 1 ∷ 5 ∷ 6 ∷ 10 ∷ []
-
-  abbrev stream_at : List ℕ
-  stream_at = 0 ∷ 1 ∷ 5 ∷ 6 ∷ []
-
-  list_so : (e : Ending) → ListCause i i' o o' e → Reads own_stream own_stream e
-  list_so Done c = ((refl, tt, λ f. absurd (wrong f)), λ f. absurd (wrong f))
-  list_so (Refused line) c = ((refl, tt, λ f. c), λ f. absurd (wrong f))
-  list_so ReadFault c = ((refl, c.0, λ f. c.1), λ f. absurd (wrong f))
-  list_so WriteFault c = ((refl, c, λ f. absurd (wrong f)), λ f. absurd (wrong f))
-  list_so NoMemory c = ((refl, tt, λ f. c), λ f. absurd (wrong f))
-  list_so e c = absurd c
-
-  abbrev all_stream : Bool → List ℕ
-  all_stream b = own_stream ++ of_shelf b
-
-  -- of a set that isn't had, whatever else the command can answer
-  set_so : (own takes : List ℕ) → is_among own 10 ≡ true → (b : Bool) (e : Ending) → SetCause b s s' e → i' ≡ i → Keeps o.written o'.written
-      → Reads (own ++ of_shelf b) takes e
-  set_so own takes ten b (BadText line) c same k = ((ap (λ (x : Bool). is_among (own ++ of_shelf x) 3) c ∙ among_right own (of_shelf true) 3 refl, tt, λ f. k), λ f. same)
-  set_so own takes ten b ShelfFault c same k = ((ap (λ (x : Bool). is_among (own ++ of_shelf x) 7) c.0 ∙ among_right own (of_shelf true) 7 refl, c.1, λ f. k), λ f. same)
-  set_so own takes ten b (NotThere line) c same k = ((ap (λ (x : Bool). is_among (own ++ of_shelf x) 8) c ∙ among_right own (of_shelf true) 8 refl, tt, λ f. k), λ f. same)
-  set_so own takes ten b (TooLarge line) c same k = ((ap (λ (x : Bool). is_among (own ++ of_shelf x) 9) c ∙ among_right own (of_shelf true) 9 refl, tt, λ f. k), λ f. same)
-  set_so own takes ten b NoMemory c same k = ((among_left own (of_shelf b) 10 ten, tt, λ f. k), λ f. same)
-  set_so own takes ten b e c same k = absurd c
-
-  shown_so : (b : Bool) (e : Ending) → StreamCause i i' o o' e → Reads (all_stream b) stream_at e
-  shown_so b Done c = ((refl, tt, λ f. absurd (wrong f)), λ f. absurd (wrong f))
-  shown_so b (Refused line) c = ((refl, tt, λ f. c), λ f. absurd (wrong f))
-  shown_so b ReadFault c = ((refl, c.0, λ f. c.1), λ f. absurd (wrong f))
-  shown_so b WriteFault c = ((refl, c, λ f. absurd (wrong f)), λ f. absurd (wrong f))
-  shown_so b e c = absurd c
-
-  show_so : (b : Bool) (e : Ending) → ShowCause b i i' o o' s s' e → Reads (all_stream b) stream_at e
-  show_so b e (inl c) = set_so own_stream stream_at refl b e c.0 c.1 c.2
-  show_so b e (inr c) = shown_so b e c
-
   -- ---- so a command ends
 
   -- with what it leaves of the objects
@@ -165,25 +151,6 @@ module _ (i i' : Intake) (o o' : Outlet) (s s' : Stock) where
     pub draws : Draws i i'
     pub serves : Serves o o'
     pub reaches : Reaches s s'
-
-  ends_by : (own takes : List ℕ) (b : Bool) (e : Ending) → Reads (own ++ of_shelf b) takes e → Left b → EndsSo i i' o o' s s' (text_course own takes b) e
-  ends_by own takes b e r l = record {
-    can = r.0.0;
-    risen = r.0.1;
-    out = r.0.2;
-    input = r.1;
-    held = λ f. l.held;
-    shelf = l.unasked;
-    draws = l.draws;
-    serves = l.serves;
-    reaches = l.reaches;
-  }
-
-  pub show_ends : (b : Bool) (e : Ending) → ShowCause b i i' o o' s s' e → Left b → EndsSo i i' o o' s s' (show_course b) e
-  show_ends b e c l = ends_by own_stream stream_at b e (show_so b e c) l
-
-  pub analyze_ends : (e : Ending) → ListCause i i' o o' e → Left false → EndsSo i i' o o' s s' analyze_course e
-  analyze_ends e c l = ends_by own_stream own_stream false e (list_so e c) l
 
   -- ---- the cause of an ending, as the outcome wants it
 
@@ -206,7 +173,17 @@ module _ (i i' : Intake) (o o' : Outlet) (s s' : Stock) where
 -- of a command that reads nothing of the input
 module _ (i : Intake) (o o' : Outlet) (s s' : Stock) where
   text_by : (own : List ℕ) (b : Bool) (e : Ending) → IsOf i i o o' s s' (own ++ of_shelf b) (0 ∷ 6 ∷ []) e → Left i i o o' s s' b → EndsSo i i o o' s s' (text_course own [] b) e
-  text_by own b e r l = ends_by i i o o' s s' own [] b e (r, λ f. refl) l
+  text_by own b e r l = record {
+    can = r.0;
+    risen = r.1;
+    out = r.2;
+    input = λ f. refl;
+    held = λ f. l.held;
+    shelf = l.unasked;
+    draws = l.draws;
+    serves = l.serves;
+    reaches = l.reaches;
+  }
 
   pub pack_ends : (e : Ending) → TextCause o o' s s' e → Left i i o o' s s' true → EndsSo i i o o' s s' save_course e
   pack_ends e c l = text_by (0 ∷ 6 ∷ 10 ∷ []) true e (text_so i i o o' s s' e c) l

@@ -1,5 +1,5 @@
 -- Each call has one outcome, and what can be done is done.
-use Rattle.std.proofs.Common.{◌≡◌, ℕ, zero, suc, ◌+◌, ◌<◌, ◌≤◌, ◌⊎◌, List, ◌∷◌, length, length-append, take, Option, Some, None, IsSomeAnd, refl, sym, ap, ◌∙◌, subst, arith, inl, inr, []}
+use Rattle.std.proofs.Common.{◌≡◌, ℕ, zero, suc, ◌+◌, ◌<◌, ◌≤◌, ◌⊎◌, List, ◌∷◌, length, length-append, take, Option, Some, None, IfSome, IsSomeAnd, refl, sym, ap, ◌∙◌, subst, arith, inl, inr, []}
 use Rattle.std.proofs.lemmas.List.{length-take}
 use Rattle.std.specs.Io.KnownBytes.{Appends}
 use Rattle.std.proofs.lemmas.Option.{none-some}
@@ -162,9 +162,9 @@ record IsDone (asked : Option Asked) (input : Option (List ℕ)) (held : Option 
   status : outcome.status ≡ 0
   note : outcome.note ≡ []
 
-can_be : (asked : Option Asked) (input : Option (List ℕ)) (held : Option Held) → CanBeAsked asked → CanBeDone asked input held → IsDone asked input held
-can_be None input held ask can = absurd can
-can_be (Some (Show word)) input held ask can = by input can.2
+can_be : (asked : Option Asked) (input : Option (List ℕ)) (held : Option Held) → CanBeAsked asked → IfSome held HoldsAll → CanBeDone asked input held → IsDone asked input held
+can_be None input held ask octets can = absurd can
+can_be (Some (Show word)) input held ask octets can = by input can.2
   where
     by : (left : Option (List ℕ)) → IsSomeAnd left (λ bytes. (taken : ℕ) × (machine : Option (List ℕ)) × (images : List Image) × Takes can.0 can.0.machines bytes taken machine images)
         → IsDone (Some (Show word)) left held
@@ -177,14 +177,14 @@ can_be (Some (Show word)) input held ask can = by input can.2
           status = refl;
           note = refl;
         }
-can_be (Some (Convert word)) input held ask can =
+can_be (Some (Convert word)) input held ask octets can =
     let one = converted_then word held input can in
     record { outcome = done one.0 held one.1; is = one.2; status = refl; note = refl }
-can_be (Some Analyze) None held ask can = absurd can
-can_be (Some Analyze) (Some bytes) held ask can =
+can_be (Some Analyze) None held ask octets can = absurd can
+can_be (Some Analyze) (Some bytes) held ask octets can =
     record { outcome = _; is = record { listing = Text can.0; lists = can.1; is = refl }; status = refl; note = refl }
-can_be (Some (Pack word name)) input None ask can = absurd can
-can_be (Some (Pack word name)) input (Some map) ask can =
+can_be (Some (Pack word name)) input None ask octets can = absurd can
+can_be (Some (Pack word name)) input (Some map) ask octets can =
     let stream = described_stream can.set can.machine can.images in
     let outcome = done stream (Some map) 0 in
     record {
@@ -193,24 +193,24 @@ can_be (Some (Pack word name)) input (Some map) ask can =
       status = refl;
       note = refl;
     }
-can_be (Some (Save board set script)) input None ask can = absurd can
-can_be (Some (Save (IsaBoard level) set script)) input (Some map) ask can =
+can_be (Some (Save board set script)) input None ask octets can = absurd can
+can_be (Some (Save (IsaBoard level) set script)) input (Some map) ask octets can =
     record { outcome = _; is = saved_then isa level script map can set; status = refl; note = refl }
-can_be (Some (Save (ClockBoard version) set script)) input (Some map) ask can =
+can_be (Some (Save (ClockBoard version) set script)) input (Some map) ask octets can =
     record { outcome = _; is = saved_then clock version script map can set; status = refl; note = refl }
-can_be (Some (Load (IsaBoard level) script)) input None ask can = absurd can.0
-can_be (Some (Load (IsaBoard level) script)) None (Some map) ask can = absurd can.1
-can_be (Some (Load (IsaBoard level) script)) (Some bytes) (Some map) ask can =
+can_be (Some (Load (IsaBoard level) script)) input None ask octets can = absurd can.0
+can_be (Some (Load (IsaBoard level) script)) None (Some map) ask octets can = absurd can.1
+can_be (Some (Load (IsaBoard level) script)) (Some bytes) (Some map) ask octets can =
     record { outcome = _; is = loaded_then isa level script map can.0 bytes can.1.0 can.1.1 can.1.2; status = refl; note = refl }
-can_be (Some (Load (ClockBoard version) script)) input None ask can = absurd can.0
-can_be (Some (Load (ClockBoard version) script)) None (Some map) ask can = absurd can.1
-can_be (Some (Load (ClockBoard version) script)) (Some bytes) (Some map) ask can =
+can_be (Some (Load (ClockBoard version) script)) input None ask octets can = absurd can.0
+can_be (Some (Load (ClockBoard version) script)) None (Some map) ask octets can = absurd can.1
+can_be (Some (Load (ClockBoard version) script)) (Some bytes) (Some map) ask octets can =
     record { outcome = _; is = loaded_then clock version script map can.0 bytes can.1.0 can.1.1 can.1.2; status = refl; note = refl }
-can_be (Some (Play level script)) input None ask can = absurd can
-can_be (Some (Play level script)) input (Some map) ask can =
-    let read = can.1 in
+can_be (Some (Play level script)) input None ask octets can = absurd can
+can_be (Some (Play level script)) input (Some map) ask octets can =
+    let read = can in
     let are : AreLines (Some level) read.lines = (reads_exactly.only (Some level) read.text read.lines read.reads).0 in
-    let end = has_end level read.lines map ask are can.0 in
+    let end = has_end level read.lines map ask are octets in
     record {
       outcome = end.0;
       is = subst (λ (s : Step (List ScriptLine)). PlaysBy level s (Some map) end.0)
@@ -218,9 +218,9 @@ can_be (Some (Play level script)) input (Some map) ask can =
       status = ap (λ (o : Outcome). o.status) end.1.outcome;
       note = ap (λ (o : Outcome). o.note) end.1.outcome;
     }
-can_be (Some (Drill level seed count)) input held ask can =
+can_be (Some (Drill level seed count)) input held ask octets can =
     record { outcome = done (drill_line level seed count) held 0; is = refl; status = refl; note = refl }
-can_be (Some (Check old new)) input held ask can =
+can_be (Some (Check old new)) input held ask octets can =
     let outcome = done compatible_text held 0 in
     let agrees : HasText held (compared can.0) outcome = subst (λ (m : Option Mismatch). HasText held (verdict m) outcome) (sym can.2) refl in
     record {
@@ -229,7 +229,7 @@ can_be (Some (Check old new)) input held ask can =
       status = refl;
       note = refl;
     }
-can_be (Some (Counter old new)) input held ask can =
+can_be (Some (Counter old new)) input held ask octets can =
     let outcome = done (counter_text can.0.old can.0.new (computed can.0.old can.0.new)) held 0 in
     let fit : AreFit (Gives can.0) = subst AreFit can.1 (fit_sets held old new) in
     record {
@@ -323,7 +323,7 @@ module _ (status : ℕ) (old new : Outside) (o : Outcome) (none : o.note ≡ [])
 
 pub ample_holds : AmpleLaw
 ample_holds words status old new can ample kept a =
-    let d = can_be (asked_of words) old.input.left old.shelf.held (words_ask words) can in
+    let d = can_be (asked_of words) old.input.left old.shelf.held (words_ask words) a.octets can in
     rises_never status old new d.outcome d.note (ample d.outcome d.is) kept a.stands (a.outcome d.outcome d.is)
 
 comes : (status : ℕ) (old new : Outside) (o : Outcome) → o.status ≡ 0 → NoneRises old new → DoesOrStops status old new o → (status ≡ 0) ⊎ (status ≡ 10)
@@ -339,5 +339,5 @@ comes status old new o done_so never (inr stops) = by stops.why
 
 pub complete_holds : CompleteLaw
 complete_holds words status old new can never a =
-    let d = can_be (asked_of words) old.input.left old.shelf.held (words_ask words) can in
+    let d = can_be (asked_of words) old.input.left old.shelf.held (words_ask words) a.octets can in
     comes status old new d.outcome d.status never (a.outcome d.outcome d.is)

@@ -1,11 +1,8 @@
 -- The command `analyze`: its outcome, and how it ends.
 use Rattle.std.specs.Prelude.{◌≡◌, ℕ, ◌+◌, ◌≤◌, min, List, [], ◌∷◌, ◌++◌, length, Option, Result, Ok, Err, codes}
 use Rattle.std.specs.Fmt.{decimal}
-use Rattle.std.specs.Io.KnownBytes.{Keeps}
 use Rattle.arrayvec.specs.ArrayVec.{ArrayVec}
-use Rattle.vms_io.specs.Causes.{Rose}
 use Rattle.vms_io.specs.Shelves.{Held}
-use Rattle.vms_io.specs.Told.{Intake, Outlet}
 use Rattle.vms_analyze.specs.Listing.{Listing, Text, Refused, Lists, longest_input}
 use Rattle.vms_analyze.specs.declared.fault.AnalyzeFault.{AnalyzeFault}
 use Rattle.vms_analyze.specs.declared.fault.AnalyzeFault.TheVariants as faults
@@ -51,15 +48,6 @@ pub data EndsLike : Result (Unit {0}) AnalyzeFault → Ending → Type 0 where
   FailsReading : EndsLike (Err faults.ReadFault) endings.ReadFault
   FailsWriting : EndsLike (Err faults.WriteFault) endings.WriteFault
   LacksMemory : EndsLike (Err faults.NoMemory) endings.NoMemory
-
-abbrev pub ListCause : (input input' : Intake) (out out' : Outlet) → Ending → Type 0
-ListCause input input' out out' endings.Done = Unit {0}
-ListCause input input' out out' (endings.Refused line) = Keeps out.written out'.written
-ListCause input input' out out' endings.ReadFault =
-    Rose input.faults input'.faults × Keeps out.written out'.written
-ListCause input input' out out' endings.WriteFault = Rose out.faults out'.faults
-ListCause input input' out out' endings.NoMemory = Keeps out.written out'.written
-ListCause input input' out out' _ = ⊥
 
 -- at most so many bytes are given
 abbrev pub GivesListed : (before now : ℕ) → Type 0

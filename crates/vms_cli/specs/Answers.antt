@@ -1,6 +1,6 @@
 -- What a call answers.
-use Rattle.std.specs.Prelude.{◌≡◌, ℕ, List, Option, Some, None, IsSomeAnd}
-use Rattle.vms_io.specs.Shelves.{Held}
+use Rattle.std.specs.Prelude.{◌≡◌, ℕ, List, Option, Some, None, IfSome, IsSomeAnd}
+use Rattle.vms_io.specs.Shelves.{Held, HoldsAll}
 use Rattle.vms_commands.specs.Courses.{Stands}
 use Rattle.vms_commands.specs.Fetching.{named_sets, word_set}
 use Rattle.vms_commands.specs.Lines.{bad_words}
@@ -58,3 +58,5 @@ pub record Answers (words : List (List ℕ)) (status : ℕ) (old new : Outside) 
   pub continuation : Continuation (asked_of words) status old new
   -- and no fault is forgotten, and each promise stays
   pub stands : Stands old new
+  -- what the shelf told before is bytes, as each shelf's is
+  pub octets : IfSome old.shelf.held HoldsAll

@@ -2,26 +2,10 @@
 use Rattle.std.specs.Prelude.{◌≡◌, Bool, true}
 use Rattle.std.specs.Io.KnownBytes.{Keeps}
 use Rattle.vms_io.specs.Causes.{Rose}
-use Rattle.vms_io.specs.Told.{Intake, Outlet}
+use Rattle.vms_io.specs.Told.{Outlet}
 use Rattle.vms_io.specs.Writing.{Serves}
 use Rattle.vms_commands.specs.declared.ending.Ending.{Ending}
-use Rattle.vms_commands.specs.declared.ending.Ending.TheVariants.{Done, Refused, BadText, NotCompatible, ReadFault, WriteFault, NoMemory}
-use Rattle.vms_commands.specs.Courses.{Draws}
-
--- once the set of `show` is there
-abbrev pub StreamCause : (input input' : Intake) (out out' : Outlet) → Ending → Type 0
-StreamCause input input' out out' Done = Unit {0}
-StreamCause input input' out out' (Refused line) = Keeps out.written out'.written
-StreamCause input input' out out' ReadFault =
-    Rose input.faults input'.faults × Keeps out.written out'.written
-StreamCause input input' out out' WriteFault = Rose out.faults out'.faults
-StreamCause input input' out out' _ = ⊥
-
--- with what input and out keep
-pub record StreamEnds (input input' : Intake) (out out' : Outlet) (ending : Ending) : Type 0 where
-  pub cause : StreamCause input input' out out' ending
-  pub draws : Draws input input'
-  pub serves : Serves out out'
+use Rattle.vms_commands.specs.declared.ending.Ending.TheVariants.{Done, BadText, NotCompatible, WriteFault, NoMemory}
 
 -- a step that writes on out alone ends with this cause; no fault of out is forgotten, and its promise stays
 pub record WritesBy (Cause : Outlet → Outlet → Ending → Type 0) (out out' : Outlet) (ending : Ending) : Type 0 where

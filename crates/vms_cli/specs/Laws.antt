@@ -100,7 +100,7 @@ pub record CanBeRead (play : Option ℕ) (name : List ℕ) (map : Held) : Type 0
 -- what a command asks for so that it can be done: of `show` a word that names a set, and a stream of it at the front of the
 -- input, of `convert` a set and a stream that it keeps, of `analyze` an input that has a listing, of `pack` a set and a values text
 -- of it, of `check` words that name two compatible sets, of `counter` words that name two sets, of `save` a script, of `load` a
--- script and a stream of a board at the front of the input, of `play` a script on a shelf of bytes, of `drill` nothing
+-- script and a stream of a board at the front of the input, of `play` a script of a session, of `drill` nothing
 abbrev pub CanBeDone : Option Asked → Option (List ℕ) → Option Held → Type 0
 CanBeDone None input held = ⊥
 CanBeDone (Some (Show word)) input held =
@@ -121,7 +121,7 @@ CanBeDone (Some (Load (ClockBoard version) script)) input held =
     IsSomeAnd held (λ map. CanBeRead None script map) × IsSomeAnd input (λ bytes. (board : ClockState) × (taken : ℕ)
     × Restores clock version bytes (Back board taken))
 CanBeDone (Some (Play level script)) input held =
-    IsSomeAnd held (λ map. HoldsAll map × CanBeRead (Some level) script map)
+    IsSomeAnd held (λ map. CanBeRead (Some level) script map)
 CanBeDone (Some (Drill level seed count)) input held = Unit {0}
 
 -- the count of no object rises in the call

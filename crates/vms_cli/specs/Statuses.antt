@@ -2,13 +2,13 @@
 use Rattle.std.specs.Prelude.{ℕ, Bool, false, List, [], ◌∷◌, Option, Some, None}
 use Rattle.vms_commands.specs.Courses.{Course, is_among, text_course}
 use Rattle.vms_commands.specs.Fetching.{is_on_shelf}
-use Rattle.vms_board_commands.specs.Causes.{drill_course, load_course, play_course, save_course}
+use Rattle.vms_board_commands.specs.Causes.{drill_course, load_course, play_course, save_course, stream_course}
 use Rattle.vms_cli.specs.Check.{asks_shelf}
 use Rattle.vms_cli.specs.Commands.{Asked, Show, Convert, Analyze, Pack, Check, Counter, Save, Load, Drill, Play}
 
 -- of the commands that are no board's, where it is said whether the shelf is asked
 abbrev pub show_course : Bool → Course
-show_course asks = text_course (0 ∷ 1 ∷ 5 ∷ 6 ∷ 10 ∷ []) (0 ∷ 1 ∷ 5 ∷ 6 ∷ []) asks
+show_course asks = stream_course asks
 
 -- `convert` takes memory once it has read
 abbrev pub convert_course : Bool → Course

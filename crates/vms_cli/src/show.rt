@@ -1,5 +1,5 @@
 // The command `show`: the values text of a stream.
-ghost use Rattle.std.specs.Prelude.{◌≡◌, ◌+◌, ◌≤◌, ◌<◌, length, IfSome, IsSomeAnd};
+ghost use Rattle.std.specs.Prelude.{◌≡◌, ◌+◌, ◌≤◌, ◌<◌, Bool, length, IfSome, IsSomeAnd};
 ghost use Rattle.vms_io.specs.Told.{Stock, intake, outlet, stock};
 ghost use Rattle.vms_spec.specs.Values.{values_text};
 ghost use Rattle.vms_load.specs.Kept.{loads, kept};
@@ -8,7 +8,6 @@ ghost use Rattle.vms_values.specs.Printing.{machine_of};
 ghost use Rattle.vms_commands.specs.Asks.{set_asked};
 ghost use Rattle.vms_commands.specs.Endings.{EndsAs, WritesAs};
 ghost use Rattle.vms_commands.specs.Courses.{EndsSo};
-ghost use Rattle.vms_cli.specs.Causes.{StreamEnds};
 ghost use Rattle.vms_cli.specs.Statuses.{show_course};
 ghost use Rattle.vms_commands.specs.Fetching.{is_on_shelf, word_set};
 ghost use Rattle.vms_commands.specs.Outcomes.{Outcome};
@@ -57,8 +56,9 @@ fn show_stream<I: Source, O: Sink>(loader: &mut Loader, input: &mut I, out: &mut
         → IsSomeAnd (I.left input.old) (λ bytes. Shows (loads loader.old) bytes shelf.held o)
         → EndsAs (intake I.Source input.old) (intake I.Source input.new)
         (outlet O.Sink out.old) (outlet O.Sink out.new) shelf shelf' result o }
-    ensures so { StreamEnds (intake I.Source input.old) (intake I.Source input.new)
-        (outlet O.Sink out.old) (outlet O.Sink out.new) result }
+    ensures so { (shelf : Stock) (asks : Bool)
+        → EndsSo (intake I.Source input.old) (intake I.Source input.new)
+        (outlet O.Sink out.old) (outlet O.Sink out.new) shelf shelf (show_course asks) result }
     ensures given { I.given input.new ≤ I.given input.old + most_given (loads loader.old) }
     ensures seen { (shelf shelf' : Stock) → shelf'.held ≡ shelf.held
         → SeenAs (ShowsWell shelf.held (loads loader.old))

@@ -248,46 +248,55 @@ module _ (old new : Set) where
 
   -- ---- which rule is the first
 
-  pub machine_fails : (m : Mismatch) → first_mismatch old new ≡ Some m → m.rule ≡ 1 → list_all (is_one_of new.machines) old.machines ≡ false
-  unfolding first_mismatch
-  machine_fails m h one = elim (else_some (failing_pair ((1, list_all (is_one_of new.machines) old.machines) ∷ []) (here parts.Set) (here parts.Set)) _ m h) [
-    | inl r ↦ (one_rule 1 (list_all (is_one_of new.machines) old.machines) (here parts.Set) (here parts.Set) m r).0
-    | inr r ↦ elim (else_some (first_answer (λ i d. failing_pair ((2, is_in new d) ∷ []) (here (parts.Device i)) (here parts.Set)) 0 old.devices) _ m r.1) [
-      | inl s ↦
-          let f = first_some (λ i d. failing_pair ((2, is_in new d) ∷ []) (here (parts.Device i)) (here parts.Set)) 0 old.devices m s in
-          absurd (omega (arith, one, (one_rule 2 (is_in new f.item) (here (parts.Device (0 + f.number))) (here parts.Set) m f.answers).1))
-      | inr s ↦ elim (else_some (first_answer (λ i d. failing_pair ((3, is_in old d) ∷ []) (here parts.Set) (here (parts.Device i))) 0 new.devices) _ m s.1) [
-        | inl t ↦
-            let f = first_some (λ i d. failing_pair ((3, is_in old d) ∷ []) (here parts.Set) (here (parts.Device i))) 0 new.devices m t in
-            absurd (omega (arith, one, (one_rule 3 (is_in old f.item) (here parts.Set) (here (parts.Device (0 + f.number))) m f.answers).1))
-        | inr t ↦
-            let f = first_some (λ i d. compare_device old new i d (paired_device old new d) (slice_get new.devices (index (paired_device old new d)))) 0 old.devices m t.1 in
-            absurd (omega (arith, one, compared_early (0 + f.number) f.item (paired_device old new f.item) (slice_get new.devices (index (paired_device old new f.item))) m f.answers))
-      ]
-    ]
-  ]
-
   -- a device that is in both sets
   pub record DeviceFails (m : Mismatch) : Type 0 where
     pub all_in : first_answer (λ i d. failing_pair ((2, is_in new d) ∷ []) (here (parts.Device i)) (here parts.Set)) 0 old.devices ≡ None
     pub answers : FirstSome (λ i d. compare_device old new i d (paired_device old new d) (slice_get new.devices (index (paired_device old new d)))) 0 old.devices m
 
-  pub device_fails : (m : Mismatch) → first_mismatch old new ≡ Some m → 3 < m.rule → DeviceFails m
+  -- which rule it is, and where
+  which_fails : (m : Mismatch) → first_mismatch old new ≡ Some m
+      → ((list_all (is_one_of new.machines) old.machines ≡ false) × (m.rule ≡ 1)) ⊎ ((m.rule ≡ 2) ⊎ ((m.rule ≡ 3) ⊎ DeviceFails m))
   unfolding first_mismatch
-  device_fails m h late = elim (else_some (failing_pair ((1, list_all (is_one_of new.machines) old.machines) ∷ []) (here parts.Set) (here parts.Set)) _ m h) [
-    | inl r ↦ absurd (omega (arith, late, (one_rule 1 (list_all (is_one_of new.machines) old.machines) (here parts.Set) (here parts.Set) m r).1))
+  which_fails m h = elim (else_some (failing_pair ((1, list_all (is_one_of new.machines) old.machines) ∷ []) (here parts.Set) (here parts.Set)) _ m h) [
+    | inl r ↦ let one = one_rule 1 (list_all (is_one_of new.machines) old.machines) (here parts.Set) (here parts.Set) m r in inl (one.0, one.1)
     | inr r ↦ elim (else_some (first_answer (λ i d. failing_pair ((2, is_in new d) ∷ []) (here (parts.Device i)) (here parts.Set)) 0 old.devices) _ m r.1) [
       | inl s ↦
           let f = first_some (λ i d. failing_pair ((2, is_in new d) ∷ []) (here (parts.Device i)) (here parts.Set)) 0 old.devices m s in
-          absurd (omega (arith, late, (one_rule 2 (is_in new f.item) (here (parts.Device (0 + f.number))) (here parts.Set) m f.answers).1))
+          inr (inl (one_rule 2 (is_in new f.item) (here (parts.Device (0 + f.number))) (here parts.Set) m f.answers).1)
       | inr s ↦ elim (else_some (first_answer (λ i d. failing_pair ((3, is_in old d) ∷ []) (here parts.Set) (here (parts.Device i))) 0 new.devices) _ m s.1) [
         | inl t ↦
             let f = first_some (λ i d. failing_pair ((3, is_in old d) ∷ []) (here parts.Set) (here (parts.Device i))) 0 new.devices m t in
-            absurd (omega (arith, late, (one_rule 3 (is_in old f.item) (here parts.Set) (here (parts.Device (0 + f.number))) m f.answers).1))
-        | inr t ↦ record {
+            inr (inr (inl (one_rule 3 (is_in old f.item) (here parts.Set) (here (parts.Device (0 + f.number))) m f.answers).1))
+        | inr t ↦ inr (inr (inr (record {
           all_in = s.0;
           answers = first_some (λ i d. compare_device old new i d (paired_device old new d) (slice_get new.devices (index (paired_device old new d)))) 0 old.devices m t.1;
-        }
+        })))
+      ]
+    ]
+  ]
+
+  pub machine_fails : (m : Mismatch) → first_mismatch old new ≡ Some m → m.rule ≡ 1 → list_all (is_one_of new.machines) old.machines ≡ false
+  machine_fails m h one = elim (which_fails m h) [
+    | inl r ↦ r.0
+    | inr r ↦ elim r [
+      | inl two ↦ absurd (omega (arith, one, two))
+      | inr s ↦ elim s [
+        | inl three ↦ absurd (omega (arith, one, three))
+        | inr d ↦
+            let f = d.answers in
+            absurd (omega (arith, one, compared_early (0 + f.number) f.item (paired_device old new f.item) (slice_get new.devices (index (paired_device old new f.item))) m f.answers))
+      ]
+    ]
+  ]
+
+  pub device_fails : (m : Mismatch) → first_mismatch old new ≡ Some m → 3 < m.rule → DeviceFails m
+  device_fails m h late = elim (which_fails m h) [
+    | inl r ↦ absurd (omega (arith, late, r.1))
+    | inr r ↦ elim r [
+      | inl two ↦ absurd (omega (arith, late, two))
+      | inr s ↦ elim s [
+        | inl three ↦ absurd (omega (arith, late, three))
+        | inr d ↦ d
       ]
     ]
   ]

@@ -6,6 +6,7 @@ pub mod Heads
 pub mod Numbers
 pub mod Parts
 pub mod Paths
+pub mod Plain
 pub mod Scopes
 pub mod Spots
 pub mod Tables

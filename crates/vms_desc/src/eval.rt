@@ -2,13 +2,14 @@
 ghost use Rattle.vms_spec.specs.declared.TheConstants.{MOST_ITEMS};
 ghost use Rattle.std.specs.List.{list_all};
 ghost use Rattle.std.specs.Option.{option_copied};
-ghost use Rattle.std.specs.Prelude.{◌≡◌, ◌+◌, ◌≤◌, ◌<◌, true, length, get_or, map, pos};
+ghost use Rattle.std.specs.Prelude.{◌≡◌, ◌+◌, ◌≤◌, ◌<◌, true, false, length, get_or, map, pos, IfSome, IsNone};
 ghost use Rattle.vms_kinds.specs.Codes.{width, residue};
 ghost use Rattle.vms_spec.specs.Layout.{kind_of, all_hold};
 ghost use Rattle.vms_spec.specs.Rules.{names_well, nobody};
 ghost use Rattle.vms_spec.specs.Tests.{truth, compares};
 ghost use Rattle.vms_parts.specs.Views.{formula};
 ghost use Rattle.vms_desc.specs.Numbers.{number_of, number_of_parent};
+ghost use Rattle.vms_desc.specs.Plain.{is_plain};
 ghost use Rattle.vms_desc.specs.Scopes.{may_ask, may_ask_parent, IsInside, IsInsideParent};
 
 use crate::{Field, Rel, Test, Whose};
@@ -64,9 +65,52 @@ pub(crate) fn holds<C: Cells>(
     ensures { result ≡ truth (formula test.now) version (number_of (C.numbers cells.now) own.now)
         (number_of_parent (C.numbers cells.now) (option_copied parent.entry)) }
 {
+    if let Some(held) = plain_holds(test, version, own, parent, cells) {
+        return held;
+    }
     match test {
-        Test::AtLeast(least) => version >= *least,
-        Test::Below(bound) => version < *bound,
+        Test::Not(inner) => !holds(inner, version, own, parent, cells),
+        Test::And(first, second) => {
+            let front = match plain_holds(first, version, own, parent, cells) {
+                Some(held) => held,
+                None => holds(first, version, own, parent, cells),
+            };
+            front && holds(second, version, own, parent, cells)
+        }
+        Test::Or(first, second) => {
+            let front = match plain_holds(first, version, own, parent, cells) {
+                Some(held) => held,
+                None => holds(first, version, own, parent, cells),
+            };
+            front || holds(second, version, own, parent, cells)
+        }
+        Test::AtLeast(_) | Test::Below(_) | Test::Cell { .. } => unreachable!(),
+    }
+}
+
+// Whether a test of the version or of one number holds; nothing of another test. It is laid in where it is asked, so
+// that the leaves of a test take no call.
+#[inline(always)]
+fn plain_holds<C: Cells>(
+    test: &Test,
+    version: u32,
+    own: &Scope,
+    parent: Option<&Scope>,
+    cells: &C,
+) -> Option<bool>
+    requires names { names_well (may_ask own.now) (may_ask_parent (option_copied parent))
+        (formula test.now) ≡ true }
+    requires own { IsInside (C.numbers cells.now) own.now }
+    requires parent { IsInsideParent (C.numbers cells.now) (option_copied parent) }
+    requires few { length (C.numbers cells.now) ≤ MOST_ITEMS }
+    ensures some { IfSome result (λ held. held
+        ≡ truth (formula test.now) version (number_of (C.numbers cells.now) own.now)
+        (number_of_parent (C.numbers cells.now) (option_copied parent.entry))) }
+    ensures none { IsNone result → is_plain (formula test.now) ≡ false }
+{
+    match test {
+        Test::AtLeast(least) => Some(version >= *least),
+        Test::Below(bound) => Some(version < *bound),
         Test::Cell {
             whose,
             field,
@@ -78,15 +122,9 @@ pub(crate) fn holds<C: Cells>(
                 Whose::Own => number_at(own, *field, cells),
                 Whose::Parent => parent_number(parent, *field, cells),
             };
-            compare(*rel, number & *mask, *value)
+            Some(compare(*rel, number & *mask, *value))
         }
-        Test::Not(inner) => !holds(inner, version, own, parent, cells),
-        Test::And(first, second) => {
-            holds(first, version, own, parent, cells) && holds(second, version, own, parent, cells)
-        }
-        Test::Or(first, second) => {
-            holds(first, version, own, parent, cells) || holds(second, version, own, parent, cells)
-        }
+        Test::Not(_) | Test::And(..) | Test::Or(..) => None,
     }
 }
 

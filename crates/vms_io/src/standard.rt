@@ -1,7 +1,7 @@
 // The outside over a reader and a writer of std, with a count of their errors.
-ghost use Rattle.std.specs.Prelude.{◌≡◌, ◌+◌, ◌-◌, ◌^◌, ◌<◌, ◌≤◌, min, None, false, OnOk, IsErr};
+ghost use Rattle.std.specs.Prelude.{◌≡◌, ◌+◌, ◌-◌, ◌^◌, ◌<◌, ◌≤◌, length, min, None, false, OnOk, IsErr};
 ghost use Rattle.std.proofs.Common.{arith};
-ghost use Rattle.std.specs.Io.KnownBytes.{Keeps};
+ghost use Rattle.std.specs.Io.KnownBytes.{Appends, Keeps};
 ghost use Rattle.vms_io.specs.Causes.{HasCause};
 ghost use Rattle.vms_io.specs.declared.standard.TheConstants.{STAGE, GATHER};
 
@@ -138,6 +138,22 @@ impl<W: Write + Drop> StdSink<W> {
         }
     }
 
+    // Gathers bytes, for which there is room.
+    #[inline(always)]
+    fn gather(&mut self, piece: &[u8])
+        requires { self.old.end + length piece.now ≤ 8192 }
+        ensures bytes { Appends (told (W.contents self.old.writer)
+            (between self.old.gathered self.old.begin self.old.end))
+            (told (W.contents self.new.writer)
+            (between self.new.gathered self.new.begin self.new.end)) piece.now }
+        ensures faults { self.new.faults ≡ self.old.faults }
+    {
+        let end = self.end + piece.len();
+        let gathered = &mut self.gathered[..];
+        gathered[self.end..end].copy_from_slice(piece);
+        self.end = end;
+    }
+
     // Hands on all that is gathered. What a failure leaves stays.
     fn hand_on(&mut self) -> Result<(), Failed>
         ensures bytes { Keeps (told (W.contents self.old.writer)
@@ -179,12 +195,14 @@ impl<W: Write + Drop> Sink for StdSink<W> {
         if self.end == GATHER {
             self.hand_on()?;
         }
-        let count = piece.len().min(GATHER - self.end);
-        let end = self.end + count;
-        let gathered = &mut self.gathered[..];
-        gathered[self.end..end].copy_from_slice(&piece[..count]);
-        self.end = end;
-        Ok(count)
+        let room = GATHER - self.end;
+        if piece.len() <= room {
+            self.gather(piece);
+            Ok(piece.len())
+        } else {
+            self.gather(&piece[..room]);
+            Ok(room)
+        }
     }
 }
 

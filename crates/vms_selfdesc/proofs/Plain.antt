@@ -95,18 +95,29 @@ name_short most name e =
     let q = and_parts (nat_le 1 (length name)) (nat_le (length name) most) p.0 in
     record { plain = name_plain name p.1; short = leb-true (length name) most q.1 }
 
-pub sub_name_short : (device name : List ℕ) → IsShort 100 device → is_sub_name device name ≡ true → IsShort 165 name
-sub_name_short device name d e =
+-- a subsection's name: its device's, a slash and a name
+pub record IsSubName (device name : List ℕ) : Type 0 where
+  pub tail : List ℕ
+  pub whole : (device ++ 47 ∷ []) ++ tail ≡ name
+  pub good : is_name 64 tail ≡ true
+
+pub sub_name_is : (device name : List ℕ) → is_sub_name device name ≡ true → IsSubName device name
+sub_name_is device name e =
     let k = length device + 1 in
     let front = device ++ 47 ∷ [] in
     let p = and_parts (bytes_eq (take k name) front) (is_name 64 (drop k name)) e in
     let is : take k name ≡ front = (bytes_eq-Decides (take k name) front).0 p.0 in
-    let tail = name_short 64 (drop k name) p.1 in
-    let whole : front ++ drop k name ≡ name = ap (λ l. l ++ drop k name) (sym is) ∙ take-append-drop k name in
+    record { tail = drop k name; whole = ap (λ l. l ++ drop k name) (sym is) ∙ take-append-drop k name; good = p.1 }
+
+pub sub_name_short : (device name : List ℕ) → IsShort 100 device → is_sub_name device name ≡ true → IsShort 165 name
+sub_name_short device name d e =
+    let front = device ++ 47 ∷ [] in
+    let n = sub_name_is device name e in
+    let tail = name_short 64 n.tail n.good in
     let slash : IsPlain (47 ∷ []) = (plain_byte 47 (omega arith) (λ e. omega (arith, e)), tt) in
     record {
-      plain = subst IsPlain whole (plain_append front (drop k name) (plain_append device (47 ∷ []) d.plain slash) tail.plain);
-      short = omega (arith, ap length whole, length-append front (drop k name), length-append device (47 ∷ []), d.short, tail.short);
+      plain = subst IsPlain n.whole (plain_append front n.tail (plain_append device (47 ∷ []) d.plain slash) tail.plain);
+      short = omega (arith, ap length n.whole, length-append front n.tail, length-append device (47 ∷ []), d.short, tail.short);
     }
 
 -- ---- paths

@@ -1,6 +1,6 @@
 -- Lines of a session, one after the other.
-use Rattle.std.proofs.Common.{◌≡◌, inl, inr, ℕ, suc, ◌+◌, ◌<◌, ◌≤◌, List, [], ◌∷◌, length, take, drop, get_or, Option, Some, Result, Ok, Err, refl, sym, ap, subst, ◌∙◌, arith}
-use Rattle.std.proofs.lemmas.List.{drop_all, drop_more}
+use Rattle.std.proofs.Common.{◌≡◌, ◌⊎◌, inl, inr, ℕ, zero, suc, ◌+◌, ◌<◌, ◌≤◌, List, [], ◌∷◌, append-nil, length, take, drop, get_or, Option, Some, Result, Ok, Err, refl, sym, ap, subst, ◌∙◌, arith}
+use Rattle.std.proofs.lemmas.List.{drop_all, drop_more, take_all}
 use Rattle.std.proofs.KnownBytes.{Appends-nil, Appends-trans}
 use Rattle.std.specs.Io.KnownBytes.{Appends}
 use Rattle.dev_board.specs.State.{State}
@@ -11,7 +11,7 @@ use Rattle.vms_io.specs.Told.{Outlet, Stock}
 use Rattle.vms_io.specs.Writing.{Serves}
 use Rattle.vms_io.proofs.ShelvingLemmas.{reaches_both}
 use Rattle.vms_io.proofs.WritingLemmas.{serves_both}
-use Rattle.vms_commands.specs.Outcomes.{Part, text_of, held_after, stored_next, HoldsBut, ComesTo, ComesToFault}
+use Rattle.vms_commands.specs.Outcomes.{Part, text_of, text_begun, held_after, stored_next, HoldsBut, ComesTo, ComesToFault, FailsToStore}
 use Rattle.vms_script.specs.Grammar.{IsLine, AreLines}
 use Rattle.vms_script.specs.Lines.{ScriptLine}
 use Rattle.vms_script.specs.Views.{line_view, lines_view}
@@ -19,7 +19,7 @@ use Rattle.vms_script.specs.declared.line.Line.{Line}
 use Rattle.vms_session.specs.Session.{Session, Does}
 use Rattle.vms_session.proofs.PartLemmas.{text_next, held_next, rest_next, begun_next, begun_whole, text_all, held_all}
 use Rattle.vms_session.specs.Parts.{stored_by, part_of, Plays}
-use Rattle.vms_session.specs.Playing.{session_of, Goes, IsAsBefore, LineEnds, LinesEnd, HasPlayCause}
+use Rattle.vms_session.specs.Playing.{session_of, Goes, LinesEnd, HasPlayCause}
 use Rattle.vms_session.specs.declared.line.PlayFault.{PlayFault}
 use Rattle.vms_session.specs.declared.line.PlayFault.TheVariants.{WriteFault, ShelfFault, NoMemory}
 
@@ -74,11 +74,22 @@ pub in_course : (lines : List ScriptLine) (parts : List Part) (new : Session) (b
 in_course lines parts new board held out shelf told plays =
     record { holds = held; told = told; rest = plays; text = Appends-nil out.written; held = refl }
 
+-- one part came to nothing, or so much of it was written once the shelf was as after it
+one_part : (out out' : Outlet) (shelf shelf' : Stock) (part : Part) → ComesTo out out' shelf shelf' (part ∷ [])
+    → (Appends out.written out'.written [] × (shelf'.held ≡ shelf.held)) ⊎ ((n : ℕ) × Appends out.written out'.written (take n part.text) × (shelf'.held ≡ part.held))
+one_part out out' shelf shelf' part comes = by comes.begun comes.text comes.held
+  where
+    by : (k : ℕ) → Appends out.written out'.written (text_begun (part ∷ []) k comes.bytes) → shelf'.held ≡ held_after shelf.held (take k (part ∷ []))
+        → (Appends out.written out'.written [] × (shelf'.held ≡ shelf.held)) ⊎ ((n : ℕ) × Appends out.written out'.written (take n part.text) × (shelf'.held ≡ part.held))
+    by zero text held = inl (text, held)
+    by (suc zero) text held = inr (comes.bytes, text, held)
+    by (suc (suc k)) text held = inr (length part.text, subst (Appends out.written out'.written) (append-nil part.text ∙ sym (take_all (length part.text) part.text (omega arith))) text, held)
+
 -- what a line's call says, of each text and session that the line leaves
 abbrev pub Content : ScriptLine → State → State → (out out' : Outlet) (shelf shelf' : Stock) → Result Unit PlayFault → Type 0
 Content line board board' out out' shelf shelf' result =
     (held : Held) (text : List ℕ) (new : Session) → shelf.held ≡ Some held → Does line (session_of board held) text new
-    → LineEnds line text new out out' shelf shelf' board' result
+    → LinesEnd (part_of line text new ∷ []) new out out' shelf shelf' board' result
 
 module _ (i : ℕ) (line : ScriptLine) (left : List ScriptLine) (parts : List Part) (new : Session) (board board' : State) (out out' out'' : Outlet) (shelf shelf' shelf'' : Stock)
     (course : InCourse i (line ∷ left) parts new board out out' shelf shelf') where
@@ -96,54 +107,66 @@ module _ (i : ℕ) (line : ScriptLine) (left : List ScriptLine) (parts : List Pa
       let ends = content course.holds text between course.told course.rest.3 in
       record {
         holds = between.held;
-        told = ends.2;
-        rest = subst (λ (b : State). Plays left (session_of b between.held) (drop (suc i) parts) new) (sym ends.1)
+        told = ends.1;
+        rest = subst (λ (b : State). Plays left (session_of b between.held) (drop (suc i) parts) new) (sym ends.2)
             (subst (λ (p : List Part). Plays left between p new) (sym (rest_next (part_of line text between) course.rest.1 i parts next)) course.rest.4);
         text = subst (Appends out.written out''.written) (sym (text_next (part_of line text between) course.rest.1 i parts next))
-            (Appends-trans out.written out'.written out''.written (text_of (take i parts)) text course.text ends.0);
-        held = ends.2 ∙ sym (held_next (part_of line text between) course.rest.1 i shelf.held parts next);
+            (Appends-trans out.written out'.written out''.written (text_of (take i parts)) text course.text
+            (subst (Appends out'.written out''.written) (append-nil text) ends.0));
+        held = ends.1 ∙ sym (held_next (part_of line text between) course.rest.1 i shelf.held parts next);
       }
 
   -- of the lines before this one all stands on out, where nothing of this one does
-  behind : out'' ≡ out' → Appends out.written out''.written (text_of (take i parts))
-  behind same = subst (λ (o : Outlet). Appends out.written o.written (text_of (take i parts))) (sym same) course.text
+  behind : Appends out'.written out''.written [] → Appends out.written out''.written (text_of (take i parts))
+  behind none = subst (Appends out.written out''.written) (append-nil (text_of (take i parts))) (Appends-trans out.written out'.written out''.written (text_of (take i parts)) [] course.text none)
 
-  -- the shelf is as these left it
-  as_left : out'' ≡ out' → shelf''.held ≡ shelf'.held → ComesTo out out'' shelf shelf'' parts
-  as_left same held = record {
-    begun = i;
-    bytes = length (text_of parts);
-    text = subst (Appends out.written out''.written) (sym (begun_whole i (length (text_of parts)) parts (omega arith))) (behind same);
-    held = held ∙ course.held;
-  }
+  -- what this one comes to, all come to
+  comes_behind : ComesTo out' out'' shelf' shelf'' (part_of line text between ∷ []) → ComesTo out out'' shelf shelf'' parts
+  comes_behind comes = by (one_part out' out'' shelf' shelf'' (part_of line text between) comes)
+    where
+      by : (Appends out'.written out''.written [] × (shelf''.held ≡ shelf'.held)) ⊎ ((n : ℕ) × Appends out'.written out''.written (take n text) × (shelf''.held ≡ Some between.held))
+          → ComesTo out out'' shelf shelf'' parts
+      by (inl none) = record {
+        begun = i;
+        bytes = length (text_of parts);
+        text = subst (Appends out.written out''.written) (sym (begun_whole i (length (text_of parts)) parts (omega arith))) (behind none.0);
+        held = none.1 ∙ course.held;
+      }
+      by (inr some) = record {
+        begun = suc i;
+        bytes = some.0;
+        text = subst (Appends out.written out''.written) (sym (begun_next (part_of line text between) course.rest.1 i some.0 parts next))
+            (Appends-trans out.written out'.written out''.written (text_of (take i parts)) (take some.0 text) course.text some.1);
+        held = some.2 ∙ sym (held_next (part_of line text between) course.rest.1 i shelf.held parts next);
+      }
 
   -- but for the name under which this one stores
-  not_stored : shelf.faults ≤ shelf'.faults → out'' ≡ out' → IsAsBefore (stored_by line) shelf' shelf'' → ComesToFault out out'' shelf shelf'' parts
-  not_stored le same (inl held) = inl (as_left same held)
-  not_stored le same (inr but) = inr (record {
-    done = i;
-    text = behind same;
-    rose = rose_since shelf.faults shelf'.faults shelf''.faults le but.0;
-    held = subst (λ (name : Option (List ℕ)). HoldsBut name (held_after shelf.held (take i parts)) shelf''.held) (sym (ap stored_next next))
-        (subst (λ (want : Option Held). HoldsBut (stored_by line) want shelf''.held) course.held but.1);
-  })
+  fails_behind : shelf.faults ≤ shelf'.faults → FailsToStore out' out'' shelf' shelf'' (part_of line text between ∷ []) → FailsToStore out out'' shelf shelf'' parts
+  fails_behind le fails = by fails.done fails.text fails.held
+    where
+      part : Part
+      part = part_of line text between
+
+      by : (k : ℕ) → Appends out'.written out''.written (text_of (take k (part ∷ []))) → HoldsBut (stored_next (drop k (part ∷ []))) (held_after shelf'.held (take k (part ∷ []))) shelf''.held
+          → FailsToStore out out'' shelf shelf'' parts
+      by zero none but = record {
+        done = i;
+        text = behind none;
+        rose = rose_since shelf.faults shelf'.faults shelf''.faults le fails.rose;
+        held = subst (λ (name : Option (List ℕ)). HoldsBut name (held_after shelf.held (take i parts)) shelf''.held) (sym (ap stored_next next))
+            (subst (λ (want : Option Held). HoldsBut (stored_by line) want shelf''.held) course.held but);
+      }
+      by (suc zero) none but = absurd but
+      by (suc (suc k)) none but = absurd but
 
   pub course_stops : (fault : PlayFault) → shelf.faults ≤ shelf'.faults → Content line board board' out' out'' shelf' shelf'' (Err fault) → LinesEnd parts new out out'' shelf shelf'' board' (Err fault)
-  course_stops WriteFault le content =
-      let ends = content course.holds text between course.told course.rest.3 in
-      record {
-        begun = suc i;
-        bytes = ends.0.0;
-        text = subst (Appends out.written out''.written) (sym (begun_next (part_of line text between) course.rest.1 i ends.0.0 parts next))
-            (Appends-trans out.written out'.written out''.written (text_of (take i parts)) (take ends.0.0 text) course.text ends.0.2);
-        held = ends.1 ∙ sym (held_next (part_of line text between) course.rest.1 i shelf.held parts next);
-      }
-  course_stops ShelfFault le content =
-      let ends = content course.holds text between course.told course.rest.3 in
-      not_stored le ends.0 ends.1
-  course_stops NoMemory le content =
-      let ends = content course.holds text between course.told course.rest.3 in
-      as_left ends.0 ends.1
+  course_stops WriteFault le content = comes_behind (content course.holds text between course.told course.rest.3)
+  course_stops ShelfFault le content = by (content course.holds text between course.told course.rest.3)
+    where
+      by : ComesToFault out' out'' shelf' shelf'' (part_of line text between ∷ []) → ComesToFault out out'' shelf shelf'' parts
+      by (inl comes) = inl (comes_behind comes)
+      by (inr fails) = inr (fails_behind le fails)
+  course_stops NoMemory le content = comes_behind (content course.holds text between course.told course.rest.3)
 
 -- the same of lines that begin with this one
 module _ (i : ℕ) (line : ScriptLine) (left said : List ScriptLine) (split : said ≡ line ∷ left) (parts : List Part) (new : Session) (board board' : State) (out out' out'' : Outlet) (shelf shelf' shelf'' : Stock)

@@ -1,22 +1,24 @@
 -- What a stream of the shelf comes to, and a line that is written.
-use Rattle.std.proofs.Common.{◌≡◌, ℕ, ◌≤◌, List, length, Option, Some, Result, Ok, Err, arith, sym, ap, subst}
+use Rattle.std.proofs.Common.{◌≡◌, ℕ, ◌≤◌, List, [], ◌∷◌, append-nil, length, take, inl, inr, Option, Some, None, Result, Ok, Err, arith, sym, ap, subst, ◌∙◌}
 use Rattle.std.specs.Io.KnownBytes.{Appends}
+use Rattle.std.proofs.KnownBytes.{Appends-nil, Keeps-refl}
 use Rattle.dev_base.specs.declared.limits.TheConstants.{NEWEST}
 use Rattle.dev_board.specs.State.{State}
 use Rattle.vms_board.specs.Restoring.{Restore, Back, Refused, Restores}
 use Rattle.vms_desc.specs.Formed.{shipped_set}
-use Rattle.vms_io.specs.Causes.{AppendsPrefix}
 use Rattle.vms_io.specs.Told.{Outlet, Stock}
-use Rattle.vms_io.proofs.WritingLemmas.{stops_prefix}
 use Rattle.vms_board.specs.Isa.{isa}
 use Rattle.vms_board_streams.proofs.IsaLaws.{bytes_are_one}
 use Rattle.vms_session.specs.Lines.{restored_line, refused_line}
-use Rattle.vms_session.specs.Session.{Session, ComesTo, IsTooLarge, IsLoaded, LoadsBytes}
+use Rattle.vms_session.specs.Session.{Session, ComesTo, IsTooLarge, IsLoaded, LoadsBytes, LoadsHeld}
 use Rattle.vms_commands.specs.Fetching.{longest_file}
-use Rattle.vms_script.specs.Lines.{ScriptLine}
+use Rattle.vms_commands.proofs.EndLemmas.{comes_to_nothing}
+use Rattle.vms_script.specs.Lines.{ScriptLine, Saves}
 use Rattle.vms_kinds.specs.Bytes.{IsBytes}
 use Rattle.vms_spec.specs.declared.Reason.{Reason}
-use Rattle.vms_session.specs.Playing.{LineEnds, WritesText}
+use Rattle.vms_session.specs.Playing.{LinesEnd, WritesText}
+use Rattle.vms_session.specs.Parts.{part_of}
+use Rattle.vms_session.specs.Streams.{LooksUp, SavesUnder}
 use Rattle.vms_session.specs.declared.line.PlayFault.{PlayFault}
 use Rattle.vms_session.specs.declared.line.PlayFault.TheVariants.{WriteFault, ShelfFault, NoMemory}
 
@@ -43,8 +45,30 @@ module _ (bytes : List ℕ) (old : Session) (text : List ℕ) (new : Session) (o
 
 -- a line's text is written once the line is done
 pub line_ends : (line : ScriptLine) (text mark : List ℕ) (new : Session) (o o' : Outlet) (s s' : Stock) (m : State) (r : Result Unit PlayFault) → mark ≡ text → WritesText mark o o' r
-    → s'.held ≡ Some new.held → m ≡ new.board → LineEnds line text new o o' s s' m r
-line_ends line text mark new o o' s s' m (Ok u) e h held board = (subst (Appends o.written o'.written) e h.told, board, held)
-line_ends line text mark new o o' s s' m (Err WriteFault) e h held board = (subst (AppendsPrefix o.written o'.written) e (stops_prefix h), held)
+    → s'.held ≡ Some new.held → m ≡ new.board → LinesEnd (part_of line text new ∷ []) new o o' s s' m r
+line_ends line text mark new o o' s s' m (Ok u) e h held board = (subst (Appends o.written o'.written) (e ∙ sym (append-nil text)) h.told, held, board)
+line_ends line text mark new o o' s s' m (Err WriteFault) e h held board =
+    record { begun = 1; bytes = h.n; text = subst (λ (l : List ℕ). Appends o.written o'.written (take h.n l)) e h.puts.told; held = held }
 line_ends line text mark new o o' s s' m (Err ShelfFault) e h held board = absurd h
 line_ends line text mark new o o' s s' m (Err NoMemory) e h held board = absurd h
+
+-- a restore leaves what the shelf holds
+pub loads_keep : (left : Option (List ℕ)) (old : Session) (text : List ℕ) (new : Session) → LoadsHeld left old text new → new.held ≡ old.held
+loads_keep None old text new p = ap (λ (s : Session). s.held) p.new_is
+loads_keep (Some bytes) old text new (IsTooLarge long p) = ap (λ (s : Session). s.held) p.new_is
+loads_keep (Some bytes) old text new (IsLoaded (Back m taken) few r p) = ap (λ (s : Session). s.held) p.new_is
+loads_keep (Some bytes) old text new (IsLoaded (Refused place section reason) few r p) = ap (λ (s : Session). s.held) p.new_is
+
+-- nothing of a line was begun where its stream isn't stored, but that its name may be untold
+pub save_fails : (set : ℕ) (name stream text : List ℕ) (new : Session) (o : Outlet) (s s' : Stock) (m : State) (fault : PlayFault) → SavesUnder name stream s s' (Err fault)
+    → LinesEnd (part_of (Saves set name) text new ∷ []) new o o s s' m (Err fault)
+save_fails set name stream text new o s s' m WriteFault h = absurd h
+save_fails set name stream text new o s s' m ShelfFault h = inr (record { done = 0; text = Appends-nil o.written; rose = h.rose; held = h.told })
+save_fails set name stream text new o s s' m NoMemory h = comes_to_nothing o o s s' (part_of (Saves set name) text new ∷ []) (Keeps-refl o.written) h.held
+
+-- or isn't fetched
+pub restore_fails : (T : Type 0) (line : ScriptLine) (text : List ℕ) (new : Session) (o : Outlet) (s s' : Stock) (m : State) (fault : PlayFault) → LooksUp {T = T} s s' (Err fault)
+    → LinesEnd (part_of line text new ∷ []) new o o s s' m (Err fault)
+restore_fails T line text new o s s' m WriteFault h = absurd h
+restore_fails T line text new o s s' m ShelfFault h = inl (comes_to_nothing o o s s' (part_of line text new ∷ []) (Keeps-refl o.written) h.0.held)
+restore_fails T line text new o s s' m NoMemory h = comes_to_nothing o o s s' (part_of line text new ∷ []) (Keeps-refl o.written) h.held

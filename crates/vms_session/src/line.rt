@@ -1,12 +1,13 @@
 // One line of a session.
-ghost use Rattle.std.specs.Prelude.{◌≡◌, List, ℕ, Some};
+ghost use Rattle.std.specs.Prelude.{◌≡◌, ℕ, List, [], ◌∷◌, Some};
 ghost use Rattle.vms_io.specs.Shelves.{Held};
 ghost use Rattle.vms_io.specs.Told.{outlet, stock};
 ghost use Rattle.vms_script.specs.Grammar.{IsLine};
 ghost use Rattle.vms_script.specs.Trace.{trace_line};
 ghost use Rattle.vms_script.specs.Views.{line_view, session_view};
+ghost use Rattle.vms_session.specs.Parts.{part_of};
 ghost use Rattle.vms_session.specs.Session.{Does, Session};
-ghost use Rattle.vms_session.specs.Playing.{Goes, LineEnds, WritesText, session_of};
+ghost use Rattle.vms_session.specs.Playing.{Goes, LinesEnd, WritesText, session_of};
 
 use crate::mark::saved_mark;
 use crate::shelf::{restore, save};
@@ -39,7 +40,8 @@ pub(crate) fn play_line<K: Sink, H: Shelf>(
     requires { IsLine (Some board.old.state.level) (line_view line.now) }
     ensures content { (held : Held) (text : List ℕ) (new : Session) → H.held shelf.old ≡ Some held
         → Does (line_view line.now) (session_of board.old.state held) text new
-        → LineEnds (line_view line.now) text new (outlet K.Sink out.old) (outlet K.Sink out.new)
+        → LinesEnd (part_of (line_view line.now) text new ∷ []) new
+        (outlet K.Sink out.old) (outlet K.Sink out.new)
         (stock H.Shelf shelf.old) (stock H.Shelf shelf.new) board.new.state result }
     ensures goes { Goes (outlet K.Sink out.old) (outlet K.Sink out.new)
         (stock H.Shelf shelf.old) (stock H.Shelf shelf.new) result }
@@ -62,7 +64,8 @@ fn play_session<K: Sink, H: Shelf>(
     requires { IsLine (Some board.old.state.level) (session_view line.now) }
     ensures content { (held : Held) (text : List ℕ) (new : Session) → H.held shelf.old ≡ Some held
         → Does (session_view line.now) (session_of board.old.state held) text new
-        → LineEnds (session_view line.now) text new (outlet K.Sink out.old) (outlet K.Sink out.new)
+        → LinesEnd (part_of (session_view line.now) text new ∷ []) new
+        (outlet K.Sink out.old) (outlet K.Sink out.new)
         (stock H.Shelf shelf.old) (stock H.Shelf shelf.new) board.new.state result }
     ensures goes { Goes (outlet K.Sink out.old) (outlet K.Sink out.new)
         (stock H.Shelf shelf.old) (stock H.Shelf shelf.new) result }

@@ -1,4 +1,4 @@
-use Rattle.std.proofs.Common.{ℕ, Bool, Ok, Err, subst}
+use Rattle.std.proofs.Common.{ℕ, Bool, [], ◌∷◌, Ok, Err, refl, subst}
 use Rattle.vms_io.specs.Told.{intake, outlet, stock}
 use Rattle.vms_desc.specs.Described.{described}
 use Rattle.vms_commands.specs.Asks.{set_asked}
@@ -7,7 +7,8 @@ use Rattle.vms_commands.specs.StepEndings.{ReadCause, text_of}
 use Rattle.vms_commands.proofs.EndLemmas.{quiet_same}
 use Rattle.vms_commands.proofs.StepLemmas.{ended_by, first_err, had_by, then_as}
 use Rattle.vms_cli.specs.Convert.{ConvertsWell, agrees}
-use Rattle.vms_cli.proofs.ConvertSteps.{behind_so, converts_after, converts_next, gives_next, seen_next, unfetched, unread, unset_so}
+use Rattle.vms_cli.proofs.ConvertSteps.{converts_after, converts_next, gives_next, seen_next, unfetched, unread}
+use Rattle.vms_cli.proofs.EndsSo.{behind_so, unset_so}
 use Rattle.vms_board_commands.proofs.SeenLemmas.{other_seen}
 use Rattle.vms_cli.proofs.ShowLemmas.{set_other}
 use Rattle.vms_cli.proofs.convert.convert.Goals as goal
@@ -68,7 +69,7 @@ pub returns-in-Ok-read_fetched-clause-so : goal.returns-in-Ok-read_fetched-claus
 returns-in-Ok-read_fetched-clause-so g c =
     let fetched = c.in-Ok.ensures in
     let b = is_on_shelf (set_asked c.args.set) in
-    behind_so b c.convert_to.result fetched.asks.unasked fetched.asks.looks
+    behind_so (0 ∷ 1 ∷ 4 ∷ 5 ∷ 6 ∷ 10 ∷ 11 ∷ []) (0 ∷ 1 ∷ 5 ∷ 6 ∷ 10 ∷ 11 ∷ []) b c.convert_to.result fetched.asks.unasked fetched.asks.looks
     (c.convert_to.ensures.so (stock g.H.Shelf c.fetch_set.new.shelf) b)
 
 pub returns-in-Err-clause-so : goal.returns-in-Err-clause-so
@@ -77,7 +78,7 @@ returns-in-Err-clause-so g c =
     let b = is_on_shelf (set_asked c.args.set) in
     let s = stock g.H.Shelf c.args.shelf.now in
     let s' = stock g.H.Shelf c.fetch_set.new.shelf in
-    unset_so (intake g.I.Source c.args.input.now) (outlet g.O.Sink c.args.out.now) s s' fetched.asks.looks
+    unset_so (0 ∷ 1 ∷ 4 ∷ 5 ∷ 6 ∷ 10 ∷ 11 ∷ []) (0 ∷ 1 ∷ 5 ∷ 6 ∷ 10 ∷ 11 ∷ []) refl (intake g.I.Source c.args.input.now) (outlet g.O.Sink c.args.out.now) s s' fetched.asks.looks
     b fetched.asks.unasked c.in-Err.ending (unfetched b s s' c.in-Err.ending fetched.asks.cause)
 
 pub returns-clause-so : goal.returns-clause-so
@@ -87,7 +88,7 @@ returns-clause-so g c =
     let s = stock g.H.Shelf c.args.shelf.now in
     let s' = stock g.H.Shelf c.fetch_set.new.shelf in
     let ending = c.in-Err-read_fetched.ending in
-    unset_so (intake g.I.Source c.args.input.now) (outlet g.O.Sink c.args.out.now) s s' fetched.asks.looks
+    unset_so (0 ∷ 1 ∷ 4 ∷ 5 ∷ 6 ∷ 10 ∷ 11 ∷ []) (0 ∷ 1 ∷ 5 ∷ 6 ∷ 10 ∷ 11 ∷ []) refl (intake g.I.Source c.args.input.now) (outlet g.O.Sink c.args.out.now) s s' fetched.asks.looks
     b fetched.asks.unasked ending (unread b s s' ending (subst (λ (x : Bool). ReadCause {T = ℕ} x (Err ending)) fetched.text c.in-Err-read_fetched.ensures.ends))
 
 -- ---- what isn't seen

@@ -1,18 +1,14 @@
-use Rattle.std.proofs.Common.{refl, inl, inr}
-use Rattle.std.proofs.KnownBytes.{Keeps-refl}
+use Rattle.std.proofs.Common.{[], ◌∷◌, refl}
 use Rattle.vms_io.specs.Told.{intake, outlet, stock}
 use Rattle.vms_load.specs.Kept.{loads}
 use Rattle.vms_commands.specs.Asks.{set_asked}
 use Rattle.vms_commands.specs.Fetching.{is_on_shelf, word_set}
-use Rattle.vms_io.proofs.WritingLemmas.{serves_none}
-use Rattle.vms_commands.proofs.CourseLemmas.{draws_none}
-use Rattle.vms_io.proofs.ShelvingLemmas.{looks_reaches}
 use Rattle.vms_commands.proofs.EndLemmas.{quiet_same}
 use Rattle.vms_commands.proofs.StepLemmas.{ended_by, had_by}
 use Rattle.vms_board_commands.proofs.SeenLemmas.{other_seen, seen_given}
 use Rattle.vms_load.proofs.SetFacts.{well_of}
 use Rattle.vms_cli.specs.Show.{ShowsWell}
-use Rattle.vms_cli.proofs.EndsSo.{show_ends}
+use Rattle.vms_cli.proofs.EndsSo.{behind_so, unset_so}
 use Rattle.vms_cli.proofs.ShowLemmas.{set_other, gives_none, gives_within, shows_under}
 use Rattle.vms_cli.proofs.show.show.Goals as goal
 
@@ -24,17 +20,9 @@ returns-in-Ok-clause-content g c = λ o has.
 
 pub returns-in-Ok-clause-so : goal.returns-in-Ok-clause-so
 returns-in-Ok-clause-so g c =
-    let e = c.show_stream.ensures in
     let had = c.in-Ok.ensures.asks in
-    show_ends (intake g.I.Source c.args.input.now) (intake g.I.Source c.show_stream.new.input) (outlet g.O.Sink c.args.out.now) (outlet g.O.Sink c.show_stream.new.out)
-    (stock g.H.Shelf c.args.shelf.now) (stock g.H.Shelf c.loader_of.new.shelf) (is_on_shelf (set_asked c.args.set)) c.show_stream.result (inr e.so.cause)
-    (record {
-      held = had.looks.held;
-      unasked = had.unasked;
-      draws = e.so.draws;
-      serves = e.so.serves;
-      reaches = looks_reaches had.looks;
-    })
+    let b = is_on_shelf (set_asked c.args.set) in
+    behind_so (0 ∷ 1 ∷ 5 ∷ 6 ∷ 10 ∷ []) (0 ∷ 1 ∷ 5 ∷ 6 ∷ []) b c.show_stream.result had.unasked had.looks (c.show_stream.ensures.so (stock g.H.Shelf c.loader_of.new.shelf) b)
 
 pub returns-in-Ok-clause-given : goal.returns-in-Ok-clause-given
 returns-in-Ok-clause-given g c =
@@ -53,17 +41,8 @@ returns-in-Err-clause-content g c = λ o has.
 pub returns-in-Err-clause-so : goal.returns-in-Err-clause-so
 returns-in-Err-clause-so g c =
     let had = c.in-Err.ensures.asks in
-    let input = intake g.I.Source c.args.input.now in
-    let out = outlet g.O.Sink c.args.out.now in
-    show_ends input input out out (stock g.H.Shelf c.args.shelf.now) (stock g.H.Shelf c.loader_of.new.shelf) (is_on_shelf (set_asked c.args.set)) c.in-Err.ending
-    (inl (had.cause, refl, Keeps-refl out.written))
-    (record {
-      held = had.looks.held;
-      unasked = had.unasked;
-      draws = draws_none input;
-      serves = serves_none out;
-      reaches = looks_reaches had.looks;
-    })
+    unset_so (0 ∷ 1 ∷ 5 ∷ 6 ∷ 10 ∷ []) (0 ∷ 1 ∷ 5 ∷ 6 ∷ []) refl (intake g.I.Source c.args.input.now) (outlet g.O.Sink c.args.out.now) (stock g.H.Shelf c.args.shelf.now) (stock g.H.Shelf c.loader_of.new.shelf)
+    had.looks (is_on_shelf (set_asked c.args.set)) had.unasked c.in-Err.ending had.cause
 
 pub returns-in-Err-clause-given : goal.returns-in-Err-clause-given
 returns-in-Err-clause-given g c =

@@ -1,18 +1,18 @@
-use Rattle.std.proofs.Common.{rules, None, Ok, Err, ap, ◌∙◌, refl, subst}
+use Rattle.std.proofs.Common.{None, Ok, Err, ap, ◌∙◌, refl, subst}
 use Rattle.std.proofs.KnownBytes.{Keeps-refl}
 use Rattle.vms_io.specs.Told.{outlet}
 use Rattle.vms_spec.specs.Sets.{Set}
 use Rattle.vms_spec.specs.Values.{values_text}
 use Rattle.vms_values.specs.Printing.{machine_of}
-use Rattle.vms_io.proofs.WritingLemmas.{serves_none}
 use Rattle.vms_load.proofs.Loaded.{within}
 use Rattle.vms_load.specs.Kept.{loads, kept, taken_by}
 use Rattle.vms_load.specs.Staging.{accepted_of}
 use Rattle.vms_commands.specs.Endings.{WritesAs}
 use Rattle.vms_commands.specs.Lines.{refused_line}
-use Rattle.vms_commands.proofs.CourseLemmas.{draws_took, writes_serve}
+use Rattle.vms_commands.proofs.CourseLemmas.{draws_took}
 use Rattle.vms_commands.proofs.EndLemmas.{comes_to_nothing}
 use Rattle.vms_commands.specs.declared.ending.Ending.TheVariants.{ReadFault, Refused}
+use Rattle.vms_board_commands.proofs.CourseLemmas.{refused_so, traced_so, unread_so}
 use Rattle.vms_board_commands.proofs.SeenLemmas.{content_seen, other_seen}
 use Rattle.vms_cli.specs.Show.{Shows}
 use Rattle.vms_cli.proofs.ShowLemmas.{refusal_seen, shows_same, text_seen, well_seen}
@@ -45,27 +45,16 @@ returns-in-Err-ReadFault-clause-content g c = λ shelf shelf' o held shows.
     comes_to_nothing out out shelf shelf' o.parts (Keeps-refl out.written) held
 
 pub returns-in-Ok-clause-so : goal.returns-in-Ok-clause-so
-returns-in-Ok-clause-so g c = record {
-  cause = search rules;
-  draws = draws_took c.in-Ok.ensures.reads.takes;
-  serves = writes_serve _ (outlet g.O.Sink c.args.out.now) (outlet g.O.Sink c.write_values.new.out) c.write_values.result c.write_values.ensures;
-}
+returns-in-Ok-clause-so g c = λ shelf asks.
+    traced_so shelf (draws_took c.in-Ok.ensures.reads.takes) _ (outlet g.O.Sink c.args.out.now) (outlet g.O.Sink c.write_values.new.out) c.write_values.result c.write_values.ensures
 
 pub returns-in-Err-Refused-clause-so : goal.returns-in-Err-Refused-clause-so
-returns-in-Err-Refused-clause-so g c = record {
-  cause = Keeps-refl (g.O.Sink.written c.args.out.now);
-  draws = draws_took c.in-Err-Refused.ensures.reads.takes;
-  serves = serves_none (outlet g.O.Sink c.args.out.now);
-}
+returns-in-Err-Refused-clause-so g c = λ shelf asks. refused_so shelf (draws_took c.in-Err-Refused.ensures.reads.takes) (outlet g.O.Sink c.args.out.now) c.refused_line.result
 
 pub returns-in-Err-ReadFault-clause-so : goal.returns-in-Err-ReadFault-clause-so
-returns-in-Err-ReadFault-clause-so g c =
+returns-in-Err-ReadFault-clause-so g c = λ shelf asks.
     let reads = rw c.in-Err-ReadFault.field-0-is at c.in-Err-ReadFault.ensures.reads in
-    record {
-      cause = (reads.cause, Keeps-refl (g.O.Sink.written c.args.out.now));
-      draws = draws_took reads.takes;
-      serves = serves_none (outlet g.O.Sink c.args.out.now);
-    }
+    unread_so shelf (draws_took reads.takes) (outlet g.O.Sink c.args.out.now) reads.cause
 
 -- ---- how many bytes are given
 

@@ -8,4 +8,4 @@ returns g c =
     answers (intake g.I.Source c.args.input.now) (intake g.I.Source c.run-ending.new.input) (outlet g.O.Sink c.args.out.now) (outlet g.O.Sink c.run-ending.new.out)
     (outlet g.N.Sink c.args.notes.now) (outlet g.N.Sink c.tell.new.notes) (stock g.H.Shelf c.args.shelf.now) (stock g.H.Shelf c.run-ending.new.shelf)
     c.args.words.now c.run-ending.result c.tell.result run.content (record { so = run.so; given = run.given; seen = run.seen; unnamed = run.unnamed })
-    c.tell.ensures.tells c.tell.ensures.serves
+    c.tell.ensures.tells c.tell.ensures.serves (g.met.H.Shelf.octets c.args.shelf.now)

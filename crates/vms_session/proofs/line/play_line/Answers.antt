@@ -1,11 +1,16 @@
-use Rattle.std.proofs.Common.{Some, ap, subst, ◌∙◌}
+use Rattle.std.proofs.Common.{List, ℕ, Some, sym, ap, subst, ◌∙◌}
 use Rattle.dev_board.proofs.ClockLaws.{clock_goes_on}
 use Rattle.dev_board.proofs.WireBits.{names}
 use Rattle.dev_board.specs.State.{State}
 use Rattle.dev_board.specs.declared.event.Answer.{Answer}
+use Rattle.vms_io.specs.Told.{outlet, stock}
 use Rattle.vms_script.specs.Grammar.{IsLine}
+use Rattle.vms_script.specs.Trace.{trace_line}
 use Rattle.vms_script.specs.Views.{line_view}
 use Rattle.vms_script.specs.declared.line.Line.{Line}
+use Rattle.vms_session.specs.Playing.{session_of}
+use Rattle.vms_session.specs.Session.{Does, Session}
+use Rattle.vms_session.proofs.StreamLemmas.{line_ends}
 use Rattle.vms_session.proofs.SoundLaws.{event_is, line_event}
 use Rattle.vms_session.proofs.line.play_line.Goals as goal
 
@@ -18,3 +23,13 @@ event-requires g c =
 pub returns-in-Event-clause-level : goal.returns-in-Event-clause-level
 returns-in-Event-clause-level g c =
     ap (λ (d : Answer × State). d.1.level) c.event.ensures.step ∙ clock_goes_on.level c.in-Event.event c.args.board.now.state
+
+pub returns-in-Event-clause-content : goal.returns-in-Event-clause-content
+returns-in-Event-clause-content g c = λ held text new told does.
+    let done = subst (λ (l : Line). Does (line_view l) (session_of c.args.board.now.state held) text new) c.in-Event.is does in
+    let step = c.event.ensures.step in
+    line_ends (line_view c.args.line.now) text (trace_line c.event.result) new (outlet g.K.Sink c.args.out.now) (outlet g.K.Sink c.write_answer.new.out)
+    (stock g.H.Shelf c.args.shelf.now) (stock g.H.Shelf c.args.shelf.now) c.event.new.self.state c.write_answer.result
+    (ap (λ (d : Answer × State). trace_line d.0) step ∙ sym done.text_is) c.write_answer.ensures
+    (told ∙ ap (λ (s : Session). Some s.held) (sym done.new_is))
+    (ap (λ (d : Answer × State). d.1) step ∙ ap (λ (s : Session). s.board) (sym done.new_is))

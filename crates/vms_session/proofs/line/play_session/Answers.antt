@@ -1,4 +1,4 @@
-use Rattle.std.proofs.Common.{Some, sym, ap, subst, ◌∙◌}
+use Rattle.std.proofs.Common.{List, ℕ, Some, sym, ap, subst, ◌∙◌}
 use Rattle.vms_board.specs.Isa.{isa}
 use Rattle.vms_board.specs.Saving.{saved_stream}
 use Rattle.vms_io.specs.Shelves.{Held, PutsUnder}
@@ -8,9 +8,9 @@ use Rattle.vms_script.specs.Views.{session_view}
 use Rattle.vms_script.specs.declared.line.SessionLine.{SessionLine}
 use Rattle.vms_session.proofs.OneLaws.{one_map}
 use Rattle.vms_session.specs.Lines.{saved_line}
-use Rattle.vms_session.specs.Session.{Does}
+use Rattle.vms_session.specs.Session.{Does, LoadsHeld}
 use Rattle.vms_session.specs.Playing.{session_of}
-use Rattle.vms_session.proofs.StreamLemmas.{line_ends}
+use Rattle.vms_session.proofs.StreamLemmas.{line_ends, loads_keep}
 use Rattle.vms_session.proofs.line.play_session.Goals as goal
 
 pub returns-in_ok-count-in-Save-clause-content : goal.returns-in_ok-count-in-Save-clause-content
@@ -28,3 +28,16 @@ returns-in_ok-count-in-Save-clause-content g c = λ held text new told does.
     c.write.ensures
     (stored.told ∙ ap (λ (h : Held). Some h) same)
     (sym done.board)
+
+pub returns-in_ok-mark-in-Restore-clause-content : goal.returns-in_ok-mark-in-Restore-clause-content
+returns-in_ok-mark-in-Restore-clause-content g c = λ held text new told does.
+    let board = c.args.board.now.state in
+    let old = session_of board held in
+    let name = c.in-Restore.name.bytes in
+    let done = subst (λ (l : SessionLine). Does (session_view l) old text new) c.in-Restore.is does in
+    let restored = c.in_ok-mark-in-Restore.ensures in
+    let loads = subst (λ (n : List ℕ). LoadsHeld (held n) old text new) (sym c.as_str-in-Restore.ensures.value) done in
+    let loaded = restored.loaded held text new told loads in
+    line_ends (session_view c.args.line.now) text c.deref-in-Restore.result.now new (outlet g.K.Sink c.args.out.now) (outlet g.K.Sink c.write-in-Restore.new.out) (stock g.H.Shelf c.args.shelf.now) (stock g.H.Shelf c.restore.new.shelf)
+    c.restore.new.board.state c.write-in-Restore.result (c.deref-in-Restore.ensures.0 ∙ loaded.0) c.write-in-Restore.ensures
+    (restored.looks.held ∙ told ∙ ap (λ (h : Held). Some h) (sym (loads_keep (held name) old text new done))) loaded.1
