@@ -1,4 +1,4 @@
-use Rattle.std.proofs.Common.{rules, arith, ap, sym, refl, ◌∙◌, ℕ, [], ◌∷◌, ◌++◌, ◌≡◌, ◌<◌, ◌≤◌, ◌+◌, length, Ok, Err}
+use Rattle.std.proofs.Common.{rules, arith, ap, sym, refl, ◌∙◌, ℕ, List, [], ◌∷◌, ◌++◌, ◌≡◌, ◌<◌, ◌≤◌, ◌+◌, length, Ok, Err}
 use Rattle.std.proofs.lemmas.Result.{err_from_is_err_and}
 use Rattle.vms_spec.specs.declared.Reason.TheVariants as reasons
 use Rattle.vms_spec.specs.Lookup.{number_at, bytes_at}
@@ -17,7 +17,7 @@ use Rattle.vms_frames.proofs.read.description.Goals as goal
 pub returns-in_err-fill-clause-reads : goal.returns-in_err-fill-clause-reads
 returns-in_err-fill-clause-reads g c =
     let p = err_from_is_err_and c.from_residual.result c.from_residual.ensures.1 in
-    let mark = 0x06 ∷ [] in
+    let mark : List ℕ = 0x06 ∷ [] in
     rw (p.1, p.2)
     (unit_short (λ all _. described all) (λ (k : ℕ). k) LONGEST_DESCRIPTION (seen AfterEnd nothing_known) {n = 4} mark c.args.at c.in_err-fill.field-0.0 (omega arith) c.in_err-fill.ensures.cut
     (λ rest lt. sym (description_there rest) ∙ text_begins AfterEnd nothing_known 0x06 16777216 Description mark rest (omega (arith, lt))))
