@@ -9,7 +9,7 @@ ghost use Rattle.vms_counter_laws.specs.Counters.{Counters};
 ghost use Rattle.vms_counter.specs.Found.{answer_of, IsFindingOf};
 ghost use Rattle.vms_counter.specs.Trying.{IsTrial, Tries};
 
-use crate::candidates::{default_images, machine_for};
+use crate::candidates::machine_for;
 use crate::room::room;
 use crate::second::raised;
 use crate::trying::{Trial, tried};
@@ -18,7 +18,7 @@ use vms_check::{Mismatch, Verdict, check};
 use vms_desc::DescSet;
 use vms_image::Image;
 use vms_io::NoMemory;
-use vms_load::{Loader, Refusal};
+use vms_load::{Loader, Refusal, default_images};
 
 /// What is found of two sets.
 #[derive(Drop)]

@@ -7,13 +7,13 @@ ghost use Rattle.vms_counter_laws.specs.Candidates.{default_images, raised, rais
 ghost use Rattle.vms_counter.specs.Found.{states_of};
 ghost use Rattle.vms_counter.specs.Raising.{as_excess, IsExcess};
 
-use crate::candidates::default_images;
 use crate::raising::{Counting, Excess, find_excess, raised_image};
 use std::alloc::Global;
 use vms_check::Mismatch;
 use vms_desc::{DescSet, Part};
 use vms_image::Image;
 use vms_io::NoMemory;
+use vms_load::default_images;
 
 // A field of a device, by their numbers.
 #[derive(Clone, Copy)]

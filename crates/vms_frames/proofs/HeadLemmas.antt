@@ -1,19 +1,38 @@
--- The heads of sections and of subsections, once all their bytes came.
-use Rattle.std.proofs.Common.{◌≡◌, ℕ, ◌+◌, ◌<◌, ◌≤◌, List, ◌++◌, length, get_or, take, drop, sym, ap, ◌∙◌, arith, length-append, length-drop}
+-- The heads of sections and of subsections, of configurations and of descriptions, and footers, by the bytes that came.
+use Rattle.std.proofs.Common.{◌≡◌, ℕ, ◌+◌, ◌<◌, ◌≤◌, ◌==◌, ◌||◌, not, List, ◌++◌, length, get_or, take, drop, Bool, true, false, if◌then◌else◌, nat_lt, Some, None, refl, sym, ap, ◌∙◌, arith, length-append, length-drop, take_all}
+use Rattle.std.proofs.lemmas.Bool.{le-ltb, lt-ltb, eq-eqb, ne_eqb}
 use Rattle.std.proofs.lemmas.List.{get_or-take, length-take-le}
 use Rattle.arrayvec.specs.ArrayVec.{ArrayVec}
+use Rattle.vms_spec.specs.declared.Reason.TheVariants as reasons
 use Rattle.vms_spec.specs.Lookup.{number_at, bytes_at}
+use Rattle.vms_spec.specs.Units.{Piece, Long, SubHead as ASub, Start, Foot}
 use Rattle.vms_marks.specs.declared.head.Head.{Head}
-use Rattle.vms_marks.specs.Heads.{head_in}
+use Rattle.vms_marks.specs.Heads.{head_in, sub_head_in}
+use Rattle.vms_stream.specs.SoFar.{Known}
+use Rattle.vms_stream.specs.SoFar as tails
+use Rattle.vms_stream.specs.Dues.{Due, AfterFields, Between as IsBetween}
+use Rattle.vms_stream.specs.Table.{first_row, alone, is_ram}
+use Rattle.vms_stream.specs.Finding.{needs, text_at}
+use Rattle.vms_stream.specs.Seen.{Seen, Good, Bad, Short, seen_in, seen_by}
+use Rattle.vms_stream.specs.Taking.{nothing_known}
 use Rattle.vms_frames.specs.declared.units.Step.TheVariants.{Section}
-use Rattle.vms_frames.specs.declared.units.Behind.{Behind}
-use Rattle.vms_frames.specs.declared.units.Behind.TheVariants.{Sub}
-use Rattle.vms_frames.specs.Found.{Found, Whole, head_found, step_long, sub_found, behind_long}
-use Rattle.vms_frames.proofs.UnitLemmas.{byte_of_unit, number_of_unit, bytes_of_unit, needs_whole}
+use Rattle.vms_frames.specs.Calls.{step_long, unit_of_step, in_section}
+use Rattle.vms_frames.specs.Reads.{head_seen, start_seen, start_reason, sub_seen, foot_seen}
+use Rattle.vms_frames.proofs.UnitLemmas.{byte_of_unit, number_of_unit, bytes_of_unit, cut_short, seen_whole}
 
 -- a byte that came stays where it is
 pub kept_byte : (i : ℕ) (unit more : List ℕ) → take (length unit) more ≡ unit → i < length unit → get_or more i 0 ≡ get_or unit i 0
 kept_byte i unit more kept h = sym (get_or-take (length unit) more i 0 h) ∙ ap (λ (l : List ℕ). get_or l i 0) kept
+
+-- ---- heads of sections
+
+pub head_begins : (unit rest : List ℕ) → length unit + length rest < 6 → head_seen (unit ++ rest) ≡ Short
+head_begins unit rest few = cut_short (IsBetween true false) nothing_known (14 + get_or (unit ++ rest) 5 0) (unit ++ rest) _ (omega (arith, few, length-append unit rest))
+
+pub head_cut : (unit rest : List ℕ) → 6 ≤ length unit → length unit + length rest < 14 + get_or unit 5 0 → head_seen (unit ++ rest) ≡ Short
+head_cut unit rest some few =
+    let n : get_or (unit ++ rest) 5 0 ≡ get_or unit 5 0 = byte_of_unit 5 unit rest (omega (arith, some)) in
+    cut_short (IsBetween true false) nothing_known (14 + get_or (unit ++ rest) 5 0) (unit ++ rest) _ (omega (arith, few, n, length-append unit rest))
 
 head_with : ℕ → List ℕ → Head
 head_with n bytes = record {
@@ -37,17 +56,6 @@ head_same n unit rest long =
     ∙ ap (λ (x : ℕ). head (number_at 4 1 unit) (bytes_at n 6 unit) x (number_at 4 (10 + n) (unit ++ rest))) c
     ∙ ap (λ (x : ℕ). head (number_at 4 1 unit) (bytes_at n 6 unit) (number_at 4 (6 + n) unit) x) d
 
-pub head_whole : (unit rest : List ℕ) → length unit ≡ 14 + get_or unit 5 0 → head_found (unit ++ rest) ≡ Whole (Section (head_in unit))
-unfolding head_with
-head_whole unit rest long =
-    let all = unit ++ rest in
-    let n : get_or all 5 0 ≡ get_or unit 5 0 = byte_of_unit 5 unit rest (omega arith) in
-    let more : length all ≡ length unit + length rest = length-append unit rest in
-    needs_whole 6 all _ (omega arith)
-    ∙ needs_whole (14 + get_or all 5 0) all (Whole (Section (head_in all))) (omega arith)
-    ∙ ap (λ (k : ℕ). Whole (Section (head_with k all))) n
-    ∙ ap (λ (h : Head). Whole (Section h)) (head_same (get_or unit 5 0) unit rest (omega arith))
-
 pub head_long : (unit : List ℕ) → length unit ≡ 14 + get_or unit 5 0 → length unit ≡ step_long (Section (head_in unit))
 head_long unit long =
     let n = get_or unit 5 0 in
@@ -55,34 +63,139 @@ head_long unit long =
     let e : length (bytes_at n 6 unit) ≡ n = length-take-le n (drop 6 unit) (omega arith) in
     long ∙ ap (λ (k : ℕ). 14 + k) (sym e)
 
--- ---- subsections
+pub head_whole : (unit rest : List ℕ) → length unit ≡ 14 + get_or unit 5 0 → head_seen (unit ++ rest) ≡ Good (unit_of_step (Section (head_in unit))) (step_long (Section (head_in unit)))
+unfolding head_with
+head_whole unit rest long =
+    let all = unit ++ rest in
+    let n : get_or all 5 0 ≡ get_or unit 5 0 = byte_of_unit 5 unit rest (omega arith) in
+    let good : ℕ → Head → Seen = λ k h. Good (unit_of_step (Section h)) (14 + k) in
+    seen_whole (IsBetween true false) nothing_known (14 + get_or all 5 0) all (unit_of_step (Section (head_with (get_or all 5 0) all))) (omega (arith, n, long, length-append unit rest))
+    ∙ ap (λ (k : ℕ). good k (head_with k all)) n
+    ∙ ap (good (get_or unit 5 0)) (head_same (get_or unit 5 0) unit rest (omega arith))
+    ∙ ap (λ (k : ℕ). Good (unit_of_step (Section (head_in unit))) k) (sym long ∙ head_long unit long)
 
-sub_with : List ℕ → ℕ → Found Behind
-sub_with items v = Whole (Sub (record { items = items }) v)
+-- ---- heads of subsections
 
-sub_whole : (unit rest : List ℕ) → length unit ≡ 6 + get_or unit 1 0 → sub_found (unit ++ rest) ≡ sub_with (bytes_at (get_or unit 1 0) 2 unit) (number_at 4 (2 + get_or unit 1 0) unit)
-unfolding sub_with
+pub sub_begins : (unit rest : List ℕ) → length unit + length rest < 2 → sub_seen (unit ++ rest) ≡ Short
+sub_begins unit rest few = cut_short (AfterFields 0 tails.Unknown) nothing_known (6 + get_or (unit ++ rest) 1 0) (unit ++ rest) _ (omega (arith, few, length-append unit rest))
+
+pub sub_cut : (unit rest : List ℕ) → 2 ≤ length unit → length unit + length rest < 6 + get_or unit 1 0 → sub_seen (unit ++ rest) ≡ Short
+sub_cut unit rest some few =
+    let n : get_or (unit ++ rest) 1 0 ≡ get_or unit 1 0 = byte_of_unit 1 unit rest (omega (arith, some)) in
+    cut_short (AfterFields 0 tails.Unknown) nothing_known (6 + get_or (unit ++ rest) 1 0) (unit ++ rest) _ (omega (arith, few, n, length-append unit rest))
+
+pub sub_whole_long : (unit : List ℕ) → length unit ≡ 6 + get_or unit 1 0 → length unit ≡ 6 + length (sub_head_in unit).name.items
+sub_whole_long unit long =
+    let n = get_or unit 1 0 in
+    let d : length (drop 2 unit) ≡ 4 + n = length-drop 2 unit ∙ omega arith in
+    let e : length (bytes_at n 2 unit) ≡ n = length-take-le n (drop 2 unit) (omega arith) in
+    long ∙ ap (λ (k : ℕ). 6 + k) (sym e)
+
+pub sub_whole : (unit rest : List ℕ) → length unit ≡ 6 + get_or unit 1 0
+    → sub_seen (unit ++ rest) ≡ Good (ASub (sub_head_in unit).name.items (sub_head_in unit).version) (6 + length (sub_head_in unit).name.items)
 sub_whole unit rest long =
     let all = unit ++ rest in
     let k = get_or unit 1 0 in
     let n : get_or all 1 0 ≡ k = byte_of_unit 1 unit rest (omega arith) in
-    let more : length all ≡ length unit + length rest = length-append unit rest in
-    needs_whole 2 all _ (omega arith)
-    ∙ needs_whole (6 + get_or all 1 0) all (sub_with (bytes_at (get_or all 1 0) 2 all) (number_at 4 (2 + get_or all 1 0) all)) (omega arith)
-    ∙ ap (λ (i : ℕ). sub_with (bytes_at i 2 all) (number_at 4 (2 + i) all)) n
-    ∙ ap (λ (l : List ℕ). sub_with l (number_at 4 (2 + k) all)) (bytes_of_unit k 2 unit rest (omega arith))
-    ∙ ap (λ (v : ℕ). sub_with (bytes_at k 2 unit) v) (number_of_unit 4 (2 + k) unit rest (omega arith))
+    let good : ℕ → List ℕ → ℕ → Seen = λ k name v. Good (ASub name v) (6 + k) in
+    seen_whole (AfterFields 0 tails.Unknown) nothing_known (6 + get_or all 1 0) all (ASub (bytes_at (get_or all 1 0) 2 all) (number_at 4 (2 + get_or all 1 0) all)) (omega (arith, n, long, length-append unit rest))
+    ∙ ap (λ (i : ℕ). good i (bytes_at i 2 all) (number_at 4 (2 + i) all)) n
+    ∙ ap (λ (l : List ℕ). good k l (number_at 4 (2 + k) all)) (bytes_of_unit k 2 unit rest (omega arith))
+    ∙ ap (λ (v : ℕ). good k (bytes_at k 2 unit) v) (number_of_unit 4 (2 + k) unit rest (omega arith))
+    ∙ ap (λ (i : ℕ). Good (ASub (bytes_at k 2 unit) (number_at 4 (2 + k) unit)) i) (sym long ∙ sub_whole_long unit long)
 
-pub sub_long : (unit : List ℕ) (name : ArrayVec ℕ) (v : ℕ) → length unit ≡ 6 + get_or unit 1 0 → name.items ≡ bytes_at (get_or unit 1 0) 2 unit → length unit ≡ behind_long (Sub name v)
-sub_long unit name v long named =
-    let n = get_or unit 1 0 in
-    let d : length (drop 2 unit) ≡ 4 + n = length-drop 2 unit ∙ omega arith in
-    let e : length name.items ≡ n = ap length named ∙ length-take-le n (drop 2 unit) (omega arith) in
-    long ∙ ap (λ (k : ℕ). 6 + k) (sym e)
+-- ---- footers
 
-pub sub_is : (unit rest : List ℕ) (name : ArrayVec ℕ) (v : ℕ) → length unit ≡ 6 + get_or unit 1 0 → name.items ≡ bytes_at (get_or unit 1 0) 2 unit
-    → v ≡ number_at 4 (2 + get_or unit 1 0) unit → sub_found (unit ++ rest) ≡ Whole (Sub name v)
-unfolding sub_with
-sub_is unit rest name v long named numbered =
-    let n = get_or unit 1 0 in
-    sub_whole unit rest long ∙ ap (λ (l : List ℕ). sub_with l (number_at 4 (2 + n) unit)) (sym named) ∙ ap (λ (k : ℕ). sub_with name.items k) (sym numbered)
+module _ (id : ℕ) where
+  pub foot_cut : (unit rest : List ℕ) → length unit + length rest < 5 → foot_seen id (unit ++ rest) ≡ Short
+  foot_cut unit rest few = cut_short (AfterFields 0 tails.Unknown) (in_section id) 5 (unit ++ rest) _ (omega (arith, few, length-append unit rest))
+
+  foot_by : ℕ → Bool → Seen
+  foot_by n same = seen_by (if not same then Some (None, reasons.BadFooter) else None) (Foot n) 5
+
+  foot_came : (unit rest : List ℕ) → length unit ≡ 5 → foot_seen id (unit ++ rest) ≡ foot_by (number_at 4 1 unit) (number_at 4 1 unit == id)
+  unfolding foot_by
+  foot_came unit rest long =
+      seen_whole (AfterFields 0 tails.Unknown) (in_section id) 5 (unit ++ rest) (Foot (number_at 4 1 (unit ++ rest))) (omega (arith, long, length-append unit rest))
+      ∙ ap (λ (n : ℕ). foot_by n (n == id)) (number_of_unit 4 1 unit rest (omega (arith, long)))
+
+  pub foot_whole : (unit rest : List ℕ) → length unit ≡ 5 → number_at 4 1 unit ≡ id → foot_seen id (unit ++ rest) ≡ Good (Foot id) 5
+  unfolding foot_by
+  foot_whole unit rest long same =
+      foot_came unit rest long ∙ ap (foot_by (number_at 4 1 unit)) (eq-eqb (number_at 4 1 unit) id same) ∙ ap (λ (n : ℕ). Good (Foot n) 5) same
+
+  pub foot_wrong : (unit rest : List ℕ) → length unit ≡ 5 → (number_at 4 1 unit ≡ id → ⊥) → foot_seen id (unit ++ rest) ≡ Bad 5 reasons.BadFooter
+  unfolding foot_by
+  foot_wrong unit rest long other = foot_came unit rest long ∙ ap (foot_by (number_at 4 1 unit)) (ne_eqb (number_at 4 1 unit) id other)
+
+-- ---- sections that are sent in parts
+
+pub start_begins : (unit rest : List ℕ) → length unit + length rest < 6 → start_seen (unit ++ rest) ≡ Short
+start_begins unit rest few = cut_short (IsBetween true false) nothing_known (6 + get_or (unit ++ rest) 5 0) (unit ++ rest) _ (omega (arith, few, length-append unit rest))
+
+pub start_cut : (unit rest : List ℕ) → 6 ≤ length unit → length unit + length rest < 6 + get_or unit 5 0 → start_seen (unit ++ rest) ≡ Short
+start_cut unit rest some few =
+    let n : get_or (unit ++ rest) 5 0 ≡ get_or unit 5 0 = byte_of_unit 5 unit rest (omega (arith, some)) in
+    cut_short (IsBetween true false) nothing_known (6 + get_or (unit ++ rest) 5 0) (unit ++ rest) _ (omega (arith, few, n, length-append unit rest))
+
+start_by : (id : ℕ) (name : List ℕ) (n : ℕ) → seen_by (first_row (alone (IsBetween true false) nothing_known (Start id name))) (Start id name) n ≡ Bad n (start_reason name)
+start_by id name n = by (is_ram name)
+  where
+    by : (ram : Bool) → seen_by (if ram then Some (None, reasons.Ram) else if not ram || false then Some (None, reasons.Iterative) else None) (Start id name) n ≡ Bad n (if ram then reasons.Ram else reasons.Iterative)
+    by true = refl
+    by false = refl
+
+pub start_whole : (unit rest : List ℕ) → length unit ≡ 6 + get_or unit 5 0 → start_seen (unit ++ rest) ≡ Bad (6 + get_or unit 5 0) (start_reason (drop 6 unit))
+start_whole unit rest long =
+    let all = unit ++ rest in
+    let k = get_or unit 5 0 in
+    let n : get_or all 5 0 ≡ k = byte_of_unit 5 unit rest (omega (arith, long)) in
+    let name : bytes_at k 6 unit ≡ drop 6 unit = take_all k (drop 6 unit) (omega (arith, long, length-drop 6 unit)) in
+    let bad : ℕ → List ℕ → Seen = λ i l. Bad (6 + i) (start_reason l) in
+    seen_whole (IsBetween true false) nothing_known (6 + get_or all 5 0) all (Start (number_at 4 1 all) (bytes_at (get_or all 5 0) 6 all)) (omega (arith, n, long, length-append unit rest))
+    ∙ start_by (number_at 4 1 all) (bytes_at (get_or all 5 0) 6 all) (6 + get_or all 5 0)
+    ∙ ap (λ (i : ℕ). bad i (bytes_at i 6 all)) n ∙ ap (bad k) (bytes_of_unit k 6 unit rest (omega (arith, long)) ∙ name)
+
+-- ---- configurations and descriptions: a mark, a length, and so many bytes
+
+module _ (d : Due) (k : Known) (mark longest : ℕ) (piece : List ℕ → Piece) where
+  abbrev pub text_seen : List ℕ → Seen
+  text_seen all = seen_in d k (text_at mark longest piece all (number_at 4 1 all))
+
+  text_by : List ℕ → ℕ → Bool → Seen
+  text_by all n b = seen_in d k (if b then needs 5 all (Long mark n) else needs (5 + n) all (piece (bytes_at n 5 all)))
+
+  few_bytes : (all : List ℕ) (n : ℕ) (b : Bool) → length all < 5 → text_by all n b ≡ Short
+  unfolding text_by
+  few_bytes all n true few = cut_short d k 5 all (Long mark n) few
+  few_bytes all n false few = cut_short d k (5 + n) all (piece (bytes_at n 5 all)) (omega (arith, few))
+
+  pub text_begins : (unit rest : List ℕ) → length unit + length rest < 5 → text_seen (unit ++ rest) ≡ Short
+  unfolding text_by
+  text_begins unit rest few =
+      let n = number_at 4 1 (unit ++ rest) in
+      few_bytes (unit ++ rest) n (nat_lt longest n) (omega (arith, few, length-append unit rest))
+
+  text_came : (unit rest : List ℕ) → 5 ≤ length unit → text_seen (unit ++ rest) ≡ text_by (unit ++ rest) (number_at 4 1 unit) (nat_lt longest (number_at 4 1 unit))
+  unfolding text_by
+  text_came unit rest some = ap (λ (n : ℕ). text_by (unit ++ rest) n (nat_lt longest n)) (number_of_unit 4 1 unit rest (omega (arith, some)))
+
+  pub text_cut : (unit rest : List ℕ) → 5 ≤ length unit → number_at 4 1 unit ≤ longest → length unit + length rest < 5 + number_at 4 1 unit → text_seen (unit ++ rest) ≡ Short
+  unfolding text_by
+  text_cut unit rest some low few =
+      text_came unit rest some ∙ ap (text_by (unit ++ rest) (number_at 4 1 unit)) (le-ltb longest (number_at 4 1 unit) low)
+      ∙ cut_short d k (5 + number_at 4 1 unit) (unit ++ rest) _ (omega (arith, few, length-append unit rest))
+
+  -- a length that is at fault
+  pub text_above : (unit rest : List ℕ) → length unit ≡ 5 → longest < number_at 4 1 unit → text_seen (unit ++ rest) ≡ seen_by (first_row (alone d k (Long mark (number_at 4 1 unit)))) (Long mark (number_at 4 1 unit)) 5
+  unfolding text_by
+  text_above unit rest long high =
+      text_came unit rest (omega (arith, long)) ∙ ap (text_by (unit ++ rest) (number_at 4 1 unit)) (lt-ltb longest (number_at 4 1 unit) high)
+      ∙ seen_whole d k 5 (unit ++ rest) (Long mark (number_at 4 1 unit)) (omega (arith, long, length-append unit rest))
+
+  pub text_whole : (unit rest : List ℕ) → 5 ≤ length unit → number_at 4 1 unit ≤ longest → 5 + number_at 4 1 unit ≤ length unit + length rest
+      → text_seen (unit ++ rest) ≡ seen_by (first_row (alone d k (piece (bytes_at (number_at 4 1 unit) 5 (unit ++ rest))))) (piece (bytes_at (number_at 4 1 unit) 5 (unit ++ rest))) (5 + number_at 4 1 unit)
+  unfolding text_by
+  text_whole unit rest some low le =
+      text_came unit rest some ∙ ap (text_by (unit ++ rest) (number_at 4 1 unit)) (le-ltb longest (number_at 4 1 unit) low)
+      ∙ seen_whole d k (5 + number_at 4 1 unit) (unit ++ rest) _ (omega (arith, le, length-append unit rest))

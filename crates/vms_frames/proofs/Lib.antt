@@ -1,9 +1,8 @@
 pub mod NumberLemmas
 pub mod UnitLemmas
 pub mod HeadLemmas
-pub mod CutLemmas
-pub mod Calls
 pub mod ReadsParts
 pub mod ReadsUnits
 pub mod ReadsFirst
 pub mod ReadsCalls
+pub mod Trailers

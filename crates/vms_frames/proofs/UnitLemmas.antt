@@ -7,26 +7,31 @@ use Rattle.vms_spec.specs.declared.Reason.{Reason}
 use Rattle.vms_spec.specs.declared.Reason.TheVariants as reasons
 use Rattle.vms_spec.specs.Lookup.{number_at, bytes_at}
 use Rattle.vms_frames.specs.declared.fault.FrameFault.TheVariants.{Refused}
-use Rattle.vms_frames.specs.Found.{Found, Whole, Wrong, Cut, needs}
-use Rattle.vms_frames.specs.Answers.{Answers, RefusesFor}
+use Rattle.vms_spec.specs.Units.{Piece}
+use Rattle.vms_stream.specs.SoFar.{Known}
+use Rattle.vms_stream.specs.Dues.{Due}
+use Rattle.vms_stream.specs.Table.{first_row, alone}
+use Rattle.vms_stream.specs.Finding.{Whole, Cut, needs}
+use Rattle.vms_stream.specs.Seen.{Seen, Good, Bad, Short, seen_in, seen_by}
+use Rattle.vms_frames.specs.Calls.{AnswersSeen, Fails}
 
-module _ {X : Type 0} (long : X → ℕ) (found : List ℕ → Found X) where
+module _ {X : Type 0} (piece : List ℕ → X → Piece) (long : X → ℕ) (found : List ℕ → Seen) where
   -- a whole unit came
-  pub whole : (left unit : List ℕ) (at : ℕ) (x : X) → length unit ≡ long x → ((rest : List ℕ) → found (unit ++ rest) ≡ Whole x)
-      → Answers long (found (unit ++ left)) at (unit ++ left) (Some left) (Ok x)
+  pub whole : (left unit : List ℕ) (at : ℕ) (x : X) → length unit ≡ long x → ((rest : List ℕ) → found (unit ++ rest) ≡ Good (piece (unit ++ rest) x) (long x))
+      → AnswersSeen (piece (unit ++ left)) long (found (unit ++ left)) at (unit ++ left) (Some left) (Ok x)
   whole left unit at x e is = (is left, ap Some (sym (drop_at unit left (long x) e)))
 
   -- a unit at fault came
-  pub wrong : (left unit : List ℕ) (at n : ℕ) (why : Reason) → length unit ≡ n → ((rest : List ℕ) → found (unit ++ rest) ≡ Wrong n why)
-      → Answers long (found (unit ++ left)) at (unit ++ left) (Some left) (Err (Refused at why))
+  pub wrong : (left unit : List ℕ) (at n : ℕ) (why : Reason) → length unit ≡ n → ((rest : List ℕ) → found (unit ++ rest) ≡ Bad n why)
+      → AnswersSeen (piece (unit ++ left)) long (found (unit ++ left)) at (unit ++ left) (Some left) (Err (Refused at why))
   wrong left unit at n why e is =
-      let P : Found X → Type 0 = λ f. RefusesFor f (unit ++ left) (Some left) why in
+      let P : Seen → Type 0 = λ f. Fails f (unit ++ left) (Some left) why in
       (refl, subst P (sym (is left)) (refl, ap Some (sym (drop_at unit left n e))))
 
   -- a part of a unit is missing
-  pub short : (unit bytes left : List ℕ) (reason : Reason) → reason ≡ reasons.Truncated → found (unit ++ bytes) ≡ Cut → left ≡ [] → RefusesFor (found (unit ++ (bytes ++ left))) (unit ++ (bytes ++ left)) (Some left) reason
+  pub short : (unit bytes left : List ℕ) (reason : Reason) → reason ≡ reasons.Truncated → found (unit ++ bytes) ≡ Short → left ≡ [] → Fails (found (unit ++ (bytes ++ left))) (unit ++ (bytes ++ left)) (Some left) reason
   short unit bytes left reason r is none =
-      let P : Found X → Type 0 = λ f. RefusesFor f (unit ++ (bytes ++ left)) (Some left) reason in
+      let P : Seen → Type 0 = λ f. Fails f (unit ++ (bytes ++ left)) (Some left) reason in
       let same : bytes ++ left ≡ bytes = ap (λ (l : List ℕ). bytes ++ l) none ∙ append-nil bytes in
       subst P (sym (ap (λ (l : List ℕ). found (unit ++ l)) same ∙ is)) (r, ap Some none)
 
@@ -59,8 +64,8 @@ bytes_of_unit n i unit rest h =
 
 -- ---- a unit needs so many bytes
 
-pub needs_cut : {X : Type 0} (n : ℕ) (rest : List ℕ) (found : Found X) → length rest < n → needs n rest found ≡ Cut
-needs_cut n rest found h = ap (λ (b : Bool). if b then Cut else found) (lt-ltb (length rest) n h)
+pub cut_short : (d : Due) (k : Known) (n : ℕ) (rest : List ℕ) (x : Piece) → length rest < n → seen_in d k (needs n rest x) ≡ Short
+cut_short d k n rest x h = ap (λ (b : Bool). seen_in d k (if b then Cut else Whole x n)) (lt-ltb (length rest) n h)
 
-pub needs_whole : {X : Type 0} (n : ℕ) (rest : List ℕ) (found : Found X) → n ≤ length rest → needs n rest found ≡ found
-needs_whole n rest found h = ap (λ (b : Bool). if b then Cut else found) (le-ltb (length rest) n h)
+pub seen_whole : (d : Due) (k : Known) (n : ℕ) (rest : List ℕ) (x : Piece) → n ≤ length rest → seen_in d k (needs n rest x) ≡ seen_by (first_row (alone d k x)) x n
+seen_whole d k n rest x h = ap (λ (b : Bool). seen_in d k (if b then Cut else Whole x n)) (le-ltb (length rest) n h)

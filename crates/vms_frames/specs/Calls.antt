@@ -1,5 +1,5 @@
 -- What the calls of a cursor answer, by the unit that stands at the front of what is left and the rows that it alone decides.
-use Rattle.std.specs.Prelude.{◌≡◌, ℕ, ◌+◌, true, false, List, [], ◌∷◌, length, get_or, take, drop, Option, Some, None, Result, Ok, Err, ℤ, IfSome}
+use Rattle.std.specs.Prelude.{◌≡◌, ℕ, ◌+◌, Bool, true, false, List, [], ◌∷◌, length, get_or, take, drop, Option, Some, None, Result, Ok, Err, ℤ, IfSome}
 use Rattle.vms_kinds.specs.declared.Kind.{Kind}
 use Rattle.vms_kinds.specs.Codes.{width}
 use Rattle.vms_spec.specs.Layout.{Number as NumberSlot, Filler as FillerSlot}
@@ -13,7 +13,6 @@ use Rattle.vms_stream.specs.Dues.{Due, AMagic, AVersion, AfterFields, begins_nex
 use Rattle.vms_stream.specs.Seen.{Seen, Good, Bad, Short, seen}
 use Rattle.vms_stream.specs.Taking.{nothing_known}
 use Rattle.vms_frames.specs.Stands.{Stand}
-use Rattle.vms_frames.specs.Found.{step_long}
 use Rattle.vms_frames.specs.declared.fault.FrameFault.{FrameFault}
 use Rattle.vms_frames.specs.declared.fault.FrameFault.TheVariants.{Refused, ReadFault}
 use Rattle.vms_frames.specs.declared.units.Between.{Between}
@@ -28,6 +27,16 @@ use Rattle.vms_frames.specs.declared.units.After.{After}
 use Rattle.vms_frames.specs.declared.units.After.TheVariants.{Sub, Next, Done}
 
 -- ---- the unit that an answer stands for, and what is due at a place
+
+-- how many bytes a unit between sections has
+abbrev pub step_long : Step → ℕ
+step_long (steps.Configuration name) = 5 + length name.items
+step_long (steps.Section head) = 14 + length head.name.items
+step_long steps.End = 1
+
+abbrev pub is_configuration : Step → Bool
+is_configuration (steps.Configuration name) = true
+is_configuration step = false
 
 abbrev pub unit_of_step : Step → Piece
 unit_of_step (steps.Configuration name) = Configuration name.items
@@ -56,6 +65,23 @@ ahead (Some b) left = b ∷ left
 abbrev pub IsNext : Behind → Type 0
 IsNext (behinds.Next b) = Unit {0}
 IsNext _ = ⊥
+
+-- how many bytes were read behind fields
+abbrev pub behind_long : Behind → ℕ
+behind_long (behinds.Sub name v) = 6 + length name.items
+behind_long (behinds.Next b) = 1
+behind_long behinds.Done = 5
+
+-- what is answered of it, and the byte that is held then
+abbrev pub after_of : Result Behind FrameFault → Result After FrameFault
+after_of (Ok (behinds.Sub name v)) = Ok (Sub name v)
+after_of (Ok (behinds.Next b)) = Ok Next
+after_of (Ok behinds.Done) = Ok Done
+after_of (Err fault) = Err fault
+
+abbrev pub held_of : Result Behind FrameFault → Option ℕ
+held_of (Ok (behinds.Next b)) = Some b
+held_of _ = None
 
 -- so many bytes are held
 abbrev pub held_long : Option ℕ → ℕ

@@ -1,13 +1,10 @@
 // One unit each, from its first byte.
-ghost use Rattle.std.specs.Prelude.{◌≡◌, true, false, ◌∷◌, [], ◌≤◌, length, get_or, IfOk};
-ghost use Rattle.vms_kinds.specs.Codes.{InRange, width};
-ghost use Rattle.vms_marks.specs.Marks.{mark_of};
-ghost use Rattle.vms_frames.specs.Found.{magic_found, version_found, step_long, is_configuration, head_found, start_found, start_reason as start_reason_of, sub_reason as sub_reason_of, configuration_found, number_found, behind_long, behind_found, behind_mark_found, begins as begins_of, sub_found, foot_found, description_found};
-ghost use Rattle.vms_frames.specs.Calls.{IsNext};
+ghost use Rattle.std.specs.Prelude.{◌≡◌, true, false, ◌∷◌, [], ◌≤◌, length, IfOk};
+ghost use Rattle.vms_kinds.specs.Codes.{InRange};
+ghost use Rattle.vms_frames.specs.Calls.{IsNext, is_configuration, tail_of};
 ghost use Rattle.vms_io.specs.Told.{intake};
-ghost use Rattle.vms_frames.specs.Reads.{ReadsUnit, ReadsStep, ReadsMarked, ReadsTrailer};
+ghost use Rattle.vms_frames.specs.Reads.{ReadsMagic, ReadsVersion, ReadsCode, ReadsStep, ReadsNext, ReadsBehind, ReadsSub, ReadsFoot, ReadsText, ReadsTrailer, IsBegun, held_bytes, head_seen, start_seen, configuration_seen, start_reason as start_reason_of, sub_reason as sub_reason_of};
 ghost use Rattle.vms_frames.specs.declared.read.TheConstants.{LONGEST_DESCRIPTION};
-ghost use Rattle.vms_marks.specs.declared.head.TheConstants.{LONGEST_HEAD};
 
 use crate::fault::refused;
 use crate::fill::{Unit, fill, grow, pass};
@@ -29,8 +26,8 @@ const LONGEST_DESCRIPTION: u64 = 16_777_221;
 
 /// The first four bytes of a stream, which tell that it is one.
 pub(crate) fn magic<S: Source>(source: &mut S, at: u64) -> Result<(), FrameFault>
-    ensures reads { ReadsUnit (intake S.Source source.old) (intake S.Source source.new)
-        (λ _. 4) 4 magic_found [] at result }
+    ensures reads { ReadsMagic (intake S.Source source.old) (intake S.Source source.new)
+        at result }
 {
     let mut unit = Unit::new();
     grow(source, at, &mut unit, 4)?;
@@ -42,8 +39,8 @@ pub(crate) fn magic<S: Source>(source: &mut S, at: u64) -> Result<(), FrameFault
 
 /// The version of the stream's form.
 pub(crate) fn version<S: Source>(source: &mut S, at: u64) -> Result<(), FrameFault>
-    ensures reads { ReadsUnit (intake S.Source source.old) (intake S.Source source.new)
-        (λ _. 4) 4 version_found [] at result }
+    ensures reads { ReadsVersion (intake S.Source source.old) (intake S.Source source.new)
+        at result }
 {
     let mut unit = Unit::new();
     grow(source, at, &mut unit, 4)?;
@@ -58,8 +55,8 @@ pub(crate) fn version<S: Source>(source: &mut S, at: u64) -> Result<(), FrameFau
 #[inline(always)]
 pub(crate) fn number<S: Source>(source: &mut S, at: u64, kind: Kind) -> Result<i128, FrameFault>
     ensures range { IfOk result (InRange kind) }
-    ensures reads { ReadsUnit (intake S.Source source.old) (intake S.Source source.new)
-        (λ _. width kind) (width kind) (number_found kind) [] at result }
+    ensures reads { ReadsCode (intake S.Source source.old) (intake S.Source source.new)
+        kind at result }
 {
     let mut room = [0; 8];
     let code = &mut room[..kind.width()];
@@ -78,7 +75,7 @@ pub(crate) fn step<S: Source>(
     held: Option<u8>,
 ) -> Result<Step, FrameFault>
     ensures reads { ReadsStep (intake S.Source source.old) (intake S.Source source.new)
-        between held at result }
+        between (held_bytes held) at result }
     ensures place { IfOk result (λ step. is_configuration step ≡ true → between ≡ Between.First) }
 {
     let mut unit = Unit::new();
@@ -97,7 +94,7 @@ fn marked<S: Source>(
     unit: Unit,
 ) -> Result<Step, FrameFault>
     requires { length unit.items ≡ 1 }
-    ensures reads { ReadsMarked (intake S.Source source.old) (intake S.Source source.new)
+    ensures reads { ReadsStep (intake S.Source source.old) (intake S.Source source.new)
         between unit.items at result }
     ensures place { IfOk result (λ step. is_configuration step ≡ true → between ≡ Between.First) }
 {
@@ -128,8 +125,8 @@ fn sub_reason(between: Between) -> Reason
 // The head of a section, of which the mark came.
 fn section<S: Source>(source: &mut S, at: u64, unit: Unit) -> Result<Step, FrameFault>
     requires { length unit.items ≡ 1 }
-    ensures reads { ReadsUnit (intake S.Source source.old) (intake S.Source source.new)
-        step_long LONGEST_HEAD head_found unit.items at result }
+    ensures reads { ReadsNext (intake S.Source source.old) (intake S.Source source.new)
+        head_seen unit.items at result }
     ensures section { IfOk result (λ step. is_configuration step ≡ false) }
 {
     let mut unit = unit;
@@ -142,8 +139,8 @@ fn section<S: Source>(source: &mut S, at: u64, unit: Unit) -> Result<Step, Frame
 // A configuration, of which the mark came.
 fn configuration<S: Source>(source: &mut S, at: u64, unit: Unit) -> Result<Step, FrameFault>
     requires { length unit.items ≡ 1 }
-    ensures reads { ReadsUnit (intake S.Source source.old) (intake S.Source source.new)
-        step_long LONGEST_HEAD configuration_found unit.items at result }
+    ensures reads { ReadsNext (intake S.Source source.old) (intake S.Source source.new)
+        configuration_seen unit.items at result }
 {
     let mut unit = unit;
     grow(source, at, &mut unit, CONFIGURATION_FRONT - 1)?;
@@ -158,8 +155,8 @@ fn configuration<S: Source>(source: &mut S, at: u64, unit: Unit) -> Result<Step,
 // A section that is sent in parts, of which the mark came.
 fn start<S: Source>(source: &mut S, at: u64, unit: Unit) -> Result<Step, FrameFault>
     requires { length unit.items ≡ 1 }
-    ensures reads { ReadsUnit (intake S.Source source.old) (intake S.Source source.new)
-        step_long LONGEST_HEAD start_found unit.items at result }
+    ensures reads { ReadsNext (intake S.Source source.old) (intake S.Source source.new)
+        start_seen unit.items at result }
     ensures none { IfOk result (λ step. is_configuration step ≡ false) }
 {
     let mut unit = unit;
@@ -187,8 +184,8 @@ pub(crate) fn behind<S: Source>(
     id: u32,
     tail: Tail,
 ) -> Result<Behind, FrameFault>
-    ensures reads { ReadsUnit (intake S.Source source.old) (intake S.Source source.new)
-        behind_long 261 (behind_found tail id) [] at result }
+    ensures reads { ReadsBehind (intake S.Source source.old) (intake S.Source source.new)
+        tail id [] at result }
     ensures next { IfOk result (λ behind. IsNext behind → tail ≡ Tail.Footed → ⊥) }
 {
     let mut unit = Unit::new();
@@ -205,61 +202,64 @@ fn behind_marked<S: Source>(
     unit: Unit,
 ) -> Result<Behind, FrameFault>
     requires { length unit.items ≡ 1 }
-    ensures reads { ReadsUnit (intake S.Source source.old) (intake S.Source source.new)
-        behind_long 261 (λ all. behind_mark_found tail id (get_or unit.items 0 0) all
-        (mark_of (get_or unit.items 0 0))) unit.items at result }
+    ensures reads { ReadsBehind (intake S.Source source.old) (intake S.Source source.new)
+        tail id unit.items at result }
     ensures next { IfOk result (λ behind. IsNext behind → tail ≡ Tail.Footed → ⊥) }
 {
-    match begins(tail, Mark::of(unit[0])) {
-        Begins::Sub => subsection(source, at, unit),
-        Begins::Footer => footer(source, at, id, unit),
+    match begins(tail, unit[0]) {
+        Begins::Sub => {
+            let SubHead { name, version } = subsection(source, at, unit)?;
+            Ok(Behind::Sub { name, version })
+        }
+        Begins::Footer => {
+            footer(source, at, id, unit)?;
+            Ok(Behind::Done)
+        }
         Begins::NoFooter => Err(no_footer(at)),
         Begins::Next => Ok(Behind::Next(unit[0])),
     }
 }
 
-// What begins behind fields with a mark: in a footed section a footer must come, and in a bare one none may.
-fn begins(tail: Tail, mark: Option<Mark>) -> Begins
-    ensures { result ≡ begins_of tail mark }
+// What begins behind fields with a byte: in a footed section a footer must come, and in a bare one none may.
+fn begins(tail: Tail, byte: u8) -> Begins
+    ensures { IsBegun (tail_of tail) byte result }
 {
-    match mark {
-        Some(Mark::Sub) => Begins::Sub,
-        Some(Mark::Footer) if tail != Tail::Bare => Begins::Footer,
-        _ => match tail {
-            Tail::Footed => Begins::NoFooter,
-            Tail::Unknown | Tail::Bare => Begins::Next,
-        },
+    if byte == Mark::Sub.byte() {
+        return Begins::Sub;
+    }
+    let is_footer = byte == Mark::Footer.byte();
+    match tail {
+        Tail::Unknown | Tail::Footed if is_footer => Begins::Footer,
+        Tail::Footed => Begins::NoFooter,
+        Tail::Unknown | Tail::Bare => Begins::Next,
     }
 }
 
 // The head of a subsection, of which the mark came.
-fn subsection<S: Source>(source: &mut S, at: u64, unit: Unit) -> Result<Behind, FrameFault>
+fn subsection<S: Source>(source: &mut S, at: u64, unit: Unit) -> Result<SubHead, FrameFault>
     requires { length unit.items ≡ 1 }
-    ensures reads { ReadsUnit (intake S.Source source.old) (intake S.Source source.new)
-        behind_long 261 sub_found unit.items at result }
-    ensures next { IfOk result (λ behind. IsNext behind → ⊥) }
+    ensures { ReadsSub (intake S.Source source.old) (intake S.Source source.new)
+        unit.items at result }
 {
     let mut unit = unit;
     grow(source, at, &mut unit, SUB_FRONT - 1)?;
     let ahead = SubHead::name_length(&unit) + 4;
     grow(source, at, &mut unit, ahead)?;
-    let SubHead { name, version } = SubHead::of(&unit);
-    Ok(Behind::Sub { name, version })
+    Ok(SubHead::of(&unit))
 }
 
 // The footer of the section with this id, of which the mark came.
-fn footer<S: Source>(source: &mut S, at: u64, id: u32, unit: Unit) -> Result<Behind, FrameFault>
+fn footer<S: Source>(source: &mut S, at: u64, id: u32, unit: Unit) -> Result<(), FrameFault>
     requires { length unit.items ≡ 1 }
-    ensures reads { ReadsUnit (intake S.Source source.old) (intake S.Source source.new)
-        behind_long 261 (foot_found id) unit.items at result }
-    ensures next { IfOk result (λ behind. IsNext behind → ⊥) }
+    ensures { ReadsFoot (intake S.Source source.old) (intake S.Source source.new)
+        id unit.items at result }
 {
     let mut unit = unit;
     grow(source, at, &mut unit, 4)?;
     if Foot::of(&unit).id != id {
         return Err(no_footer(at));
     }
-    Ok(Behind::Done)
+    Ok(())
 }
 
 // What stands at this place is not the footer that the section must have.
@@ -286,8 +286,8 @@ pub(crate) fn trailer<S: Source>(source: &mut S, at: u64) -> Result<u64, FrameFa
 
 // A description section, of which the mark came, and how many bytes it has with its mark.
 fn description<S: Source>(source: &mut S, at: u64) -> Result<u64, FrameFault>
-    ensures reads { ReadsUnit (intake S.Source source.old) (intake S.Source source.new)
-        (λ n. n) LONGEST_DESCRIPTION description_found (0x06 ∷ []) at result }
+    ensures reads { ReadsText (intake S.Source source.old) (intake S.Source source.new)
+        (0x06 ∷ []) at result }
     ensures least { IfOk result (λ n. 5 ≤ n) }
     ensures most { IfOk result (λ n. n ≤ LONGEST_DESCRIPTION) }
 {

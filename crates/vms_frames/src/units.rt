@@ -72,7 +72,7 @@ pub(crate) enum Begins {
 }
 
 impl Step {
-    ghost use Rattle.vms_frames.specs.Found.{step_long};
+    ghost use Rattle.vms_frames.specs.Calls.{step_long};
 
     // The number of its bytes.
     pub(crate) fn long(&self) -> u64

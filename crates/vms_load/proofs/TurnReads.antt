@@ -17,8 +17,7 @@ use Rattle.vms_stream.specs.Taking.{nothing_known}
 use Rattle.vms_stream.proofs.Calls.Judged.{judged_holds}
 use Rattle.vms_marks.specs.declared.head.Head.{Head}
 use Rattle.vms_frames.specs.Stands.{Stand}
-use Rattle.vms_frames.specs.Found.{step_long}
-use Rattle.vms_frames.specs.Calls.{ahead, due_of, unit_of_step, ReadsBetween, AnswersSeen, AnswersAfter, AnswersHead}
+use Rattle.vms_frames.specs.Calls.{step_long, ahead, due_of, unit_of_step, ReadsBetween, AnswersSeen, AnswersAfter, AnswersHead}
 use Rattle.vms_frames.specs.declared.units.Between.{Between}
 use Rattle.vms_frames.specs.declared.units.Between.TheVariants.{First, AfterConfiguration, Later}
 use Rattle.vms_frames.specs.declared.units.Step.{Step}

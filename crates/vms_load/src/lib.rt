@@ -15,5 +15,6 @@ mod stream;
 
 pub use fault::LoadFault;
 pub use loader::Loader;
+pub use staged::default_images;
 pub use vms_frames::Refusal;
 pub use vms_spec::Reason;

@@ -1,5 +1,5 @@
 // The loader of a set's streams.
-ghost use Rattle.std.specs.Prelude.{◌≡◌, ◌<◌, map, IfSome, IfOk, OnOk, OnErr};
+ghost use Rattle.std.specs.Prelude.{◌≡◌, ◌<◌, map, IfOk, OnOk, OnErr};
 ghost use Rattle.vms_spec.specs.Images.{default_image};
 ghost use Rattle.vms_parts.specs.Views.{set_of};
 ghost use Rattle.vms_desc.specs.Described.{described};
@@ -8,7 +8,7 @@ ghost use Rattle.vms_image.specs.Typed.{AreImagesOf, state_of as untyped};
 ghost use Rattle.vms_load.specs.Staging.{AreShaped};
 
 use crate::LoadFault;
-use crate::staged::{Staged, defaults};
+use crate::staged::{Staged, default_images};
 use crate::stream::stream;
 use arrayvec::ArrayVec;
 use std::alloc::Global;
@@ -117,9 +117,9 @@ fn room(alloc: Global, set: &DescSet) -> Result<(Vec<Image>, Staged), NoMemory>
     ensures shaped { IfOk result (λ room. AreShaped (described set.now) room.0.items) }
     ensures spare { IfOk result (λ room. AreShaped (described set.now) room.1.images.items) }
 {
-    let images = defaults(alloc, set)?;
+    let images = default_images(alloc, set)?;
     let staged = Staged {
-        images: defaults(alloc, set)?,
+        images: default_images(alloc, set)?,
         came: ArrayVec::new(),
         machine: None,
         tail: Tail::Unknown,

@@ -7,7 +7,7 @@ ghost use Rattle.vms_spec.specs.Units.{Configuration, End};
 ghost use Rattle.vms_stream.specs.Judged.{ask};
 ghost use Rattle.vms_stream.specs.State.{Before, Free, at_start};
 ghost use Rattle.vms_desc.specs.Described.{described};
-ghost use Rattle.vms_image.specs.Typed.{default_at, state_of as untyped};
+ghost use Rattle.vms_image.specs.Typed.{AreImagesOf, default_at, state_of as untyped};
 ghost use Rattle.vms_load.specs.Reads.{Settles, IsRefused};
 ghost use Rattle.vms_load.specs.Staging.{AreShaped, IsOf, IsMachine, IsAccepted, accepted_of, no_image, state_of, spot_at};
 
@@ -36,10 +36,11 @@ pub(crate) struct Staged {
 }
 
 /// The image of each device at its defaults.
-pub(crate) fn defaults(alloc: Global, set: &DescSet) -> Result<Vec<Image>, NoMemory>
+pub fn default_images(alloc: Global, set: &DescSet) -> Result<Vec<Image>, NoMemory>
     ensures states { let set = described set.now in
         IfOk result (λ images. map untyped images.items ≡ map (default_image set) set.devices) }
     ensures shaped { IfOk result (λ images. AreShaped (described set.now) images.items) }
+    ensures of { IfOk result (λ images. AreImagesOf (described set.now) images.items) }
 {
     let devices = set.parts().devices.as_slice().len();
     let mut images = Vec::with_capacity(alloc, devices)?;

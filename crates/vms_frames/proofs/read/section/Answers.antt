@@ -2,11 +2,13 @@ use Rattle.std.proofs.Common.{arith, ap, sym, ◌∙◌, ℕ, List, ◌≡◌, �
 use Rattle.std.proofs.lemmas.Result.{err_from_is_err_and}
 use Rattle.vms_marks.specs.Heads.{head_in}
 use Rattle.vms_frames.specs.declared.units.Step.TheVariants.{Section}
-use Rattle.vms_frames.specs.Found.{Whole, head_found, step_long}
+use Rattle.vms_stream.specs.Seen.{Good}
+use Rattle.vms_frames.specs.Calls.{step_long, unit_of_step}
+use Rattle.vms_frames.specs.Reads.{head_seen}
 use Rattle.vms_marks.specs.declared.head.Head.{Head}
-use Rattle.vms_frames.proofs.HeadLemmas.{kept_byte, head_whole, head_long}
+use Rattle.vms_frames.proofs.HeadLemmas.{kept_byte, head_begins, head_cut, head_whole, head_long}
 use Rattle.vms_frames.proofs.ReadsUnits.{unit_on, unit_whole, unit_short}
-use Rattle.vms_frames.proofs.CutLemmas.{head_begins, head_cut}
+use Rattle.vms_marks.specs.declared.head.TheConstants.{LONGEST_HEAD}
 use Rattle.vms_frames.proofs.read.section.Goals as goal
 
 pub of-requires : goal.of-requires
@@ -27,17 +29,17 @@ returns-clause-reads g c =
     let at5 : c.name_length-ahead.result ≡ get_or c.grow.new.unit.items 5 0 = c.name_length-ahead.ensures ∙ ap (λ (l : List ℕ). get_or l 5 0) c.deref.ensures.0 in
     let long : length unit ≡ 14 + get_or unit 5 0 = omega (arith, byte, at5, c.requires, one.long, two.long) in
     let same : c.of.result ≡ head_in unit = c.of.ensures ∙ ap head_in c.deref-2.ensures.0 in
-    unit_on step_long 269 head_found c.args.at (Ok (Section c.of.result)) one
-    (unit_on step_long 269 head_found c.args.at (Ok (Section c.of.result)) two
-    (unit_whole step_long 269 head_found unit c.args.at (Section c.of.result) (g.met.S.Source.counted c.grow-2.new.source)
+    unit_on (λ _. unit_of_step) step_long LONGEST_HEAD head_seen c.args.at (Ok (Section c.of.result)) one
+    (unit_on (λ _. unit_of_step) step_long LONGEST_HEAD head_seen c.args.at (Ok (Section c.of.result)) two
+    (unit_whole (λ _. unit_of_step) step_long LONGEST_HEAD head_seen unit c.args.at (Section c.of.result) (g.met.S.Source.counted c.grow-2.new.source)
     (head_long unit long ∙ ap (λ (h : Head). step_long (Section h)) (sym same))
-    (λ rest. head_whole unit rest long ∙ ap (λ (h : Head). Whole (Section h)) (sym same))))
+    (λ rest. head_whole unit rest long ∙ ap (λ (h : Head). Good (unit_of_step (Section h)) (step_long (Section h))) (sym same))))
 
 pub returns-in_err-grow-clause-reads : goal.returns-in_err-grow-clause-reads
 returns-in_err-grow-clause-reads g c =
     let p = err_from_is_err_and c.from_residual.result c.from_residual.ensures.1 in
     rw (p.1, p.2)
-    (unit_short step_long 269 head_found c.args.unit.items c.args.at c.in_err-grow.field-0.0 (omega (arith, c.requires)) c.in_err-grow.ensures.cut
+    (unit_short (λ _. unit_of_step) step_long LONGEST_HEAD head_seen c.args.unit.items c.args.at c.in_err-grow.field-0.0 (omega (arith, c.requires)) c.in_err-grow.ensures.cut
     (λ rest lt. head_begins c.args.unit.items rest (omega (arith, lt, c.requires))))
 
 pub returns-in_err-grow-2-clause-reads : goal.returns-in_err-grow-2-clause-reads
@@ -48,6 +50,6 @@ returns-in_err-grow-2-clause-reads g c =
     let byte : c.name_length-ahead.result < 256 = search rules in
     let p = err_from_is_err_and c.from_residual-in_err-grow-2.result c.from_residual-in_err-grow-2.ensures.1 in
     rw (p.1, p.2)
-    (unit_on step_long 269 head_found c.args.at (Err c.in_err-grow-2.field-0.0) one
-    (unit_short step_long 269 head_found unit c.args.at c.in_err-grow-2.field-0.0 (omega (arith, c.requires, one.long, byte)) c.in_err-grow-2.ensures.cut
+    (unit_on (λ _. unit_of_step) step_long LONGEST_HEAD head_seen c.args.at (Err c.in_err-grow-2.field-0.0) one
+    (unit_short (λ _. unit_of_step) step_long LONGEST_HEAD head_seen unit c.args.at c.in_err-grow-2.field-0.0 (omega (arith, c.requires, one.long, byte)) c.in_err-grow-2.ensures.cut
     (λ rest lt. head_cut unit rest (omega (arith, c.requires, one.long)) (omega (arith, lt, at5, c.requires, one.long)))))

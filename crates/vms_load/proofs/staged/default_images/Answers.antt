@@ -3,8 +3,8 @@ use Rattle.std.proofs.lemmas.List.{length-map}
 use Rattle.vms_spec.specs.Sets.{Set}
 use Rattle.vms_parts.specs.Views.{device_of}
 use Rattle.vms_desc.specs.Described.{described}
-use Rattle.vms_load.proofs.StagedLemmas.{made_all, made_shaped}
-use Rattle.vms_load.proofs.staged.defaults.Goals as goal
+use Rattle.vms_load.proofs.StagedLemmas.{are_images, made_all, made_shaped}
+use Rattle.vms_load.proofs.staged.default_images.Goals as goal
 
 pub returns-clause-states : goal.returns-clause-states
 returns-clause-states c =
@@ -17,3 +17,9 @@ returns-clause-shaped c =
     let set = described c.args.set.now in
     let n = ap length c.as_slice-devices.ensures ∙ sym (length-map c.parts.result.now.devices device_of) ∙ ap (λ (s : Set). length s.devices) c.parts.ensures in
     made_shaped set c.loop-device.images.items c.loop-device.device c.loop-device.invariant (omega (arith, n, c.loop-device-test.false, c.loop-device.auto.device-end))
+
+pub returns-clause-of : goal.returns-clause-of
+returns-clause-of c =
+    let set = described c.args.set.now in
+    let n = ap length c.as_slice-devices.ensures ∙ sym (length-map c.parts.result.now.devices device_of) ∙ ap (λ (s : Set). length s.devices) c.parts.ensures in
+    are_images set c.loop-device.images.items (made_shaped set c.loop-device.images.items c.loop-device.device c.loop-device.invariant (omega (arith, n, c.loop-device-test.false, c.loop-device.auto.device-end)))

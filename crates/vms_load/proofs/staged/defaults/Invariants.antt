@@ -1,6 +1,0 @@
-use Rattle.vms_desc.specs.Described.{described}
-use Rattle.vms_load.proofs.StagedLemmas.{Made}
-use Rattle.vms_load.proofs.staged.defaults.Given as goal
-
-abbrev pub invariant-loop-device : goal.invariant-loop-device
-invariant-loop-device l = Made (described l.set) l.images.items l.device
