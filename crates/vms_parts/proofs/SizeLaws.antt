@@ -11,19 +11,13 @@ use Rattle.vms_parts.specs.Sizes.{in_u32, size_of, fields_size, subs_size, sizes
 use Rattle.vms_parts.specs.Views.{field_of, desc_of}
 use Rattle.vms_parts.proofs.Items.{drop_is, get_map_at}
 
-capped_sum : (s p r : ℕ) → in_u32 (in_u32 (s + in_u32 p) + r) ≡ in_u32 (s + (p + r))
-capped_sum s p r = omega arith
-
 -- sums over lists that a loop goes through: `whole` is the sum of what each has, `one`
 module _ {T : Type 0} (whole : List T → ℕ) (one : T → ℕ) (nothing : whole [] ≡ 0) (adds : (x : T) (xs : List T) → whole (x ∷ xs) ≡ one x + whole xs) where
-  pub sum_goes : (xs : List T) (i sum part all : ℕ) (x : T) → i < length xs → x ≡ get_or xs i x → part ≡ in_u32 (one x)
-      → in_u32 (sum + whole (drop i xs)) ≡ all → in_u32 (in_u32 (sum + part) + whole (drop (i + 1) xs)) ≡ all
-  sum_goes xs i sum part all x lt is has e =
-      let rest = drop (i + 1) xs in
-      ap (λ (n : ℕ). in_u32 (in_u32 (sum + n) + whole rest)) has
-      ∙ capped_sum sum (one x) (whole rest)
-      ∙ ap (λ (n : ℕ). in_u32 (sum + n)) (sym (adds x rest))
-      ∙ ap (λ (l : List T). in_u32 (sum + whole l)) (sym (drop_is xs i x lt is)) ∙ e
+  pub sum_goes : (xs : List T) (i sum new all : ℕ) (x : T) → i < length xs → x ≡ get_or xs i x → new ≡ in_u32 (sum + one x)
+      → in_u32 (sum + whole (drop i xs)) ≡ all → in_u32 (new + whole (drop (i + 1) xs)) ≡ all
+  sum_goes xs i sum new all x lt is has e =
+      let next : whole (drop i xs) ≡ one x + whole (drop (i + 1) xs) = ap whole (drop_is xs i x lt is) ∙ adds x (drop (i + 1) xs) in
+      omega (arith, has, next, e)
 
   pub sum_ends : (xs : List T) (i sum all : ℕ) → length xs ≤ i → sum < 2 ^ 32 → in_u32 (sum + whole (drop i xs)) ≡ all → sum ≡ all
   sum_ends xs i sum all over small e =

@@ -1,16 +1,12 @@
 -- How many items a set has, where sums end at 2 ^ 32 - 1.
-use Rattle.std.proofs.Common.{◌≡◌, ℕ, ◌+◌, ◌^◌, ◌<◌, ◌≤◌, List, ◌∷◌, length, get_or, drop, map, refl, sym, ap, ◌∙◌, arith, []}
+use Rattle.std.proofs.Common.{◌≡◌, ℕ, ◌+◌, ◌^◌, List, ◌∷◌, length, map, refl, sym, ap, ◌∙◌, arith, []}
 use Rattle.std.specs.Prelude.{nat_le}
 use Rattle.std.proofs.lemmas.Bool.Decides.{nat_tests}
-use Rattle.std.proofs.lemmas.List.{drop_all}
 use Rattle.vms_spec.specs.declared.TheConstants.{MOST_ITEMS}
 use Rattle.vms_spec.specs.Sets as sets
 use Rattle.vms_spec.specs.WellFormed.{items_in, struct_items, subs_items, devices_items}
 use Rattle.vms_parts.specs.declared.sizes.Measure.TheVariants.{Items}
-use Rattle.vms_parts.specs.declared.types.Device.{Device}
 use Rattle.vms_parts.specs.Sizes.{in_u32, fields_size, subs_size, sizes_to}
-use Rattle.vms_parts.specs.Views.{field_of, sub_of, device_of}
-use Rattle.vms_parts.proofs.Items.{drop_is}
 use Rattle.vms_parts.proofs.SizeLaws.{capped_fields, capped_subs}
 use Rattle.vms_parts.proofs.ItemLaws.{items_are, items_to}
 
@@ -41,24 +37,3 @@ few_items structs devices sizes items is e =
     ap (λ (n : ℕ). nat_le n MOST_ITEMS) (e ∙ ap (λ (l : List ℕ). in_u32 (devices_items l devices)) is ∙ capped_devices (sizes_to Items structs (length structs)) devices)
     ∙ same_limit (devices_items (sizes_to Items structs (length structs)) devices)
     ∙ ap (λ (l : List ℕ). nat_le (devices_items l devices) MOST_ITEMS) (sym (items_to structs (length structs)))
-
--- ---- sums
-
-sum_of_three : (s p q r : ℕ) → in_u32 (in_u32 (in_u32 (s + in_u32 p) + in_u32 q) + r) ≡ in_u32 (s + (p + (q + r)))
-sum_of_three s p q r = omega arith
-
-pub devices_more : (sizes : List ℕ) (devices : List Device) (i sum own subs whole : ℕ) (d : Device) → i < length devices → d ≡ get_or devices i d
-    → own ≡ in_u32 (fields_size Items sizes (map field_of d.desc.fields)) → subs ≡ in_u32 (subs_items sizes (map sub_of d.subs))
-    → in_u32 (sum + devices_items sizes (map device_of (drop i devices))) ≡ whole
-    → in_u32 (in_u32 (in_u32 (sum + own) + subs) + devices_items sizes (map device_of (drop (i + 1) devices))) ≡ whole
-devices_more sizes devices i sum own subs whole d lt is size size_of_subs e =
-    ap (λ (n : ℕ). in_u32 (in_u32 (in_u32 (sum + n) + subs) + devices_items sizes (map device_of (drop (i + 1) devices)))) (size ∙ ap in_u32 (sym (items_are sizes (map field_of d.desc.fields))))
-    ∙ ap (λ (n : ℕ). in_u32 (in_u32 (in_u32 (sum + in_u32 (items_in sizes (map field_of d.desc.fields))) + n) + devices_items sizes (map device_of (drop (i + 1) devices)))) size_of_subs
-    ∙ sum_of_three sum (items_in sizes (map field_of d.desc.fields)) (subs_items sizes (map sub_of d.subs)) (devices_items sizes (map device_of (drop (i + 1) devices)))
-    ∙ ap (λ (l : List Device). in_u32 (sum + devices_items sizes (map device_of l))) (sym (drop_is devices i d lt is)) ∙ e
-
-pub devices_end : (sizes : List ℕ) (devices : List Device) (i sum whole : ℕ) → length devices ≤ i → sum < 2 ^ 32
-    → in_u32 (sum + devices_items sizes (map device_of (drop i devices))) ≡ whole → sum ≡ whole
-devices_end sizes devices i sum whole all small e =
-    let s : sum ≡ in_u32 (sum + 0) = omega arith in
-    s ∙ ap (λ (l : List Device). in_u32 (sum + devices_items sizes (map device_of l))) (sym (drop_all i devices all)) ∙ e

@@ -1,4 +1,4 @@
-use Rattle.std.proofs.Common.{◌≡◌, ◌+◌, List, ℕ, map, drop, refl, ap, ◌∙◌, arith}
+use Rattle.std.proofs.Common.{◌≡◌, ◌+◌, List, ℕ, map, refl, ap, ◌∙◌, arith}
 use Rattle.vms_parts.specs.declared.types.Field.{Field}
 use Rattle.vms_parts.specs.declared.types.Sub.{Sub}
 use Rattle.vms_parts.specs.declared.types.Device.{Device}
@@ -12,21 +12,16 @@ use Rattle.vms_counter.proofs.room.devices_bytes.Goals as goal
 pub loop-device-preserved : goal.loop-device-preserved
 loop-device-preserved c =
     let structs = c.args.structs.now in
-    let devices = c.args.devices.now in
     let d = c.device-item.result in
-    let i = c.loop-device.device-index in
     let whole : List Device → ℕ = λ l. devices_in structs (map device_of l) in
     let one : Device → ℕ = λ x. device_in structs (device_of x) in
     let own : c.fields_bytes-own.result ≡ in_u32 (fields_bytes structs (map field_of d.desc.fields)) =
     c.fields_bytes-own.ensures ∙ ap (λ (l : List Field). in_u32 (fields_bytes structs (map field_of l))) c.as_slice.ensures in
     let subs : c.subs_bytes-subs.result ≡ in_u32 (subs_in structs (map sub_of d.subs)) =
     c.subs_bytes-subs.ensures ∙ ap (λ (l : List Sub). in_u32 (subs_in structs (map sub_of l))) c.as_slice-in-loop-device.ensures in
-    let has : c.saturating_add-in-loop-device.result ≡ in_u32 (one d) = let first = c.saturating_add.ensures in let second = c.saturating_add-in-loop-device.ensures in omega (arith, first, second, own, subs) in
-    record {
-      small = c.saturating_add-sum.type_inv;
-      whole = ap (λ (n : ℕ). in_u32 (n + whole (drop (i + 1) devices))) c.saturating_add-sum.ensures
-          ∙ sum_goes whole one refl (λ x xs. refl) devices i c.loop-device.sum c.saturating_add-in-loop-device.result _ d c.loop-device-test.true c.device-item.is has c.loop-device.invariant.whole;
-    }
+    let has : c.saturating_add-sum.result ≡ in_u32 (c.loop-device.sum + one d) =
+    let first = c.saturating_add.ensures in let second = c.saturating_add-in-loop-device.ensures in let sum = c.saturating_add-sum.ensures in omega (arith, first, second, sum, own, subs) in
+    record { small = c.saturating_add-sum.type_inv; whole = sum_goes whole one refl (λ x xs. refl) c.args.devices.now c.loop-device.device-index c.loop-device.sum c.saturating_add-sum.result _ d c.loop-device-test.true c.device-item.is has c.loop-device.invariant.whole }
 
 pub returns : goal.returns
 returns c =

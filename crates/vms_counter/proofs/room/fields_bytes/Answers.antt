@@ -1,4 +1,4 @@
-use Rattle.std.proofs.Common.{◌≡◌, ◌+◌, ◌*◌, List, ℕ, map, drop, refl, ap, ◌∙◌}
+use Rattle.std.proofs.Common.{◌≡◌, ◌+◌, ◌*◌, List, ℕ, map, refl, ap, ◌∙◌, arith}
 use Rattle.vms_spec.specs.Layout.{capacity_of}
 use Rattle.vms_parts.specs.declared.types.Field.{Field}
 use Rattle.vms_parts.specs.Sizes.{in_u32}
@@ -10,18 +10,13 @@ use Rattle.vms_counter.proofs.room.fields_bytes.Goals as goal
 pub loop-field-preserved : goal.loop-field-preserved
 loop-field-preserved c =
     let structs = c.args.structs.now in
-    let fields = c.args.fields.now in
     let f = c.field-item.result in
-    let i = c.loop-field.field-index in
     let whole : List Field → ℕ = λ fs. fields_bytes structs (map field_of fs) in
     let one : Field → ℕ = λ g. capacity_of g.count * item_bytes structs g.item in
-    let has : c.saturating_mul-bytes.result ≡ in_u32 (one f) =
+    let bytes : c.saturating_mul-bytes.result ≡ in_u32 (one f) =
     c.saturating_mul-bytes.ensures ∙ ap (λ (n : ℕ). in_u32 (n * c.item_bytes.result)) c.capacity.ensures ∙ ap (λ (n : ℕ). in_u32 (capacity_of f.count * n)) c.item_bytes.ensures in
-    record {
-      small = c.saturating_add-sum.type_inv;
-      whole = ap (λ (n : ℕ). in_u32 (n + whole (drop (i + 1) fields))) c.saturating_add-sum.ensures
-          ∙ sum_goes whole one refl (λ x xs. refl) fields i c.loop-field.sum c.saturating_mul-bytes.result _ f c.loop-field-test.true c.field-item.is has c.loop-field.invariant.whole;
-    }
+    let has : c.saturating_add-sum.result ≡ in_u32 (c.loop-field.sum + one f) = let sum = c.saturating_add-sum.ensures in omega (arith, sum, bytes) in
+    record { small = c.saturating_add-sum.type_inv; whole = sum_goes whole one refl (λ x xs. refl) c.args.fields.now c.loop-field.field-index c.loop-field.sum c.saturating_add-sum.result _ f c.loop-field-test.true c.field-item.is has c.loop-field.invariant.whole }
 
 pub returns : goal.returns
 returns c =

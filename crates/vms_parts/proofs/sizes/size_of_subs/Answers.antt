@@ -1,4 +1,4 @@
-use Rattle.std.proofs.Common.{◌≡◌, ◌+◌, List, ℕ, map, drop, refl, ap, ◌∙◌}
+use Rattle.std.proofs.Common.{◌≡◌, ◌+◌, List, ℕ, map, refl, ap, ◌∙◌, arith}
 use Rattle.vms_parts.specs.declared.types.Field.{Field}
 use Rattle.vms_parts.specs.declared.types.Sub.{Sub}
 use Rattle.vms_parts.specs.Sizes.{in_u32, fields_size, subs_size}
@@ -10,18 +10,13 @@ pub loop-sub-preserved : goal.loop-sub-preserved
 loop-sub-preserved c =
     let m = c.args.measure in
     let sizes = c.args.sizes.now in
-    let subs = c.args.subs.now in
     let s = c.sub-item.result in
-    let i = c.loop-sub.sub-index in
     let whole : List Sub → ℕ = λ l. subs_size m sizes (map sub_of l) in
     let one : Sub → ℕ = λ x. fields_size m sizes (map field_of x.desc.fields) in
     let own : c.size_of_fields-own.result ≡ in_u32 (fields_size m sizes (map field_of s.desc.fields)) =
     c.size_of_fields-own.ensures ∙ ap (λ (l : List Field). in_u32 (fields_size m sizes (map field_of l))) c.as_slice.ensures in
-    record {
-      small = c.saturating_add-sum.type_inv;
-      whole = ap (λ (n : ℕ). in_u32 (n + whole (drop (i + 1) subs))) c.saturating_add-sum.ensures
-          ∙ sum_goes whole one refl (λ x xs. refl) subs i c.loop-sub.sum c.size_of_fields-own.result _ s c.loop-sub-test.true c.sub-item.is own c.loop-sub.invariant.whole;
-    }
+    let has : c.saturating_add-sum.result ≡ in_u32 (c.loop-sub.sum + one s) = let sum = c.saturating_add-sum.ensures in omega (arith, sum, own) in
+    record { small = c.saturating_add-sum.type_inv; whole = sum_goes whole one refl (λ x xs. refl) c.args.subs.now c.loop-sub.sub-index c.loop-sub.sum c.saturating_add-sum.result _ s c.loop-sub-test.true c.sub-item.is has c.loop-sub.invariant.whole }
 
 pub returns : goal.returns
 returns c =
