@@ -105,16 +105,19 @@ module _ (now : ℕ) (port : Port) (sound : IsSound now port) where
     transmitter = thr-sound now (character_time port.divisor port.lcr) byte (is_some port.fifos) port.thr_empty port.transmitter (character-positive port.divisor port.lcr) longest b sound.transmitter;
   }
 
-  registers-kept : (divisor ier lcr mcr scr : ℕ) → divisor < 65536 → ier ≤ 15 → lcr < 256 → mcr ≤ 31 → scr < 256 → HasRegisters port.level divisor ier lcr mcr scr (is_some port.fifos)
-  registers-kept divisor ier lcr mcr scr a b c d e = record {
+  registers-with : (divisor ier lcr mcr scr : ℕ) (fifos : Option Trigger) → divisor < 65536 → ier ≤ 15 → lcr < 256 → mcr ≤ 31 → scr < 256 → (is_some fifos ≡ true → 2 ≤ port.level) → HasRegisters port.level divisor ier lcr mcr scr (is_some fifos)
+  registers-with divisor ier lcr mcr scr fifos a b c d e f = record {
     is_level = sound.registers.is_level;
     divisor_range = a;
     ier_range = b;
     lcr_range = c;
     mcr_range = d;
     scr_range = e;
-    fifos = sound.registers.fifos;
+    fifos = f;
   }
+
+  registers-kept : (divisor ier lcr mcr scr : ℕ) → divisor < 65536 → ier ≤ 15 → lcr < 256 → mcr ≤ 31 → scr < 256 → HasRegisters port.level divisor ier lcr mcr scr (is_some port.fifos)
+  registers-kept divisor ier lcr mcr scr a b c d e = registers-with divisor ier lcr mcr scr port.fifos a b c d e sound.registers.fifos
 
   divisor-kept : (divisor : ℕ) → divisor < 65536 → IsSound now (record port { divisor = divisor })
   divisor-kept divisor h = record {
@@ -156,15 +159,8 @@ module _ (now : ℕ) (port : Port) (sound : IsSound now port) where
     sampled false empty latch e = inl e
 
   switched-registers : (fifos : Option Trigger) → (is_some fifos ≡ true → 2 ≤ port.level) → HasRegisters port.level port.divisor port.ier port.lcr port.mcr port.scr (is_some fifos)
-  switched-registers fifos h = let r = sound.registers in record {
-    is_level = r.is_level;
-    divisor_range = r.divisor_range;
-    ier_range = r.ier_range;
-    lcr_range = r.lcr_range;
-    mcr_range = r.mcr_range;
-    scr_range = r.scr_range;
-    fifos = h;
-  }
+  switched-registers fifos h =
+      let r = sound.registers in registers-with port.divisor port.ier port.lcr port.mcr port.scr fifos r.divisor_range r.ier_range r.lcr_range r.mcr_range r.scr_range h
 
   -- lists are cleared, and the switch is set
   switched : (clears_sent clears_held : Bool) (fifos : Option Trigger) → (is_some fifos ≡ true → 2 ≤ port.level) → (clears_sent ≡ false → is_some fifos ≡ is_some port.fifos) → (clears_held ≡ false → is_some fifos ≡ is_some port.fifos) → IsSound now (record (transmitter_cleared clears_sent (receiver_cleared clears_held port)) { fifos = fifos })

@@ -111,12 +111,12 @@ both base v a b text_of first second value small f s =
     let low : v % base ≡ b = ap (λ n. n % base) value ∙ mod-mul-add a base b small in
     ap (λ (t : List ℕ). t ++ second) (f ∙ ap text_of (sym high)) ∙ ap (λ (t : List ℕ). text_of (v / base) ++ t) (s ∙ ap text_of (sym low))
 
--- a text of a byte and of a port that are read
-pub record IsByteOf (text : List ℕ) (v : ℕ) : Type 0 where
-  pub small : v < 256
-  pub text_is : text ≡ byte_text v
+-- a text that is read, of a number below a limit
+pub record IsTextOf (limit : ℕ) (text_of : ℕ → List ℕ) (text : List ℕ) (n : ℕ) : Type 0 where
+  pub small : n < limit
+  pub text_is : text ≡ text_of n
 
-pub byte_is : (text : List ℕ) (v : ℕ) → byte_spelled text ≡ Some v → IsByteOf text v
+pub byte_is : (text : List ℕ) (v : ℕ) → byte_spelled text ≡ Some v → IsTextOf 256 byte_text text v
 byte_is [] v e = cc
 byte_is (a ∷ []) v e = cc
 byte_is (a ∷ b ∷ []) v e =
@@ -129,11 +129,7 @@ byte_is (a ∷ b ∷ []) v e =
     }
 byte_is (a ∷ b ∷ c ∷ text) v e = cc
 
-pub record IsPortOf (text : List ℕ) (p : ℕ) : Type 0 where
-  pub small : p < 65536
-  pub text_is : text ≡ port_text p
-
-pub port_is : (text : List ℕ) (p : ℕ) → port_spelled text ≡ Some p → IsPortOf text p
+pub port_is : (text : List ℕ) (p : ℕ) → port_spelled text ≡ Some p → IsTextOf 65536 port_text text p
 port_is [] p e = cc
 port_is (a ∷ []) p e = cc
 port_is (a ∷ b ∷ []) p e = cc
