@@ -1,5 +1,6 @@
 -- How the commands of boards end, by their steps.
-use Rattle.std.proofs.Common.{◌≡◌, ℕ, Bool, true, List, Result, Ok, Err, refl, sym, subst}
+use Rattle.std.proofs.Common.{◌≡◌, ℕ, Bool, true, false, ◌||◌, ◌==◌, List, [], ◌∷◌, ◌++◌, Result, Ok, Err, refl, sym, ap, subst, ◌∙◌}
+use Rattle.std.proofs.lemmas.Bool.{or_right}
 use Rattle.std.proofs.KnownBytes.{Keeps-refl}
 use Rattle.arrayvec.specs.ArrayVec.{ArrayVec}
 use Rattle.vms_board.specs.Saving.{Saves}
@@ -14,55 +15,74 @@ use Rattle.vms_session.specs.Playing.{Goes}
 use Rattle.vms_session.specs.declared.line.PlayFault.{PlayFault}
 use Rattle.vms_session.specs.declared.line.PlayFault.TheVariants as plays
 use Rattle.vms_commands.proofs.CourseLemmas.{asked, draws_none, same_so, writes_serve, wrong}
-use Rattle.vms_commands.specs.Courses.{Course, Draws, EndsSo, Risen, is_among}
-use Rattle.vms_commands.specs.Endings.{WritesAs, status_of}
+use Rattle.vms_commands.specs.Courses.{Course, Draws, EndsSo, Risen, is_among, of_shelf, text_course}
+use Rattle.vms_commands.specs.Endings.{SetCause, WritesAs, status_of}
 use Rattle.vms_commands.specs.declared.ending.Ending.{Ending}
 use Rattle.vms_commands.specs.declared.ending.Ending.TheVariants.{Done, Refused, BadText, ReadFault, WriteFault, ShelfFault, NotThere, TooLarge, NoMemory}
-use Rattle.vms_board_commands.specs.Causes.{NoScript, drill_course, load_course, play_course, save_course, stream_course}
+use Rattle.vms_board_commands.specs.Causes.{drill_course, load_course, play_course, save_course, stream_course}
 use Rattle.vms_board_commands.specs.Play.{ending_by}
 use Rattle.vms_board_commands.specs.Save.{ending_by as ending_of}
 
--- ---- the script isn't had
+-- ---- lists of statuses
 
--- a command that may end so
-pub record AsksShelf (course : Course) : Type 0 where
-  pub bad : is_among course.statuses 3 ≡ true
-  pub fault : is_among course.statuses 7 ≡ true
-  pub none : is_among course.statuses 8 ≡ true
-  pub large : is_among course.statuses 9 ≡ true
+or_here : (b c d : Bool) → b || c ≡ true → (c ≡ true → d ≡ true) → b || d ≡ true
+or_here true c d e f = refl
+or_here false c d e f = f e
+
+-- a status is among those of two lists where it is among those of one
+pub among_left : (xs ys : List ℕ) (k : ℕ) → is_among xs k ≡ true → is_among (xs ++ ys) k ≡ true
+among_left [] ys k e = absurd (cc)
+among_left (n ∷ xs) ys k e = or_here (n == k) (is_among xs k) (is_among (xs ++ ys) k) e (among_left xs ys k)
+
+pub among_right : (xs ys : List ℕ) (k : ℕ) → is_among ys k ≡ true → is_among (xs ++ ys) k ≡ true
+among_right [] ys k e = e
+among_right (n ∷ xs) ys k e = or_right (n == k) (is_among (xs ++ ys) k) (among_right xs ys k e)
+
+-- those of what the shelf holds come where it is asked
+pub shelf_has : (own : List ℕ) (asks : Bool) (k : ℕ) → asks ≡ true → is_among (of_shelf true) k ≡ true → is_among (own ++ of_shelf asks) k ≡ true
+shelf_has own asks k is one = among_right own (of_shelf asks) k (ap (λ (x : Bool). is_among (of_shelf x) k) is ∙ one)
+
+-- ---- a set or a script that isn't had
+
+-- a course that asks the shelf, or doesn't, and what it can answer then
+pub record MayAsk (course : Course) (asks : Bool) : Type 0 where
+  pub held : (k : ℕ) → asks ≡ true → is_among (of_shelf true) k ≡ true → is_among course.statuses k ≡ true
   pub memory : is_among course.statuses 10 ≡ true
-  pub asks : course.asks ≡ true
 
-module _ (i : Intake) (o : Outlet) {s s' : Stock} (course : Course) (may : AsksShelf course) (p : Looks s s') where
-  unread : (e : Ending) → is_among course.statuses (status_of e) ≡ true → Risen i i o o s s' e → EndsSo i i o o s s' course e
-  unread e can risen = record {
+pub text_asks : (own takes : List ℕ) (asks : Bool) → is_among own 10 ≡ true → MayAsk (text_course own takes asks) asks
+text_asks own takes asks ten = record { held = shelf_has own asks; memory = among_left own (of_shelf asks) 10 ten }
+
+pub save_asks : MayAsk save_course true
+save_asks = text_asks (0 ∷ 6 ∷ 10 ∷ []) [] true refl
+
+pub load_asks : MayAsk load_course true
+load_asks = text_asks (0 ∷ 1 ∷ 5 ∷ 6 ∷ 10 ∷ []) (0 ∷ 1 ∷ 5 ∷ 6 ∷ []) true refl
+
+pub play_asks : MayAsk play_course true
+play_asks = record { held = shelf_has (0 ∷ 6 ∷ 10 ∷ []) true; memory = refl }
+
+-- input and out aren't touched
+module _ (course : Course) (asks : Bool) (may : MayAsk course asks) (i : Intake) (o : Outlet) {s s' : Stock} (looks : Looks s s') (same : course.asks ≡ false → s' ≡ s) where
+  untouched : (e : Ending) → is_among course.statuses (status_of e) ≡ true → Risen i i o o s s' e → EndsSo i i o o s s' course e
+  untouched e can risen = record {
     can = can;
     risen = risen;
     out = λ f. Keeps-refl o.written;
     input = λ f. refl;
-    held = λ f. p.held;
-    shelf = λ f. absurd (asked course.asks may.asks f);
+    held = λ f. looks.held;
+    shelf = same;
     draws = draws_none i;
     serves = serves_none o;
-    reaches = looks_reaches p;
+    reaches = looks_reaches looks;
   }
 
-  pub script_so : (e : Ending) → NoScript s s' e → EndsSo i i o o s s' course e
-  script_so (BadText line) c = unread (BadText line) may.bad tt
-  script_so ShelfFault c = unread ShelfFault may.fault c
-  script_so (NotThere line) c = unread (NotThere line) may.none tt
-  script_so (TooLarge line) c = unread (TooLarge line) may.large tt
-  script_so NoMemory c = unread NoMemory may.memory tt
-  script_so e c = absurd c
-
-pub save_asks : AsksShelf save_course
-save_asks = record { bad = refl; fault = refl; none = refl; large = refl; memory = refl; asks = refl }
-
-pub load_asks : AsksShelf load_course
-load_asks = record { bad = refl; fault = refl; none = refl; large = refl; memory = refl; asks = refl }
-
-pub play_asks : AsksShelf play_course
-play_asks = record { bad = refl; fault = refl; none = refl; large = refl; memory = refl; asks = refl }
+  pub unset_so : (e : Ending) → SetCause asks s s' e → EndsSo i i o o s s' course e
+  unset_so (BadText line) c = untouched (BadText line) (may.held 3 c refl) tt
+  unset_so ShelfFault c = untouched ShelfFault (may.held 7 c.0 refl) c.1
+  unset_so (NotThere line) c = untouched (NotThere line) (may.held 8 c refl) tt
+  unset_so (TooLarge line) c = untouched (TooLarge line) (may.held 9 c refl) tt
+  unset_so NoMemory c = untouched NoMemory may.memory tt
+  unset_so e c = absurd c
 
 -- ---- a text is written
 

@@ -1,11 +1,12 @@
 -- A script that is fetched and read, as a step.
-use Rattle.std.proofs.Common.{◌≡◌, ℕ, List, Option, Result, None, Ok, Err, IfOk, refl, sym, subst}
+use Rattle.std.proofs.Common.{◌≡◌, ℕ, List, Option, Result, None, Ok, Err, IfOk, refl, sym, subst, Bool, true}
 use Rattle.std.specs.declared.alloc.Global.{Global}
 use Rattle.std.specs.declared.vec.Vec.{Vec}
 use Rattle.dev_board.specs.Laws.{AreEvents}
 use Rattle.dev_board.specs.declared.event.Event.{Event}
 use Rattle.vms_io.specs.Told.{Stock}
-use Rattle.vms_commands.specs.StepEndings.{FetchCause}
+use Rattle.vms_commands.specs.Endings.{SetCause}
+use Rattle.vms_commands.specs.StepEndings.{FetchCause, HadCause, ReadCause}
 use Rattle.vms_commands.specs.declared.ending.Ending.{Ending}
 use Rattle.vms_commands.specs.declared.ending.Ending.TheVariants.{BadText, ShelfFault, NotThere, TooLarge, NoMemory}
 use Rattle.vms_session.proofs.RunLemmas.{are_events}
@@ -15,7 +16,6 @@ use Rattle.vms_script.specs.Lines.{ScriptLine}
 use Rattle.vms_script.specs.Script.{Reading, script_read}
 use Rattle.vms_script.specs.Views.{event_lines, ReadsLines}
 use Rattle.vms_script.specs.declared.line.ScriptFault.{ScriptFault}
-use Rattle.vms_board_commands.specs.Causes.{NoScript, ReadCause, ScriptCause}
 
 module _ {T : Type 0} (lines : T → List ScriptLine) where
   -- lines that are read may stand in a script
@@ -34,21 +34,22 @@ module _ {T : Type 0} (lines : T → List ScriptLine) where
   had_lines play text read (Ok t) h same = good_lines play text t (subst (ReadsLines lines (script_read play text)) same h)
   had_lines play text read (Err e) h same = tt
 
-pub no_script : (s s' : Stock) (e : Ending) → FetchCause {T = Vec ℕ Global} s s' (Err e) → NoScript s s' e
-no_script s s' ShelfFault h = h
-no_script s s' (NotThere line) h = tt
-no_script s s' (TooLarge line) h = tt
-no_script s s' NoMemory h = tt
-no_script s s' e h = absurd h
+-- a text that isn't fetched, or isn't read, isn't had
+pub unfetched : (T : Type 0) (asks : Bool) (s s' : Stock) (e : Ending) → asks ≡ true → FetchCause {T = T} s s' (Err e) → SetCause asks s s' e
+unfetched T asks s s' ShelfFault is c = (is, c)
+unfetched T asks s s' (NotThere line) is c = is
+unfetched T asks s s' (TooLarge line) is c = is
+unfetched T asks s s' NoMemory is c = tt
+unfetched T asks s s' e is c = absurd c
 
-read-no-script : (T : Type 0) (s s' : Stock) (e : Ending) → ReadCause {T = T} (Err e) → NoScript s s' e
-read-no-script T s s' (BadText line) h = tt
-read-no-script T s s' NoMemory h = tt
-read-no-script T s s' e h = absurd h
+pub unread : (T : Type 0) (asks : Bool) (s s' : Stock) (e : Ending) → ReadCause {T = T} asks (Err e) → SetCause asks s s' e
+unread T asks s s' (BadText line) c = c
+unread T asks s s' NoMemory c = tt
+unread T asks s s' e c = absurd c
 
-pub read_caused : (T : Type 0) (s s' : Stock) (r : Result T Ending) → ReadCause r → ScriptCause s s' r
+pub read_caused : (T : Type 0) (s s' : Stock) (r : Result T Ending) → ReadCause true r → HadCause true s s' r
 read_caused T s s' (Ok v) h = tt
-read_caused T s s' (Err e) h = read-no-script T s s' e h
+read_caused T s s' (Err e) h = unread T true s s' e h
 
 -- events that are had may happen
 pub had_events : (text : List ℕ) (read : Result (Vec Event Global) ScriptFault) (r : Result (Vec Event Global) Ending) → ReadsLines (λ (v : Vec Event Global). event_lines v.items) (script_read None text) read

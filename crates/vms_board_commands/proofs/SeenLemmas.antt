@@ -1,5 +1,5 @@
 -- What is seen of an input, from the calls that read it to how a command ends.
-use Rattle.std.proofs.Common.{◌≡◌, ℕ, ◌+◌, ◌≤◌, true, false, List, [], ◌∷◌, ◌++◌, length, drop, drop_at, Option, Some, None, Ok, Err, IfSome, refl, sym, ap, ◌∙◌, subst, arith, length-append, length-drop}
+use Rattle.std.proofs.Common.{◌≡◌, ℕ, ◌+◌, ◌≤◌, Bool, true, false, List, [], ◌∷◌, ◌++◌, length, drop, drop_at, Option, Some, None, Ok, Err, IfSome, refl, sym, ap, ◌∙◌, subst, arith, length-append, length-drop}
 use Rattle.std.specs.Io.KnownBytes.{Consumes}
 use Rattle.std.specs.Prelude.{IsSomeAnd}
 use Rattle.std.proofs.lemmas.Option.{same_Some}
@@ -19,13 +19,12 @@ use Rattle.vms_load.proofs.ExactLoads.{fault_within}
 use Rattle.vms_commands.proofs.CourseLemmas.{wrong}
 use Rattle.vms_commands.proofs.EndLemmas.{text_written}
 use Rattle.vms_commands.specs.Courses.{is_among}
-use Rattle.vms_commands.specs.Endings.{EndsAs, EndsWith, WritesAs, status_of}
+use Rattle.vms_commands.specs.Endings.{EndsAs, EndsWith, SetCause, WritesAs, status_of}
 use Rattle.vms_commands.specs.Outcomes.{Outcome, TakesBytes, done, ended}
 use Rattle.vms_commands.specs.StepEndings.{StepAs}
 use Rattle.vms_commands.specs.Steps.{Step, Untold, Gives, Ends}
 use Rattle.vms_commands.specs.declared.ending.Ending.{Ending}
 use Rattle.vms_commands.specs.declared.ending.Ending.TheVariants.{Refused, WouldLose, BadText, ShelfFault, NotThere, TooLarge, NoMemory}
-use Rattle.vms_board_commands.specs.Causes.{NoScript}
 use Rattle.vms_board_commands.specs.Seen.{IsGiven, Seen, SeenAs, Sees, WithGiven}
 
 -- ---- what is taken
@@ -67,13 +66,14 @@ given_so m Untold t h = tt
 given_so m (Gives a) t h = h
 given_so m (Ends status line) t h = absurd h
 
-pub script_other : (s s' : Stock) (e : Ending) → NoScript s s' e → is_among (0 ∷ 1 ∷ 6 ∷ 11 ∷ []) (status_of e) ≡ false
-script_other s s' (BadText line) c = refl
-script_other s s' ShelfFault c = refl
-script_other s s' (NotThere line) c = refl
-script_other s s' (TooLarge line) c = refl
-script_other s s' NoMemory c = refl
-script_other s s' e c = absurd c
+-- what isn't had is seen of nothing
+pub set_other : (asks : Bool) (s s' : Stock) (e : Ending) → SetCause asks s s' e → is_among (0 ∷ 1 ∷ 6 ∷ 11 ∷ []) (status_of e) ≡ false
+set_other asks s s' (BadText line) c = refl
+set_other asks s s' ShelfFault c = refl
+set_other asks s s' (NotThere line) c = refl
+set_other asks s s' (TooLarge line) c = refl
+set_other asks s s' NoMemory c = refl
+set_other asks s s' e c = absurd c
 
 ended-as : {i i' : Intake} (P : List ℕ → Outcome → Type 0) (status : ℕ) (line : List ℕ) (taken : ℕ) → Sees P i i' (ended status line taken) → EndsWith status line i i' (ended status line taken)
 ended-as P status line taken sees = record { status_is = refl; parts = refl; note = refl; taken = takes_bytes taken sees.takes sees.long }

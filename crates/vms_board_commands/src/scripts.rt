@@ -1,13 +1,12 @@
 // Scripts that the words name: fetched from the shelf, and then read.
-ghost use Rattle.std.specs.Prelude.{◌≡◌, List, None, Ok, Some, IfOk, string_bytes};
+ghost use Rattle.std.specs.Prelude.{◌≡◌, true, List, None, Ok, Some, IfOk, string_bytes};
 ghost use Rattle.dev_board.specs.Laws.{AreEvents};
 ghost use Rattle.vms_io.specs.Told.{stock};
-ghost use Rattle.vms_commands.specs.StepEndings.{Asks, StepAs};
+ghost use Rattle.vms_commands.specs.StepEndings.{Asks, HadCause, ReadCause, StepAs};
 ghost use Rattle.vms_script.specs.Grammar.{AreLines};
 ghost use Rattle.vms_script.specs.Lines.{ScriptLine};
 ghost use Rattle.vms_script.specs.Script.{Reading};
 ghost use Rattle.vms_script.specs.Views.{event_lines, lines_view, ReadsLines};
-ghost use Rattle.vms_board_commands.specs.Causes.{ReadCause, ScriptCause};
 ghost use Rattle.vms_board_commands.specs.Scripts.{said_lines, script_line, script_reason_text, scripted};
 
 use dev_board::Event;
@@ -29,7 +28,7 @@ pub(crate) fn session_of<H: Shelf>(
     ensures read { StepAs (λ lines. lines_view lines.items)
         (scripted (Some level) (H.held shelf.old) name.now) result }
     ensures good { IfOk result (λ lines. AreLines (Some level) (lines_view lines.items)) }
-    ensures asks { Asks ScriptCause (stock H.Shelf shelf.old) (stock H.Shelf shelf.new) result }
+    ensures asks { Asks (HadCause true) (stock H.Shelf shelf.old) (stock H.Shelf shelf.new) result }
 {
     match fetch(alloc, name, LONGEST_SCRIPT, shelf) {
         Ok(text) => had(alloc, read_script(alloc, &text, Some(level))),
@@ -46,7 +45,7 @@ pub(crate) fn events_of<H: Shelf>(
     ensures read { StepAs (λ events. event_lines events.items)
         (scripted None (H.held shelf.old) name.now) result }
     ensures good { IfOk result (λ events. AreEvents events.items) }
-    ensures asks { Asks ScriptCause (stock H.Shelf shelf.old) (stock H.Shelf shelf.new) result }
+    ensures asks { Asks (HadCause true) (stock H.Shelf shelf.old) (stock H.Shelf shelf.new) result }
 {
     match fetch(alloc, name, LONGEST_SCRIPT, shelf) {
         Ok(text) => had(alloc, read_events(alloc, &text)),
@@ -59,7 +58,7 @@ fn had<T: Drop>(alloc: Global, read: Result<T, ScriptFault>) -> Result<T, Ending
     ensures read { (lines : T → List ScriptLine) (reading : Reading) → ReadsLines lines reading read
         → StepAs lines (said_lines reading) result }
     ensures same { IfOk result (λ t. read ≡ Ok t) }
-    ensures ends { ReadCause result }
+    ensures ends { ReadCause true result }
 {
     match read {
         Ok(lines) => Ok(lines),

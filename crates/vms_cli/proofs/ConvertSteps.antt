@@ -5,10 +5,8 @@ use Rattle.vms_io.specs.Told.{Intake, Outlet, Stock}
 use Rattle.vms_load.specs.Staging.{most_given}
 use Rattle.vms_spec.specs.Sets.{Set}
 use Rattle.vms_commands.specs.declared.ending.Ending.{Ending}
-use Rattle.vms_commands.specs.declared.ending.Ending.TheVariants.{BadText, ShelfFault, NotThere, TooLarge, NoMemory}
 use Rattle.vms_commands.specs.Outcomes.{Outcome}
-use Rattle.vms_commands.specs.Endings.{SetCause}
-use Rattle.vms_commands.specs.StepEndings.{ReadCause, StepAs, WordCause}
+use Rattle.vms_commands.specs.StepEndings.{StepAs}
 use Rattle.vms_commands.specs.Steps.{Step, Untold, Gives, Ends, HasBy, next}
 use Rattle.vms_board_commands.specs.Seen.{IsGiven, SeenAs, WithGiven}
 use Rattle.vms_board_commands.proofs.SeenLemmas.{sees_as}
@@ -52,18 +50,3 @@ pub gives_next : {A T : Type 0} (m : T → A) (f : A → Step Set) (s : Step A) 
 gives_next m f Untold t i i' h g = gives_few (f (m t)) i i' g
 gives_next {A} m f (Gives a) t i i' h g = subst (λ (x : A). ConvertGives (f x) i i') h g
 gives_next m f (Ends status line) t i i' h g = absurd h
-
--- ---- why the set isn't had
-
--- a set that isn't fetched, or isn't read
-pub unfetched : (asks : Bool) (s s' : Stock) (e : Ending) → WordCause {T = ℕ} asks s s' (Err e) → SetCause asks s s' e
-unfetched asks s s' ShelfFault c = (c.0, c.1)
-unfetched asks s s' (NotThere line) c = c.0
-unfetched asks s s' (TooLarge line) c = c.0
-unfetched asks s s' NoMemory c = tt
-unfetched asks s s' e c = absurd c.1
-
-pub unread : (asks : Bool) (s s' : Stock) (e : Ending) → ReadCause {T = ℕ} asks (Err e) → SetCause asks s s' e
-unread asks s s' (BadText line) c = c
-unread asks s s' NoMemory c = tt
-unread asks s s' e c = absurd c

@@ -1,20 +1,17 @@
 -- Each ending of a command, by what it touches.
-use Rattle.std.proofs.Common.{◌≡◌, ℕ, Bool, true, false, ◌||◌, ◌==◌, List, [], ◌∷◌, ◌++◌, Option, refl, sym, ap, subst, ◌∙◌}
-use Rattle.std.proofs.lemmas.Bool.{or_right}
+use Rattle.std.proofs.Common.{◌≡◌, ℕ, Bool, true, false, List, [], ◌∷◌, ◌++◌, Option, refl, sym, subst}
 use Rattle.std.specs.Io.KnownBytes.{Keeps}
-use Rattle.std.proofs.KnownBytes.{Keeps-refl}
 use Rattle.vms_io.specs.Causes.{Rose}
 use Rattle.vms_io.specs.Shelving.{Looks, Reaches}
-use Rattle.vms_io.proofs.ShelvingLemmas.{looks_reaches}
-use Rattle.vms_io.proofs.WritingLemmas.{serves_none}
 use Rattle.vms_io.specs.Told.{Intake, Outlet, Stock}
 use Rattle.vms_io.specs.Writing.{Serves}
 use Rattle.vms_board_commands.specs.Causes.{save_course}
 use Rattle.vms_commands.specs.declared.ending.Ending.{Ending}
 use Rattle.vms_commands.specs.declared.ending.Ending.TheVariants.{Done, BadText, NotCompatible, ReadFault, WriteFault, ShelfFault, NotThere, TooLarge, NoMemory}
-use Rattle.vms_commands.specs.Endings.{Caused, Quiet, SetCause, status_of}
+use Rattle.vms_commands.specs.Endings.{Caused, Quiet, status_of}
 use Rattle.vms_commands.specs.Courses.{Draws, EndsSo, Risen, is_among, of_shelf, text_course}
-use Rattle.vms_commands.proofs.CourseLemmas.{draws_none, so_since, wrong}
+use Rattle.vms_commands.proofs.CourseLemmas.{so_since, wrong}
+use Rattle.vms_board_commands.proofs.CourseLemmas.{among_left, shelf_has}
 use Rattle.vms_cli.specs.Causes.{WriteCause}
 use Rattle.vms_cli.specs.Commands.{Asked}
 use Rattle.vms_cli.specs.Statuses.{check_course, counter_course, course_of, stores_at, writes_at}
@@ -42,49 +39,7 @@ write_quiet asks compares o o' WriteFault c = tt
 write_quiet asks compares o o' NoMemory c = c
 write_quiet asks compares o o' e c = absurd c
 
--- ---- lists of statuses
-
-or_here : (b c d : Bool) → b || c ≡ true → (c ≡ true → d ≡ true) → b || d ≡ true
-or_here true c d e f = refl
-or_here false c d e f = f e
-
--- a status is among those of two lists where it is among those of one
-among_left : (xs ys : List ℕ) (k : ℕ) → is_among xs k ≡ true → is_among (xs ++ ys) k ≡ true
-among_left [] ys k e = absurd (cc)
-among_left (n ∷ xs) ys k e = or_here (n == k) (is_among xs k) (is_among (xs ++ ys) k) e (among_left xs ys k)
-
-among_right : (xs ys : List ℕ) (k : ℕ) → is_among ys k ≡ true → is_among (xs ++ ys) k ≡ true
-among_right [] ys k e = e
-among_right (n ∷ xs) ys k e = or_right (n == k) (is_among (xs ++ ys) k) (among_right xs ys k e)
-
--- those of what the shelf holds come where it is asked
-shelf_has : (own : List ℕ) (asks : Bool) (k : ℕ) → asks ≡ true → is_among (of_shelf true) k ≡ true → is_among (own ++ of_shelf asks) k ≡ true
-shelf_has own asks k is one = among_right own (of_shelf asks) k (ap (λ (x : Bool). is_among (of_shelf x) k) is ∙ one)
-
 -- ---- a set that a word names
-
--- where it isn't had, input and out aren't touched
-module _ (own takes : List ℕ) (ten : is_among own 10 ≡ true) (i : Intake) (o : Outlet) (s s' : Stock) (looks : Looks s s') (b : Bool) (same : b ≡ false → s' ≡ s) where
-  without : (e : Ending) → is_among (own ++ of_shelf b) (status_of e) ≡ true → Risen i i o o s s' e → EndsSo i i o o s s' (text_course own takes b) e
-  without e can risen = record {
-    can = can;
-    risen = risen;
-    out = λ f. Keeps-refl o.written;
-    input = λ f. refl;
-    held = λ f. looks.held;
-    shelf = same;
-    draws = draws_none i;
-    serves = serves_none o;
-    reaches = looks_reaches looks;
-  }
-
-  pub unset_so : (e : Ending) → SetCause b s s' e → EndsSo i i o o s s' (text_course own takes b) e
-  unset_so (BadText line) c = without (BadText line) (shelf_has own b 3 c refl) tt
-  unset_so ShelfFault c = without ShelfFault (shelf_has own b 7 c.0 refl) c.1
-  unset_so (NotThere line) c = without (NotThere line) (shelf_has own b 8 c refl) tt
-  unset_so (TooLarge line) c = without (TooLarge line) (shelf_has own b 9 c refl) tt
-  unset_so NoMemory c = without NoMemory (among_left own (of_shelf b) 10 ten) tt
-  unset_so e c = absurd c
 
 -- what is done behind the fetch is done of the shelf as it was before
 pub behind_so : (own takes : List ℕ) (b : Bool) {i i' : Intake} {o o' : Outlet} {s s' : Stock} (e : Ending) → (b ≡ false → s' ≡ s) → Looks s s' → EndsSo i i' o o' s' s' (text_course own takes b) e

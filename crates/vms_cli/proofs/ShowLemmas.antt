@@ -1,5 +1,5 @@
 -- From what a load and a write say to the outcome of `show`.
-use Rattle.std.proofs.Common.{◌≡◌, ℕ, suc, ◌+◌, ◌<◌, ◌≤◌, Bool, true, false, List, ◌∷◌, ◌++◌, append-nil, length, get_or, map, drop, inl, inr, Option, Some, None, Ok, Err, IfSome, IsSomeAnd, refl, sym, ap, ◌∙◌, subst, arith, []}
+use Rattle.std.proofs.Common.{◌≡◌, ℕ, suc, ◌+◌, ◌<◌, ◌≤◌, true, List, ◌∷◌, ◌++◌, append-nil, length, get_or, map, drop, inl, inr, Option, Some, None, Ok, Err, IfSome, IsSomeAnd, refl, sym, ap, ◌∙◌, subst, arith, []}
 use Rattle.std.proofs.lemmas.List.{length-map, get_or-map}
 use Rattle.std.specs.Option.{ForSome}
 use Rattle.arrayvec.specs.ArrayVec.{ArrayVec}
@@ -27,9 +27,8 @@ use Rattle.vms_desc.proofs.AskLaws.{few_cells}
 use Rattle.vms_image.specs.Typed.{Typed, state_of}
 use Rattle.vms_values.specs.Printing.{AreOf, IsOf, machine_of}
 use Rattle.vms_commands.specs.declared.ending.Ending.{Ending}
-use Rattle.vms_commands.specs.declared.ending.Ending.TheVariants.{Refused, BadText, ShelfFault, NotThere, TooLarge, NoMemory}
-use Rattle.vms_commands.specs.Endings.{SetCause, WritesAs, status_of}
-use Rattle.vms_commands.specs.Courses.{is_among}
+use Rattle.vms_commands.specs.declared.ending.Ending.TheVariants.{Refused}
+use Rattle.vms_commands.specs.Endings.{WritesAs}
 use Rattle.vms_commands.specs.Lines.{refused_line}
 use Rattle.vms_commands.specs.Outcomes.{Outcome, done, ended}
 use Rattle.vms_commands.specs.StepEndings.{StepAs}
@@ -139,11 +138,3 @@ pub gives_within : {T : Type 0} (m : T → Set) (step : Step Set) (t : T) (i i' 
 gives_within m Untold t i i' h within well = inr (m t, well, within)
 gives_within m (Gives set) t i i' h within well = subst (λ (y : Set). i'.given ≤ i.given + most_given y) h within
 gives_within m (Ends status line) t i i' h within well = absurd h
-
-pub set_other : (asks : Bool) (s s' : Stock) (e : Ending) → SetCause asks s s' e → is_among (0 ∷ 1 ∷ 6 ∷ 11 ∷ []) (status_of e) ≡ false
-set_other asks s s' (BadText line) c = refl
-set_other asks s s' ShelfFault c = refl
-set_other asks s s' (NotThere line) c = refl
-set_other asks s s' (TooLarge line) c = refl
-set_other asks s s' NoMemory c = refl
-set_other asks s s' e c = absurd c

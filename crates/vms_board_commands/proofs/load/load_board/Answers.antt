@@ -1,4 +1,4 @@
-use Rattle.std.proofs.Common.{List, ℕ, None, refl, sym, subst}
+use Rattle.std.proofs.Common.{List, ℕ, true, None, refl, sym, subst}
 use Rattle.std.specs.declared.alloc.Global.{Global}
 use Rattle.std.specs.declared.vec.Vec.{Vec}
 use Rattle.dev_board.specs.declared.event.Event.{Event}
@@ -9,13 +9,13 @@ use Rattle.vms_commands.proofs.StepLemmas.{ended_by, had_by}
 use Rattle.vms_script.specs.Lines.{ScriptLine}
 use Rattle.vms_script.specs.Views.{event_lines}
 use Rattle.vms_board_commands.proofs.LoadLemmas.{gives_none, gives_some, loads_under}
-use Rattle.vms_commands.proofs.CourseLemmas.{so_since}
-use Rattle.vms_board_commands.proofs.CourseLemmas.{load_asks, script_so}
+use Rattle.vms_commands.proofs.CourseLemmas.{so_since, wrong}
+use Rattle.vms_board_commands.proofs.CourseLemmas.{load_asks, unset_so}
 use Rattle.vms_board_commands.specs.Causes.{load_course}
 use Rattle.vms_board_commands.specs.Load.{Loads}
 use Rattle.vms_board_commands.specs.Scripts.{scripted}
 use Rattle.vms_board_commands.specs.Seen.{SeenAs}
-use Rattle.vms_board_commands.proofs.SeenLemmas.{other_seen, script_other, seen_given}
+use Rattle.vms_board_commands.proofs.SeenLemmas.{other_seen, seen_given, set_other}
 use Rattle.vms_board_commands.proofs.load.load_board.Goals as goal
 
 abbrev view : Vec Event Global → List ScriptLine
@@ -49,7 +49,7 @@ returns-in-Err-clause-content g c = λ o has.
 
 pub returns-in-Err-clause-so : goal.returns-in-Err-clause-so
 returns-in-Err-clause-so g c =
-    script_so (intake g.I.Source c.args.input.now) (outlet g.O.Sink c.args.out.now) load_course load_asks c.in-Err.ensures.asks.looks c.in-Err.ending c.in-Err.ensures.asks.cause
+    unset_so load_course true load_asks (intake g.I.Source c.args.input.now) (outlet g.O.Sink c.args.out.now) c.in-Err.ensures.asks.looks (λ f. absurd (wrong f)) c.in-Err.ending c.in-Err.ensures.asks.cause
 
 pub returns-in-Err-clause-given : goal.returns-in-Err-clause-given
 returns-in-Err-clause-given g c =
@@ -74,4 +74,4 @@ returns-in-Ok-clause-seen g c =
 
 pub returns-in-Err-clause-seen : goal.returns-in-Err-clause-seen
 returns-in-Err-clause-seen g c =
-    other_seen c.in-Err.ending (script_other (stock g.H.Shelf c.args.shelf.now) (stock g.H.Shelf c.events_of.new.shelf) c.in-Err.ending c.in-Err.ensures.asks.cause)
+    other_seen c.in-Err.ending (set_other true (stock g.H.Shelf c.args.shelf.now) (stock g.H.Shelf c.events_of.new.shelf) c.in-Err.ending c.in-Err.ensures.asks.cause)

@@ -1,4 +1,4 @@
-use Rattle.std.proofs.Common.{List, Option, Some, refl, sym, subst}
+use Rattle.std.proofs.Common.{List, Option, Some, refl, sym, subst, true}
 use Rattle.std.specs.Prelude.{IsSomeAnd}
 use Rattle.std.specs.declared.alloc.Global.{Global}
 use Rattle.std.specs.declared.vec.Vec.{Vec}
@@ -11,8 +11,8 @@ use Rattle.vms_script.specs.Lines.{ScriptLine}
 use Rattle.vms_script.specs.Views.{lines_view}
 use Rattle.vms_script.specs.declared.line.Line.{Line}
 use Rattle.vms_board_commands.proofs.PlayLemmas.{ends_since}
-use Rattle.vms_commands.proofs.CourseLemmas.{so_since}
-use Rattle.vms_board_commands.proofs.CourseLemmas.{play_asks, script_so}
+use Rattle.vms_commands.proofs.CourseLemmas.{so_since, wrong}
+use Rattle.vms_board_commands.proofs.CourseLemmas.{play_asks, unset_so}
 use Rattle.vms_board_commands.specs.Causes.{play_course}
 use Rattle.vms_board_commands.specs.Play.{PlaysAll}
 use Rattle.vms_board_commands.specs.Scripts.{scripted}
@@ -44,4 +44,4 @@ returns-in-Err-clause-content g c = λ input o few has.
 
 pub returns-in-Err-clause-so : goal.returns-in-Err-clause-so
 returns-in-Err-clause-so g c = λ input.
-    script_so input (outlet g.O.Sink c.args.out.now) play_course play_asks c.in-Err.ensures.asks.looks c.in-Err.ending c.in-Err.ensures.asks.cause
+    unset_so play_course true play_asks input (outlet g.O.Sink c.args.out.now) c.in-Err.ensures.asks.looks (λ f. absurd (wrong f)) c.in-Err.ending c.in-Err.ensures.asks.cause

@@ -1,4 +1,4 @@
-use Rattle.std.proofs.Common.{None, List, refl, sym, ◌∙◌, subst}
+use Rattle.std.proofs.Common.{None, List, refl, sym, ◌∙◌, subst, true}
 use Rattle.std.specs.declared.alloc.Global.{Global}
 use Rattle.std.specs.declared.vec.Vec.{Vec}
 use Rattle.dev_board.specs.State.{power_on}
@@ -14,8 +14,8 @@ use Rattle.vms_session.proofs.RunLemmas.{events_back}
 use Rattle.vms_session.specs.Events.{events_of}
 use Rattle.vms_script.specs.Lines.{ScriptLine}
 use Rattle.vms_script.specs.Views.{event_lines}
-use Rattle.vms_commands.proofs.CourseLemmas.{so_quiet, so_since}
-use Rattle.vms_board_commands.proofs.CourseLemmas.{save_asks, script_so}
+use Rattle.vms_commands.proofs.CourseLemmas.{so_quiet, so_since, wrong}
+use Rattle.vms_board_commands.proofs.CourseLemmas.{save_asks, unset_so}
 use Rattle.vms_board_commands.specs.Causes.{save_course}
 use Rattle.vms_board_commands.specs.Save.{saved_after}
 use Rattle.vms_board_commands.specs.Scripts.{scripted}
@@ -55,4 +55,4 @@ returns-in-Err-clause-content g c = λ input o few has.
 
 pub returns-in-Err-clause-so : goal.returns-in-Err-clause-so
 returns-in-Err-clause-so g c = λ input.
-    script_so input (outlet g.O.Sink c.args.out.now) save_course save_asks c.in-Err.ensures.asks.looks c.in-Err.ending c.in-Err.ensures.asks.cause
+    unset_so save_course true save_asks input (outlet g.O.Sink c.args.out.now) c.in-Err.ensures.asks.looks (λ f. absurd (wrong f)) c.in-Err.ending c.in-Err.ensures.asks.cause

@@ -1,4 +1,4 @@
-use Rattle.std.proofs.Common.{ℕ, List, None, subst}
+use Rattle.std.proofs.Common.{ℕ, List, true, None, refl, subst}
 use Rattle.std.specs.declared.alloc.Global.{Global}
 use Rattle.std.specs.declared.vec.Vec.{Vec}
 use Rattle.dev_board.specs.declared.event.Event.{Event}
@@ -9,7 +9,7 @@ use Rattle.vms_commands.specs.StepEndings.{StepAs}
 use Rattle.vms_script.specs.Lines.{ScriptLine}
 use Rattle.vms_script.specs.Script.{script_read}
 use Rattle.vms_script.specs.Views.{event_lines}
-use Rattle.vms_board_commands.proofs.ScriptLemmas.{had_events, no_script, read_caused}
+use Rattle.vms_board_commands.proofs.ScriptLemmas.{had_events, read_caused, unfetched}
 use Rattle.vms_board_commands.specs.Scripts.{longest_script, said_lines}
 use Rattle.vms_board_commands.proofs.scripts.events_of.Goals as goal
 
@@ -40,5 +40,5 @@ returns-in-Ok-clause-asks g c = record {
 pub returns-in-Err-clause-asks : goal.returns-in-Err-clause-asks
 returns-in-Err-clause-asks g c = record {
   looks = c.in-Err.ensures.asks.looks;
-  cause = no_script (stock g.H.Shelf c.args.shelf.now) (stock g.H.Shelf c.fetch.new.shelf) c.in-Err.ending c.in-Err.ensures.asks.cause;
+  cause = unfetched (Vec ℕ Global) true (stock g.H.Shelf c.args.shelf.now) (stock g.H.Shelf c.fetch.new.shelf) c.in-Err.ending refl c.in-Err.ensures.asks.cause;
 }

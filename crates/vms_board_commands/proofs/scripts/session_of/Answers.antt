@@ -1,4 +1,4 @@
-use Rattle.std.proofs.Common.{ℕ, List, Some, subst}
+use Rattle.std.proofs.Common.{ℕ, List, true, Some, refl, subst}
 use Rattle.std.specs.declared.alloc.Global.{Global}
 use Rattle.std.specs.declared.vec.Vec.{Vec}
 use Rattle.vms_io.specs.Told.{stock}
@@ -9,7 +9,7 @@ use Rattle.vms_script.specs.Lines.{ScriptLine}
 use Rattle.vms_script.specs.Script.{script_read}
 use Rattle.vms_script.specs.Views.{lines_view}
 use Rattle.vms_script.specs.declared.line.Line.{Line}
-use Rattle.vms_board_commands.proofs.ScriptLemmas.{had_lines, no_script, read_caused}
+use Rattle.vms_board_commands.proofs.ScriptLemmas.{had_lines, read_caused, unfetched}
 use Rattle.vms_board_commands.specs.Scripts.{longest_script, said_lines}
 use Rattle.vms_board_commands.proofs.scripts.session_of.Goals as goal
 
@@ -40,5 +40,5 @@ returns-in-Ok-clause-asks g c = record {
 pub returns-in-Err-clause-asks : goal.returns-in-Err-clause-asks
 returns-in-Err-clause-asks g c = record {
   looks = c.in-Err.ensures.asks.looks;
-  cause = no_script (stock g.H.Shelf c.args.shelf.now) (stock g.H.Shelf c.fetch.new.shelf) c.in-Err.ending c.in-Err.ensures.asks.cause;
+  cause = unfetched (Vec ℕ Global) true (stock g.H.Shelf c.args.shelf.now) (stock g.H.Shelf c.fetch.new.shelf) c.in-Err.ending refl c.in-Err.ensures.asks.cause;
 }

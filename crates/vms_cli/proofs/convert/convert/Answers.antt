@@ -7,10 +7,12 @@ use Rattle.vms_commands.specs.StepEndings.{ReadCause, text_of}
 use Rattle.vms_commands.proofs.EndLemmas.{quiet_same}
 use Rattle.vms_commands.proofs.StepLemmas.{ended_by, first_err, had_by, then_as}
 use Rattle.vms_cli.specs.Convert.{ConvertsWell, agrees}
-use Rattle.vms_cli.proofs.ConvertSteps.{converts_after, converts_next, gives_next, seen_next, unfetched, unread}
-use Rattle.vms_cli.proofs.EndsSo.{behind_so, unset_so}
-use Rattle.vms_board_commands.proofs.SeenLemmas.{other_seen}
-use Rattle.vms_cli.proofs.ShowLemmas.{set_other}
+use Rattle.vms_cli.proofs.ConvertSteps.{converts_after, converts_next, gives_next, seen_next}
+use Rattle.vms_cli.specs.Statuses.{convert_course}
+use Rattle.vms_board_commands.proofs.CourseLemmas.{text_asks, unset_so}
+use Rattle.vms_board_commands.proofs.ScriptLemmas.{unfetched, unread}
+use Rattle.vms_cli.proofs.EndsSo.{behind_so}
+use Rattle.vms_board_commands.proofs.SeenLemmas.{other_seen, set_other}
 use Rattle.vms_cli.proofs.convert.convert.Goals as goal
 
 pub returns-in-Ok-read_fetched-clause-content : goal.returns-in-Ok-read_fetched-clause-content
@@ -78,8 +80,8 @@ returns-in-Err-clause-so g c =
     let b = is_on_shelf (set_asked c.args.set) in
     let s = stock g.H.Shelf c.args.shelf.now in
     let s' = stock g.H.Shelf c.fetch_set.new.shelf in
-    unset_so (0 ∷ 1 ∷ 4 ∷ 5 ∷ 6 ∷ 10 ∷ 11 ∷ []) (0 ∷ 1 ∷ 5 ∷ 6 ∷ 10 ∷ 11 ∷ []) refl (intake g.I.Source c.args.input.now) (outlet g.O.Sink c.args.out.now) s s' fetched.asks.looks
-    b fetched.asks.unasked c.in-Err.ending (unfetched b s s' c.in-Err.ending fetched.asks.cause)
+    unset_so (convert_course b) b (text_asks (0 ∷ 1 ∷ 4 ∷ 5 ∷ 6 ∷ 10 ∷ 11 ∷ []) (0 ∷ 1 ∷ 5 ∷ 6 ∷ 10 ∷ 11 ∷ []) b refl) (intake g.I.Source c.args.input.now) (outlet g.O.Sink c.args.out.now) fetched.asks.looks
+    fetched.asks.unasked c.in-Err.ending (unfetched ℕ b s s' c.in-Err.ending fetched.asks.cause.0 fetched.asks.cause.1)
 
 pub returns-clause-so : goal.returns-clause-so
 returns-clause-so g c =
@@ -88,8 +90,8 @@ returns-clause-so g c =
     let s = stock g.H.Shelf c.args.shelf.now in
     let s' = stock g.H.Shelf c.fetch_set.new.shelf in
     let ending = c.in-Err-read_fetched.ending in
-    unset_so (0 ∷ 1 ∷ 4 ∷ 5 ∷ 6 ∷ 10 ∷ 11 ∷ []) (0 ∷ 1 ∷ 5 ∷ 6 ∷ 10 ∷ 11 ∷ []) refl (intake g.I.Source c.args.input.now) (outlet g.O.Sink c.args.out.now) s s' fetched.asks.looks
-    b fetched.asks.unasked ending (unread b s s' ending (subst (λ (x : Bool). ReadCause {T = ℕ} x (Err ending)) fetched.text c.in-Err-read_fetched.ensures.ends))
+    unset_so (convert_course b) b (text_asks (0 ∷ 1 ∷ 4 ∷ 5 ∷ 6 ∷ 10 ∷ 11 ∷ []) (0 ∷ 1 ∷ 5 ∷ 6 ∷ 10 ∷ 11 ∷ []) b refl) (intake g.I.Source c.args.input.now) (outlet g.O.Sink c.args.out.now) fetched.asks.looks
+    fetched.asks.unasked ending (unread ℕ b s s' ending (subst (λ (x : Bool). ReadCause {T = ℕ} x (Err ending)) fetched.text c.in-Err-read_fetched.ensures.ends))
 
 -- ---- what isn't seen
 
@@ -98,7 +100,7 @@ returns-in-Err-clause-seen g c =
     let b = is_on_shelf (set_asked c.args.set) in
     let s = stock g.H.Shelf c.args.shelf.now in
     let s' = stock g.H.Shelf c.fetch_set.new.shelf in
-    other_seen c.in-Err.ending (set_other b s s' c.in-Err.ending (unfetched b s s' c.in-Err.ending c.in-Err.ensures.asks.cause))
+    other_seen c.in-Err.ending (set_other b s s' c.in-Err.ending (unfetched ℕ b s s' c.in-Err.ending c.in-Err.ensures.asks.cause.0 c.in-Err.ensures.asks.cause.1))
 
 pub returns-clause-seen : goal.returns-clause-seen
 returns-clause-seen g c =
@@ -106,4 +108,4 @@ returns-clause-seen g c =
     let s = stock g.H.Shelf c.args.shelf.now in
     let s' = stock g.H.Shelf c.fetch_set.new.shelf in
     let ending = c.in-Err-read_fetched.ending in
-    other_seen ending (set_other b s s' ending (unread b s s' ending (subst (λ (x : Bool). ReadCause {T = ℕ} x (Err ending)) c.in-Ok.ensures.text c.in-Err-read_fetched.ensures.ends)))
+    other_seen ending (set_other b s s' ending (unread ℕ b s s' ending (subst (λ (x : Bool). ReadCause {T = ℕ} x (Err ending)) c.in-Ok.ensures.text c.in-Err-read_fetched.ensures.ends)))

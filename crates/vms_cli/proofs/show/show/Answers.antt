@@ -5,11 +5,13 @@ use Rattle.vms_commands.specs.Asks.{set_asked}
 use Rattle.vms_commands.specs.Fetching.{is_on_shelf, word_set}
 use Rattle.vms_commands.proofs.EndLemmas.{quiet_same}
 use Rattle.vms_commands.proofs.StepLemmas.{ended_by, had_by}
-use Rattle.vms_board_commands.proofs.SeenLemmas.{other_seen, seen_given}
+use Rattle.vms_board_commands.proofs.SeenLemmas.{other_seen, seen_given, set_other}
 use Rattle.vms_load.proofs.SetFacts.{well_of}
 use Rattle.vms_cli.specs.Show.{ShowsWell}
-use Rattle.vms_cli.proofs.EndsSo.{behind_so, unset_so}
-use Rattle.vms_cli.proofs.ShowLemmas.{set_other, gives_none, gives_within, shows_under}
+use Rattle.vms_cli.proofs.EndsSo.{behind_so}
+use Rattle.vms_cli.specs.Statuses.{show_course}
+use Rattle.vms_board_commands.proofs.CourseLemmas.{text_asks, unset_so}
+use Rattle.vms_cli.proofs.ShowLemmas.{gives_none, gives_within, shows_under}
 use Rattle.vms_cli.proofs.show.show.Goals as goal
 
 pub returns-in-Ok-clause-content : goal.returns-in-Ok-clause-content
@@ -41,8 +43,8 @@ returns-in-Err-clause-content g c = λ o has.
 pub returns-in-Err-clause-so : goal.returns-in-Err-clause-so
 returns-in-Err-clause-so g c =
     let had = c.in-Err.ensures.asks in
-    unset_so (0 ∷ 1 ∷ 5 ∷ 6 ∷ 10 ∷ []) (0 ∷ 1 ∷ 5 ∷ 6 ∷ []) refl (intake g.I.Source c.args.input.now) (outlet g.O.Sink c.args.out.now) (stock g.H.Shelf c.args.shelf.now) (stock g.H.Shelf c.loader_of.new.shelf)
-    had.looks (is_on_shelf (set_asked c.args.set)) had.unasked c.in-Err.ending had.cause
+    let b = is_on_shelf (set_asked c.args.set) in
+    unset_so (show_course b) b (text_asks (0 ∷ 1 ∷ 5 ∷ 6 ∷ 10 ∷ []) (0 ∷ 1 ∷ 5 ∷ 6 ∷ []) b refl) (intake g.I.Source c.args.input.now) (outlet g.O.Sink c.args.out.now) had.looks had.unasked c.in-Err.ending had.cause
 
 pub returns-in-Err-clause-given : goal.returns-in-Err-clause-given
 returns-in-Err-clause-given g c =
