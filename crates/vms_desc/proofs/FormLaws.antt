@@ -1,6 +1,7 @@
 -- Forms that are put one after the other.
-use Rattle.std.proofs.Common.{◌≡◌, ℕ, suc, ◌+◌, ◌-◌, ◌<◌, ◌≤◌, List, [], ◌∷◌, ◌++◌, length, get_or, drop, take, map, refl, sym, ap, ◌∙◌, arith, append_assoc, append-nil, take_all}
-use Rattle.std.proofs.lemmas.List.{drop_all, length-map, take-map, length-take-le, get_or_past}
+use Rattle.std.proofs.Common.{◌≡◌, ℕ, zero, suc, ◌+◌, ◌-◌, ◌*◌, ◌<◌, ◌≤◌, List, [], ◌∷◌, ◌++◌, length, get_or, drop, take, map, refl, sym, ap, ◌∙◌, arith, append_assoc, append-nil, length-append, take_all}
+use Rattle.std.proofs.lemmas.List.{drop_all, drop_at, length-map, take-map, length-take-le, take_at, take-append-drop, get_or_past}
+use Rattle.std.proofs.lemmas.Nat.{mul-le}
 use Rattle.vms_spec.specs.Sets as sets
 use Rattle.vms_spec.specs.Layout.{no_desc, times, device_cells}
 use Rattle.vms_parts.specs.declared.types.CellForm.{CellForm}
@@ -28,18 +29,51 @@ pub fields_end : (ts : List (List CellForm)) (fields : List Field) (i : ℕ) (ou
     → out ++ fields_forms ts (map field_of (drop i fields)) ≡ whole → out ≡ whole
 fields_end ts fields i out whole all e = sym (append-nil out) ∙ ap (λ (l : List Field). out ++ fields_forms ts (map field_of l)) (sym (drop_all i fields all)) ∙ e
 
-pub element_goes : (part : List CellForm) (n i : ℕ) (out new whole : List CellForm) → i < n → new ≡ out ++ part
-    → out ++ times (n - i) (λ _. part) 0 0 ≡ whole → new ++ times (n - (i + 1)) (λ _. part) 0 0 ≡ whole
-element_goes part n i out new whole lt a e =
-    let more : n - i ≡ suc (n - (i + 1)) = omega arith in
-    ap (λ (l : List CellForm). l ++ times (n - (i + 1)) (λ _. part) 0 0) a
-    ∙ append_assoc out part (times (n - (i + 1)) (λ _. part) 0 0)
-    ∙ ap (λ (k : ℕ). out ++ times k (λ _. part) 0 0) (sym more) ∙ e
+-- one element, so many times
+module _ (part : List CellForm) where
+  abbrev pub repeated : ℕ → List CellForm
+  repeated n = times n (λ _. part) 0 0
 
-pub elements_end : (part : List CellForm) (n i : ℕ) (out whole : List CellForm) → n ≤ i → out ++ times (n - i) (λ _. part) 0 0 ≡ whole → out ≡ whole
-elements_end part n i out whole all e =
-    let none : n - i ≡ 0 = omega arith in
-    sym (append-nil out) ∙ ap (λ (k : ℕ). out ++ times k (λ _. part) 0 0) (sym none) ∙ e
+  repeated_long : (n : ℕ) → length (repeated n) ≡ length part * n
+  repeated_long zero = grind arith
+  repeated_long (suc n) =
+      let more : length part * suc n ≡ length part + length part * n = grind arith in
+      omega (arith, more, length-append part (repeated n), repeated_long n)
+
+  repeated_both : (n m : ℕ) → repeated (n + m) ≡ repeated n ++ repeated m
+  repeated_both zero m = let e : zero + m ≡ m = omega arith in ap repeated e
+  repeated_both (suc n) m =
+      let e : suc n + m ≡ suc (n + m) = omega arith in
+      ap repeated e ∙ ap (λ (l : List CellForm). part ++ l) (repeated_both n m) ∙ sym (append_assoc part (repeated n) (repeated m))
+
+  -- some first of them
+  repeated_first : (n m : ℕ) → m ≤ n → take (length part * m) (repeated n) ≡ repeated m
+  repeated_first n m le =
+      let e : n ≡ m + (n - m) = omega (arith, le) in
+      ap (λ (k : ℕ). take (length part * m) (repeated k)) e ∙ ap (take (length part * m)) (repeated_both m (n - m))
+      ∙ take_at (repeated m) (repeated (n - m)) (length part * m) (repeated_long m)
+
+  -- more of them behind those that are there
+  pub repeats_more : (front items new : List CellForm) (done more start size : ℕ) → start ≡ length front → size ≡ length part → items ≡ front ++ repeated done → more ≤ done
+      → new ≡ items ++ take ((start + size * more) - start) (drop start items) → new ≡ front ++ repeated (done + more)
+  repeats_more front items new done more start size at wide is le e =
+      let span : (start + size * more) - start ≡ length part * more = omega (arith, ap (λ (k : ℕ). k * more) wide) in
+      let behind : drop start items ≡ repeated done = ap (drop start) is ∙ drop_at front (repeated done) start (sym at) in
+      let copied : take ((start + size * more) - start) (drop start items) ≡ repeated more =
+      ap (λ (k : ℕ). take k (drop start items)) span ∙ ap (take (length part * more)) behind ∙ repeated_first done more le in
+      e ∙ ap (λ (l : List CellForm). items ++ l) copied ∙ ap (λ (l : List CellForm). l ++ repeated more) is
+      ∙ append_assoc front (repeated done) (repeated more) ∙ ap (λ (l : List CellForm). front ++ l) (sym (repeated_both done more))
+
+  -- there are enough of them
+  pub repeated_room : (front items : List CellForm) (done more start size : ℕ) → start ≡ length front → size ≡ length part → items ≡ front ++ repeated done → more ≤ done → start + size * more ≤ length items
+  repeated_room front items done more start size at wide is le =
+      let most : size * more ≤ size * done = mul-le size more size done (omega arith) le in
+      omega (arith, at, most, ap (λ (k : ℕ). k * done) wide, ap length is, length-append front (repeated done), repeated_long done)
+
+  -- the first of them
+  pub repeats_first : (items : List CellForm) (start : ℕ) → part ≡ drop start items → items ≡ take start items ++ repeated 1
+  repeats_first items start is =
+      sym (take-append-drop start items) ∙ ap (λ (l : List CellForm). take start items ++ l) (sym is ∙ sym (append-nil part))
 
 -- a structure's forms are made from the earlier ones
 pub struct_forms : (structs : List Desc) (j : ℕ) (d : Desc) → j < length structs → d ≡ get_or structs j d

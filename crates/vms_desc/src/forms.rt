@@ -1,5 +1,6 @@
 // The cells of a device, laid out.
-ghost use Rattle.std.specs.Prelude.{◌≡◌, ◌++◌, length, map, OnOk, IfOk};
+ghost use Rattle.std.specs.Prelude.{◌≡◌, ◌<◌, ◌≤◌, ◌++◌, length, take, drop, map, OnOk, IfOk};
+ghost use Rattle.vms_spec.specs.Layout.{times};
 ghost use Rattle.vms_desc.specs.Forms.{item_forms, field_forms, fields_forms, subs_forms, device_forms, forms_to};
 ghost use Rattle.vms_parts.specs.Views.{desc_of, field_of, sub_of, device_of, set_of, layout_of};
 
@@ -33,8 +34,30 @@ fn put_field(structs: &[Desc], field: &Field, forms: &mut Vec<CellForm>) -> Resu
         ++ field_forms (forms_to (map desc_of structs.now) (length structs.now))
         (field_of field.now)) }
 {
-    for _element in 0..capacity(field.count) {
-        put_element(structs, field, forms)?;
+    let count = capacity(field.count);
+    if count == 0 {
+        return Ok(());
+    }
+    let start = forms.len();
+    put_element(structs, field, forms)?;
+    repeat(forms, start, count)
+}
+
+// What stands from a place on is repeated, so that it stands there so many times.
+#[inline(always)]
+fn repeat(forms: &mut Vec<CellForm>, start: usize, count: u32) -> Result<(), AllocError>
+    requires within { start ≤ length forms.old.items }
+    requires some { 0 < count }
+    ensures { let part = drop start forms.old.items in
+        OnOk result
+        (forms.new.items ≡ take start forms.old.items ++ times count (λ _. part) 0 0) }
+{
+    let size = forms.len() - start;
+    let mut done = 1;
+    while done < count {
+        let more = done.min(count - done);
+        forms.extend_from_within(start..start + size * more as usize)?;
+        done += more;
     }
     Ok(())
 }

@@ -1,18 +1,12 @@
-use Rattle.std.proofs.Common.{◌≡◌, ◌++◌, List, ap, sym, ◌∙◌, length, map, append-nil, take, arith}
+use Rattle.std.proofs.Common.{◌≡◌, ◌++◌, List, ap, sym, ◌∙◌, length, map, append-nil, take}
 use Rattle.vms_kinds.specs.declared.Item.{Item}
-use Rattle.vms_spec.specs.Layout.{capacity_of}
 use Rattle.vms_parts.specs.declared.types.CellForm.{CellForm}
 use Rattle.vms_parts.specs.declared.types.Field.{Field}
 use Rattle.vms_parts.specs.declared.types.Desc.{Desc}
 use Rattle.vms_desc.specs.Forms.{item_forms, fields_forms, forms_to}
 use Rattle.vms_parts.specs.Views.{desc_of, field_of}
-use Rattle.vms_desc.proofs.FormLaws.{element_goes, struct_forms, no_struct_forms}
+use Rattle.vms_desc.proofs.FormLaws.{struct_forms, no_struct_forms}
 use Rattle.vms_desc.proofs.forms.+forms.Goals as goal
-
-pub put_field-loop-element-preserved : goal.put_field-loop-element-preserved
-put_field-loop-element-preserved t c =
-    element_goes (item_forms (forms_to (map desc_of c.args.structs.now) (length c.args.structs.now)) c.args.field.now.item c.args.field.now.default) (capacity_of c.args.field.now.count) c.loop-element._element
-    c.loop-element.forms.items c.put_element.new.forms.items _ (omega (arith, c.loop-element-test.true, c.capacity-element-end.ensures)) c.in_ok-put_element.ensures c.loop-element.invariant
 
 pub put_element-returns-in_ok-put_fields-in-Struct : goal.put_element-returns-in_ok-put_fields-in-Struct
 put_element-returns-in_ok-put_fields-in-Struct t c =

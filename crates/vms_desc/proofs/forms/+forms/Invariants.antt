@@ -1,6 +1,5 @@
-use Rattle.std.proofs.Common.{◌≡◌, ◌++◌, ◌+◌, ◌-◌, ◌*◌, length, map, drop}
-use Rattle.vms_spec.specs.Layout.{times, capacity_of}
-use Rattle.vms_desc.specs.Forms.{item_forms, field_forms, fields_forms, forms_to}
+use Rattle.std.proofs.Common.{◌≡◌, ◌++◌, ◌+◌, ◌*◌, length, map, drop}
+use Rattle.vms_desc.specs.Forms.{fields_forms, forms_to}
 use Rattle.vms_parts.specs.Views.{desc_of, field_of}
 use Rattle.vms_desc.proofs.forms.+forms.Given as goal
 
@@ -17,8 +16,3 @@ abbrev pub invariant-put_fields-loop-field : goal.invariant-put_fields-loop-fiel
 invariant-put_fields-loop-field l =
     let ts = forms_to (map desc_of l.structs) (length l.structs) in
     l.forms.items ++ fields_forms ts (map field_of (drop l.field-index l.fields)) ≡ l.initial.forms.items ++ fields_forms ts (map field_of l.fields)
-
-abbrev pub invariant-put_field-loop-element : goal.invariant-put_field-loop-element
-invariant-put_field-loop-element l =
-    let ts = forms_to (map desc_of l.structs) (length l.structs) in
-    l.forms.items ++ times (capacity_of l.field.count - l._element) (λ _. item_forms ts l.field.item l.field.default) 0 0 ≡ l.initial.forms.items ++ field_forms ts (field_of l.field)

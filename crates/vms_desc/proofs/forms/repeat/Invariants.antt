@@ -1,0 +1,13 @@
+use Rattle.std.proofs.Common.{◌≡◌, ◌++◌, ◌-◌, ◌<◌, ◌≤◌, take, drop}
+use Rattle.vms_desc.proofs.FormLaws.{repeated}
+use Rattle.vms_desc.proofs.forms.repeat.Given as goal
+
+abbrev pub invariant-loop-done : goal.invariant-loop-done
+invariant-loop-done l = record {
+  items : l.forms.items ≡ take l.start l.initial.forms.items ++ repeated (drop l.start l.initial.forms.items) l.done;
+  some : 0 < l.done;
+  within : l.done ≤ l.count;
+}
+
+abbrev pub decreases-loop-done : goal.decreases-loop-done
+decreases-loop-done l = l.count - l.done
