@@ -30,10 +30,8 @@ pub(crate) fn session_of<H: Shelf>(
     ensures good { IfOk result (λ lines. AreLines (Some level) (lines_view lines.items)) }
     ensures asks { Asks (HadCause true) (stock H.Shelf shelf.old) (stock H.Shelf shelf.new) result }
 {
-    match fetch(alloc, name, LONGEST_SCRIPT, shelf) {
-        Ok(text) => had(alloc, read_script(alloc, &text, Some(level))),
-        Err(ending) => Err(ending),
-    }
+    let text = fetch(alloc, name, LONGEST_SCRIPT, shelf)?;
+    had(alloc, read_script(alloc, &text, Some(level)))
 }
 
 /// The events of the script under a name; or how the command ends.
@@ -47,10 +45,8 @@ pub(crate) fn events_of<H: Shelf>(
     ensures good { IfOk result (λ events. AreEvents events.items) }
     ensures asks { Asks (HadCause true) (stock H.Shelf shelf.old) (stock H.Shelf shelf.new) result }
 {
-    match fetch(alloc, name, LONGEST_SCRIPT, shelf) {
-        Ok(text) => had(alloc, read_events(alloc, &text)),
-        Err(ending) => Err(ending),
-    }
+    let text = fetch(alloc, name, LONGEST_SCRIPT, shelf)?;
+    had(alloc, read_events(alloc, &text))
 }
 
 // What was read of a script, or how the command ends.

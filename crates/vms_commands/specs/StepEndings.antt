@@ -1,8 +1,6 @@
 -- How the code's steps end, beside what is meant by them.
 use Rattle.std.specs.Prelude.{◌≡◌, ℕ, Bool, true, false, List, Result, Ok, Err, string_bytes}
 use Rattle.std.specs.Io.KnownBytes.{Appends}
-use Rattle.std.specs.declared.string.String.{String}
-use Rattle.std.specs.declared.alloc.Global.{Global}
 use Rattle.vms_io.specs.Causes.{Rose, AppendsPrefix}
 use Rattle.vms_io.specs.Shelving.{Looks}
 use Rattle.vms_io.specs.Told.{Outlet, Stock}
@@ -74,12 +72,6 @@ FetchCause shelf shelf' (Err (NotThere line)) = Unit {0}
 FetchCause shelf shelf' (Err (TooLarge line)) = Unit {0}
 FetchCause shelf shelf' (Err NoMemory) = Unit {0}
 FetchCause shelf shelf' (Err ending) = ⊥
-
--- the line of a bad text, if there was memory for it
-abbrev pub IsBad : {T : Type 0} → Result (String Global) T → Ending → Type 0
-IsBad (Ok line) (BadText text) = text ≡ line
-IsBad (Err fault) NoMemory = Unit {0}
-IsBad line ending = ⊥
 
 -- of a word's fetch, where `asks` says whether the word is a name
 abbrev pub WordCause : {T : Type 0} → Bool → Stock → Stock → Result T Ending → Type 0

@@ -1,7 +1,9 @@
 // How a command ends.
 ghost use Rattle.std.specs.Prelude.{◌≡◌};
+ghost use Rattle.vms_commands.specs.declared.ending.Ending.TheVariants as endings;
 
 use crate::refused::NoteLine;
+use vms_io::NoMemory;
 
 /// How a command ends; each but `Done` has a status and a line of notes, which some bring with them.
 #[derive(Drop)]
@@ -30,6 +32,14 @@ pub enum Ending {
     NoMemory,
     /// A set doesn't keep all of a stream, with this line.
     WouldLose(NoteLine),
+}
+
+impl From<NoMemory> for Ending {
+    ghost from_gives = { λ _ ending. ending ≡ endings.NoMemory };
+
+    fn from(_: NoMemory) -> Self {
+        Ending::NoMemory
+    }
 }
 
 impl Ending {

@@ -7,7 +7,7 @@ ghost use Rattle.vms_commands.specs.Asks.{set_asked, shipped_asked};
 ghost use Rattle.vms_commands.specs.SetWords.{shipped};
 ghost use Rattle.vms_load.specs.Kept.{loads};
 ghost use Rattle.vms_commands.specs.Fetching.{fetched, fetched_set, is_on_shelf, is_text, said_set, set_in, word_set};
-ghost use Rattle.vms_commands.specs.StepEndings.{Asks, AsksIf, FetchCause, HadCause, IsBad, ReadCause, StepAs, WordCause, text_of};
+ghost use Rattle.vms_commands.specs.StepEndings.{Asks, AsksIf, FetchCause, HadCause, ReadCause, StepAs, WordCause, text_of};
 
 use crate::ending::Ending;
 use crate::notes::{not_there_line, too_large_line};
@@ -46,14 +46,8 @@ pub fn fetch<H: Shelf>(
 {
     match shelf.fetch(alloc, name, limit) {
         Ok(text) => Ok(text),
-        Err(FetchFault::NotThere) => match not_there_line(alloc, name) {
-            Ok(line) => Err(Ending::NotThere(line)),
-            Err(_) => Err(Ending::NoMemory),
-        },
-        Err(FetchFault::TooLarge) => match too_large_line(alloc, name) {
-            Ok(line) => Err(Ending::TooLarge(line)),
-            Err(_) => Err(Ending::NoMemory),
-        },
+        Err(FetchFault::NotThere) => Err(Ending::NotThere(not_there_line(alloc, name)?)),
+        Err(FetchFault::TooLarge) => Err(Ending::TooLarge(too_large_line(alloc, name)?)),
         Err(FetchFault::Failed) => Err(Ending::ShelfFault),
         Err(FetchFault::NoMemory) => Err(Ending::NoMemory),
     }
@@ -87,10 +81,7 @@ pub fn read_fetched(alloc: Global, text: &SetText) -> Result<DescSet, Ending>
     ensures ends { ReadCause (is_text (text_of text.now)) result }
 {
     match text {
-        SetText::Shipped(set) => match make_shipped(alloc, *set) {
-            Ok(set) => Ok(set),
-            Err(_) => Err(Ending::NoMemory),
-        },
+        SetText::Shipped(set) => Ok(make_shipped(alloc, *set)?),
         SetText::Text { name, text } => read_file(alloc, name, text),
     }
 }
@@ -113,10 +104,7 @@ pub fn loader_of<H: Shelf>(alloc: Global, word: SetWord, shelf: &mut H) -> Resul
 {
     let text = fetch_set(alloc, word, shelf)?;
     let set = read_fetched(alloc, &text)?;
-    match Loader::new(alloc, set) {
-        Ok(loader) => Ok(loader),
-        Err(_) => Err(Ending::NoMemory),
-    }
+    Ok(Loader::new(alloc, set)?)
 }
 
 // The set that a description file says.
@@ -126,18 +114,15 @@ fn read_file(alloc: Global, name: &str, text: &[u8]) -> Result<DescSet, Ending>
 {
     match read_set(alloc, text) {
         Ok(set) => Ok(set),
-        Err(FileFault::Syntax) => Err(bad(syntax_line(alloc, name))),
-        Err(FileFault::Shape(path)) => Err(bad(shape_line(alloc, name, path.as_str()))),
-        Err(FileFault::IllFormed { rule, place }) => Err(bad(rule_line(alloc, name, rule, place))),
+        Err(FileFault::Syntax) => Err(Ending::BadText(syntax_line(alloc, name)?)),
+        Err(FileFault::Shape(path)) => Err(Ending::BadText(shape_line(
+            alloc,
+            name,
+            path.as_str(),
+        )?)),
+        Err(FileFault::IllFormed { rule, place }) => {
+            Err(Ending::BadText(rule_line(alloc, name, rule, place)?))
+        }
         Err(FileFault::NoMemory) => Err(Ending::NoMemory),
-    }
-}
-
-fn bad(line: Result<String, NoMemory>) -> Ending
-    ensures { IsBad line result }
-{
-    match line {
-        Ok(line) => Ending::BadText(line),
-        Err(_) => Ending::NoMemory,
     }
 }

@@ -2,6 +2,7 @@ use Rattle.std.proofs.Common.{ℕ, List, true, None, refl, subst}
 use Rattle.std.specs.declared.alloc.Global.{Global}
 use Rattle.std.specs.declared.vec.Vec.{Vec}
 use Rattle.dev_board.specs.declared.event.Event.{Event}
+use Rattle.std.proofs.lemmas.Result.{err_from_is_err_and}
 use Rattle.vms_io.specs.Told.{stock}
 use Rattle.vms_commands.proofs.StepLemmas.{first_err, then_as}
 use Rattle.vms_commands.specs.Fetching.{fetched}
@@ -16,29 +17,34 @@ use Rattle.vms_board_commands.proofs.scripts.events_of.Goals as goal
 abbrev view : Vec Event Global → List ScriptLine
 view v = event_lines v.items
 
-pub returns-in-Ok-clause-read : goal.returns-in-Ok-clause-read
-returns-in-Ok-clause-read g c =
+pub returns-clause-read : goal.returns-clause-read
+returns-clause-read g c =
     then_as (λ (t : Vec ℕ Global). t.items) view (λ (text : List ℕ). said_lines (script_read None text))
-    (fetched longest_script (g.H.Shelf.held c.args.shelf.now) c.args.name.now) c.in-Ok.text c.had.result c.in-Ok.ensures.fetched
+    (fetched longest_script (g.H.Shelf.held c.args.shelf.now) c.args.name.now) c.in_ok-text.text c.had.result c.in_ok-text.ensures.fetched
     (subst (λ (b : List ℕ). StepAs view (said_lines (script_read None b)) c.had.result) c.deref.ensures.value
     (c.had.ensures.read view (script_read None c.deref.result.now) c.read_events.ensures))
 
-pub returns-in-Ok-clause-good : goal.returns-in-Ok-clause-good
-returns-in-Ok-clause-good g c = had_events c.deref.result.now c.read_events.result c.had.result c.read_events.ensures c.had.ensures.same
+pub returns-clause-good : goal.returns-clause-good
+returns-clause-good g c = had_events c.deref.result.now c.read_events.result c.had.result c.read_events.ensures c.had.ensures.same
 
-pub returns-in-Err-clause-read : goal.returns-in-Err-clause-read
-returns-in-Err-clause-read g c =
-    first_err (λ (t : Vec ℕ Global). t.items) view (λ (text : List ℕ). said_lines (script_read None text))
-    (fetched longest_script (g.H.Shelf.held c.args.shelf.now) c.args.name.now) c.in-Err.ending c.in-Err.ensures.fetched
+pub returns-in_err-text-clause-read : goal.returns-in_err-text-clause-read
+returns-in_err-text-clause-read g c =
+    let p = err_from_is_err_and c.from_residual.result c.from_residual.ensures.1 in
+    rw (p.1, p.2)
+    (first_err (λ (t : Vec ℕ Global). t.items) view (λ (text : List ℕ). said_lines (script_read None text))
+    (fetched longest_script (g.H.Shelf.held c.args.shelf.now) c.args.name.now) c.in_err-text.field-0.0 c.in_err-text.ensures.fetched)
 
-pub returns-in-Ok-clause-asks : goal.returns-in-Ok-clause-asks
-returns-in-Ok-clause-asks g c = record {
-  looks = c.in-Ok.ensures.asks.looks;
+pub returns-clause-asks : goal.returns-clause-asks
+returns-clause-asks g c = record {
+  looks = c.in_ok-text.ensures.asks.looks;
   cause = read_caused (Vec Event Global) (stock g.H.Shelf c.args.shelf.now) (stock g.H.Shelf c.fetch.new.shelf) c.had.result c.had.ensures.ends;
 }
 
-pub returns-in-Err-clause-asks : goal.returns-in-Err-clause-asks
-returns-in-Err-clause-asks g c = record {
-  looks = c.in-Err.ensures.asks.looks;
-  cause = unfetched (Vec ℕ Global) true (stock g.H.Shelf c.args.shelf.now) (stock g.H.Shelf c.fetch.new.shelf) c.in-Err.ending refl c.in-Err.ensures.asks.cause;
-}
+pub returns-in_err-text-clause-asks : goal.returns-in_err-text-clause-asks
+returns-in_err-text-clause-asks g c =
+    let p = err_from_is_err_and c.from_residual.result c.from_residual.ensures.1 in
+    rw (p.1, p.2)
+    (record {
+      looks = c.in_err-text.ensures.asks.looks;
+      cause = unfetched (Vec ℕ Global) true (stock g.H.Shelf c.args.shelf.now) (stock g.H.Shelf c.fetch.new.shelf) c.in_err-text.field-0.0 refl c.in_err-text.ensures.asks.cause;
+    })
