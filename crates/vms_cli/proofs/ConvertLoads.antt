@@ -13,7 +13,6 @@ use Rattle.vms_io.specs.Shelves.{Held}
 use Rattle.vms_spec.specs.Images.{Image}
 use Rattle.vms_spec.specs.Sets.{Set}
 use Rattle.vms_spec.specs.Streams.{IsConfiguration, is_one_of}
-use Rattle.vms_stream.specs.Streams.{Takes}
 use Rattle.vms_stream.proofs.Stated.{one_stream_holds}
 use Rattle.vms_load.proofs.TakenImages.{taken_kept}
 use Rattle.vms_check.proofs.SelfLaws.{is_among}
@@ -24,6 +23,7 @@ use Rattle.vms_board.specs.Family.{lists_in}
 use Rattle.vms_board.specs.Isa.{cells_of, isa, machine_of}
 use Rattle.vms_board.specs.IsaStands.{isa_stands}
 use Rattle.vms_board.specs.Restoring.{Back, Restores}
+use Rattle.vms_board_streams.proofs.FamilyLaws.{takes_under}
 use Rattle.vms_board_commands.specs.Load.{Loads, LoadsBy, Traces, Faulty, Unfit}
 use Rattle.vms_board_commands.specs.Scripts.{scripted}
 use Rattle.vms_script.specs.Lines.{ScriptLine}
@@ -55,41 +55,8 @@ module _ (to : Set) (level : ℕ) where
   same_board (a ∷ b ∷ c ∷ d ∷ []) five = absurd (omega (arith, five))
   same_board (a ∷ b ∷ c ∷ d ∷ e ∷ f ∷ lists) five = absurd (omega (arith, five))
 
--- ---- a stream whose machine is one of some names
+-- ---- the machines that a stream of this machine or none may name
 
-configured_under : (names others : List (List ℕ)) (machine : Option (List ℕ)) (bytes : List ℕ) → IfSome machine (λ name. is_one_of others name ≡ true)
-    → IsConfiguration names machine bytes → IsConfiguration others machine bytes
-configured_under names others None bytes h c = c
-configured_under names others (Some name) bytes h c = (h, c.1, c.2)
-
-takes_under : (names others : List (List ℕ)) (input : List ℕ) (taken : ℕ) (machine : Option (List ℕ)) (images : List Image) → IfSome machine (λ name. is_one_of others name ≡ true)
-    → Takes newest names input taken machine images → Takes newest others input taken machine images
-takes_under names others input taken machine images h t =
-    let s = t.stream in
-    record {
-      bytes = t.bytes;
-      text = t.text;
-      stream = record {
-        named = s.named;
-        configured = configured_under names others machine s.named h s.configured;
-        one_each = s.one_each;
-        order = s.order;
-        each_once = s.each_once;
-        sections = s.sections;
-        footed = s.footed;
-        bare = s.bare;
-        spelled = s.spelled;
-        tail = s.tail;
-        described = s.described;
-        whole = s.whole;
-      };
-      rest = t.rest;
-      prefix = t.prefix;
-      long = t.long;
-      all = t.all;
-    }
-
--- the machines that a stream of this machine or none may name
 named_in : (names : List (List ℕ)) (machine : Option (List ℕ)) (bytes : List ℕ) → IsConfiguration names machine bytes → IfSome machine (λ name. is_one_of names name ≡ true)
 named_in names None bytes c = tt
 named_in names (Some name) bytes c = c.0

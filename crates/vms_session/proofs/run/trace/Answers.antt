@@ -1,4 +1,4 @@
-use Rattle.std.proofs.Common.{◌≡◌, ◌+◌, ◌≤◌, ◌∷◌, length, drop, sym, ◌∙◌, arith}
+use Rattle.std.proofs.Common.{◌≡◌, ◌+◌, ◌≤◌, [], ◌∷◌, drop, sym, ◌∙◌, arith}
 use Rattle.std.proofs.lemmas.Result.{err_from_is_err_and}
 use Rattle.vms_script.specs.Trace.{trace_line}
 use Rattle.vms_session.specs.Events.{trace_from}
@@ -6,7 +6,7 @@ use Rattle.vms_session.proofs.RunLemmas.{event_at, left_next, none_left, first_e
 use Rattle.vms_io.proofs.WritingLemmas.{leaves_none, leaves_rest, leaves_stop}
 use Rattle.vms_session.proofs.run.trace.Given.{Over}
 use Rattle.vms_session.proofs.run.trace.Goals as goal
-use Rattle.vms_session.proofs.run.trace.Goals.{In-loop-event}
+use Rattle.vms_session.proofs.run.trace.Goals.{In-loop-event, After-loop-event}
 
 -- the event whose turn it is, and those after it
 next : (g : Over) (c : goal.In-loop-event g) → (let events = c.args.events.now in let i = c.loop-event.event-index in drop i events ≡ event_at events i ∷ drop (i + 1) events)
@@ -46,13 +46,13 @@ loop-event-preserved g c =
       taken = c.in_ok-trace_event.ensures.taken ∙ c.loop-event.invariant.taken;
     }
 
+-- no event is left
+none : (g : Over) (c : goal.After-loop-event g) → drop c.loop-event.event-index c.args.events.now ≡ []
+none g c = none_left c.args.events.now c.loop-event.event-index (omega (arith, c.loop-event-test.false))
+
 pub returns-clause-wrote : goal.returns-clause-wrote
 returns-clause-wrote g c =
-    let f = g.M.Machine.family in
-    let events = c.args.events.now in
-    let i = c.loop-event.event-index in
-    let le : length events ≤ i = omega (arith, c.loop-event-test.false) in
-    leaves_none (trace_none f (drop i events) c.loop-event.board.state (none_left events i le)) c.loop-event.invariant.leaves
+    leaves_none (trace_none g.M.Machine.family (drop c.loop-event.event-index c.args.events.now) c.loop-event.board.state (none g (goal.at.returns-clause-wrote g c).After-loop-event)) c.loop-event.invariant.leaves
 
 pub returns-in_err-trace_event-clause-number : goal.returns-in_err-trace_event-clause-number
 returns-in_err-trace_event-clause-number g c =
@@ -62,8 +62,4 @@ returns-in_err-trace_event-clause-number g c =
 
 pub returns-clause-state : goal.returns-clause-state
 returns-clause-state g c =
-    let f = g.M.Machine.family in
-    let events = c.args.events.now in
-    let i = c.loop-event.event-index in
-    let le : length events ≤ i = omega (arith, c.loop-event-test.false) in
-    sym (after_none f (drop i events) c.loop-event.board.state (none_left events i le)) ∙ c.loop-event.invariant.left
+    sym (after_none g.M.Machine.family (drop c.loop-event.event-index c.args.events.now) c.loop-event.board.state (none g (goal.at.returns-clause-state g c).After-loop-event)) ∙ c.loop-event.invariant.left
