@@ -1,6 +1,7 @@
 -- The stream that is written of a board of a family restores one that is like it.
 use Rattle.std.proofs.Common.{◌≡◌, inl, inr, ℕ, zero, suc, ◌-◌, ◌≤◌, ◌||◌, Bool, true, false, List, [], ◌∷◌, length, Option, Some, None, IfSome, Ok, ℤ, arith, refl, sym, ap, subst, ◌∙◌, append-nil}
 use Rattle.std.specs.List.{slice_get}
+use Rattle.std.specs.Str.{bytes_eq}
 use Rattle.std.proofs.lemmas.Slice.Eq.{bytes_eq-Decides}
 use Rattle.dev_board.specs.Step.{answers_by}
 use Rattle.dev_board.specs.declared.event.Event.{Event}
@@ -21,16 +22,23 @@ use Rattle.vms_board_streams.proofs.BytesLaws.{same_ok, never_each}
 use Rattle.vms_board_streams.specs.Streams.{StreamsStand, StreamComesBack, StreamsComeBack, BoardsGoOn, IsContinued, HasRoomFor, answers_to, trace_of, stream_with, images_carried}
 use Rattle.vms_check.proofs.SelfLaws.{is_among}
 
--- ---- a stream is taken under other accepted names
+-- ---- one accepted name
 
+same_bytes : (name : List ℕ) → bytes_eq name name ≡ true
+same_bytes name = (bytes_eq-Decides name name).1 refl
+
+named-alone : (name : List ℕ) → is_one_of (name ∷ []) name ≡ true
+named-alone name = ap (λ (b : Bool). b || false) (same_bytes name)
+
+-- a stream is taken under other names too, where they have its machine
 configured_under : (names others : List (List ℕ)) (machine : Option (List ℕ)) (bytes : List ℕ) → IfSome machine (λ name. is_one_of others name ≡ true)
     → IsConfiguration names machine bytes → IsConfiguration others machine bytes
 configured_under names others None bytes h c = c
 configured_under names others (Some name) bytes h c = (h, c.1, c.2)
 
-pub takes_under : {set : Set} (names others : List (List ℕ)) (input : List ℕ) (taken : ℕ) (machine : Option (List ℕ)) (images : List Image) → IfSome machine (λ name. is_one_of others name ≡ true)
+pub takes_under : (set : Set) (names others : List (List ℕ)) (input : List ℕ) (taken : ℕ) (machine : Option (List ℕ)) (images : List Image) → IfSome machine (λ name. is_one_of others name ≡ true)
     → Takes set names input taken machine images → Takes set others input taken machine images
-takes_under names others input taken machine images h t =
+takes_under set names others input taken machine images h t =
     let s = t.stream in
     record {
       bytes = t.bytes;
@@ -55,8 +63,8 @@ takes_under names others input taken machine images h t =
       all = t.all;
     }
 
-named_alone : (name : List ℕ) → is_one_of (name ∷ []) name ≡ true
-named_alone name = ap (λ (b : Bool). b || false) ((bytes_eq-Decides name name).1 refl)
+alone : (set : Set) (names : List (List ℕ)) (input : List ℕ) (taken : ℕ) (name : List ℕ) (images : List Image) → Takes set names input taken (Some name) images → Takes set (name ∷ []) input taken (Some name) images
+alone set names input taken name images t = takes_under set names (name ∷ []) input taken (Some name) images (named-alone name) t
 
 module _ {S : Type 0} (f : Family S) (Alike : S → S → Type 0) {IsSound : S → Type 0} {AreTold : List (List ℤ) → Type 0} (stands : Stands f IsSound AreTold) (st : StreamsStand f Alike IsSound) where
   -- ---- what is written of a board
@@ -93,9 +101,7 @@ module _ {S : Type 0} (f : Family S) (Alike : S → S → Type 0) {IsSound : S �
         (append-nil stream) (whole.taken [] (λ e. refl))
 
     takes : Takes (f.set f.newest) (f.machine (f.number m) ∷ []) stream (length stream) (Some (f.machine (f.number m))) images-back
-    takes =
-        let name = f.machine (f.number m) in
-        takes_under (f.set f.newest).machines (name ∷ []) stream (length stream) (Some name) images-back (named_alone name) taken-all
+    takes = alone (f.set f.newest) (f.set f.newest).machines stream (length stream) (f.machine (f.number m)) images-back taken-all
 
     abbrev back-to : S
     back-to = (st.back set m s may).back

@@ -20,10 +20,10 @@ use Rattle.vms_convert.specs.Converted.{recast_each}
 use Rattle.vms_convert.specs.Lost.{numbers_in}
 use Rattle.vms_convert.specs.Recast.{wants_arrays}
 use Rattle.vms_board.specs.Family.{lists_in}
+use Rattle.vms_board_streams.proofs.FamilyLaws.{takes_under}
 use Rattle.vms_board.specs.Isa.{cells_of, isa, machine_of}
 use Rattle.vms_board.specs.IsaStands.{isa_stands}
 use Rattle.vms_board.specs.Restoring.{Back, Restores}
-use Rattle.vms_board_streams.proofs.FamilyLaws.{takes_under}
 use Rattle.vms_board_commands.specs.Load.{Loads, LoadsBy, Traces, Faulty, Unfit}
 use Rattle.vms_board_commands.specs.Scripts.{scripted}
 use Rattle.vms_script.specs.Lines.{ScriptLine}
@@ -55,8 +55,9 @@ module _ (to : Set) (level : ℕ) where
   same_board (a ∷ b ∷ c ∷ d ∷ []) five = absurd (omega (arith, five))
   same_board (a ∷ b ∷ c ∷ d ∷ e ∷ f ∷ lists) five = absurd (omega (arith, five))
 
--- ---- the machines that a stream of this machine or none may name
+-- ---- a stream whose machine is one of some names
 
+-- the machines that a stream of this machine or none may name
 named_in : (names : List (List ℕ)) (machine : Option (List ℕ)) (bytes : List ℕ) → IsConfiguration names machine bytes → IfSome machine (λ name. is_one_of names name ≡ true)
 named_in names None bytes c = tt
 named_in names (Some name) bytes c = c.0
@@ -85,10 +86,10 @@ module _ (level : ℕ) (is : IsLevel level) (input stream : List ℕ) (held : Op
       let machine = r.1.0 in
       let takes = r.1.1 in
       let named = named_in alone machine takes.stream.named takes.stream.configured in
-      let lifted = takes_under alone newest.machines input k machine images (known level is machine named) takes in
+      let lifted = takes_under newest alone newest.machines input k machine images (known level is machine named) takes in
       let one = one_stream_holds newest newest.machines newest_fit.well newest_fit.heads input k _ machine s.machine images s.images lifted s.takes in
       let mine = subst (λ (m : Option (List ℕ)). IfSome m (λ name. is_one_of alone name ≡ true)) one.machines named in
-      let loads = takes_under newest.machines alone stream (length stream) s.machine s.loaded mine s.loads in
+      let loads = takes_under newest newest.machines alone stream (length stream) s.machine s.loaded mine s.loads in
       let five = length-map images (λ (image : Image). image.numbers) ∙ (taken_kept newest newest.machines input k machine images lifted).one_each in
       let lists : lists_in s.loaded ≡ recast_each s.to newest.devices (lists_in images) =
       s.cells ∙ ap (λ (l : List Image). recast_each s.to newest.devices (numbers_in l)) (sym one.states) in
