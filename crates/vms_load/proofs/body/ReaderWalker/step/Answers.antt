@@ -3,20 +3,25 @@ use Rattle.std.proofs.lemmas.Result.{IfErr-weaker}
 use Rattle.vms_io.specs.Told.{intake}
 use Rattle.vms_load.specs.Reading.{Told, told}
 use Rattle.vms_load.proofs.StepsTaken.{on_ok, step_ok, step_err}
+use Rattle.vms_load.proofs.body.ReaderWalker.step.Given.{Over}
 use Rattle.vms_load.proofs.body.ReaderWalker.step.Goals as goal
+use Rattle.vms_load.proofs.body.ReaderWalker.step.Goals.{Start, After-read_step}
+
+-- what is told before the step and behind it
+abbrev old : (g : Over) (c : goal.Start g) → Told
+old g c = let self = c.args.self.now in told self.image.now self.cursor.now.at (intake g.S.Source self.source.now)
+
+abbrev new : (g : Over) (c : goal.After-read_step g) → Told
+new g c = told c.read_step.new.image c.read_step.new.cursor.at (intake g.S.Source c.read_step.new.source)
 
 pub returns-clause-ok : goal.returns-clause-ok
 returns-clause-ok g c =
-    let self = c.args.self.now in
-    let a : Told = told self.image.now self.cursor.now.at (intake g.S.Source self.source.now) in
-    let b : Told = told c.read_step.new.image c.read_step.new.cursor.at (intake g.S.Source c.read_step.new.source) in
+    let at = goal.at.returns-clause-ok g c in
     let e = c.read_step.ensures in
-    on_ok c.read_step.result (λ took held. (refl, refl, refl, took, λ free. held)) (step_ok c.args.step a b c.read_step.result e.reads e.kept e.keeps) e.held
+    on_ok c.read_step.result (λ took held. (refl, refl, refl, took, λ free. held)) (step_ok c.args.step (old g at.Start) (new g at.After-read_step) c.read_step.result e.reads e.kept e.keeps) e.held
 
 pub returns-clause-err : goal.returns-clause-err
 returns-clause-err g c =
-    let self = c.args.self.now in
-    let a : Told = told self.image.now self.cursor.now.at (intake g.S.Source self.source.now) in
-    let b : Told = told c.read_step.new.image c.read_step.new.cursor.at (intake g.S.Source c.read_step.new.source) in
+    let at = goal.at.returns-clause-err g c in
     let e = c.read_step.ensures in
-    IfErr-weaker c.read_step.result _ _ (λ fault failed. (refl, refl, refl, failed)) (step_err c.args.step a b c.read_step.result e.reads e.kept e.keeps e.stopped)
+    IfErr-weaker c.read_step.result _ _ (λ fault failed. (refl, refl, refl, failed)) (step_err c.args.step (old g at.Start) (new g at.After-read_step) c.read_step.result e.reads e.kept e.keeps e.stopped)
