@@ -199,10 +199,8 @@ pub fits_of : (set own : Set) (lists : List (List ℤ)) (k : ℕ) (numbers : Lis
 fits_of set own lists k numbers r e f lt =
     subst (λ (n : List ℤ). FitDevice set k n) (sym f) (fit_each set lists (subst (λ (x : Set). AreReady x (images_of x x.devices lists)) (sym e) r) k lt)
 
-pub all_states : (set own : Set) (lists : List (List ℤ)) (images : List Typed) (device : ℕ) → AreReady own (images_of own own.devices lists) → set ≡ own → Made set lists images device → device ≡ length set.devices
-    → map state_of images ≡ images_of own own.devices lists
-all_states set own lists images device r e m d =
-    made_states set lists images device (subst (λ (x : Set). AreReady x (images_of x x.devices lists)) (sym e) r) m d ∙ ap (λ (x : Set). images_of x x.devices lists) e
-
-pub all_of : (set own : Set) (lists : List (List ℤ)) (images : List Typed) (device : ℕ) → AreReady own (images_of own own.devices lists) → set ≡ own → Made set lists images device → device ≡ length set.devices → AreImagesOf set images
-all_of set own lists images device r e m d = made_of set lists images device (subst (λ (x : Set). AreReady x (images_of x x.devices lists)) (sym e) r) m d
+pub all_made : (set own : Set) (lists : List (List ℤ)) (images : List Typed) (device : ℕ) → AreReady own (images_of own own.devices lists) → set ≡ own → Made set lists images device → device ≡ length set.devices
+    → (map state_of images ≡ images_of own own.devices lists) × AreImagesOf set images
+all_made set own lists images device r e m d =
+    let ready = subst (λ (x : Set). AreReady x (images_of x x.devices lists)) (sym e) r in
+    (made_states set lists images device ready m d ∙ ap (λ (x : Set). images_of x x.devices lists) e, made_of set lists images device ready m d)

@@ -1,5 +1,5 @@
 -- The stream that is written of a board of a family restores one that is like it.
-use Rattle.std.proofs.Common.{◌≡◌, inl, inr, ℕ, zero, suc, ◌-◌, ◌≤◌, ◌||◌, Bool, true, false, List, [], ◌∷◌, length, Option, Some, Ok, ℤ, arith, refl, sym, ap, subst, ◌∙◌, append-nil}
+use Rattle.std.proofs.Common.{◌≡◌, inl, inr, ℕ, zero, suc, ◌-◌, ◌≤◌, ◌||◌, Bool, true, false, List, [], ◌∷◌, length, Option, Some, None, IfSome, Ok, ℤ, arith, refl, sym, ap, subst, ◌∙◌, append-nil}
 use Rattle.std.specs.List.{slice_get}
 use Rattle.std.specs.Str.{bytes_eq}
 use Rattle.std.proofs.lemmas.Slice.Eq.{bytes_eq-Decides}
@@ -8,7 +8,7 @@ use Rattle.dev_board.specs.declared.event.Event.{Event}
 use Rattle.vms_spec.specs.Images.{Image}
 use Rattle.vms_kinds.specs.Bytes.{IsBytes}
 use Rattle.vms_spec.specs.Sets.{Set}
-use Rattle.vms_spec.specs.Streams.{is_one_of}
+use Rattle.vms_spec.specs.Streams.{IsConfiguration, is_one_of}
 use Rattle.vms_spec.specs.declared.Reason.{Reason}
 use Rattle.vms_spec.specs.WellFormed.{WellFormed}
 use Rattle.vms_stream.proofs.Stated.{one_stream_holds, never_both_holds}
@@ -30,15 +30,22 @@ same_bytes name = (bytes_eq-Decides name name).1 refl
 named-alone : (name : List ℕ) → is_one_of (name ∷ []) name ≡ true
 named-alone name = ap (λ (b : Bool). b || false) (same_bytes name)
 
-alone : (set : Set) (names : List (List ℕ)) (input : List ℕ) (taken : ℕ) (name : List ℕ) (images : List Image) → Takes set names input taken (Some name) images → Takes set (name ∷ []) input taken (Some name) images
-alone set names input taken name images t =
+-- a stream is taken under other names too, where they have its machine
+configured_under : (names others : List (List ℕ)) (machine : Option (List ℕ)) (bytes : List ℕ) → IfSome machine (λ name. is_one_of others name ≡ true)
+    → IsConfiguration names machine bytes → IsConfiguration others machine bytes
+configured_under names others None bytes h c = c
+configured_under names others (Some name) bytes h c = (h, c.1, c.2)
+
+pub takes_under : (set : Set) (names others : List (List ℕ)) (input : List ℕ) (taken : ℕ) (machine : Option (List ℕ)) (images : List Image) → IfSome machine (λ name. is_one_of others name ≡ true)
+    → Takes set names input taken machine images → Takes set others input taken machine images
+takes_under set names others input taken machine images h t =
     let s = t.stream in
     record {
       bytes = t.bytes;
       text = t.text;
       stream = record {
         named = s.named;
-        configured = (named-alone name, s.configured.1, s.configured.2);
+        configured = configured_under names others machine s.named h s.configured;
         one_each = s.one_each;
         order = s.order;
         each_once = s.each_once;
@@ -55,6 +62,9 @@ alone set names input taken name images t =
       long = t.long;
       all = t.all;
     }
+
+alone : (set : Set) (names : List (List ℕ)) (input : List ℕ) (taken : ℕ) (name : List ℕ) (images : List Image) → Takes set names input taken (Some name) images → Takes set (name ∷ []) input taken (Some name) images
+alone set names input taken name images t = takes_under set names (name ∷ []) input taken (Some name) images (named-alone name) t
 
 module _ {S : Type 0} (f : Family S) (Alike : S → S → Type 0) {IsSound : S → Type 0} {AreTold : List (List ℤ) → Type 0} (stands : Stands f IsSound AreTold) (st : StreamsStand f Alike IsSound) where
   -- ---- what is written of a board

@@ -1,5 +1,6 @@
 -- How a command ends, by its steps.
 use Rattle.std.proofs.Common.{◌≡◌, ℕ, Bool, true, false, List, [], ◌∷◌, refl, ◌∙◌, arith}
+use Rattle.std.specs.Io.KnownBytes.{Keeps}
 use Rattle.std.proofs.KnownBytes.{Keeps-refl}
 use Rattle.vms_io.specs.Reading.{Takes}
 use Rattle.vms_io.specs.Shelving.{Looks}
@@ -24,18 +25,38 @@ draws_none i = record { later = omega arith; promise = refl }
 pub draws_took : {i i' : Intake} {bytes : List ℕ} → Takes i i' bytes → Draws i i'
 draws_took t = record { later = t.later; promise = t.promise }
 
+-- the shelf wasn't touched
+pub unshelved_so : {i i' : Intake} {o o' : Outlet} (s : Stock) (course : Course) (e : Ending) → is_among course.statuses (status_of e) ≡ true → Risen i i' o o' s s e → (is_among course.writes (status_of e) ≡ false → Keeps o.written o'.written)
+    → (is_among course.takes (status_of e) ≡ false → i' ≡ i) → Draws i i' → Serves o o' → EndsSo i i' o o' s s course e
+unshelved_so s course e can risen out input draws serves = record {
+  can = can;
+  risen = risen;
+  out = out;
+  input = input;
+  held = λ f. refl;
+  shelf = λ f. refl;
+  draws = draws;
+  serves = serves;
+  reaches = reaches_none s;
+}
+
 -- nothing was touched
 pub same_so : (i : Intake) (o : Outlet) (s : Stock) (course : Course) (e : Ending) → is_among course.statuses (status_of e) ≡ true → Risen i i o o s s e → EndsSo i i o o s s course e
-same_so i o s course e can risen = record {
+same_so i o s course e can risen =
+    unshelved_so s course e can risen (λ f. Keeps-refl o.written) (λ f. refl) (draws_none i) (serves_none o)
+
+-- the shelf was looked at alone
+pub looked_so : (i : Intake) (o : Outlet) {s s' : Stock} (course : Course) (e : Ending) → Looks s s' → (course.asks ≡ false → s' ≡ s) → is_among course.statuses (status_of e) ≡ true → Risen i i o o s s' e → EndsSo i i o o s s' course e
+looked_so i o course e looks same can risen = record {
   can = can;
   risen = risen;
   out = λ f. Keeps-refl o.written;
   input = λ f. refl;
-  held = λ f. refl;
-  shelf = λ f. refl;
+  held = λ f. looks.held;
+  shelf = same;
   draws = draws_none i;
   serves = serves_none o;
-  reaches = reaches_none s;
+  reaches = looks_reaches looks;
 }
 
 -- the shelf was asked before

@@ -56,9 +56,13 @@ rule_text (Some rule) = codes " " ++ decimal rule
 abbrev pub reason_text : Reason → List ℕ
 reason_text reason = reason_name reason ++ rule_text (rule_of reason)
 
+-- a refusal: its place, its device and its reason, each behind a text
+abbrev pub refusal_text : List ℕ → List ℕ → List ℕ → Set → ℕ → Option ℕ → Reason → List ℕ
+refusal_text before_place before_device before_reason set place section reason =
+    before_place ++ (decimal place ++ (before_device ++ (section_text set section ++ (before_reason ++ (reason_text reason ++ 10 ∷ [])))))
+
 abbrev pub refused_line : Set → ℕ → Option ℕ → Reason → List ℕ
-refused_line set at section reason =
-    codes "refused at " ++ (decimal at ++ (codes " in " ++ (section_text set section ++ (codes ": " ++ (reason_text reason ++ 10 ∷ [])))))
+refused_line = refusal_text (codes "refused at ") (codes " in ") (codes ": ")
 
 abbrev pub bad_words : List ℕ
 bad_words = codes "bad words" ++ 10 ∷ []

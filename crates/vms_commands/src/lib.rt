@@ -15,9 +15,9 @@ mod words;
 
 pub use ending::Ending;
 pub use fetching::{LONGEST_FILE, SetText, fetch, fetch_set, loader_of, read_fetched};
-pub use line_parts::{append_number, append_reason};
+pub use line_parts::append_number;
 pub use notes::{not_there_line, too_large_line};
-pub use refused::{NoteLine, append_section, refused_line};
+pub use refused::{NoteLine, append_section, refusal_line, refused_line};
 pub use set_notes::{mismatch_line, rule_line, shape_line, syntax_line};
 pub use set_words::{IsaSet, SetWord, ShippedSet};
 pub use words::{set_word, shipped_set};

@@ -21,7 +21,7 @@ pub fn append_number<const N: usize>(line: &mut ArrayVec<u8, N>, number: u64)
 
 /// Appends a reason's name, and for a device's rule a blank and its number.
 #[tactic(auto, using(crate::proofs::LineLemmas::reason_short))]
-pub fn append_reason<const N: usize>(line: &mut ArrayVec<u8, N>, reason: Reason)
+pub(crate) fn append_reason<const N: usize>(line: &mut ArrayVec<u8, N>, reason: Reason)
     requires { length line.old.items + 22 ≤ N }
     ensures items { line.new.items ≡ line.old.items ++ reason_text reason }
     ensures few { length line.new.items ≤ length line.old.items + 22 }

@@ -1,7 +1,7 @@
 // The line of a stream that is refused, made without memory: what was read of the input is never lost for want of it.
 ghost use Rattle.std.specs.Prelude.{◌≡◌, ◌+◌, ◌++◌, ◌≤◌, ◌<◌, Some, length};
 ghost use Rattle.vms_desc.specs.Described.{described, device_at};
-ghost use Rattle.vms_commands.specs.Lines.{device_text, refused_line, section_text};
+ghost use Rattle.vms_commands.specs.Lines.{device_text, refusal_text, refused_line, section_text};
 
 use crate::line_parts::{append_number, append_reason};
 use arrayvec::ArrayVec;
@@ -18,12 +18,30 @@ pub fn refused_line(set: &DescSet, refusal: &Refusal) -> NoteLine
     ensures { let r = refusal.now in
         result.items ≡ refused_line (described set.now) r.at r.section r.reason }
 {
+    refusal_line(set, refusal, b"refused at ", b" in ", b": ")
+}
+
+/// The line of a refusal: the place, the device and the reason, each behind its own text.
+pub fn refusal_line(
+    set: &DescSet,
+    refusal: &Refusal,
+    before_place: &[u8],
+    before_device: &[u8],
+    before_reason: &[u8],
+) -> NoteLine
+    requires place { length before_place.now ≤ 16 }
+    requires device { length before_device.now ≤ 8 }
+    requires reason { length before_reason.now ≤ 8 }
+    ensures { let r = refusal.now in
+        result.items ≡ refusal_text before_place.now before_device.now before_reason.now
+        (described set.now) r.at r.section r.reason }
+{
     let mut line = ArrayVec::new();
-    append(&mut line, b"refused at ");
+    append(&mut line, before_place);
     append_number(&mut line, refusal.at);
-    append(&mut line, b" in ");
+    append(&mut line, before_device);
     append_section(&mut line, set, refusal.section);
-    append(&mut line, b": ");
+    append(&mut line, before_reason);
     append_reason(&mut line, refusal.reason);
     append(&mut line, b"\n");
     line

@@ -1,4 +1,4 @@
--- A drill and its streams, beside its course alone.
+-- A drill and its streams, beside its progress alone.
 use Rattle.std.proofs.Common.{◌≡◌, ℕ, zero, suc, ◌+◌, ◌*◌, ◌-◌, ◌<◌, ◌≤◌, Bool, true, false, if◌then◌else◌, arith, refl, sym, ap, subst, ◌∙◌}
 use Rattle.dev_board.proofs.SoundLaws.{sound_stays_on}
 use Rattle.dev_board.specs.Sound.{IsSound, Alike}
@@ -7,26 +7,26 @@ use Rattle.dev_board.specs.Step.{step, after_all}
 use Rattle.vms_drill.proofs.EventLaws.{event-is}
 use Rattle.vms_drill.proofs.FoldLaws.{saves_leave_counts, save_may, save-left}
 use Rattle.vms_drill.specs.Events.{next_number, event_of, events_after}
-use Rattle.vms_drill.specs.Fold.{Course, drilled, is_save_due, saves_of}
+use Rattle.vms_drill.specs.Fold.{Progress, drilled, is_save_due, saves_of}
 use Rattle.vms_board_streams.proofs.IsaBytes.{streams_are_short}
 use Rattle.vms_drill.specs.Drill.{Drill, drill_begun, bytes_after, stream_long, with_drill_event, drilled_on}
-use Rattle.vms_drill.specs.Laws.{CoursesAreSame, SizesAreSmall}
+use Rattle.vms_drill.specs.Laws.{ProgressIsSame, SizesAreSmall}
 
-course-same : (count : ℕ) (drill : Drill) → (drilled_on count drill).course ≡ drilled count drill.course
-course-same zero drill = refl
-course-same (suc count) drill = course-same count (with_drill_event drill)
+progress-same : (count : ℕ) (drill : Drill) → (drilled_on count drill).progress ≡ drilled count drill.progress
+progress-same zero drill = refl
+progress-same (suc count) drill = progress-same count (with_drill_event drill)
 
-pub courses_are_same : CoursesAreSame
-courses_are_same = record {
+pub progress_is_same : ProgressIsSame
+progress_is_same = record {
   same = λ level seed count l.
-      let course = course-same count (drill_begun level seed) in
+      let progress = progress-same count (drill_begun level seed) in
       let all = saves_leave_counts.same level seed count l in
       record {
-        course = course;
-        counts = ap (λ (c : Course). c.counts) course ∙ all.counts;
-        events = ap (λ (c : Course). c.events) course ∙ all.events;
-        alike = subst (λ (c : Course). Alike (after_all (events_after seed count) (power_on level)) c.board) (sym course) all.alike;
-        sound = subst (λ (c : Course). IsSound c.board) (sym course) all.sound;
+        progress = progress;
+        counts = ap (λ (c : Progress). c.counts) progress ∙ all.counts;
+        events = ap (λ (c : Progress). c.events) progress ∙ all.events;
+        alike = subst (λ (c : Progress). Alike (after_all (events_after seed count) (power_on level)) c.board) (sym progress) all.alike;
+        sound = subst (λ (c : Progress). IsSound c.board) (sym progress) all.sound;
       };
 }
 
@@ -42,12 +42,12 @@ after-small events m bytes s =
     due-small (is_save_due events) bytes (stream_long events m)
     (streams_are_short.short _ m s (save_may m.level (saves_of events - 1) s.devices.level.last))
 
-small : (count : ℕ) (drill : Drill) → IsSound drill.course.board → (drilled_on count drill).bytes ≤ drill.bytes + 65536 * count
+small : (count : ℕ) (drill : Drill) → IsSound drill.progress.board → (drilled_on count drill).bytes ≤ drill.bytes + 65536 * count
 small zero drill s = omega arith
 small (suc count) drill s =
-    let stepped = sound_stays_on.event (event_of (next_number drill.course.number)) drill.course.board (event-is (next_number drill.course.number)) s in
-    let here = after-small (drill.course.events + 1) (step (event_of (next_number drill.course.number)) drill.course.board).1 drill.bytes stepped in
-    let left = save-left (drill.course.events + 1) (step (event_of (next_number drill.course.number)) drill.course.board).1 stepped in
+    let stepped = sound_stays_on.event (event_of (next_number drill.progress.number)) drill.progress.board (event-is (next_number drill.progress.number)) s in
+    let here = after-small (drill.progress.events + 1) (step (event_of (next_number drill.progress.number)) drill.progress.board).1 drill.bytes stepped in
+    let left = save-left (drill.progress.events + 1) (step (event_of (next_number drill.progress.number)) drill.progress.board).1 stepped in
     let rest = small count (with_drill_event drill) left.sound in
     omega (arith, here, rest)
 

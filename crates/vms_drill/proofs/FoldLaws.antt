@@ -16,7 +16,7 @@ use Rattle.dev_board.specs.declared.event.Event.{Event}
 use Rattle.dev_board.specs.declared.misfit.Misfit.{Misfit}
 use Rattle.vms_drill.proofs.EventLaws.{event-is}
 use Rattle.vms_drill.specs.Events.{next_number, event_of, events_after}
-use Rattle.vms_drill.specs.Fold.{Course, counted, counted_all, set_of, back_of, came_back, after_save, with_event, begun, drilled}
+use Rattle.vms_drill.specs.Fold.{Progress, counted, counted_all, set_of, back_of, came_back, after_save, with_event, begun, drilled}
 use Rattle.vms_drill.specs.EventLaws.{IsAsUnsaved, SavesLeaveCounts}
 
 -- the set of a save is one under which the board may be saved
@@ -48,27 +48,27 @@ pub save-left : (events : ℕ) (m : State) → IsSound m → Left m (after_save 
 unfolding after_save
 save-left events m s = due-left _ _ m s (save_may m.level _ s.devices.level.last)
 
--- a drill in its course, beside a board like its own that goes on without saves
-record GoesAs (count : ℕ) (course : Course) (m : State) : Type 0 where
-  pub counts : (drilled count course).counts ≡ counted_all (observe (events_after course.number count) m) course.counts
-  pub alike : Alike (after_all (events_after course.number count) m) (drilled count course).board
-  pub events : (drilled count course).events ≡ course.events + count
-  pub level : (drilled count course).board.level ≡ course.board.level
-  pub sound : IsSound (drilled count course).board
+-- a drill in progress, beside a board like its own that goes on without saves
+record GoesAs (count : ℕ) (progress : Progress) (m : State) : Type 0 where
+  pub counts : (drilled count progress).counts ≡ counted_all (observe (events_after progress.number count) m) progress.counts
+  pub alike : Alike (after_all (events_after progress.number count) m) (drilled count progress).board
+  pub events : (drilled count progress).events ≡ progress.events + count
+  pub level : (drilled count progress).board.level ≡ progress.board.level
+  pub sound : IsSound (drilled count progress).board
 
-goes : (count : ℕ) (course : Course) (m : State) → Alike m course.board → IsSound course.board → GoesAs count course m
+goes : (count : ℕ) (progress : Progress) (m : State) → Alike m progress.board → IsSound progress.board → GoesAs count progress m
 unfolding answers_by after_by
-goes zero course m a s = record { counts = refl; alike = a; events = omega arith; level = refl; sound = s }
-goes (suc count) course m a s =
-    let event : Event = event_of (next_number course.number) in
-    let now = alike_stays.event event m course.board a in
-    let left = save-left (course.events + 1) (step event course.board).1 (sound_stays_on.event event course.board (event-is (next_number course.number)) s) in
-    let on = goes count (with_event course) (step event m).1 (likeness.on _ _ _ now.alike left.alike) left.sound in
+goes zero progress m a s = record { counts = refl; alike = a; events = omega arith; level = refl; sound = s }
+goes (suc count) progress m a s =
+    let event : Event = event_of (next_number progress.number) in
+    let now = alike_stays.event event m progress.board a in
+    let left = save-left (progress.events + 1) (step event progress.board).1 (sound_stays_on.event event progress.board (event-is (next_number progress.number)) s) in
+    let on = goes count (with_event progress) (step event m).1 (likeness.on _ _ _ now.alike left.alike) left.sound in
     record {
-      counts = on.counts ∙ ap (λ (answer : Answer). counted_all (observe (events_after (next_number course.number) count) (step event m).1) (counted answer course.counts)) now.value;
+      counts = on.counts ∙ ap (λ (answer : Answer). counted_all (observe (events_after (next_number progress.number) count) (step event m).1) (counted answer progress.counts)) now.value;
       alike = on.alike;
       events = let e = on.events in omega (arith, e);
-      level = on.level ∙ left.level ∙ clock_goes_on.level event course.board;
+      level = on.level ∙ left.level ∙ clock_goes_on.level event progress.board;
       sound = on.sound;
     }
 

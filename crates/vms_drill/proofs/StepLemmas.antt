@@ -40,10 +40,10 @@ module _ (events : ℕ) (m : State) where
   unfolding taken_after
   saved-taken taken e = rw e refl
 
--- a drill in its course
+-- a drill in progress
 abbrev made : ℕ → ℕ → State → Counts → ℕ → ℕ → Drill
 made events number board counts bytes taken =
-    record { course = record { events = events; number = number; board = board; counts = counts }; bytes = bytes; taken = taken }
+    record { progress = record { events = events; number = number; board = board; counts = counts }; bytes = bytes; taken = taken }
 
 same-made : (events number number' : ℕ) (board board' : State) (counts counts' : Counts) (bytes bytes' taken taken' : ℕ)
     → number ≡ number' → board ≡ board' → counts ≡ counts' → bytes ≡ bytes' → taken ≡ taken' → made events number board counts bytes taken ≡ made events number' board' counts' bytes' taken'
@@ -55,20 +55,20 @@ same-made events number number' board board' counts counts' bytes bytes' taken t
     ∙ ap (λ (n : ℕ). made events number' board' counts' bytes' n) e
 
 module _ (old : Drill) (event : Event) (number : ℕ) (answer : Answer) (board : State) (counts : Counts)
-    (next : number ≡ next_number old.course.number) (chosen : event ≡ event_of number) (done : (answer, board) ≡ step event old.course.board)
-    (count : counts ≡ counted answer old.course.counts) where
+    (next : number ≡ next_number old.progress.number) (chosen : event ≡ event_of number) (done : (answer, board) ≡ step event old.progress.board)
+    (count : counts ≡ counted answer old.progress.counts) where
   abbrev events : ℕ
-  events = old.course.events + 1
+  events = old.progress.events + 1
 
-  stepped : (answer, board) ≡ step (event_of (next_number old.course.number)) old.course.board
-  stepped = done ∙ ap (λ (e : Event). step e old.course.board) (chosen ∙ ap event_of next)
+  stepped : (answer, board) ≡ step (event_of (next_number old.progress.number)) old.progress.board
+  stepped = done ∙ ap (λ (e : Event). step e old.progress.board) (chosen ∙ ap event_of next)
 
   with-event : drill_on old (answer, board) ≡ with_drill_event old
   with-event = ap (drill_on old) stepped
 
   pub goes_unsaved : (taken : ℕ) → is_save_due events ≡ false → taken ≡ old.taken → made events number board counts old.bytes taken ≡ with_drill_event old
   goes_unsaved taken none same =
-      same-made events number (next_number old.course.number) board (after_save events board) counts (counted answer old.course.counts)
+      same-made events number (next_number old.progress.number) board (after_save events board) counts (counted answer old.progress.counts)
       old.bytes (bytes_after events board old.bytes) taken (taken_after events board old.taken)
       next (sym (unsaved-board events board none)) count (sym (unsaved-bytes events board old.bytes none)) (same ∙ sym (unsaved-taken events board old.taken none))
       ∙ with-event
@@ -77,7 +77,7 @@ module _ (old : Drill) (event : Event) (number : ℕ) (answer : Answer) (board :
       → long ≡ length (saved_stream isa (set_of board.level (saves_of events - 1)) board) → taken ≡ long
       → made events number back counts (old.bytes + long) taken ≡ with_drill_event old
   goes_saved back long taken due is long-is taken-is =
-      same-made events number (next_number old.course.number) back (after_save events board) counts (counted answer old.course.counts)
+      same-made events number (next_number old.progress.number) back (after_save events board) counts (counted answer old.progress.counts)
       (old.bytes + long) (bytes_after events board old.bytes) taken (taken_after events board old.taken)
       next (is ∙ sym (saved-board events board due)) count
       (ap (λ (n : ℕ). old.bytes + n) long-is ∙ sym (saved-bytes events board old.bytes due))

@@ -4,19 +4,19 @@ use Rattle.dev_board.specs.State.{State}
 use Rattle.dev_board.specs.Step.{step}
 use Rattle.dev_board.specs.declared.event.Answer.{Answer}
 use Rattle.vms_drill.specs.Events.{next_number, event_of}
-use Rattle.vms_drill.specs.Fold.{Course, begun, went_on, is_save_due, set_of, saves_of}
+use Rattle.vms_drill.specs.Fold.{Progress, begun, went_on, is_save_due, set_of, saves_of}
 use Rattle.vms_board.specs.Isa.{isa}
 use Rattle.vms_board.specs.Saving.{saved_stream}
 
--- a drill in its course: events, board and counts; how many bytes the streams so far have together; and how many the last of
+-- a drill in progress: events, board and counts; how many bytes the streams so far have together; and how many the last of
 -- them has, which is what the board was restored from, or none
 pub record Drill : Type 0 where
-  pub course : Course
+  pub progress : Progress
   pub bytes : ℕ
   pub taken : ℕ
 
 abbrev pub drill_begun : ℕ → ℕ → Drill
-drill_begun level seed = record { course = begun level seed; bytes = 0; taken = 0 }
+drill_begun level seed = record { progress = begun level seed; bytes = 0; taken = 0 }
 
 -- the bytes of the stream that is saved of a board after so many events
 abbrev pub stream_long : ℕ → State → ℕ
@@ -31,13 +31,13 @@ taken_after events m taken = if is_save_due events then stream_long events m els
 -- an event, and a save and a restore where they are due
 abbrev pub drill_on : Drill → Answer × State → Drill
 drill_on drill done = record {
-  course = went_on drill.course done;
-  bytes = bytes_after (drill.course.events + 1) done.1 drill.bytes;
-  taken = taken_after (drill.course.events + 1) done.1 drill.taken;
+  progress = went_on drill.progress done;
+  bytes = bytes_after (drill.progress.events + 1) done.1 drill.bytes;
+  taken = taken_after (drill.progress.events + 1) done.1 drill.taken;
 }
 
 abbrev pub with_drill_event : Drill → Drill
-with_drill_event drill = drill_on drill (step (event_of (next_number drill.course.number)) drill.course.board)
+with_drill_event drill = drill_on drill (step (event_of (next_number drill.progress.number)) drill.progress.board)
 
 -- so many events more
 abbrev pub drilled_on : ℕ → Drill → Drill
@@ -55,9 +55,9 @@ pub record Summary : Type 0 where
 
 abbrev pub summary_of : Drill → Summary
 summary_of drill = record {
-  events = drill.course.events;
-  sent = drill.course.counts.sent;
-  raised = drill.course.counts.raised;
-  saves = saves_of drill.course.events;
+  events = drill.progress.events;
+  sent = drill.progress.counts.sent;
+  raised = drill.progress.counts.raised;
+  saves = saves_of drill.progress.events;
   bytes = drill.bytes;
 }

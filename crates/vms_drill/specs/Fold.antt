@@ -47,15 +47,15 @@ back_of m (Err misfit) = m
 unfoldable pub came_back : ℕ → State → State
 came_back set m = back_of m (restored m.level (carried set (saved set m)))
 
--- the course of a drill: how many events there were, the number that chose the last of them (at first the seed), the
+-- the progress of a drill: how many events there were, the number that chose the last of them (at first the seed), the
 -- board, and the counts
-pub record Course : Type 0 where
+pub record Progress : Type 0 where
   pub events : ℕ
   pub number : ℕ
   pub board : State
   pub counts : Counts
 
-abbrev pub begun : ℕ → ℕ → Course
+abbrev pub begun : ℕ → ℕ → Progress
 begun level seed = record { events = 0; number = seed; board = power_on level; counts = nothing }
 
 -- how many saves there were after so many events
@@ -69,18 +69,18 @@ after_save events m =
     if is_save_due events then came_back (set_of m.level (saves_of events - 1)) m else m
 
 -- an event, and a save where one is due
-abbrev pub went_on : Course → Answer × State → Course
-went_on course done = record {
-  events = course.events + 1;
-  number = next_number course.number;
-  board = after_save (course.events + 1) done.1;
-  counts = counted done.0 course.counts;
+abbrev pub went_on : Progress → Answer × State → Progress
+went_on progress done = record {
+  events = progress.events + 1;
+  number = next_number progress.number;
+  board = after_save (progress.events + 1) done.1;
+  counts = counted done.0 progress.counts;
 }
 
-abbrev pub with_event : Course → Course
-with_event course = went_on course (step (event_of (next_number course.number)) course.board)
+abbrev pub with_event : Progress → Progress
+with_event progress = went_on progress (step (event_of (next_number progress.number)) progress.board)
 
 -- so many events more
-abbrev pub drilled : ℕ → Course → Course
-drilled zero course = course
-drilled (suc count) course = drilled count (with_event course)
+abbrev pub drilled : ℕ → Progress → Progress
+drilled zero progress = progress
+drilled (suc count) progress = drilled count (with_event progress)

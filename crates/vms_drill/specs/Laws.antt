@@ -10,14 +10,14 @@ use Rattle.vms_drill.specs.Drill.{drill_begun, drilled_on}
 
 -- a drill of a level and a seed beside the same events without any save
 pub record IsAsUnsaved (level seed count : ℕ) : Type 0 where
-  pub course : (drilled_on count (drill_begun level seed)).course ≡ drilled count (begun level seed)
-  pub counts : (drilled_on count (drill_begun level seed)).course.counts
+  pub progress : (drilled_on count (drill_begun level seed)).progress ≡ drilled count (begun level seed)
+  pub counts : (drilled_on count (drill_begun level seed)).progress.counts
       ≡ counted_all (observe (events_after seed count) (power_on level)) nothing
-  pub events : (drilled_on count (drill_begun level seed)).course.events ≡ count
-  pub alike : Alike (after_all (events_after seed count) (power_on level)) (drilled_on count (drill_begun level seed)).course.board
-  pub sound : IsSound (drilled_on count (drill_begun level seed)).course.board
+  pub events : (drilled_on count (drill_begun level seed)).progress.events ≡ count
+  pub alike : Alike (after_all (events_after seed count) (power_on level)) (drilled_on count (drill_begun level seed)).progress.board
+  pub sound : IsSound (drilled_on count (drill_begun level seed)).progress.board
 
-pub record CoursesAreSame : Type 0 where
+pub record ProgressIsSame : Type 0 where
   pub same : (level seed count : ℕ) → IsLevel level → IsAsUnsaved level seed count
 
 -- the streams of a drill have less than 65,536 bytes each, so that together they have at most so many

@@ -1,4 +1,4 @@
--- What contracts see of a drill in its course and of its summary.
+-- What contracts see of a drill in progress and of its summary.
 use Rattle.std.specs.Prelude.{◌*◌, ◌≤◌}
 use Rattle.dev_board.specs.Sound.{IsSound}
 use Rattle.dev_serial.specs.declared.transmitter.TheConstants.{MOST_SENT}
@@ -6,18 +6,18 @@ use Rattle.vms_board.specs.Isa.{isa}
 use Rattle.vms_board_streams.specs.Sets.{AreOf}
 use Rattle.vms_drill.specs.Tallies.{tally_view}
 use Rattle.vms_drill.specs.Drill.{Drill, Summary}
-use Rattle.vms_drill.specs.declared.course.Course.{Course}
+use Rattle.vms_drill.specs.declared.progress.Progress.{Progress}
 use Rattle.vms_drill.specs.declared.fold.Summary as declared
 
-abbrev pub course_view : Course → Drill
-course_view c = record {
-  course = record { events = c.done; number = c.events.number; board = c.board.state; counts = tally_view c.tally };
+abbrev pub progress_view : Progress → Drill
+progress_view c = record {
+  progress = record { events = c.done; number = c.events.number; board = c.board.state; counts = tally_view c.tally };
   bytes = c.bytes;
   taken = c.board.taken;
 }
 
 -- its board is sound, its sets are a board's, and no count is greater than so many events can make it
-pub record IsInCourse (c : Course) : Type 0 where
+pub record IsInProgress (c : Progress) : Type 0 where
   pub sound : IsSound c.board.state
   pub sets : AreOf isa c.sets
   pub sent : c.tally.sent ≤ MOST_SENT * c.done

@@ -4,7 +4,7 @@ ghost use Rattle.dev_base.specs.Levels.{IsLevel};
 ghost use Rattle.vms_drill.specs.Drill.{drill_begun, drilled_on, summary_of};
 ghost use Rattle.vms_drill.specs.Views.{summary_view};
 
-use crate::course::Course;
+use crate::progress::Progress;
 use std::alloc::Global;
 use vms_board::Board;
 use vms_io::NoMemory;
@@ -38,13 +38,13 @@ pub fn drill(alloc: Global, level: u8, seed: u64, count: u32) -> Result<Drilled,
     ensures summary { let drill = drilled_on count (drill_begun level seed) in
         IfOk result (λ d. summary_view d.summary ≡ summary_of drill) }
     ensures board { let drill = drilled_on count (drill_begun level seed) in
-        IfOk result (λ d. d.board.state ≡ drill.course.board) }
+        IfOk result (λ d. d.board.state ≡ drill.progress.board) }
     ensures taken { let drill = drilled_on count (drill_begun level seed) in
         IfOk result (λ d. d.board.taken ≡ drill.taken) }
 {
-    let mut course = Course::begin(alloc, level, seed)?;
+    let mut progress = Progress::begin(alloc, level, seed)?;
     for _ in 0..count {
-        course.step(alloc)?;
+        progress.step(alloc)?;
     }
-    Ok(course.end())
+    Ok(progress.end())
 }

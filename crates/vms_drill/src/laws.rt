@@ -1,12 +1,12 @@
 // Laws of drills, each in a clause of a function that does nothing.
 ghost use Rattle.vms_drill.specs.EventLaws.{EventsAreGood, SavesLeaveCounts};
-ghost use Rattle.vms_drill.specs.Laws.{CoursesAreSame, SizesAreSmall};
+ghost use Rattle.vms_drill.specs.Laws.{ProgressIsSame, SizesAreSmall};
 
 /// A drill's board is that of its events and saves alone, what its streams weigh beside it, and so its events, the bytes
 /// sent and the events that raised the interrupt output are those of the same events without any save.
-#[tactic(auto, using(crate::proofs::DrillLaws::courses_are_same))]
-pub fn course_law()
-    ensures { CoursesAreSame }
+#[tactic(auto, using(crate::proofs::DrillLaws::progress_is_same))]
+pub fn progress_law()
+    ensures { ProgressIsSame }
 {}
 
 /// The streams of a drill have together at most 65,536 bytes for each of its events.

@@ -2,16 +2,16 @@
 //! thousand of them a board that is restored from its own stream.
 #![tactic(auto)]
 
-mod course;
 mod events;
 mod fold;
 mod laws;
+mod progress;
 mod round;
 mod schedule;
 mod tally;
 
 pub use events::Events;
 pub use fold::{Drilled, Summary, drill};
-pub use laws::{course_law, events_law, saves_law, size_law};
+pub use laws::{events_law, progress_law, saves_law, size_law};
 pub use schedule::{BETWEEN_SAVES, is_save_due, set_of};
 pub use tally::Tally;

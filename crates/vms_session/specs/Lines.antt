@@ -1,7 +1,7 @@
 -- The lines that a session's own lines leave in its trace.
 use Rattle.std.specs.Prelude.{ℕ, List, [], ◌∷◌, ◌++◌, Option, codes}
 use Rattle.std.specs.Fmt.{decimal}
-use Rattle.vms_commands.specs.Lines.{section_text, reason_text}
+use Rattle.vms_commands.specs.Lines.{refusal_text}
 use Rattle.vms_spec.specs.Sets.{Set}
 use Rattle.vms_spec.specs.declared.Reason.{Reason}
 
@@ -20,5 +20,4 @@ abbrev pub too_large_line : List ℕ
 too_large_line = codes "too large\n"
 
 abbrev pub refused_line : Set → ℕ → Option ℕ → Reason → List ℕ
-refused_line set place section reason =
-    codes "refused " ++ (decimal place ++ (codes " " ++ (section_text set section ++ (codes " " ++ (reason_text reason ++ 10 ∷ [])))))
+refused_line = refusal_text (codes "refused ") (codes " ") (codes " ")

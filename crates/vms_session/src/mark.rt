@@ -1,10 +1,11 @@
 // The lines that a session's own lines leave in its trace, each made whole without memory.
-ghost use Rattle.std.specs.Prelude.{◌≡◌, ◌≤◌, length};
+ghost use Rattle.std.specs.Prelude.{◌≡◌, ◌≤◌, ◌++◌, [], ◌∷◌, length};
+ghost use Rattle.std.specs.Fmt.{decimal};
 ghost use Rattle.vms_desc.specs.Described.{described};
 ghost use Rattle.vms_session.specs.Lines.{refused_line, restored_line, saved_line};
 
 use arrayvec::ArrayVec;
-use vms_commands::{NoteLine, append_number, append_reason, append_section};
+use vms_commands::{NoteLine, append_number, refusal_line};
 use vms_desc::DescSet;
 use vms_load::Refusal;
 use vms_words::append;
@@ -23,19 +24,23 @@ pub(crate) fn mark(text: &[u8]) -> NoteLine
 pub(crate) fn saved_mark(count: u64) -> NoteLine
     ensures { result.items ≡ saved_line count }
 {
-    let mut line = ArrayVec::new();
-    append(&mut line, b"saved ");
-    append_number(&mut line, count);
-    append(&mut line, b"\n");
-    line
+    counted_mark(b"saved ", count)
 }
 
 /// The line of a stream of so many bytes that was taken.
 pub(crate) fn restored_mark(count: u64) -> NoteLine
     ensures { result.items ≡ restored_line count }
 {
+    counted_mark(b"restored ", count)
+}
+
+// A number behind a word.
+fn counted_mark(word: &[u8], count: u64) -> NoteLine
+    requires { length word.now ≤ 16 }
+    ensures { result.items ≡ word.now ++ (decimal count ++ 10 ∷ []) }
+{
     let mut line = ArrayVec::new();
-    append(&mut line, b"restored ");
+    append(&mut line, word);
     append_number(&mut line, count);
     append(&mut line, b"\n");
     line
@@ -46,13 +51,5 @@ pub(crate) fn refused_mark(set: &DescSet, refusal: &Refusal) -> NoteLine
     ensures { let r = refusal.now in
         result.items ≡ refused_line (described set.now) r.at r.section r.reason }
 {
-    let mut line = ArrayVec::new();
-    append(&mut line, b"refused ");
-    append_number(&mut line, refusal.at);
-    append(&mut line, b" ");
-    append_section(&mut line, set, refusal.section);
-    append(&mut line, b" ");
-    append_reason(&mut line, refusal.reason);
-    append(&mut line, b"\n");
-    line
+    refusal_line(set, refusal, b"refused ", b" ", b" ")
 }

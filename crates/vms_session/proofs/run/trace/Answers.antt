@@ -1,4 +1,4 @@
-use Rattle.std.proofs.Common.{◌+◌, ◌<◌, ◌≤◌, length, drop, sym, ◌∙◌, arith}
+use Rattle.std.proofs.Common.{◌+◌, ◌<◌, length, drop, sym, ◌∙◌, arith}
 use Rattle.std.proofs.lemmas.Result.{err_from_is_err_and}
 use Rattle.vms_script.specs.Trace.{trace_line}
 use Rattle.vms_session.specs.Events.{trace_from}
@@ -49,11 +49,9 @@ loop-event-preserved g c =
 
 pub returns-clause-wrote : goal.returns-clause-wrote
 returns-clause-wrote g c =
-    let f = g.M.Machine.family in
     let events = c.args.events.now in
     let i = c.loop-event.event-index in
-    let le : length events ≤ i = omega (arith, c.loop-event-test.false) in
-    leaves_none (trace_none f (drop i events) c.loop-event.board.state (none_left events i le)) c.loop-event.invariant.leaves
+    leaves_none (trace_none g.M.Machine.family (drop i events) c.loop-event.board.state (none_left events i (omega (arith, c.loop-event-test.false)))) c.loop-event.invariant.leaves
 
 pub returns-in_err-trace_event-clause-number : goal.returns-in_err-trace_event-clause-number
 returns-in_err-trace_event-clause-number g c =
@@ -63,8 +61,6 @@ returns-in_err-trace_event-clause-number g c =
 
 pub returns-clause-state : goal.returns-clause-state
 returns-clause-state g c =
-    let f = g.M.Machine.family in
     let events = c.args.events.now in
     let i = c.loop-event.event-index in
-    let le : length events ≤ i = omega (arith, c.loop-event-test.false) in
-    sym (after_none f (drop i events) c.loop-event.board.state (none_left events i le)) ∙ c.loop-event.invariant.left
+    sym (after_none g.M.Machine.family (drop i events) c.loop-event.board.state (none_left events i (omega (arith, c.loop-event-test.false)))) ∙ c.loop-event.invariant.left

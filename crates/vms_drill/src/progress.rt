@@ -1,8 +1,8 @@
-// A drill in its course.
+// A drill in progress.
 ghost use Rattle.std.specs.Prelude.{◌≡◌, ◌+◌, ◌^◌, ◌<◌, IfOk, OnOk};
 ghost use Rattle.dev_base.specs.Levels.{IsLevel};
 ghost use Rattle.vms_drill.specs.Drill.{drill_begun, summary_of, with_drill_event};
-ghost use Rattle.vms_drill.specs.Views.{course_view, summary_view, IsInCourse};
+ghost use Rattle.vms_drill.specs.Views.{progress_view, summary_view, IsInProgress};
 
 use crate::fold::{Drilled, Summary};
 use crate::round::come_back;
@@ -14,7 +14,7 @@ use vms_io::NoMemory;
 
 /// A drill after some of its events.
 #[derive(Drop)]
-pub(crate) struct Course {
+pub(crate) struct Progress {
     board: Board,
     /// The sets that its streams went by.
     sets: KeptSets,
@@ -26,14 +26,14 @@ pub(crate) struct Course {
     bytes: u64,
 }
 
-impl Course {
+impl Progress {
     /// Before the first event.
-    pub(crate) fn begin(alloc: Global, level: u8, seed: u64) -> Result<Course, NoMemory>
+    pub(crate) fn begin(alloc: Global, level: u8, seed: u64) -> Result<Progress, NoMemory>
         requires { IsLevel level }
-        ensures view { IfOk result (λ course. course_view course ≡ drill_begun level seed) }
-        ensures going { IfOk result IsInCourse }
+        ensures view { IfOk result (λ progress. progress_view progress ≡ drill_begun level seed) }
+        ensures going { IfOk result IsInProgress }
     {
-        Ok(Course {
+        Ok(Progress {
             board: Board::new(alloc, level)?,
             sets: KeptSets::new::<Devices>(alloc),
             events: Events::new(seed),
@@ -46,11 +46,11 @@ impl Course {
     /// Lets the next event happen, and after every thousand of them makes the board the one that its own stream
     /// restores.
     pub(crate) fn step(&mut self, alloc: Global) -> Result<(), NoMemory>
-        requires going { IsInCourse self.old }
+        requires going { IsInProgress self.old }
         requires room { self.old.done + 1 < 2 ^ 32 }
         ensures view { OnOk result
-            (course_view self.new ≡ with_drill_event (course_view self.old)) }
-        ensures going { OnOk result (IsInCourse self.new) }
+            (progress_view self.new ≡ with_drill_event (progress_view self.old)) }
+        ensures going { OnOk result (IsInProgress self.new) }
     {
         let answer = self.board.event(self.events.next_event());
         self.tally.count(&answer);
@@ -64,7 +64,7 @@ impl Course {
 
     /// What it came to, and its board.
     pub(crate) fn end(self) -> Drilled
-        ensures summary { summary_view result.summary ≡ summary_of (course_view self) }
+        ensures summary { summary_view result.summary ≡ summary_of (progress_view self) }
         ensures board { result.board ≡ self.board }
     {
         let summary = Summary {
