@@ -1,6 +1,6 @@
 use Rattle.std.proofs.Common.{◌≡◌, ◌<◌, ◌≤◌, ℕ, ℤ, List, pos, length, get_or, map}
 use Rattle.vms_kinds.specs.declared.Kind.{Kind}
-use Rattle.vms_image.proofs.image.put_defaults.Given as goal
+use Rattle.vms_desc.proofs.defaults.put_defaults.Given as goal
 
 pub record Put (numbers defaults : List ℤ) (kinds old : List Kind) (all cell : ℕ) : Type 0 where
   pub long : length numbers ≡ all
