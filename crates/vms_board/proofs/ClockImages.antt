@@ -5,6 +5,7 @@ use Rattle.std.proofs.lemmas.List.{take_rest}
 use Rattle.std.proofs.lemmas.Option.{slice_get-get_or}
 use Rattle.std.specs.List.{slice_get}
 use Rattle.arrayvec.specs.ArrayVec.{ArrayVec}
+use Rattle.vms_kinds.specs.declared.TheConstants.{MOST_CELLS}
 use Rattle.dev_base.specs.declared.limits.TheConstants.{NEWEST}
 use Rattle.dev_board.specs.declared.cells.BoardCells.{BoardCells}
 use Rattle.dev_clock.specs.declared.cells.ClockCells.{ClockCells}
@@ -16,15 +17,15 @@ use Rattle.vms_image.specs.Typed.{Typed, AreImagesOf, IsImageOf, state_of}
 use Rattle.vms_rtc.specs.declared.limits.TheConstants.{NEWEST_CLOCK}
 use Rattle.vms_spec.specs.Layout.{device_cells, first}
 
-chip-few : length (device_cells (clock_set NEWEST_CLOCK) (device_at (clock_set NEWEST_CLOCK) 0)) ≤ 96
+chip-few : length (device_cells (clock_set NEWEST_CLOCK) (device_at (clock_set NEWEST_CLOCK) 0)) ≤ MOST_CELLS
 unfolding first
-chip-few = leb-true (length (device_cells (clock_set NEWEST_CLOCK) (device_at (clock_set NEWEST_CLOCK) 0))) 96 refl
+chip-few = leb-true (length (device_cells (clock_set NEWEST_CLOCK) (device_at (clock_set NEWEST_CLOCK) 0))) MOST_CELLS refl
 
 -- there is one for the chip, with room for its numbers
 six_of : (images : List Typed) → AreImagesOf (clock_set NEWEST_CLOCK) images → length images ≡ 6
 six_of images are = are.one_each
 
-pub chip_room : (images : List Typed) (image : Typed) → AreImagesOf (clock_set NEWEST_CLOCK) images → image ≡ get_or images 0 image → length image.numbers ≤ 96
+pub chip_room : (images : List Typed) (image : Typed) → AreImagesOf (clock_set NEWEST_CLOCK) images → image ≡ get_or images 0 image → length image.numbers ≤ MOST_CELLS
 chip_room images image are is =
     let six = six_of images are in
     let here : slice_get images 0 ≡ Some image = slice_get-get_or images 0 image (omega (arith, six)) ∙ ap (λ (i : Typed). Some i) (sym is) in

@@ -13,7 +13,6 @@ use Rattle.vms_io.specs.Shelves.{Held}
 use Rattle.vms_spec.specs.Images.{Image}
 use Rattle.vms_spec.specs.Sets.{Set}
 use Rattle.vms_spec.specs.Streams.{IsConfiguration, is_one_of}
-use Rattle.vms_stream.specs.Streams.{Takes}
 use Rattle.vms_stream.proofs.Stated.{one_stream_holds}
 use Rattle.vms_load.proofs.TakenImages.{taken_kept}
 use Rattle.vms_check.proofs.SelfLaws.{is_among}
@@ -21,6 +20,7 @@ use Rattle.vms_convert.specs.Converted.{recast_each}
 use Rattle.vms_convert.specs.Lost.{numbers_in}
 use Rattle.vms_convert.specs.Recast.{wants_arrays}
 use Rattle.vms_board.specs.Family.{lists_in}
+use Rattle.vms_board_streams.proofs.FamilyLaws.{takes_under}
 use Rattle.vms_board.specs.Isa.{cells_of, isa, machine_of}
 use Rattle.vms_board.specs.IsaStands.{isa_stands}
 use Rattle.vms_board.specs.Restoring.{Back, Restores}
@@ -57,38 +57,6 @@ module _ (to : Set) (level : ℕ) where
 
 -- ---- a stream whose machine is one of some names
 
-configured_under : (names others : List (List ℕ)) (machine : Option (List ℕ)) (bytes : List ℕ) → IfSome machine (λ name. is_one_of others name ≡ true)
-    → IsConfiguration names machine bytes → IsConfiguration others machine bytes
-configured_under names others None bytes h c = c
-configured_under names others (Some name) bytes h c = (h, c.1, c.2)
-
-takes_under : (names others : List (List ℕ)) (input : List ℕ) (taken : ℕ) (machine : Option (List ℕ)) (images : List Image) → IfSome machine (λ name. is_one_of others name ≡ true)
-    → Takes newest names input taken machine images → Takes newest others input taken machine images
-takes_under names others input taken machine images h t =
-    let s = t.stream in
-    record {
-      bytes = t.bytes;
-      text = t.text;
-      stream = record {
-        named = s.named;
-        configured = configured_under names others machine s.named h s.configured;
-        one_each = s.one_each;
-        order = s.order;
-        each_once = s.each_once;
-        sections = s.sections;
-        footed = s.footed;
-        bare = s.bare;
-        spelled = s.spelled;
-        tail = s.tail;
-        described = s.described;
-        whole = s.whole;
-      };
-      rest = t.rest;
-      prefix = t.prefix;
-      long = t.long;
-      all = t.all;
-    }
-
 -- the machines that a stream of this machine or none may name
 named_in : (names : List (List ℕ)) (machine : Option (List ℕ)) (bytes : List ℕ) → IsConfiguration names machine bytes → IfSome machine (λ name. is_one_of names name ≡ true)
 named_in names None bytes c = tt
@@ -118,10 +86,10 @@ module _ (level : ℕ) (is : IsLevel level) (input stream : List ℕ) (held : Op
       let machine = r.1.0 in
       let takes = r.1.1 in
       let named = named_in alone machine takes.stream.named takes.stream.configured in
-      let lifted = takes_under alone newest.machines input k machine images (known level is machine named) takes in
+      let lifted = takes_under newest alone newest.machines input k machine images (known level is machine named) takes in
       let one = one_stream_holds newest newest.machines newest_fit.well newest_fit.heads input k _ machine s.machine images s.images lifted s.takes in
       let mine = subst (λ (m : Option (List ℕ)). IfSome m (λ name. is_one_of alone name ≡ true)) one.machines named in
-      let loads = takes_under newest.machines alone stream (length stream) s.machine s.loaded mine s.loads in
+      let loads = takes_under newest newest.machines alone stream (length stream) s.machine s.loaded mine s.loads in
       let five = length-map images (λ (image : Image). image.numbers) ∙ (taken_kept newest newest.machines input k machine images lifted).one_each in
       let lists : lists_in s.loaded ≡ recast_each s.to newest.devices (lists_in images) =
       s.cells ∙ ap (λ (l : List Image). recast_each s.to newest.devices (numbers_in l)) (sym one.states) in

@@ -2,6 +2,7 @@
 ghost use Rattle.std.specs.Prelude.{◌≡◌, ◌+◌, ◌++◌, ◌≤◌, ◌<◌, Some, length};
 ghost use Rattle.vms_desc.specs.Described.{described, device_at};
 ghost use Rattle.vms_commands.specs.Lines.{device_text, refusal_text, refused_line, section_text};
+ghost use Rattle.vms_commands.specs.declared.refused.TheConstants.{SECTION_ROOM};
 
 use crate::line_parts::{append_number, append_reason};
 use arrayvec::ArrayVec;
@@ -47,15 +48,18 @@ pub fn refusal_line(
     line
 }
 
-/// Appends the name and instance of a set's device, or a dash where there is none, to a line that has room for 121 bytes.
+/// The name and instance of a device take no more bytes.
+pub const SECTION_ROOM: usize = 121;
+
+/// Appends the name and instance of a set's device, or a dash where there is none, to a line that has `SECTION_ROOM`.
 pub fn append_section<const N: usize>(
     line: &mut ArrayVec<u8, N>,
     set: &DescSet,
     section: Option<u32>,
 )
-    requires { length line.old.items + 121 ≤ N }
+    requires { length line.old.items + SECTION_ROOM ≤ N }
     ensures items { line.new.items ≡ line.old.items ++ section_text (described set.now) section }
-    ensures few { length line.new.items ≤ length line.old.items + 121 }
+    ensures few { length line.new.items ≤ length line.old.items + SECTION_ROOM }
 {
     match section {
         Some(device) if (device as usize) < set.parts().devices.as_slice().len() => {
@@ -67,10 +71,10 @@ pub fn append_section<const N: usize>(
 
 fn append_device<const N: usize>(line: &mut ArrayVec<u8, N>, set: &DescSet, device: u32)
     requires is_device { device < length (described set.now).devices }
-    requires room { length line.old.items + 121 ≤ N }
+    requires room { length line.old.items + SECTION_ROOM ≤ N }
     ensures items { let d = device_at (described set.now) device in
         line.new.items ≡ line.old.items ++ device_text (Some d) }
-    ensures few { length line.new.items ≤ length line.old.items + 121 }
+    ensures few { length line.new.items ≤ length line.old.items + SECTION_ROOM }
 {
     let device = set.device(device);
     append(line, device.desc.name.as_bytes());
