@@ -1,19 +1,19 @@
 -- What is read of a description's devices is what it tells, and of what is told just that is read.
-use Rattle.std.proofs.Common.{◌≡◌, ℕ, Bool, true, false, ◌&&◌, ◌||◌, if◌then◌else◌, List, [], ◌∷◌, map, Option, Some, None, IfSome, Ordering, Less, Equal, Greater, codes, refl, sym, ap, ap₂, ◌∙◌, subst}
+use Rattle.std.proofs.Common.{◌≡◌, ℕ, Bool, true, false, ◌&&◌, ◌||◌, if◌then◌else◌, List, [], ◌∷◌, map, Option, Some, None, IfSome, Ordering, Less, Equal, Greater, codes, refl, sym, ap, ◌∙◌, subst}
 use Rattle.std.specs.List.{list_all}
 use Rattle.std.specs.Ordering.{nat_cmp, match_ordering}
 use Rattle.std.specs.Cmp.Lexicographic.{slice_cmp}
 use Rattle.std.proofs.lemmas.Bool.{and_parts, and_from}
-use Rattle.serde_json.specs.Data.{Data, null, boolean, number, string, array, object, Items, Members, no_members, member}
+use Rattle.serde_json.specs.Data.{Data, array, object, Items, Members, no_members, member}
 use Rattle.serde_json.specs.Find.{get, get_member, as_array}
 use Rattle.serde_json.specs.View.{items_of}
 use Rattle.vms_json.specs.Keys.{fits}
-use Rattle.vms_selfdesc.specs.Tree.{natural, entry_tree, list_tree}
+use Rattle.vms_selfdesc.specs.Tree.{entry_tree, list_tree}
 use Rattle.vms_analyze.specs.Told.{Told, told_entry, ToldSub, told_sub, ToldDevice, told_device, told_tree, is_path, fits_four, is_good, is_kept, is_good_sub, is_good_device}
 use Rattle.vms_analyze.specs.Sorted.{IsSorted, AreSorted, HoldSorted}
-use Rattle.vms_analyze.specs.Read.{next, only, path_at, four_at, flag_at, list_at, each, element_in, elements_in, sub_keys, sub_from, sub_in, subs_in, device_keys, device_from, device_in, devices_in}
+use Rattle.vms_analyze.specs.Read.{next, path_at, four_at, flag_at, list_at, each, element_in, elements_in, sub_keys, sub_from, sub_in, subs_in, device_keys, device_from, device_in, devices_in}
 use Rattle.vms_analyze.proofs.Ordered.{is_picked}
-use Rattle.vms_analyze.proofs.MembersRead.{After, after, first_then, only_is, only_so, under, path_is, four_is, flag_is, list_is, Says, each_says, each_back}
+use Rattle.vms_analyze.proofs.MembersRead.{after, first_then, only_is, only_so, under, path_is, four_is, flag_is, list_is, Says, each_says, each_back}
 use Rattle.vms_analyze.proofs.ElementsRead.{element_tree, element_says, element_back}
 
 -- ---- what a member holds is sorted
@@ -28,24 +28,15 @@ held key (member l d ms) h = go (slice_cmp nat_cmp key l) (held key ms h.1)
     go Greater more = more
 
 under_sorted : (key : List ℕ) (d : Data) → IsSorted d → IfSome (get key d) IsSorted
-under_sorted key null h = tt
-under_sorted key (boolean b) h = tt
-under_sorted key (number n) h = tt
-under_sorted key (string s) h = tt
-under_sorted key (array ds) h = tt
 under_sorted key (object ms) h = held key ms h.1
+under_sorted key _ h = tt
 
 list_sorted : (key : List ℕ) (d : Data) (ds : Items) → IsSorted d → list_at key d ≡ Some ds → AreSorted ds
 list_sorted key d ds sorted e = go (get key d) (under_sorted key d sorted) e
   where
     go : (o : Option Data) → IfSome o IsSorted → next o as_array ≡ Some ds → AreSorted ds
-    go None h e = cc
-    go (Some null) h e = cc
-    go (Some (boolean b)) h e = cc
-    go (Some (number n)) h e = cc
-    go (Some (string s)) h e = cc
     go (Some (array es)) h e = let same : es ≡ ds = cc in subst AreSorted same h
-    go (Some (object ms)) h e = cc
+    go _ h e = cc
 
 -- ---- lists
 
@@ -103,12 +94,18 @@ sub_from_says d sorted h s e =
           (and_from (is_path 255 a.value && fits_four c.value) (list_all is_good l.value) (and_from (is_path 255 a.value) (fits_four c.value) name.good version.good) elements.fine) o.so;
     }
 
-pub sub_says : (d : Data) → IsSorted d → (s : ToldSub) → sub_in d ≡ Some s → Says told_sub is_good_sub d s
-sub_says d sorted s e = go (fits sub_keys [] d) refl e
+-- of an object with these keys
+by_keys : {A : Type 0} (tree : A → Data) (good : A → Bool) (keys : List (List ℕ)) (from : Data → Option A)
+    → ((d : Data) → IsSorted d → fits keys [] d ≡ true → (a : A) → from d ≡ Some a → Says tree good d a)
+    → (d : Data) → IsSorted d → (a : A) → (if fits keys [] d then from d else None) ≡ Some a → Says tree good d a
+by_keys tree good keys from says d sorted a e = go (fits keys [] d) refl e
   where
-    go : (a : Bool) → fits sub_keys [] d ≡ a → (if a then sub_from d else None) ≡ Some s → Says told_sub is_good_sub d s
-    go true f e = sub_from_says d sorted f s e
+    go : (b : Bool) → fits keys [] d ≡ b → (if b then from d else None) ≡ Some a → Says tree good d a
+    go true f e = says d sorted f a e
     go false f e = cc
+
+pub sub_says : (d : Data) → IsSorted d → (s : ToldSub) → sub_in d ≡ Some s → Says told_sub is_good_sub d s
+sub_says d sorted s e = by_keys told_sub is_good_sub sub_keys sub_from sub_from_says d sorted s e
 
 pub sub_back : (s : ToldSub) → is_good_sub s ≡ true → sub_in (told_sub s) ≡ Some s
 sub_back s e =
@@ -161,11 +158,7 @@ device_from_says d sorted h t e =
     }
 
 pub device_says : (d : Data) → IsSorted d → (t : ToldDevice) → device_in d ≡ Some t → Says told_device is_good_device d t
-device_says d sorted t e = go (fits device_keys [] d) refl e
-  where
-    go : (a : Bool) → fits device_keys [] d ≡ a → (if a then device_from d else None) ≡ Some t → Says told_device is_good_device d t
-    go true f e = device_from_says d sorted f t e
-    go false f e = cc
+device_says d sorted t e = by_keys told_device is_good_device device_keys device_from device_from_says d sorted t e
 
 pub device_back : (t : ToldDevice) → is_good_device t ≡ true → device_in (told_device t) ≡ Some t
 device_back t e =

@@ -31,8 +31,7 @@ abbrev pub IsSaidAs : Bool → What → Bool → Bool → ℤ → Type 0
 IsSaidAs sent (Number cell) counted present z =
     ((sent && present) ≡ true → (counted ≡ true) × InRange cell.kind z) × (counted ≡ true → (sent && present) ≡ false → z ≡ cell.default)
 IsSaidAs sent (Constant kind y) counted present z = Unit {0}
-IsSaidAs sent (Filler n) counted present z = Unit {0}
-IsSaidAs sent (Rule holds) counted present z = Unit {0}
+IsSaidAs sent _ counted present z = Unit {0}
 
 abbrev pub IsSaid : Bool → List ℤ → Element → Type 0
 IsSaid sent n x = IsSaidAs sent x.what x.counted x.present (get_or n x.cell (pos 0))
@@ -147,8 +146,7 @@ said_as n short x (Number cell) e counted fine = (
     fits : x.counted ≡ true → Rattle.vms_values_laws.proofs.FineNumbers.IsFitting cell x.present (get_or n x.cell (pos 0))
     fits c = reason_fits cell x.present (get_or n x.cell (pos 0)) (sym (line_number x n cell e (short x.cell)) ∙ fine c refl)
 said_as n short x (Constant kind y) e counted fine = tt
-said_as n short x (Filler m) e counted fine = tt
-said_as n short x (Rule holds) e counted fine = tt
+said_as n short x _ e counted fine = tt
 
 pub fine_said : (n : List ℤ) → AreShort n → (xs : List Element) → AreCounted xs → AreFine (of_numbers n (printed xs)) → Each (IsSaid true n) xs
 fine_said n short [] counted fine = tt
@@ -167,8 +165,7 @@ kept_as n at (Number cell) counted present h = (λ p. no p, λ c p. same_number_
     no : false ≡ true → (counted ≡ true) × InRange cell.kind (get_or n at (pos 0))
     no e = cc
 kept_as n at (Constant kind y) counted present h = tt
-kept_as n at (Filler m) counted present h = tt
-kept_as n at (Rule holds) counted present h = tt
+kept_as n at _ counted present h = tt
 
 pub default_said : (n : List ℤ) (xs : List Element) → have_defaults n xs ≡ true → Each (IsSaid false n) xs
 default_said n [] h = tt

@@ -1,17 +1,15 @@
 -- Names of a well-formed set and paths are of the bytes that a description may have.
-use Rattle.std.proofs.Common.{◌≡◌, ℕ, zero, suc, ◌+◌, ◌<◌, ◌≤◌, ◌%◌, ◌/◌, Bool, true, false, ◌&&◌, ◌||◌, ◌==◌, nat_le, if◌then◌else◌, List, [], ◌∷◌, ◌++◌, length, length-append, take, drop, refl, sym, ap, ◌∙◌, subst, arith}
+use Rattle.std.proofs.Common.{◌≡◌, ℕ, zero, suc, ◌+◌, ◌<◌, ◌≤◌, ◌%◌, ◌/◌, Bool, true, false, ◌&&◌, ◌||◌, ◌==◌, nat_le, if◌then◌else◌, List, [], ◌∷◌, ◌++◌, length, length-append, refl, ap, ◌∙◌, subst, arith}
 use Rattle.std.specs.List.{list_all}
 use Rattle.std.proofs.Math.Nat.{mod-lt}
 use Rattle.std.proofs.lemmas.Bool.{and_parts, leb-true, le-leb, lt-ltb}
-use Rattle.std.proofs.lemmas.List.{take-append-drop}
-use Rattle.std.proofs.lemmas.Slice.Eq.{bytes_eq-Decides}
-use Rattle.std.specs.Str.{bytes_eq}
 use Rattle.std.specs.Fmt.{decimal, digits, digits_onto, digit_glyph}
 use Rattle.vms_spec.specs.declared.Count.{Count}
 use Rattle.vms_spec.specs.declared.Count.TheVariants.{One, Fixed, Counted}
 use Rattle.vms_spec.specs.Names.{is_name_byte, is_name, is_sub_name}
 use Rattle.vms_elements.specs.Elements.{index_text}
 use Rattle.vms_analyze.specs.Told.{is_path_byte, is_path}
+use Rattle.vms_selfdesc.proofs.Plain.{sub_name_is}
 
 -- of 1 to so many bytes, all of them letters of paths
 pub record IsNamed (most : ℕ) (text : List ℕ) : Type 0 where
@@ -51,20 +49,17 @@ name_named most name e =
 
 pub sub_named : (device name : List ℕ) → IsNamed 100 device → is_sub_name device name ≡ true → IsNamed 165 name
 sub_named device name d e =
-    let k = length device + 1 in
     let front = device ++ 47 ∷ [] in
-    let p = and_parts (bytes_eq (take k name) front) (is_name 64 (drop k name)) e in
-    let is : take k name ≡ front = (bytes_eq-Decides (take k name) front).0 p.0 in
-    let tail = name_named 64 (drop k name) p.1 in
-    let whole : front ++ drop k name ≡ name = ap (λ l. l ++ drop k name) (sym is) ∙ take-append-drop k name in
+    let n = sub_name_is device name e in
+    let tail = name_named 64 n.tail n.good in
     let few = d.few in
     let few' = tail.few in
-    let long : length (front ++ drop k name) ≡ length device + 1 + length (drop k name) = omega (arith, length-append front (drop k name), length-append device (47 ∷ [])) in
-    let same = ap length whole in
+    let long : length (front ++ n.tail) ≡ length device + 1 + length n.tail = omega (arith, length-append front n.tail, length-append device (47 ∷ [])) in
+    let same = ap length n.whole in
     record {
       some = omega (arith, same, long);
       few = omega (arith, same, long);
-      bytes = subst (λ (l : List ℕ). list_all is_path_byte l ≡ true) whole (every_both front (drop k name) (every_both device (47 ∷ []) d.bytes refl) tail.bytes);
+      bytes = subst (λ (l : List ℕ). list_all is_path_byte l ≡ true) n.whole (every_both front n.tail (every_both device (47 ∷ []) d.bytes refl) tail.bytes);
     }
 
 -- ---- numbers of elements

@@ -1,5 +1,5 @@
 -- From the walk to the listing, and from what was taken of a source to what it lists.
-use Rattle.std.proofs.Common.{◌≡◌, ◌≢◌, ℕ, suc, ◌+◌, ◌<◌, ◌≤◌, List, [], ◌∷◌, ◌++◌, length, length-append, append-nil, take, drop, ◌-◌, Vec, Global, Ok, Err, Result, refl, sym, ap, ◌∙◌, subst, arith, length-drop}
+use Rattle.std.proofs.Common.{◌≡◌, ◌≢◌, ℕ, ◌+◌, List, [], ◌∷◌, ◌++◌, length, append-nil, take, drop, ◌-◌, Vec, Global, Ok, Err, Result, refl, sym, ap, ◌∙◌, subst, arith, length-drop}
 use Rattle.std.proofs.lemmas.List.{drop_all, take_all}
 use Rattle.vms_elements.specs.Lines.{text_of}
 use Rattle.vms_analyze.specs.declared.fault.AnalyzeFault.{AnalyzeFault}
@@ -8,8 +8,8 @@ use Rattle.vms_analyze.specs.declared.fault.AnalyzeReason.TheVariants as reasons
 use Rattle.vms_analyze.specs.declared.walk.Walk.{Walk}
 use Rattle.vms_analyze.specs.Calls.{ShowsAs, ListsAs}
 use Rattle.vms_analyze.specs.Listing.{Listing, Text, Refused, listing_of, Lists}
-use Rattle.vms_analyze.specs.Wanted.{Want, Found, Lines, Differs, behind, found}
-use Rattle.vms_analyze.specs.Walking.{left, IsInside, Goes, Stops, WhyStopped, AtStart, WhyNone}
+use Rattle.vms_analyze.specs.Wanted.{Want, Differs, behind, found}
+use Rattle.vms_analyze.specs.Walking.{left, Goes, Stops, WhyStopped, AtStart, WhyNone}
 use Rattle.vms_analyze.specs.declared.walk.Stop.{Stop}
 use Rattle.vms_analyze.specs.declared.walk.Stop.TheVariants as stops
 

@@ -24,10 +24,8 @@ IsGoodWhat (Rule holds) = Unit {0}
 
 -- an end has no path for itself
 abbrev pub HasPath : What → List ℕ → Type 0
-HasPath (Number cell) name = 1 ≤ length name
-HasPath (Constant kind z) name = 1 ≤ length name
-HasPath (Filler n) name = 1 ≤ length name
 HasPath (Rule holds) name = Unit {0}
+HasPath _ name = 1 ≤ length name
 
 -- inside of a field, and with the field's name
 pub record IsPart (x : Element) : Type 0 where
@@ -51,10 +49,8 @@ AreGoodFields (f ∷ fs) = IsGoodField f × AreGoodFields fs
 -- ---- elements of fields
 
 has_path : (w : What) (name : List ℕ) → 1 ≤ length name → HasPath w name
-has_path (Number cell) name h = h
-has_path (Constant kind z) name h = h
-has_path (Filler n) name h = h
 has_path (Rule holds) name h = tt
+has_path _ name h = h
 
 behind_good : (f : Field) → is_name 32 f.name ≡ true → (e : ℕ) (step : ℕ × ℕ) (c p : Bool) (x : Element) → IsPart x → IsGoodElement (behind step (f.name ++ index_text f.count e) c p x)
 behind_good f name e step c p x h =

@@ -1,9 +1,9 @@
 -- A value that was read has the keys of each object in order.
-use Rattle.std.proofs.Common.{◌≡◌, ℕ, List, [], ◌∷◌, IfSome, Option, Some, None, option_map, option_and_then, Ordering, Less, Equal, Greater}
+use Rattle.std.proofs.Common.{ℕ, List, IfSome, Option, Some, None, option_map, option_and_then, Ordering, Less, Equal, Greater}
 use Rattle.std.specs.Ordering.{match_ordering}
 use Rattle.json.specs.Json as json
 use Rattle.json.specs.Lex.{tokens}
-use Rattle.serde_json.specs.Data.{Num, Data, number, array, object, Items, item, Members, no_members, member, put}
+use Rattle.serde_json.specs.Data.{Data, number, array, object, Items, item, Members, no_members, member, put}
 use Rattle.serde_json.specs.Read.{number_of, of_json, of_items, of_members, max_depth, read}
 use Rattle.vms_analyze.specs.Sorted.{AreOrdered, keys_of, IsSorted, AreSorted, HoldSorted}
 use Rattle.vms_analyze.proofs.Ordered.{put_ordered}
@@ -34,12 +34,10 @@ AreBoth ms = AreOrdered (keys_of ms) × HoldSorted ms
 
 mutual
   sorted_json : (j : json.Json) → IfSome (of_json j) IsSorted
-  sorted_json json.null = tt
-  sorted_json (json.boolean b) = tt
   sorted_json (json.number s) = by_map (λ _. Unit {0}) IsSorted number (λ n x. tt) (number_of s) (any (number_of s))
-  sorted_json (json.string s) = tt
   sorted_json (json.array js) = by_map AreSorted IsSorted array (λ ds x. x) (of_items js) (sorted_items js)
   sorted_json (json.object ms) = by_map AreBoth IsSorted object (λ ds x. x) (of_members ms no_members) (sorted_members ms no_members tt tt)
+  sorted_json _ = tt
 
   sorted_items : (js : json.Items) → IfSome (of_items js) AreSorted
   sorted_items json.no_items = tt

@@ -1,5 +1,5 @@
 -- From what was taken of a source to what it lists.
-use Rattle.std.proofs.Common.{◌≡◌, ℕ, ◌+◌, ◌<◌, ◌≤◌, List, ◌++◌, length, length-append, append-nil, Vec, Global, Ok, Err, Result, refl, sym, ap, ◌∙◌, subst, arith}
+use Rattle.std.proofs.Common.{◌≡◌, ℕ, ◌+◌, ◌<◌, List, ◌++◌, length, length-append, append-nil, Vec, Global, Err, Result, refl, sym, ap, ◌∙◌, subst, arith}
 use Rattle.vms_io.specs.Told.{Intake}
 use Rattle.vms_io.proofs.ReadingLemmas.{nothing_follows}
 use Rattle.vms_analyze.specs.declared.fault.AnalyzeFault.{AnalyzeFault}
@@ -36,14 +36,11 @@ module _ (old new : Intake) (input : List ℕ) (whole : IsWhole old new input) w
   }
 
   pub lists_taken : (r : Result (Vec ℕ Global) AnalyzeFault) → ListsAs input r → ListsTaken old new r
-  lists_taken (Ok text) l = is_listed _ l
   lists_taken (Err (faults.Refused at reasons.TooLong)) l = absurd (omega (arith, whole.few, too_long input at _ l refl))
-  lists_taken (Err (faults.Refused at reasons.NoDescription)) l = is_listed _ l
-  lists_taken (Err (faults.Refused at reasons.Shape)) l = is_listed _ l
-  lists_taken (Err (faults.Refused at reasons.Mismatch)) l = is_listed _ l
   lists_taken (Err faults.ReadFault) l = absurd l
   lists_taken (Err faults.WriteFault) l = absurd l
   lists_taken (Err faults.NoMemory) l = record { bytes = input; takes = whole.takes; few = omega (arith, whole.few) }
+  lists_taken _ l = is_listed _ l
 
 pub is_too_much : (old new : Intake) → HasMore old new → IsTooMuch old new (Refused longest_input reasons.TooLong)
 is_too_much old new h = record {

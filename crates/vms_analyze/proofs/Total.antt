@@ -1,11 +1,10 @@
 -- Each input has a listing.
-use Rattle.std.proofs.Common.{◌≡◌, ℕ, zero, suc, ◌+◌, ◌<◌, ◌≤◌, Bool, true, false, ◌&&◌, ◌==◌, nat_le, List, length, get_or, take, drop, Option, Some, None, refl, sym, ap, ◌∙◌, arith}
+use Rattle.std.proofs.Common.{◌≡◌, ℕ, zero, suc, ◌+◌, ◌≤◌, Bool, true, false, ◌&&◌, ◌==◌, nat_le, List, length, get_or, drop, Option, Some, None, refl, sym, ap, ◌∙◌, arith}
 use Rattle.std.proofs.lemmas.Bool.{and_parts, eqb-true, eq-eqb, leb-true, leb-false}
 use Rattle.vms_json.specs.Texts.{value_in}
 use Rattle.vms_spec.specs.Lookup.{number_at}
 use Rattle.vms_analyze.specs.Told.{ToldDevice}
-use Rattle.vms_analyze.specs.Wanted.{wants, found}
-use Rattle.vms_analyze.specs.Listing.{longest_input, IsPlace, IsLastPlace, TellsPlace, Listing, Refused, listing_of, Lists, IsTooLong, HasNone, HasNoShape, IsRead}
+use Rattle.vms_analyze.specs.Listing.{longest_input, IsPlace, IsLastPlace, TellsPlace, IsTooLong, HasNone, HasNoShape, IsRead}
 use Rattle.vms_analyze.specs.Laws.{HasListing, TotalLaw}
 use Rattle.vms_analyze.specs.Read.{next, devices_in}
 use Rattle.vms_analyze.proofs.Searches.{NoneFrom}

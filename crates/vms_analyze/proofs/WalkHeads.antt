@@ -1,22 +1,20 @@
 -- The machine and the heads of sections in a walk.
-use Rattle.std.proofs.Common.{◌≡◌, ℕ, ◌+◌, ◌<◌, ◌≤◌, ◌^◌, Bool, true, false, ◌&&◌, ◌==◌, nat_le, if◌then◌else◌, List, [], ◌∷◌, ◌++◌, length, length-append, append_assoc, get_or, take, drop, length-drop, ◌-◌, Option, Some, None, refl, sym, ap, ◌∙◌, subst, arith}
+use Rattle.std.proofs.Common.{◌≡◌, ℕ, ◌+◌, ◌<◌, ◌≤◌, ◌^◌, Bool, true, false, ◌&&◌, ◌==◌, nat_le, if◌then◌else◌, List, [], ◌∷◌, ◌++◌, length, length-append, append_assoc, get_or, take, drop, length-drop, ◌-◌, Some, None, refl, sym, ap, ◌∙◌, subst, arith}
 use Rattle.std.specs.List.{list_all}
-use Rattle.std.specs.Str.{bytes_eq}
 use Rattle.std.proofs.lemmas.Bool.{and_parts, leb-true, le-leb}
-use Rattle.std.proofs.lemmas.List.{take_all, take-append-drop, drop-drop}
-use Rattle.std.proofs.lemmas.Slice.Eq.{bytes_eq-Decides}
+use Rattle.std.proofs.lemmas.List.{take_all, drop-drop}
 use Rattle.byteorder.specs.Endian.{big_number}
 use Rattle.vms_spec.proofs.KindLaws.{be32_read}
 use Rattle.vms_spec.specs.Lookup.{number_at, bytes_at}
 use Rattle.vms_spec.specs.Names.{is_name_byte}
 use Rattle.vms_spec.specs.Spelling.{begins_with}
 use Rattle.vms_spec.specs.Streams.{be32, configuration, section_head, foot}
-use Rattle.vms_analyze.specs.Wanted.{Want, Bytes, Machine, Head, Foot, Took, took, only_if, take_machine, is_machine, machine_line, section_line, taken, Found, Differs, behind, found_after, found}
+use Rattle.vms_analyze.specs.Wanted.{Want, Bytes, Machine, Head, Foot, Took, took, only_if, take_machine, is_machine, machine_line, section_line, taken, Differs, behind, found_after, found}
 use Rattle.vms_analyze.specs.Walking.{left, IsInside, Goes, Stops, WhyStopped, Prints, IsMachineName, is_configuration, HasNoMachine}
 use Rattle.vms_analyze.specs.declared.walk.Walk.{Walk}
 use Rattle.vms_analyze.specs.declared.walk.Stop.{Stop}
 use Rattle.vms_analyze.specs.declared.walk.Stop.TheVariants as stops
-use Rattle.vms_analyze.proofs.Following.{takes_head, behind_none}
+use Rattle.vms_analyze.proofs.Following.{takes_head}
 use Rattle.vms_analyze.proofs.Streams.{takes_machine, no_machine}
 use Rattle.vms_analyze.proofs.Walks.{printed_goes}
 use Rattle.vms_words.proofs.Lines.{begun}

@@ -1,12 +1,12 @@
 -- A walk over a subsection, a device and a stream, part after part.
-use Rattle.std.proofs.Common.{◌≡◌, ℕ, suc, zero, ◌<◌, ◌≤◌, Bool, true, ◌&&◌, ◌||◌, nat_le, List, [], ◌∷◌, ◌++◌, length, get_or, map, sym, ap, ◌∙◌, subst, arith}
+use Rattle.std.proofs.Common.{◌≡◌, ℕ, suc, zero, ◌<◌, ◌≤◌, Bool, true, ◌&&◌, ◌||◌, nat_le, List, [], ◌∷◌, ◌++◌, length, get_or, map, sym, ap, ◌∙◌, subst, arith, refl}
 use Rattle.std.specs.List.{flat_map, list_all}
 use Rattle.std.proofs.lemmas.Bool.{and_parts, leb-true}
 use Rattle.std.proofs.lemmas.List.Concat.{flat_map_single}
 use Rattle.std.proofs.lemmas.List.Folds.{flat_map-map}
 use Rattle.vms_spec.specs.Streams.{magic, be32, end_mark}
 use Rattle.vms_analyze.specs.Told.{ToldSub, ToldDevice, is_path, is_path_byte, fits_four, is_good, is_kept, is_good_sub, is_good_device}
-use Rattle.vms_analyze.specs.Typed.{told_of, sub_of, device_of, want_of, wants_of_sub, wants_of_device, element_wants, subs_wants, devices_wants}
+use Rattle.vms_analyze.specs.Typed.{told_of, sub_of, device_of, element_wants, subs_wants, devices_wants}
 use Rattle.vms_analyze.specs.Wanted.{Want, Bytes, Machine, Head, Foot, element_want, sub_head_wants, sub_wants, device_wants, start_wants, wants}
 use Rattle.vms_analyze.specs.Walking.{Goes, WhyStopped}
 use Rattle.vms_analyze.specs.declared.told.Element.{Element}
@@ -40,10 +40,14 @@ device_short d e =
 pub device_subs : (d : ToldDevice) → is_good_device d ≡ true → list_all is_good_sub d.subs ≡ true
 device_subs d e = (and_parts (is_path 255 d.name && fits_four d.instance && fits_four d.version && list_all is_good d.elements) (list_all is_good_sub d.subs) e).1
 
-pub one_good : {X A : Type 0} (f : X → A) (good : A → Bool) (xs : List X) (i : ℕ) (d : X) → list_all good (map f xs) ≡ true → i < length xs → good (f (get_or xs i d)) ≡ true
-one_good f good [] i d e lt = absurd (omega arith)
-one_good f good (x ∷ xs) zero d e lt = (and_parts (good (f x)) (list_all good (map f xs)) e).0
-one_good f good (x ∷ xs) (suc i) d e lt = one_good f good xs i d (and_parts (good (f x)) (list_all good (map f xs)) e).1 (omega arith)
+pub one_good : {X : Type 0} (good : X → Bool) (xs : List X) (i : ℕ) (d : X) → list_all good xs ≡ true → i < length xs → good (get_or xs i d) ≡ true
+one_good good [] i d e lt = absurd (omega arith)
+one_good good (x ∷ xs) zero d e lt = (and_parts (good x) (list_all good xs) e).0
+one_good good (x ∷ xs) (suc i) d e lt = one_good good xs i d (and_parts (good x) (list_all good xs) e).1 (omega arith)
+
+pub all_good : {X : Type 0} (xs : List X) → list_all (λ _. true) xs ≡ true
+all_good [] = refl
+all_good (x ∷ xs) = all_good xs
 
 -- ---- what is wanted
 

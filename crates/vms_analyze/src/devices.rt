@@ -1,9 +1,11 @@
 // The devices that a description tells.
 ghost use Rattle.std.specs.Prelude.{map};
-ghost use Rattle.vms_json.specs.Nodes.{view, items_view};
-ghost use Rattle.vms_analyze.specs.Read.{device_from, device_in, devices_in, each, sub_from, sub_in, subs_in};
+ghost use Rattle.vms_json.specs.Nodes.{view};
+ghost use Rattle.vms_analyze.specs.Read.{device_from, device_in, devices_in, sub_from, sub_in, subs_in};
+ghost use Rattle.vms_analyze.specs.Told.{ToldDevice, ToldSub};
 ghost use Rattle.vms_analyze.specs.Typed.{ReadsAs, device_of, sub_of};
 
+use crate::each::{Reads, each};
 use crate::elements::{are_kept, elements_in};
 use crate::members::{Unread, flag_at, four_at, list_at, path_at};
 use crate::told::{Device, Sub};
@@ -18,36 +20,29 @@ pub(crate) fn devices_in<'a>(alloc: Global, value: &Node<'a>) -> Result<Vec<Devi
     ensures { ReadsAs (λ v. map device_of v.items) (devices_in (view value.now)) result }
 {
     if fits(value, &["devices"], &[]) {
-        each_device(alloc, list_at(value, "devices")?)
+        each(alloc, list_at(value, "devices")?)
     } else {
         Err(Unread::Shape)
     }
 }
 
-fn each_device<'a>(alloc: Global, items: &[Node<'a>]) -> Result<Vec<Device<'a>>, Unread>
-    ensures { ReadsAs (λ v. map device_of v.items) (each device_in (items_view items.now)) result }
-{
-    let mut devices = Vec::with_capacity(alloc, items.len())?;
-    for item in items {
-        match device_in(alloc, item) {
-            Ok(device) => devices.push(device)?,
-            Err(unread) => return Err(unread),
+impl<'a> Reads<'a> for Device<'a> {
+    ghost Meaning = { ToldDevice };
+
+    ghost means = { device_of };
+
+    ghost says = { device_in };
+
+    fn read(alloc: Global, value: &Node<'a>) -> Result<Self, Unread> {
+        if fits(
+            value,
+            &["fields", "instance_id", "name", "subsections", "version"],
+            &[],
+        ) {
+            device_from(alloc, value)
+        } else {
+            Err(Unread::Shape)
         }
-    }
-    Ok(devices)
-}
-
-fn device_in<'a>(alloc: Global, value: &Node<'a>) -> Result<Device<'a>, Unread>
-    ensures { ReadsAs device_of (device_in (view value.now)) result }
-{
-    if fits(
-        value,
-        &["fields", "instance_id", "name", "subsections", "version"],
-        &[],
-    ) {
-        device_from(alloc, value)
-    } else {
-        Err(Unread::Shape)
     }
 }
 
@@ -72,29 +67,22 @@ fn device_from<'a>(alloc: Global, value: &Node<'a>) -> Result<Device<'a>, Unread
 fn subs_in<'a>(alloc: Global, value: &Node<'a>) -> Result<Vec<Sub<'a>>, Unread>
     ensures { ReadsAs (λ v. map sub_of v.items) (subs_in (view value.now)) result }
 {
-    each_sub(alloc, list_at(value, "subsections")?)
+    each(alloc, list_at(value, "subsections")?)
 }
 
-fn each_sub<'a>(alloc: Global, items: &[Node<'a>]) -> Result<Vec<Sub<'a>>, Unread>
-    ensures { ReadsAs (λ v. map sub_of v.items) (each sub_in (items_view items.now)) result }
-{
-    let mut subs = Vec::with_capacity(alloc, items.len())?;
-    for item in items {
-        match sub_in(alloc, item) {
-            Ok(sub) => subs.push(sub)?,
-            Err(unread) => return Err(unread),
+impl<'a> Reads<'a> for Sub<'a> {
+    ghost Meaning = { ToldSub };
+
+    ghost means = { sub_of };
+
+    ghost says = { sub_in };
+
+    fn read(alloc: Global, value: &Node<'a>) -> Result<Self, Unread> {
+        if fits(value, &["fields", "name", "sent", "version"], &[]) {
+            sub_from(alloc, value)
+        } else {
+            Err(Unread::Shape)
         }
-    }
-    Ok(subs)
-}
-
-fn sub_in<'a>(alloc: Global, value: &Node<'a>) -> Result<Sub<'a>, Unread>
-    ensures { ReadsAs sub_of (sub_in (view value.now)) result }
-{
-    if fits(value, &["fields", "name", "sent", "version"], &[]) {
-        sub_from(alloc, value)
-    } else {
-        Err(Unread::Shape)
     }
 }
 

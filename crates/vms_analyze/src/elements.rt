@@ -1,11 +1,12 @@
 // The elements that a description tells.
 ghost use Rattle.std.specs.Prelude.{◌≡◌, ◌||◌, ◌==◌, map, Some};
 ghost use Rattle.std.specs.List.{list_all};
-ghost use Rattle.vms_json.specs.Nodes.{view, items_view};
-ghost use Rattle.vms_analyze.specs.Told.{is_kept};
-ghost use Rattle.vms_analyze.specs.Read.{each, element_in, elements_in, kept_in, sent_in, unprinted};
+ghost use Rattle.vms_json.specs.Nodes.{view};
+ghost use Rattle.vms_analyze.specs.Told.{Told, is_kept};
+ghost use Rattle.vms_analyze.specs.Read.{element_in, elements_in, kept_in, sent_in, unprinted};
 ghost use Rattle.vms_analyze.specs.Typed.{ReadsAs, told_of};
 
+use crate::each::{Reads, each};
 use crate::members::{Unread, list_at, natural_at, path_at, text_at, whole_at};
 use crate::told::Element;
 use std::alloc::Global;
@@ -19,32 +20,25 @@ const LONGEST_PATH: usize = 300;
 pub(crate) fn elements_in<'a>(alloc: Global, value: &Node<'a>) -> Result<Vec<Element<'a>>, Unread>
     ensures { ReadsAs (λ v. map told_of v.items) (elements_in (view value.now)) result }
 {
-    each_element(alloc, list_at(value, "fields")?)
+    each(alloc, list_at(value, "fields")?)
 }
 
-fn each_element<'a>(alloc: Global, items: &[Node<'a>]) -> Result<Vec<Element<'a>>, Unread>
-    ensures { ReadsAs (λ v. map told_of v.items) (each element_in (items_view items.now)) result }
-{
-    let mut elements = Vec::with_capacity(alloc, items.len())?;
-    for item in items {
-        match element_in(item) {
-            Ok(element) => elements.push(element)?,
-            Err(unread) => return Err(unread),
+impl<'a> Reads<'a> for Element<'a> {
+    ghost Meaning = { Told };
+
+    ghost means = { told_of };
+
+    ghost says = { element_in };
+
+    // By its keys.
+    fn read(_: Global, value: &Node<'a>) -> Result<Self, Unread> {
+        if fits(value, &["name", "size", "type"], &[]) {
+            sent_in(value)
+        } else if fits(value, &["name", "size", "type", "value"], &[]) {
+            kept_in(value)
+        } else {
+            Err(Unread::Shape)
         }
-    }
-    Ok(elements)
-}
-
-// One element, by its keys.
-fn element_in<'a>(value: &Node<'a>) -> Result<Element<'a>, Unread>
-    ensures { ReadsAs told_of (element_in (view value.now)) result }
-{
-    if fits(value, &["name", "size", "type"], &[]) {
-        sent_in(value)
-    } else if fits(value, &["name", "size", "type", "value"], &[]) {
-        kept_in(value)
-    } else {
-        Err(Unread::Shape)
     }
 }
 

@@ -127,7 +127,8 @@ impl<'a> Walk<'a> {
     }
 
     fn print_section(&mut self, name: &str, instance: u32, version: u32) -> Result<(), Stop>
-        ensures ok { OnOk result (Prints self.old self.new (section_line name.now instance version)) }
+        ensures ok { OnOk result
+            (Prints self.old self.new (section_line name.now instance version)) }
         ensures err { IfErr result (λ e. e ≡ stops.NoMemory) }
     {
         let mut digits = Buffer::new();

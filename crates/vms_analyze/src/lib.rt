@@ -3,6 +3,7 @@
 
 mod call;
 mod devices;
+mod each;
 mod elements;
 mod fault;
 mod heads;

@@ -4,16 +4,36 @@ ghost use Rattle.std.specs.List.{list_all};
 ghost use Rattle.vms_spec.specs.Streams.{sub_head};
 ghost use Rattle.vms_analyze.specs.Told.{is_good_device, is_good_sub};
 ghost use Rattle.vms_analyze.specs.Wanted.{Bytes, Line, device_wants, kept_line, sent_line, found, start_wants, sub_head_wants, sub_wants, wants};
-ghost use Rattle.vms_analyze.specs.Typed.{device_of, devices_wants, sub_of, subs_wants};
+ghost use Rattle.vms_analyze.specs.Typed.{device_of, devices_wants, sub_of, subs_wants, wants_of_device, wants_of_sub};
 ghost use Rattle.vms_analyze.specs.Listing.{Text, listing_of};
 ghost use Rattle.vms_analyze.specs.Walking.{AtStart, Goes, IsInside, Prints, WhyNone, WhyStopped};
 ghost use Rattle.vms_analyze.specs.declared.walk.Stop.TheVariants as stops;
 
 use crate::told::{Device, Sub};
-use crate::walk::{Stop, Walk};
+use crate::walk::{Sought, Stop, Walk};
 use itoa::Buffer;
 use vms_marks::Mark;
 use vms_write::sub_head;
+
+impl Sought for Device<'_> {
+    ghost wants = { wants_of_device };
+
+    ghost is_good = { λ d. is_good_device (device_of d) };
+
+    fn seek(&self, walk: &mut Walk) -> Result<(), Stop> {
+        walk.device(self)
+    }
+}
+
+impl Sought for Sub<'_> {
+    ghost wants = { wants_of_sub };
+
+    ghost is_good = { λ s. is_good_sub (sub_of s) };
+
+    fn seek(&self, walk: &mut Walk) -> Result<(), Stop> {
+        walk.sub(self)
+    }
+}
 
 impl Walk<'_> {
     /// A stream of these devices and nothing behind its end mark.
@@ -72,12 +92,7 @@ impl Walk<'_> {
         ensures ok { OnOk result (Goes (devices_wants devices.now) self.old self.new) }
         ensures err { IfErr result (WhyStopped (devices_wants devices.now) self.old self.new) }
     {
-        for device in devices {
-            if let Err(stop) = self.device(device) {
-                return Err(stop);
-            }
-        }
-        Ok(())
+        self.each(devices)
     }
 
     fn device(&mut self, device: &Device) -> Result<(), Stop>
@@ -105,12 +120,7 @@ impl Walk<'_> {
         ensures ok { OnOk result (Goes (subs_wants subs.now) self.old self.new) }
         ensures err { IfErr result (WhyStopped (subs_wants subs.now) self.old self.new) }
     {
-        for sub in subs {
-            if let Err(stop) = self.sub(sub) {
-                return Err(stop);
-            }
-        }
-        Ok(())
+        self.each(subs)
     }
 
     fn sub(&mut self, sub: &Sub) -> Result<(), Stop>

@@ -1,7 +1,8 @@
 // What is wanted, one after the other, and what stands in the stream.
-ghost use Rattle.std.specs.Prelude.{◌≡◌, ◌∷◌, [], OnOk, IfErr};
-ghost use Rattle.vms_analyze.specs.Wanted.{Bytes, Any, Number, Line, number_line, element_want};
-ghost use Rattle.vms_analyze.specs.Typed.{told_of, element_wants};
+ghost use Rattle.std.specs.Prelude.{◌≡◌, ◌∷◌, [], Bool, List, true, OnOk, IfErr};
+ghost use Rattle.std.specs.List.{flat_map, list_all};
+ghost use Rattle.vms_analyze.specs.Wanted.{Want, Bytes, Any, Number, Line, number_line, element_want};
+ghost use Rattle.vms_analyze.specs.Typed.{told_of, element_wants, want_of};
 ghost use Rattle.vms_analyze.specs.declared.walk.Stop.TheVariants as stops;
 ghost use Rattle.vms_analyze.specs.Walking.{IsInside, Goes, Prints, WhyStopped};
 
@@ -39,7 +40,46 @@ impl From<AllocError> for Stop {
     }
 }
 
+/// What is sought in a stream.
+pub(crate) trait Sought {
+    ghost wants: { Self → List Want };
+
+    // It is of the shape of what was read.
+    ghost is_good: { Self → Bool };
+
+    fn seek(&self, walk: &mut Walk) -> Result<(), Stop>
+        requires inside { IsInside walk.old }
+        requires good { is_good self.now ≡ true }
+        ensures ok { OnOk result (Goes (wants self.now) walk.old walk.new) }
+        ensures err { IfErr result (WhyStopped (wants self.now) walk.old walk.new) };
+}
+
+impl Sought for Element<'_> {
+    ghost wants = { want_of };
+
+    ghost is_good = { λ _. true };
+
+    fn seek(&self, walk: &mut Walk) -> Result<(), Stop> {
+        walk.element(self)
+    }
+}
+
 impl Walk<'_> {
+    /// Things one after the other.
+    pub(crate) fn each<T: Sought>(&mut self, items: &[T]) -> Result<(), Stop>
+        requires inside { IsInside self.old }
+        requires good { list_all T.is_good items.now ≡ true }
+        ensures ok { OnOk result (Goes (flat_map T.wants items.now) self.old self.new) }
+        ensures err { IfErr result (WhyStopped (flat_map T.wants items.now) self.old self.new) }
+    {
+        for item in items {
+            if let Err(stop) = item.seek(self) {
+                return Err(stop);
+            }
+        }
+        Ok(())
+    }
+
     /// Bytes of any content.
     pub(crate) fn any(&mut self, n: usize) -> Result<(), Stop>
         requires { IsInside self.old }
@@ -94,7 +134,8 @@ impl Walk<'_> {
     /// An element.
     pub(crate) fn element(&mut self, element: &Element) -> Result<(), Stop>
         requires { IsInside self.old }
-        ensures ok { OnOk result (Goes (element_want (told_of element.now) ∷ []) self.old self.new) }
+        ensures ok { OnOk result
+            (Goes (element_want (told_of element.now) ∷ []) self.old self.new) }
         ensures err { IfErr result
             (WhyStopped (element_want (told_of element.now) ∷ []) self.old self.new) }
     {
@@ -112,12 +153,7 @@ impl Walk<'_> {
         ensures ok { OnOk result (Goes (element_wants elements.now) self.old self.new) }
         ensures err { IfErr result (WhyStopped (element_wants elements.now) self.old self.new) }
     {
-        for element in elements {
-            if let Err(stop) = self.element(element) {
-                return Err(stop);
-            }
-        }
-        Ok(())
+        self.each(elements)
     }
 
     // A number that is told.

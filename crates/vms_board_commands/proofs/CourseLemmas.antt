@@ -9,12 +9,11 @@ use Rattle.vms_board.specs.declared.save.SaveFault.TheVariants as saves
 use Rattle.vms_io.specs.Causes.{Rose}
 use Rattle.vms_io.specs.Shelving.{Looks}
 use Rattle.vms_io.specs.Told.{Intake, Outlet, Stock}
-use Rattle.vms_io.proofs.ShelvingLemmas.{looks_reaches, reaches_none}
 use Rattle.vms_io.proofs.WritingLemmas.{serves_none}
 use Rattle.vms_session.specs.Playing.{Goes}
 use Rattle.vms_session.specs.declared.line.PlayFault.{PlayFault}
 use Rattle.vms_session.specs.declared.line.PlayFault.TheVariants as plays
-use Rattle.vms_commands.proofs.CourseLemmas.{asked, draws_none, same_so, writes_serve, wrong}
+use Rattle.vms_commands.proofs.CourseLemmas.{asked, draws_none, looked_so, same_so, unshelved_so, writes_serve, wrong}
 use Rattle.vms_commands.specs.Courses.{Course, Draws, EndsSo, Risen, is_among, of_shelf, text_course}
 use Rattle.vms_commands.specs.Endings.{SetCause, WritesAs, status_of}
 use Rattle.vms_commands.specs.declared.ending.Ending.{Ending}
@@ -64,17 +63,7 @@ play_asks = record { held = shelf_has (0 ∷ 6 ∷ 10 ∷ []) true; memory = ref
 -- input and out aren't touched
 module _ (course : Course) (asks : Bool) (may : MayAsk course asks) (i : Intake) (o : Outlet) {s s' : Stock} (looks : Looks s s') (same : course.asks ≡ false → s' ≡ s) where
   untouched : (e : Ending) → is_among course.statuses (status_of e) ≡ true → Risen i i o o s s' e → EndsSo i i o o s s' course e
-  untouched e can risen = record {
-    can = can;
-    risen = risen;
-    out = λ f. Keeps-refl o.written;
-    input = λ f. refl;
-    held = λ f. looks.held;
-    shelf = same;
-    draws = draws_none i;
-    serves = serves_none o;
-    reaches = looks_reaches looks;
-  }
+  untouched e can risen = looked_so i o course e looks same can risen
 
   pub unset_so : (e : Ending) → SetCause asks s s' e → EndsSo i i o o s s' course e
   unset_so (BadText line) c = untouched (BadText line) (may.held 3 c refl) tt
@@ -88,54 +77,18 @@ module _ (course : Course) (asks : Bool) (may : MayAsk course asks) (i : Intake)
 
 module _ (i : Intake) (s : Stock) (o o' : Outlet) where
   pub saved_so : (bytes : List ℕ) (r : Result Unit SaveFault) → Saves bytes o o' r → EndsSo i i o o' s s save_course (ending_of r)
-  saved_so bytes (Ok u) h = record {
-    can = refl;
-    risen = tt;
-    out = λ f. absurd (wrong f);
-    input = λ f. refl;
-    held = λ f. refl;
-    shelf = λ f. refl;
-    draws = draws_none i;
-    serves = record { later = h.later; promise = h.promise };
-    reaches = reaches_none s;
-  }
-  saved_so bytes (Err saves.WriteFault) h = record {
-    can = refl;
-    risen = h.rose;
-    out = λ f. absurd (wrong f);
-    input = λ f. refl;
-    held = λ f. refl;
-    shelf = λ f. refl;
-    draws = draws_none i;
-    serves = record { later = h.puts.later; promise = h.puts.promise };
-    reaches = reaches_none s;
-  }
+  saved_so bytes (Ok u) h =
+      unshelved_so s save_course Done refl tt (λ f. absurd (wrong f)) (λ f. refl) (draws_none i) (record { later = h.later; promise = h.promise })
+  saved_so bytes (Err saves.WriteFault) h =
+      unshelved_so s save_course WriteFault refl h.rose (λ f. absurd (wrong f)) (λ f. refl) (draws_none i) (record { later = h.puts.later; promise = h.puts.promise })
   saved_so bytes (Err saves.NoMemory) h =
       subst (λ (x : Outlet). EndsSo i i o x s s save_course NoMemory) (sym h) (same_so i o s save_course NoMemory refl tt)
 
   pub drilled_so : (text : List ℕ) (e : Ending) → WritesAs text o o' e → EndsSo i i o o' s s drill_course e
-  drilled_so text Done w = record {
-    can = refl;
-    risen = tt;
-    out = λ f. absurd (wrong f);
-    input = λ f. refl;
-    held = λ f. refl;
-    shelf = λ f. refl;
-    draws = draws_none i;
-    serves = writes_serve text o o' Done w;
-    reaches = reaches_none s;
-  }
-  drilled_so text WriteFault w = record {
-    can = refl;
-    risen = w.rose;
-    out = λ f. absurd (wrong f);
-    input = λ f. refl;
-    held = λ f. refl;
-    shelf = λ f. refl;
-    draws = draws_none i;
-    serves = writes_serve text o o' WriteFault w;
-    reaches = reaches_none s;
-  }
+  drilled_so text Done w =
+      unshelved_so s drill_course Done refl tt (λ f. absurd (wrong f)) (λ f. refl) (draws_none i) (writes_serve text o o' Done w)
+  drilled_so text WriteFault w =
+      unshelved_so s drill_course WriteFault refl w.rose (λ f. absurd (wrong f)) (λ f. refl) (draws_none i) (writes_serve text o o' WriteFault w)
   drilled_so text e w = absurd w
 
 -- ---- a stream is taken
@@ -143,55 +96,18 @@ module _ (i : Intake) (s : Stock) (o o' : Outlet) where
 -- whether or not the shelf may be asked
 module _ {asks : Bool} {i i' : Intake} (s : Stock) (draws : Draws i i') where
   pub traced_so : (text : List ℕ) (o o' : Outlet) (e : Ending) → WritesAs text o o' e → EndsSo i i' o o' s s (stream_course asks) e
-  traced_so text o o' Done w = record {
-    can = refl;
-    risen = tt;
-    out = λ f. absurd (wrong f);
-    input = λ f. absurd (wrong f);
-    held = λ f. refl;
-    shelf = λ f. refl;
-    draws = draws;
-    serves = writes_serve text o o' Done w;
-    reaches = reaches_none s;
-  }
-  traced_so text o o' WriteFault w = record {
-    can = refl;
-    risen = w.rose;
-    out = λ f. absurd (wrong f);
-    input = λ f. absurd (wrong f);
-    held = λ f. refl;
-    shelf = λ f. refl;
-    draws = draws;
-    serves = writes_serve text o o' WriteFault w;
-    reaches = reaches_none s;
-  }
+  traced_so text o o' Done w =
+      unshelved_so s (stream_course asks) Done refl tt (λ f. absurd (wrong f)) (λ f. absurd (wrong f)) draws (writes_serve text o o' Done w)
+  traced_so text o o' WriteFault w =
+      unshelved_so s (stream_course asks) WriteFault refl w.rose (λ f. absurd (wrong f)) (λ f. absurd (wrong f)) draws (writes_serve text o o' WriteFault w)
   traced_so text o o' e w = absurd w
 
   pub refused_so : (o : Outlet) (line : ArrayVec ℕ) → EndsSo i i' o o s s (stream_course asks) (Refused line)
-  refused_so o line = record {
-    can = refl;
-    risen = tt;
-    out = λ f. Keeps-refl o.written;
-    input = λ f. absurd (wrong f);
-    held = λ f. refl;
-    shelf = λ f. refl;
-    draws = draws;
-    serves = serves_none o;
-    reaches = reaches_none s;
-  }
+  refused_so o line =
+      unshelved_so s (stream_course asks) (Refused line) refl tt (λ f. Keeps-refl o.written) (λ f. absurd (wrong f)) draws (serves_none o)
 
   pub unread_so : (o : Outlet) → Rose i.faults i'.faults → EndsSo i i' o o s s (stream_course asks) ReadFault
-  unread_so o rose = record {
-    can = refl;
-    risen = rose;
-    out = λ f. Keeps-refl o.written;
-    input = λ f. absurd (wrong f);
-    held = λ f. refl;
-    shelf = λ f. refl;
-    draws = draws;
-    serves = serves_none o;
-    reaches = reaches_none s;
-  }
+  unread_so o rose = unshelved_so s (stream_course asks) ReadFault refl rose (λ f. Keeps-refl o.written) (λ f. absurd (wrong f)) draws (serves_none o)
 
 -- ---- a session is played
 

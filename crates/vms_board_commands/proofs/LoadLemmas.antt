@@ -1,5 +1,5 @@
 -- From what a restore and a trace say to the outcome of `load`.
-use Rattle.std.proofs.Common.{◌≡◌, inl, inr, ℕ, ◌+◌, ◌≤◌, List, [], ◌∷◌, length, length-append, drop, Option, Some, None, Ok, Err, arith, refl, sym, ap, ◌∙◌, subst}
+use Rattle.std.proofs.Common.{◌≡◌, inl, inr, ℕ, ◌+◌, ◌≤◌, List, [], ◌∷◌, length, length-append, Option, Some, Ok, Err, arith, refl, sym, ap, ◌∙◌, subst}
 use Rattle.arrayvec.specs.ArrayVec.{ArrayVec}
 use Rattle.std.specs.Prelude.{IsSomeAnd}
 use Rattle.dev_board.specs.declared.event.Event.{Event}
@@ -8,7 +8,7 @@ use Rattle.vms_board.specs.Restoring.{Back, Refused, Restores}
 use Rattle.vms_board.specs.Family.{Family}
 use Rattle.vms_board.specs.Standing.{Standing}
 use Rattle.vms_board.specs.declared.restore.RestoreFault.TheVariants as restores
-use Rattle.vms_board_streams.proofs.BytesLaws.{one_restore, no_fault}
+use Rattle.vms_board_streams.proofs.BytesLaws.{one_restore}
 use Rattle.vms_board_streams.specs.Streams.{answers_to, trace_of}
 use Rattle.vms_frames.specs.declared.fault.Refusal.{Refusal}
 use Rattle.vms_io.specs.Shelves.{Held}
@@ -27,7 +27,6 @@ use Rattle.vms_spec.specs.Heads.{FitsHeads}
 use Rattle.vms_kinds.specs.Bytes.{IsBytes}
 use Rattle.vms_spec.specs.WellFormed.{WellFormed}
 use Rattle.vms_spec.specs.declared.Reason.{Reason}
-use Rattle.vms_stream.proofs.Stated.{one_fault_holds}
 use Rattle.vms_load.proofs.ExactLoads.{fault_within}
 use Rattle.vms_load.specs.Staging.{most_given}
 use Rattle.vms_commands.specs.StepEndings.{StepAs}

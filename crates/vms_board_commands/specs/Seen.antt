@@ -8,8 +8,8 @@ use Rattle.vms_commands.specs.Outcomes.{Outcome}
 use Rattle.vms_commands.specs.Steps.{Step, Untold, Gives, Ends}
 use Rattle.vms_commands.specs.declared.ending.Ending.{Ending}
 
--- These bytes were taken, and an outcome takes them to the last: that of what they are the front of, where what follows is
--- told, and else that of them alone.
+-- Bytes were taken, and an outcome takes them to the last: it is that of these bytes alone, and of them before what is told to
+-- be left.
 abbrev pub Sees : (List ℕ → Outcome → Type 0) → Intake → Intake → Outcome → Type 0
 Sees IsOutcome old new o = Reads Last old new (λ n. n ≡ o.taken) (λ input left. IsOutcome input o)
 

@@ -1,5 +1,5 @@
 // The command `load`: what goes on, by a script, from the board that a stream restores.
-ghost use Rattle.std.specs.Prelude.{◌≡◌, ◌+◌, ◌≤◌, IsSomeAnd, None, Option};
+ghost use Rattle.std.specs.Prelude.{◌≡◌, ◌+◌, ◌≤◌, IsSomeAnd, None};
 ghost use Rattle.dev_board.specs.Laws.{AreEvents};
 ghost use Rattle.vms_board.specs.Family.{IsNumber};
 ghost use Rattle.vms_io.specs.Told.{Stock, intake, outlet, stock};

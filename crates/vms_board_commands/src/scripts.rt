@@ -7,7 +7,7 @@ ghost use Rattle.vms_script.specs.Grammar.{AreLines};
 ghost use Rattle.vms_script.specs.Lines.{ScriptLine};
 ghost use Rattle.vms_script.specs.Script.{Reading};
 ghost use Rattle.vms_script.specs.Views.{event_lines, lines_view, ReadsLines};
-ghost use Rattle.vms_board_commands.specs.Scripts.{said_lines, script_line, script_reason_text, scripted};
+ghost use Rattle.vms_board_commands.specs.Scripts.{said_lines, script_line, scripted};
 
 use dev_board::Event;
 use std::alloc::Global;
@@ -70,16 +70,10 @@ fn had<T: Drop>(alloc: Global, read: Result<T, ScriptFault>) -> Result<T, Ending
 fn script_line(alloc: Global, line: u32, reason: ScriptReason) -> Result<String, NoMemory>
     ensures { IfOk result (λ text. string_bytes text ≡ script_line line reason) }
 {
-    let reason = reason_text(reason);
-    Ok(format!(in alloc; "script line {line}: {reason}\n")?)
-}
-
-fn reason_text(reason: ScriptReason) -> &'static str
-    ensures { result.now ≡ script_reason_text reason }
-{
-    match reason {
+    let word = match reason {
         ScriptReason::Form => "Form",
         ScriptReason::Range => "Range",
         ScriptReason::NoEnd => "NoEnd",
-    }
+    };
+    Ok(format!(in alloc; "script line {line}: {word}\n")?)
 }

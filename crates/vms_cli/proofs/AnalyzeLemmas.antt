@@ -3,8 +3,7 @@ use Rattle.std.proofs.Common.{◌≡◌, ℕ, ◌+◌, ◌≤◌, true, false, L
 use Rattle.std.proofs.lemmas.List.{drop_at}
 use Rattle.std.specs.Io.KnownBytes.{Keeps}
 use Rattle.vms_io.proofs.ShelvingLemmas.{reaches_none}
-use Rattle.vms_io.specs.Causes.{capped}
-use Rattle.vms_io.specs.Reading.{Takes, Reads, Course, On, Last}
+use Rattle.vms_io.specs.Reading.{Takes, Reads, Last}
 use Rattle.vms_io.specs.Shelves.{Held}
 use Rattle.vms_io.specs.Told.{Intake, Outlet, Stock}
 use Rattle.vms_io.proofs.ReadingLemmas.{nothing_follows, reads_as}

@@ -1,11 +1,9 @@
 -- Of `check`: what is untouched where it ends, and that its steps are told where the shelf is.
-use Rattle.std.proofs.Common.{Bool, List, ℕ, Option, Some, None, Ok, arith, subst}
+use Rattle.std.proofs.Common.{List, ℕ, Option, Some, None, Ok, arith, subst}
 use Rattle.vms_io.specs.Shelves.{Held}
 use Rattle.vms_io.specs.Told.{Outlet}
 use Rattle.vms_check.specs.declared.mismatch.Mismatch.{Mismatch}
 use Rattle.vms_commands.specs.declared.ending.Ending.{Ending}
-use Rattle.vms_commands.specs.declared.ending.Ending.TheVariants.{Done, BadText, NotCompatible, WriteFault, NoMemory}
-use Rattle.vms_commands.specs.Endings.{Quiet}
 use Rattle.vms_commands.specs.Fetching.{named_sets}
 use Rattle.vms_commands.specs.SetWords.{SetWord}
 use Rattle.vms_commands.specs.StepEndings.{StepAs, TextEnds}

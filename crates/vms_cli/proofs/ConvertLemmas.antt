@@ -1,5 +1,5 @@
 -- From what the call answers to how `convert` ends.
-use Rattle.std.proofs.Common.{◌≡◌, ℕ, ◌+◌, ◌<◌, ◌≤◌, ◌^◌, Bool, false, true, List, [], append-nil, length, drop, Option, Some, None, Result, Ok, Err, IfSome, IsSomeAnd, inl, refl, sym, ap, ◌∙◌, subst, arith}
+use Rattle.std.proofs.Common.{◌≡◌, ℕ, ◌+◌, ◌<◌, ◌≤◌, ◌^◌, Bool, false, true, List, length, Option, Some, Result, Ok, Err, IfSome, IsSomeAnd, refl, sym, ap, ◌∙◌, subst, arith}
 use Rattle.std.specs.Io.KnownBytes.{Keeps}
 use Rattle.std.specs.Prelude.{string_bytes}
 use Rattle.arrayvec.specs.ArrayVec.{ArrayVec}

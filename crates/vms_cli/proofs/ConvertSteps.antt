@@ -1,5 +1,5 @@
 -- `convert`, by the step that gives its set and the one that compares it.
-use Rattle.std.proofs.Common.{◌≡◌, ℕ, ◌+◌, ◌≤◌, Bool, true, false, List, Option, Ok, Err, refl, ap, subst, arith}
+use Rattle.std.proofs.Common.{ℕ, ◌+◌, ◌≤◌, List, Option, Ok, refl, ap, subst, arith}
 use Rattle.vms_io.specs.Shelves.{Held}
 use Rattle.vms_io.specs.Told.{Intake, Outlet, Stock}
 use Rattle.vms_load.specs.Staging.{most_given}

@@ -1,10 +1,9 @@
 -- Of `counter`: what is answered is the text that its steps give, and what is untouched where it ends.
-use Rattle.std.proofs.Common.{◌≡◌, ℕ, Bool, true, List, ◌++◌, get_or, map, Option, sym, ap, ◌∙◌, subst, arith}
+use Rattle.std.proofs.Common.{◌≡◌, ℕ, true, List, ◌++◌, get_or, map, Option, sym, ap, ◌∙◌, subst, arith}
 use Rattle.std.specs.declared.alloc.Global.{Global}
 use Rattle.std.specs.declared.vec.Vec.{Vec}
 use Rattle.std.proofs.lemmas.Option.{slice_get-get_or}
 use Rattle.vms_io.specs.Shelves.{Held}
-use Rattle.vms_io.specs.Told.{Outlet}
 use Rattle.vms_spec.specs.Good.{IsFit}
 use Rattle.vms_spec.specs.Lists.{at_option}
 use Rattle.vms_spec.specs.Sets.{Set}
@@ -22,9 +21,6 @@ use Rattle.vms_counter_laws.proofs.Stated.{computed_holds}
 use Rattle.vms_counter.specs.declared.finding.Finding.{Finding}
 use Rattle.vms_counter.specs.declared.finding.Finding.TheVariants as findings
 use Rattle.vms_counter.specs.Found.{answer_of}
-use Rattle.vms_commands.specs.declared.ending.Ending.{Ending}
-use Rattle.vms_commands.specs.declared.ending.Ending.TheVariants.{Done, BadText, WriteFault, NoMemory}
-use Rattle.vms_commands.specs.Endings.{Quiet}
 use Rattle.vms_commands.specs.Fetching.{fetched_set, named_sets, SetText, set_in, sets_in}
 use Rattle.vms_commands.specs.Lines.{refused_line}
 use Rattle.vms_commands.specs.Outcomes.{Outcome, done}

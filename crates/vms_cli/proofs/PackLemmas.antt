@@ -21,8 +21,7 @@ use Rattle.vms_values.specs.declared.fault.Values.{Values as Given}
 use Rattle.vms_values.specs.declared.fault.ValuesFault.TheVariants as faults
 use Rattle.vms_values_laws.proofs.Stated.{accepted_holds}
 use Rattle.vms_commands.specs.declared.ending.Ending.{Ending}
-use Rattle.vms_commands.specs.declared.ending.Ending.TheVariants.{Done, BadText, WriteFault, NoMemory}
-use Rattle.vms_commands.specs.Endings.{Quiet}
+use Rattle.vms_commands.specs.declared.ending.Ending.TheVariants.{BadText}
 use Rattle.vms_commands.specs.Fetching.{SetText, fetched, fetched_set, longest_file, set_in, word_set}
 use Rattle.vms_commands.specs.SetWords.{SetWord}
 use Rattle.vms_commands.specs.StepEndings.{StepAs, TextEnds, WrittenAs}

@@ -1,11 +1,11 @@
 -- From how a command ends and why to its row.
-use Rattle.std.proofs.Common.{◌≡◌, ◌⊎◌, ℕ, Bool, true, false, List, [], ◌∷◌, length, append-nil, Option, Some, None, inl, inr, refl, sym, ap, ◌∙◌, subst, arith}
+use Rattle.std.proofs.Common.{◌≡◌, ◌⊎◌, ℕ, Bool, true, false, List, [], ◌∷◌, Option, None, inl, inr, refl, sym, ap, ◌∙◌, subst, arith}
 use Rattle.std.specs.Io.KnownBytes.{Appends, Keeps}
 use Rattle.vms_io.specs.Causes.{Rose}
 use Rattle.vms_io.specs.Told.{Intake, Outlet, Stock}
 use Rattle.vms_board_commands.specs.Seen.{SeenAs}
 use Rattle.vms_commands.specs.declared.ending.Ending.{Ending}
-use Rattle.vms_commands.specs.declared.ending.Ending.TheVariants.{Done, Refused, BadWords, ReadFault, WriteFault, ShelfFault, NoMemory, WouldLose}
+use Rattle.vms_commands.specs.declared.ending.Ending.TheVariants.{Done, BadWords, ReadFault, WriteFault, ShelfFault, NoMemory}
 use Rattle.vms_commands.specs.Courses.{EndsSo, is_among}
 use Rattle.vms_commands.specs.Endings.{Caused, Tells, line_of, status_of}
 use Rattle.vms_commands.specs.Outcomes.{Does, DoesOrStops, Outcome, Outside}

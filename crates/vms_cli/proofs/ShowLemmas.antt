@@ -1,5 +1,5 @@
 -- From what a load and a write say to the outcome of `show`.
-use Rattle.std.proofs.Common.{◌≡◌, ℕ, suc, ◌+◌, ◌<◌, ◌≤◌, true, List, ◌∷◌, ◌++◌, append-nil, length, get_or, map, drop, inl, inr, Option, Some, None, Ok, Err, IfSome, IsSomeAnd, refl, sym, ap, ◌∙◌, subst, arith, []}
+use Rattle.std.proofs.Common.{◌≡◌, ℕ, suc, ◌+◌, ◌<◌, ◌≤◌, true, List, ◌∷◌, length, get_or, map, inl, inr, Option, Some, None, Ok, Err, IsSomeAnd, refl, sym, ap, ◌∙◌, subst, arith, []}
 use Rattle.std.proofs.lemmas.List.{length-map, get_or-map}
 use Rattle.std.specs.Option.{ForSome}
 use Rattle.arrayvec.specs.ArrayVec.{ArrayVec}

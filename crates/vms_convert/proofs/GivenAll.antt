@@ -63,26 +63,17 @@ module _ (partners : List (Option ℕ)) (numbers : List ℤ) where
     keeps_given : (slots : List Slot) (c k : ℕ) (now : List ℤ) → k < length now → get_or partners c None ≡ Some k → get_or now k (pos 0) ≡ get_or numbers c (pos 0)
         → get_or (gives slots now) k (pos 0) ≡ get_or numbers c (pos 0)
     keeps_given [] c k now lt e h = h
-    keeps_given (Constant kind z ∷ slots) c k now lt e h = keeps_given slots c k now lt e h
-    keeps_given (Filler n ∷ slots) c k now lt e h = keeps_given slots c k now lt e h
-    keeps_given (Rule b ∷ slots) c k now lt e h = keeps_given slots c k now lt e h
     keeps_given (Number b kind caps ∷ slots) c k now lt e h =
         let long = partner_long (get_or numbers b (pos 0)) (get_or partners b None) now in
         keeps_given slots c k (give_partner (get_or numbers b (pos 0)) (get_or partners b None) now) (omega (arith, lt, long)) e (step_keeps c k b now lt e h)
+    keeps_given (_ ∷ slots) c k now lt e h = keeps_given slots c k now lt e h
 
     -- a cell that stands in the slots gives its number to its partner
     pub given_some : (slots : List Slot) (c k : ℕ) (now : List ℤ) → k < length now → get_or partners c None ≡ Some k → has_cell slots c ≡ true → get_or (gives slots now) k (pos 0) ≡ get_or numbers c (pos 0)
     given_some [] c k now lt e h = cc
-    given_some (Constant kind z ∷ slots) c k now lt e h = given_some slots c k now lt e h
-    given_some (Filler n ∷ slots) c k now lt e h = given_some slots c k now lt e h
-    given_some (Rule b ∷ slots) c k now lt e h = given_some slots c k now lt e h
     given_some (Number b kind caps ∷ slots) c k now lt e h =
-        let long = partner_long (get_or numbers b (pos 0)) (get_or partners b None) now in
         by_place (given_some slots c k (give_partner (get_or numbers b (pos 0)) (get_or partners b None) now) (omega (arith, lt, long)) e) (b == c) refl h
       where
-        next : List ℤ
-        next = give_partner (get_or numbers b (pos 0)) (get_or partners b None) now
-
         long : length (give_partner (get_or numbers b (pos 0)) (get_or partners b None) now) ≡ length now
         long = partner_long (get_or numbers b (pos 0)) (get_or partners b None) now
 
@@ -94,6 +85,7 @@ module _ (partners : List (Option ℕ)) (numbers : List ℤ) where
             ∙ ap (λ (o : Option ℕ). get_or (give_partner (get_or numbers c (pos 0)) o now) k (pos 0)) e ∙ get_or-set_same now k (get_or numbers c (pos 0)) (pos 0) lt in
             keeps_given slots c k (give_partner (get_or numbers b (pos 0)) (get_or partners b None) now) (omega (arith, lt, long)) e put
         by_place more false f g = more g
+    given_some (_ ∷ slots) c k now lt e h = given_some slots c k now lt e h
 
 -- ---- a whole device
 

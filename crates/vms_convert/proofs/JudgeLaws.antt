@@ -190,8 +190,15 @@ same_first [] (c ∷ cells) e = absurd (omega (arith, e))
 same_first (z ∷ numbers) [] e = absurd (omega (arith, e))
 same_first (z ∷ numbers) (c ∷ cells) e = refl
 
-module _ (to new : Set) (fit : IsFit to) (is : new ≡ set_4) (compatible : Compatible to new) (images : List Image) (kept : AreKept new images) (r : Returns)
-    (returned : AreReturned to new (recast_each to new.devices (numbers_in images)) r) where
+-- images that a loader of the newest set keeps, and what comes back of them
+pub record ComesBack (to new : Set) (images : List Image) (r : Returns) : Type 0 where
+  pub fit : IsFit to
+  pub newest : new ≡ set_4
+  pub compatible : Compatible to new
+  pub kept : AreKept new images
+  pub returned : AreReturned to new (recast_each to new.devices (numbers_in images)) r
+
+module _ (to new : Set) (images : List Image) (r : Returns) (p : ComesBack to new images r) where
   abbrev wants : List (List ℤ)
   wants = recast_each to new.devices (numbers_in images)
 
@@ -202,35 +209,35 @@ module _ (to new : Set) (fit : IsFit to) (is : new ≡ set_4) (compatible : Comp
   given = numbers_in (carried to new states)
 
   well : WellFormed new
-  well = subst (λ (s : Set). WellFormed s) (sym is) shipped_holds.4.well
+  well = subst (λ (s : Set). WellFormed s) (sym p.newest) shipped_holds.4.well
 
   long : length wants ≡ length new.devices
-  long = recast_long to new.devices (numbers_in images) (length-map images (λ (image : Image). image.numbers) ∙ kept.one_each)
+  long = recast_long to new.devices (numbers_in images) (length-map images (λ (image : Image). image.numbers) ∙ p.kept.one_each)
 
   pub writable_back : (typed : List Typed) → typed ≡ r.images.items → AreWritable to typed
   writable_back typed same =
-      subst (λ (l : List Typed). AreWritable to l) (sym same) (writable to new wants r.images.items r.lost returned fit well compatible (newest_kinds to new is images kept))
+      subst (λ (l : List Typed). AreWritable to l) (sym same) (writable to new wants r.images.items r.lost p.returned p.fit well p.compatible (newest_kinds to new p.newest images p.kept))
 
   pub backs_are : AreBack to new wants states
-  backs_are = are_back to new wants r.images.items r.lost returned
+  backs_are = are_back to new wants r.images.items r.lost p.returned
 
   pub ready_back : ((k : ℕ) → k < length new.devices → IsValidAt to new states k) → AreReady to states
-  ready_back valid = are_ready to new wants r.images.items r.lost returned fit well compatible (newest_kinds to new is images kept) valid
+  ready_back valid = are_ready to new wants r.images.items r.lost p.returned p.fit well p.compatible (newest_kinds to new p.newest images p.kept) valid
 
   first_lost : (lost : Option LostCell) → r.lost ≡ lost → IsFirstLost to new wants (length to.devices) states lost
-  first_lost lost same = subst (λ (o : Option LostCell). IsFirstLost to new wants (length to.devices) states o) same returned.first_lost
+  first_lost lost same = subst (λ (o : Option LostCell). IsFirstLost to new wants (length to.devices) states o) same p.returned.first_lost
 
   pub cell_first : (name : Option (List ℕ)) (l : LostCell) → r.lost ≡ Some l → Loses to new name wants given states (Some l.device) (Some l.cell)
-  cell_first name l same = cell_lost to new fit.well well compatible states wants long name l (first_lost (Some l) same)
+  cell_first name l same = cell_lost to new p.fit.well well p.compatible states wants long name l (first_lost (Some l) same)
 
   kept_cells : r.lost ≡ None → wants ≡ given
-  kept_cells same = all_carried to new fit.well well compatible states wants long (first_lost None same)
+  kept_cells same = all_carried to new p.fit.well well p.compatible states wants long (first_lost None same)
 
   pub device_first : (name : Option (List ℕ)) → r.lost ≡ None → (k : ℕ) → FirstInvalid to new states (Some k) → Loses to new name wants given states (Some k) (first_cell_at new k)
   device_first name same k h =
       let at : slice_get new.devices k ≡ Some (device_at new k) = slice_get-get_or new.devices k no_device h.0 in
       let cell : first_cell (get_or wants k []) ≡ first_cell_at new k =
-      same_first (get_or wants k []) (device_cells new (device_at new k)) (newest_kinds to new is images kept k (device_at new k) at).long in
+      same_first (get_or wants k []) (device_cells new (device_at new k)) (newest_kinds to new p.newest images p.kept k (device_at new k) at).long in
       subst (λ (o : Option ℕ). Loses to new name wants given states (Some k) o) cell (device_lost to new name wants given states (kept_cells same) k h)
 
   pub machine_last : (name : Option (List ℕ)) → r.lost ≡ None → FirstInvalid to new states None → (m : Result (Option ℕ) Loss) → KeepsMachine to name m → Judges to new name wants given states m

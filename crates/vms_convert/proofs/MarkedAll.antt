@@ -37,6 +37,16 @@ module _ (set : Set) (d : Device) (image : Image) where
   pub marked_none : (subs : List Sub) → MarkedTo subs 0 (map (λ s. None) subs)
   marked_none subs = record { long = none_long subs; done = λ i s lt e. absurd (omega arith); left = λ i s le e. none_at subs i s e }
 
+  -- the last of those up to j
+  at_last : (subs : List Sub) (i j : ℕ) (t s : Sub) → j ≤ i → i < suc j → slice_get subs i ≡ Some t → slice_get subs j ≡ Some s → (b : Bool) → is_needed set d image s j ≡ b
+      → (i ≡ j) × (comes i t ≡ (if b then Some s.desc.version else None))
+  at_last subs i j t s ge lt f e b n =
+      let same : i ≡ j = omega arith in
+      let one : Some t ≡ Some s = sym f ∙ ap (slice_get subs) same ∙ e in
+      let sub : t ≡ s = cc in
+      let needed : is_needed set d image t i ≡ b = ap (λ (u : Sub). is_needed set d image u i) sub ∙ ap (is_needed set d image s) same ∙ n in
+      (same, ap (λ (x : Bool). if x then Some t.desc.version else None) needed ∙ ap (λ (u : Sub). if b then Some u.desc.version else None) sub)
+
   -- one more, which isn't needed, or is and is marked
   pub marked_skip : (subs : List Sub) (came : List (Option ℕ)) (j : ℕ) (s : Sub) → slice_get subs j ≡ Some s → MarkedTo subs j came → is_needed set d image s j ≡ false → MarkedTo subs (suc j) came
   marked_skip subs came j s e h n = record {
@@ -48,11 +58,7 @@ module _ (set : Set) (d : Device) (image : Image) where
     go i t lt f true g = h.done i t (ltb-true i j g) f
     go i t lt f false g =
         let ge : j ≤ i = ltb-false i j g in
-        let same : i ≡ j = omega arith in
-        let one : Some t ≡ Some s = sym f ∙ ap (slice_get subs) same ∙ e in
-        let sub : t ≡ s = cc in
-        let not_needed : is_needed set d image t i ≡ false = ap (λ (u : Sub). is_needed set d image u i) sub ∙ ap (is_needed set d image s) same ∙ n in
-        h.left i t ge f ∙ sym (ap (λ (b : Bool). Some (if b then Some t.desc.version else None)) not_needed)
+        h.left i t ge f ∙ sym (ap Some (at_last subs i j t s ge lt f e false n).1)
 
   pub marked_next : (subs : List Sub) (came : List (Option ℕ)) (j : ℕ) (s : Sub) → slice_get subs j ≡ Some s → MarkedTo subs j came → is_needed set d image s j ≡ true
       → MarkedTo subs (suc j) (slice_set came j (Some s.desc.version))
@@ -66,16 +72,9 @@ module _ (set : Set) (d : Device) (image : Image) where
         let less : i < j = ltb-true i j g in
         at_other came j i (Some s.desc.version) (λ same. absurd (omega arith)) ∙ h.done i t less f
     go i t lt f false g =
-        let ge : j ≤ i = ltb-false i j g in
-        let same : i ≡ j = omega arith in
-        let one : Some t ≡ Some s = sym f ∙ ap (slice_get subs) same ∙ e in
-        let sub : t ≡ s = cc in
-        let needed : is_needed set d image t i ≡ true = ap (λ (u : Sub). is_needed set d image u i) sub ∙ ap (is_needed set d image s) same ∙ n in
+        let last = at_last subs i j t s (ltb-false i j g) lt f e true n in
         let long = h.long in
-        ap (slice_get (slice_set came j (Some s.desc.version))) same
-        ∙ at_set came j (Some s.desc.version) (omega (arith, long, slice_get_within subs j s e))
-        ∙ ap (λ (u : Sub). Some (Some u.desc.version)) (sym sub)
-        ∙ sym (ap (λ (b : Bool). Some (if b then Some t.desc.version else None)) needed)
+        ap (slice_get (slice_set came j (Some s.desc.version))) last.0 ∙ at_set came j (Some s.desc.version) (omega (arith, long, slice_get_within subs j s e)) ∙ sym (ap Some last.1)
 
   -- ---- all of them
 

@@ -79,8 +79,16 @@ module _ (to new : Set) (fit : IsFit to) (well : WellFormed new) (i k : ℕ) (d 
 
 -- ---- as the calls have it
 
-module _ (to new : Set) (fit : IsFit to) (well : WellFormed new) (i k : ℕ) (lt : i < length to.devices) (lt' : k < length new.devices) (source : List ℤ)
-    (kinds : AreOfKinds (device_cells new (device_at new k)) source) (partners : List (Option ℕ)) (partners_are : partners ≡ device_partners to new (device_at to i) (device_at new k)) where
+-- the older device i and the newer k, of whose numbers an image of the older is made
+pub record IsReturning (to new : Set) (i k : ℕ) (source : List ℤ) : Type 0 where
+  pub fit : IsFit to
+  pub well : WellFormed new
+  pub device : i < length to.devices
+  pub other : k < length new.devices
+  pub kinds : AreOfKinds (device_cells new (device_at new k)) source
+
+module _ (to new : Set) (i k : ℕ) (source : List ℤ) (p : IsReturning to new i k source) (partners : List (Option ℕ))
+    (partners_are : partners ≡ device_partners to new (device_at to i) (device_at new k)) where
   abbrev d : Device
   d = device_at to i
 
@@ -90,7 +98,7 @@ module _ (to new : Set) (fit : IsFit to) (well : WellFormed new) (i k : ℕ) (lt
   pub sources_of : AreSources (kinds_at to i) source partners
   sources_of =
       subst (λ (l : List (Option ℕ)). AreSources (kinds_at to i) source l) (sym partners_are)
-      (sources_are to new fit well i k d e (there to i lt) (there new k lt') source kinds)
+      (sources_are to new p.fit p.well i k d e (there to i p.device) (there new k p.other) source p.kinds)
 
   module _ (image : Typed) (back : IsBack to (device_at to i) partners source (state_of image)) where
     pub back_of : IsBack to d (device_partners to new d e) source (state_of image)
@@ -99,17 +107,17 @@ module _ (to new : Set) (fit : IsFit to) (well : WellFormed new) (i k : ℕ) (lt
     module _ (carried : Typed) (fresh : carried ≡ default_at new k) where
       pub targets_of : AreTargets carried.kinds image.numbers partners
       targets_of =
-          let normal = (back_stands to new fit well i d e (there to i lt) source kinds (state_of image) back_of).normal in
+          let normal = (back_stands to new p.fit p.well i d e (there to i p.device) source p.kinds (state_of image) back_of).normal in
           subst (λ (l : List (Option ℕ)). AreTargets carried.kinds image.numbers l) (sym partners_are)
           (subst (λ (ks : List Kind). AreTargets ks image.numbers (device_partners to new d e)) (sym (ap (λ (x : Typed). x.kinds) fresh))
-          (targets_are to new fit well i k d e (there to i lt) (there new k lt') (state_of image) normal))
+          (targets_are to new p.fit p.well i k d e (there to i p.device) (there new k p.other) (state_of image) normal))
 
       module _ (target : Typed) (changes : Changes (give_step partners image.numbers) (steps_of (image_slots to (device_at to i) (state_of image))) carried target) where
         pub given_long : length source ≡ length target.numbers
         given_long =
             let cells = device_cells new e in
             let steps = steps_of (image_slots to d (state_of image)) in
-            kinds.long ∙ sym (length-map cells (λ (c : Cell). c.default)) ∙ sym (ap (λ (x : Typed). length x.numbers) fresh) ∙ sym (steps_long partners image.numbers steps carried.numbers)
+            p.kinds.long ∙ sym (length-map cells (λ (c : Cell). c.default)) ∙ sym (ap (λ (x : Typed). length x.numbers) fresh) ∙ sym (steps_long partners image.numbers steps carried.numbers)
             ∙ sym (ap (λ (x : Typed). length x.numbers) changes)
 
         pub given_is : target.numbers ≡ (carried_device to new d e (state_of image)).numbers
@@ -117,4 +125,4 @@ module _ (to new : Set) (fit : IsFit to) (well : WellFormed new) (i k : ℕ) (lt
             let steps = steps_of (image_slots to d (state_of image)) in
             ap (λ (x : Typed). x.numbers) changes ∙ ap (λ (l : List (Option ℕ)). changed (give_step l image.numbers) steps carried.numbers) partners_are
             ∙ ap (λ (x : Typed). changed (give_step (device_partners to new d e) image.numbers) steps x.numbers) fresh
-            ∙ given_carried to new fit well i k d e (there to i lt) (there new k lt') source (state_of image) back_of
+            ∙ given_carried to new p.fit p.well i k d e (there to i p.device) (there new k p.other) source (state_of image) back_of

@@ -131,7 +131,7 @@ fn default_of(set: &DescSet, device: u32, cell: u32) -> i128
     ensures { let d = device_at (described set.now) device in
         result ≡ (get_or (device_cells (described set.now) d) cell no_cell).default }
 {
-    set.cell_forms(device)[cell as usize].default
+    set.defaults(device).get(cell)
 }
 
 // Each subsection comes that the numbers need, at its version.

@@ -42,7 +42,8 @@ fn give_sub(set: &DescSet, device: u32, sub: u32, gift: Gift, target: &mut Image
     requires targets { let numbers = gift.image.now.numbers in
         AreTargets target.old.kinds numbers gift.partners.now }
     requires kinds { length target.old.kinds ≡ length target.old.numbers }
-    ensures { let slots = part_slots (described set.now) device sub (state_of gift.entry.image.now) in
+    ensures { let image = state_of gift.entry.image.now in
+        let slots = part_slots (described set.now) device sub image in
         let step = give_step gift.entry.partners.now gift.entry.image.now.numbers in
         Changes step (steps_of slots) target.old target.new }
 {

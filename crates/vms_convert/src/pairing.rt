@@ -315,7 +315,8 @@ fn pair_items(
     requires other { uses_below (length (described sets.new.now).structs) other ≡ true }
     requires few { item_size (struct_cells (described sets.old.now)) one ≤ MOST_ITEMS }
     requires room { cell + item_size (struct_cells (described sets.new.now)) other ≤ MOST_ITEMS }
-    ensures { let pairs = item_on (described sets.entry.old.now) (described sets.entry.new.now) one other cell in
+    ensures { let old = described sets.entry.old.now in let new = described sets.entry.new.now in
+        let pairs = item_on old new one other cell in
         OnOk result (partners.new.items ≡ partners.old.items ++ pairs) }
 {
     match (one, other) {

@@ -1,5 +1,5 @@
 -- Bytes of structures, fields and sections, where those of structures end at 2 ^ 32 - 1.
-use Rattle.std.proofs.Common.{◌≡◌, ℕ, zero, suc, ◌+◌, ◌*◌, ◌^◌, ◌<◌, true, List, [], ◌∷◌, ◌++◌, length, get_or, map, refl, sym, ap, ◌∙◌, arith, add-one}
+use Rattle.std.proofs.Common.{◌≡◌, ℕ, ◌+◌, ◌*◌, ◌^◌, ◌<◌, true, List, [], ◌∷◌, ◌++◌, length, get_or, map, refl, sym, ap, ◌∙◌, arith, add-one}
 use Rattle.std.proofs.lemmas.List.{length-map, map-append}
 use Rattle.vms_kinds.specs.declared.Item.{Item}
 use Rattle.vms_kinds.specs.declared.Item.TheVariants.{Num, Equal, Unused, Struct}
@@ -13,11 +13,10 @@ use Rattle.vms_desc.specs.Formed.{is_well_formed}
 use Rattle.vms_parts.specs.Views.{desc_of, device_of, field_of}
 use Rattle.vms_parts.proofs.Items.{get_map_at}
 use Rattle.vms_parts.proofs.SizeLaws.{capped_product, capped_at}
-use Rattle.vms_load.specs.Bounds.{item_bytes, fields_bytes, desc_bytes, struct_bytes}
-use Rattle.vms_load.specs.Parts.{bytes_of}
+use Rattle.vms_load.specs.Bounds.{item_bytes, fields_bytes, struct_bytes}
 use Rattle.vms_load.specs.Staging.{subs_bytes, devices_most}
 use Rattle.vms_load.proofs.Bounding.{most_small}
-use Rattle.vms_counter.specs.Room.{subs_in, device_in, devices_in}
+use Rattle.vms_counter.specs.Room.{subs_in, devices_in}
 use Rattle.vms_marks.specs.declared.sub_head.TheConstants.{LONGEST_SUB_HEAD}
 
 capped_item : (bytes : List ℕ) (n : ℕ) (item : Item) → in_u32 (n * item_bytes (map in_u32 bytes) item) ≡ in_u32 (n * item_bytes bytes item)

@@ -1,9 +1,5 @@
 -- What trying the candidates in turn comes to.
-use Rattle.std.proofs.Common.{◌≡◌, ℕ, zero, suc, true, List, [], ◌∷◌, Option, Some, None, IfSome, refl, sym, subst}
-use Rattle.std.specs.List.{slice_get}
-use Rattle.std.specs.Str.{bytes_eq}
-use Rattle.std.proofs.lemmas.Bool.{or_left, or_right}
-use Rattle.std.proofs.lemmas.Slice.Eq.{bytes_eq-Decides}
+use Rattle.std.proofs.Common.{◌≡◌, ℕ, true, List, [], ◌∷◌, Option, Some, None, IfSome, refl, sym, subst, map}
 use Rattle.vms_spec.specs.Lists.{at_option}
 use Rattle.vms_spec.specs.Sets.{Set}
 use Rattle.vms_spec.specs.Images.{Image}
@@ -18,6 +14,7 @@ use Rattle.vms_counter_laws.specs.Counters.{NoState, State, Shows, IsFirst, Here
 use Rattle.vms_counter.specs.Found.{refusal_of}
 use Rattle.vms_counter.specs.Trying.{Tries}
 use Rattle.vms_check.proofs.SelfLaws.{is_among}
+use Rattle.vms_image.specs.Typed.{Typed, state_of}
 
 -- ---- the machine
 
@@ -33,6 +30,13 @@ named machines machine = by (at_option machines machine) refl
         of (Some k) e = is_among machines k name e
 
 -- ---- candidates
+
+-- what was tried, as it is named elsewhere
+pub tries_by : (old new : Set) (name k : Option (List ℕ)) (typed images : List Typed) (o r : Option Refused) → k ≡ name → typed ≡ images → o ≡ r
+    → Tries old new k (map state_of typed) o → Tries old new name (map state_of images) r
+tries_by old new name k typed images o r named same is t =
+    subst (λ (x : Option (List ℕ)). Tries old new x (map state_of images) r) named
+    (subst (λ (l : List Typed). Tries old new k (map state_of l) r) same (subst (λ (x : Option Refused). Tries old new k (map state_of typed) x) is t))
 
 module _ (old new : Set) (m : Mismatch) (first : first_mismatch old new ≡ Some m) where
   -- a candidate that isn't refused doesn't show the mismatch

@@ -1,14 +1,12 @@
 -- Images of all devices, by their numbers.
 use Rattle.std.proofs.lemmas.List.{length-set}
-use Rattle.std.proofs.lemmas.Option.{get_or_from_slice_get, slice_get_within}
 use Rattle.std.proofs.lemmas.Bool.{eqb-true, eq-eqb}
 use Rattle.vms_bodies.proofs.BodyLaws.{at_set}
 use Rattle.vms_bodies.proofs.PartLaws.{at_other}
-use Rattle.std.proofs.Common.{◌==◌, Bool, true, false, slice_set, ap, sym, ◌∙◌, ◌≡◌, ℕ, zero, suc, ◌<◌, List, [], ◌∷◌, length, get_or, Some, refl, subst, arith}
+use Rattle.std.proofs.Common.{◌==◌, Bool, true, false, slice_set, ap, sym, ◌∙◌, ◌≡◌, ℕ, ◌<◌, List, length, Some, refl, subst, arith}
 use Rattle.std.specs.List.{slice_get}
 use Rattle.vms_spec.specs.Sets.{Set}
 use Rattle.vms_image.specs.Typed.{Typed, IsImageOf, AreImagesOf}
-use Rattle.vms_load.specs.Staging.{AreShaped, no_image}
 
 -- an image of one device, put anew
 pub put_are : (set : Set) (images : List Typed) (k : ℕ) (image : Typed) → AreImagesOf set images → k < length set.devices → IsImageOf set k image → AreImagesOf set (slice_set images k image)

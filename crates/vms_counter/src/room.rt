@@ -6,7 +6,7 @@ ghost use Rattle.vms_desc.specs.Described.{described};
 ghost use Rattle.vms_load.specs.Bounds.{item_bytes, fields_bytes, struct_bytes};
 ghost use Rattle.vms_load.specs.Staging.{devices_most};
 ghost use Rattle.vms_counter.specs.Found.{HasRoom};
-ghost use Rattle.vms_counter.specs.Room.{subs_in, devices_in};
+ghost use Rattle.vms_counter.specs.Room.{device_in, devices_in, subs_in};
 ghost use Rattle.vms_marks.specs.declared.head.TheConstants.{LONGEST_HEAD};
 
 use std::alloc::{AllocError, Global};
@@ -28,14 +28,86 @@ fn item_bytes(structs: &[u32], item: Item) -> u32
     }
 }
 
-// The bytes of these fields at their full lengths and capacities, at most 2^32 - 1, as all sums here.
-fn fields_bytes(structs: &[u32], fields: &[Field]) -> u32
-    ensures { result ≡ in_u32 (fields_bytes structs.now (map field_of fields.now)) }
+// What takes room in a stream, where the bytes of each structure are given.
+trait TakesRoom {
+    ghost use Rattle.std.specs.Prelude.{◌≡◌, ◌+◌, ℕ, List, [], ◌∷◌};
+
+    // At full lengths and capacities.
+    ghost bytes: { List ℕ → Self → ℕ };
+
+    ghost all_bytes: { List ℕ → List Self → ℕ };
+
+    ghost none: { (structs : List ℕ) → all_bytes structs [] ≡ 0 };
+
+    ghost more: { (structs : List ℕ) (x : Self) (xs : List Self)
+        → all_bytes structs (x ∷ xs) ≡ bytes structs x + all_bytes structs xs };
+
+    // At most 2^32 - 1, as all sums here.
+    fn bytes(&self, structs: &[u32]) -> u32
+        ensures { result ≡ in_u32 (bytes structs.now self.now) };
+}
+
+impl TakesRoom for Field {
+    ghost use Rattle.std.specs.Prelude.{◌*◌, map, refl};
+    ghost use Rattle.vms_spec.specs.Layout.{capacity_of};
+
+    ghost bytes = { λ structs f. capacity_of f.count * item_bytes structs f.item };
+
+    ghost all_bytes = { λ structs fs. fields_bytes structs (map field_of fs) };
+
+    ghost none = { λ structs. refl };
+
+    ghost more = { λ structs f fs. refl };
+
+    fn bytes(&self, structs: &[u32]) -> u32 {
+        capacity(self.count).saturating_mul(item_bytes(structs, self.item))
+    }
+}
+
+// With their heads.
+impl TakesRoom for Sub {
+    ghost use Rattle.std.specs.Prelude.{◌+◌, map, refl};
+    ghost use Rattle.vms_marks.specs.declared.sub_head.TheConstants.{LONGEST_SUB_HEAD};
+
+    ghost bytes = { λ structs s.
+        fields_bytes structs (map field_of s.desc.fields) + LONGEST_SUB_HEAD };
+
+    ghost all_bytes = { λ structs subs. subs_in structs (map sub_of subs) };
+
+    ghost none = { λ structs. refl };
+
+    ghost more = { λ structs s subs. refl };
+
+    fn bytes(&self, structs: &[u32]) -> u32 {
+        all_bytes(structs, self.desc.fields.as_slice()).saturating_add(LONGEST_SUB_HEAD as u32)
+    }
+}
+
+// With their heads, footers and all subsections.
+impl TakesRoom for Device {
+    ghost use Rattle.std.specs.Prelude.{map, refl};
+
+    ghost bytes = { λ structs d. device_in structs (device_of d) };
+
+    ghost all_bytes = { λ structs devices. devices_in structs (map device_of devices) };
+
+    ghost none = { λ structs. refl };
+
+    ghost more = { λ structs d devices. refl };
+
+    fn bytes(&self, structs: &[u32]) -> u32 {
+        let own = all_bytes(structs, self.desc.fields.as_slice());
+        let subs = all_bytes(structs, self.subs.as_slice());
+        own.saturating_add(subs).saturating_add(274)
+    }
+}
+
+fn all_bytes<T: TakesRoom>(structs: &[u32], items: &[T]) -> u32
+    ensures { result ≡ in_u32 (T.all_bytes structs.now items.now) }
 {
     let mut sum: u32 = 0;
-    for field in fields {
-        let bytes = capacity(field.count).saturating_mul(item_bytes(structs, field.item));
-        sum = sum.saturating_add(bytes);
+    for item in items {
+        sum = sum.saturating_add(item.bytes(structs));
     }
     sum
 }
@@ -47,34 +119,9 @@ fn struct_bytes(alloc: Global, structs: &[Desc]) -> Result<Vec<u32>, AllocError>
 {
     let mut bytes = Vec::with_capacity(alloc, structs.len())?;
     for desc in structs {
-        bytes.push(fields_bytes(&bytes, desc.fields.as_slice()))?;
+        bytes.push(all_bytes(&bytes, desc.fields.as_slice()))?;
     }
     Ok(bytes)
-}
-
-// The bytes of subsections with their heads.
-fn subs_bytes(structs: &[u32], subs: &[Sub]) -> u32
-    ensures { result ≡ in_u32 (subs_in structs.now (map sub_of subs.now)) }
-{
-    let mut sum: u32 = 0;
-    for sub in subs {
-        let own = fields_bytes(structs, sub.desc.fields.as_slice());
-        sum = sum.saturating_add(own.saturating_add(LONGEST_SUB_HEAD as u32));
-    }
-    sum
-}
-
-// The bytes of sections with their heads, footers and all subsections.
-fn devices_bytes(structs: &[u32], devices: &[Device]) -> u32
-    ensures { result ≡ in_u32 (devices_in structs.now (map device_of devices.now)) }
-{
-    let mut sum: u32 = 0;
-    for device in devices {
-        let own = fields_bytes(structs, device.desc.fields.as_slice());
-        let subs = subs_bytes(structs, device.subs.as_slice());
-        sum = sum.saturating_add(own.saturating_add(subs).saturating_add(274));
-    }
-    sum
 }
 
 /// `LONGEST_HEAD` bytes more than all sections of the set have at full lengths and capacities: no stream of ready images that has no
@@ -85,5 +132,5 @@ pub(crate) fn room(alloc: Global, set: &DescSet) -> Result<u32, NoMemory>
     ensures room { IfOk result (HasRoom (described set.now)) }
 {
     let structs = struct_bytes(alloc, set.parts().structs.as_slice())?;
-    Ok(LONGEST_HEAD as u32 + devices_bytes(&structs, set.parts().devices.as_slice()))
+    Ok(LONGEST_HEAD as u32 + all_bytes(&structs, set.parts().devices.as_slice()))
 }

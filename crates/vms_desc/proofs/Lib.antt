@@ -1,5 +1,6 @@
 pub mod Bounds
 pub mod CellSizes
+pub mod DefaultLaws
 pub mod EvalLaws
 pub mod EvalParts
 pub mod Formed
@@ -12,5 +13,4 @@ pub mod Clean
 pub mod ClockHeads
 pub mod HeadLaws
 pub mod TablesMade
-pub mod SpotTables
 pub mod Ranks

@@ -2,9 +2,9 @@
 ghost use Rattle.std.specs.Prelude.{◌≡◌, ◌<◌, ◌≤◌, ◌++◌, length, take, drop, map, OnOk, IfOk};
 ghost use Rattle.vms_spec.specs.Layout.{times};
 ghost use Rattle.vms_desc.specs.Forms.{item_forms, field_forms, fields_forms, subs_forms, device_forms, forms_to};
-ghost use Rattle.vms_parts.specs.Views.{desc_of, field_of, sub_of, device_of, set_of, layout_of};
+ghost use Rattle.vms_parts.specs.Views.{desc_of, field_of, sub_of, device_of};
 
-use crate::{CellForm, Desc, Device, Field, Listed, Parts, Sub};
+use crate::{CellForm, Desc, Device, Field, Sub};
 use std::alloc::{AllocError, Global};
 use vms_kinds::Item;
 use vms_parts::{Measure, capacity, size_of_fields, size_of_subs};
@@ -97,7 +97,7 @@ fn put_subs(structs: &[Desc], subs: &[Sub], forms: &mut Vec<CellForm>) -> Result
 }
 
 // The forms of a device's cells: its fields', and then each subsection's. Each structure has so many cells.
-fn device_cells(
+pub(crate) fn device_cells(
     alloc: Global,
     sizes: &[u32],
     structs: &[Desc],
@@ -114,20 +114,4 @@ fn device_cells(
     put_fields(structs, fields, &mut forms)?;
     put_subs(structs, subs, &mut forms)?;
     Ok(forms)
-}
-
-// Those of each device, in order.
-pub(crate) fn layout(
-    alloc: Global,
-    sizes: &[u32],
-    parts: &Parts,
-) -> Result<Listed<Listed<CellForm>>, AllocError>
-    ensures { IfOk result (λ layout. layout ≡ layout_of (set_of parts.now)) }
-{
-    let mut layout = Vec::new(alloc);
-    for device in parts.devices.as_slice() {
-        let forms = device_cells(alloc, sizes, parts.structs.as_slice(), device)?;
-        layout.push(Listed::new(forms))?;
-    }
-    Ok(Listed::new(layout))
 }

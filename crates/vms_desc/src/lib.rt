@@ -4,6 +4,7 @@
 #![tactic(auto)]
 
 mod asks;
+mod defaults;
 mod eval;
 mod forms;
 mod judged;

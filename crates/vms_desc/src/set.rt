@@ -11,30 +11,27 @@ ghost use Rattle.vms_desc.specs.Formed.{clock_set, is_well_formed, shipped_set};
 ghost use Rattle.vms_desc.specs.Numbers.{sizes_of};
 ghost use Rattle.vms_desc.specs.Parts.{HasPart, HasParentCells, desc_at, parent_of, is_placed};
 ghost use Rattle.vms_desc.specs.Scopes.{IsParent};
-ghost use Rattle.vms_desc.specs.Spots.{form_spots};
+ghost use Rattle.vms_desc.specs.Spots.{form_numbers, defaults_at};
 ghost use Rattle.vms_desc.specs.Tables.{IsTable, AreTables, AreDeviceTables, device_fields};
 ghost use Rattle.vms_parts.specs.Sizes.{in_u32};
 ghost use Rattle.vms_parts.specs.Views.{set_of, formula, desc_of, device_of, form_of, layout_of};
 
+use crate::defaults::device_defaults;
 use crate::eval::{Scope, holds};
-use crate::forms::layout;
-use crate::spots::device_spots;
 use crate::table::{Table, device_tables, struct_tables};
-use crate::{CellForm, Cells, Desc, Device, Listed, Part, Parts, Test};
+use crate::{Cells, Desc, Device, Listed, Part, Parts, Test};
 use std::alloc::{AllocError, Global};
 use vms_io::NoMemory;
 use vms_parts::{Measure, struct_sizes};
 use vms_shipped::{clock_parts, shipped_parts};
-use vms_spots::Spot;
+use vms_spots::Buffer;
 
 /// A well-formed set, with the cells of each device laid out beside it.
 #[derive(Drop)]
 pub struct DescSet {
     parts: Parts,
-    // The forms of each device's cells.
-    layout: Listed<Listed<CellForm>>,
-    // Where each cell's number stands in an image's bytes.
-    pub(crate) spots: Listed<Listed<Spot>>,
+    // The numbers of each device's cells at their defaults.
+    defaults: Listed<Buffer>,
     // How many cells each structure has, at most 2^32 - 1.
     pub(crate) sizes: Listed<u32>,
     // What walks ask of each structure, and of each device and its subsections.
@@ -43,14 +40,12 @@ pub struct DescSet {
     ghost well_formed: { is_well_formed (set_of parts) ≡ true },
     ghost heads: { FitsHeads (set_of parts) },
     ghost few: { length parts.devices ≤ 64 },
-    ghost laid: { layout ≡ layout_of (set_of parts) },
-    ghost spotted: { spots ≡ map form_spots layout },
+    ghost at_default: { defaults ≡ map form_numbers (layout_of (set_of parts)) },
     ghost sized: { sizes ≡ sizes_of (set_of parts) },
     ghost structs_tabled: { AreTables (sizes_of (set_of parts))
         (map (λ d. d.fields) (set_of parts).structs) struct_tables },
     ghost devices_tabled: { AreDeviceTables (sizes_of (set_of parts))
         (set_of parts).devices device_tables },
-    ghost small: { (k : ℕ) → length (get_or layout k []) ≤ MOST_ITEMS },
 }
 
 impl DescSet {
@@ -78,14 +73,12 @@ impl DescSet {
         ensures { IfOk result (λ set. described set ≡ set_of parts) }
     {
         let sizes = struct_sizes(alloc, Measure::Cells, parts.structs.as_slice())?;
-        let layout = layout(alloc, &sizes, &parts)?;
-        let spots = device_spots(alloc, layout.as_slice())?;
         let structs = struct_tables(alloc, &sizes, parts.structs.as_slice())?;
         let devices = device_tables(alloc, &sizes, parts.devices.as_slice())?;
+        let defaults = device_defaults(alloc, &sizes, &parts)?;
         Ok(DescSet {
             parts,
-            layout,
-            spots: Listed::new(spots),
+            defaults: Listed::new(defaults),
             sizes: Listed::new(sizes),
             struct_tables: Listed::new(structs),
             device_tables: Listed::new(devices),
@@ -120,17 +113,16 @@ impl DescSet {
         ensures { result
             ≡ length (device_cells (described self.now) (device_at (described self.now) device)) }
     {
-        self.cell_forms(device).len() as u32
+        self.defaults(device).len()
     }
 
-    /// The kind and the default of each cell of the device of this number, in order.
-    pub fn cell_forms(&self, device: u32) -> &[CellForm]
+    /// The number that each cell of the device of this number holds where it doesn't stand in the bytes, in order.
+    pub fn defaults(&self, device: u32) -> &Buffer
         requires { device < length (described self.now).devices }
-        ensures forms { result.now ≡ map form_of
-            (device_cells (described self.now) (device_at (described self.now) device)) }
-        ensures few { length result.now ≤ MOST_ITEMS }
+        ensures defaults { result.now ≡ defaults_at (described self.now) device }
+        ensures few { length result.now.numbers ≤ MOST_ITEMS }
     {
-        self.layout.as_slice()[device as usize].as_slice()
+        &self.defaults.as_slice()[device as usize]
     }
 
     /// The description of a part.

@@ -1,15 +1,14 @@
 // Where the numbers of devices stand in their images' bytes.
 ghost use Rattle.vms_spec.specs.declared.TheConstants.{MOST_ITEMS};
-ghost use Rattle.std.specs.Prelude.{◌≡◌, ◌<◌, ◌≤◌, ℕ, [], length, get_or, map, IfOk};
+ghost use Rattle.std.specs.Prelude.{◌≡◌, ◌<◌, ◌≤◌, length, get_or};
 ghost use Rattle.vms_spec.specs.Layout.{device_cells};
 ghost use Rattle.vms_desc.specs.Described.{described, device_at};
-ghost use Rattle.vms_desc.specs.Spots.{kinds_at, form_spots};
+ghost use Rattle.vms_desc.specs.Spots.{kinds_at};
 ghost use Rattle.vms_spots.specs.declared.layout.TheConstants.{MOST_BYTES};
 ghost use Rattle.vms_spots.specs.Spots.{spots_of, bytes_of, no_spot, AreApart};
 
-use crate::{CellForm, DescSet, Listed};
-use std::alloc::{AllocError, Global};
-use vms_spots::{Spot, lay_out, size};
+use crate::DescSet;
+use vms_spots::{Spot, size};
 
 impl DescSet {
     /// Where each number of the device of this number stands in its image's bytes, in the order of its cells:
@@ -21,7 +20,7 @@ impl DescSet {
         ensures apart { AreApart (kinds_at (described self.now) device) result.now }
         ensures few { length result.now ≤ MOST_ITEMS }
     {
-        self.spots.as_slice()[device as usize].as_slice()
+        self.defaults(device).spots()
     }
 
     /// Where the number of a cell stands in the bytes of an image of the device of this number.
@@ -42,19 +41,4 @@ impl DescSet {
     {
         size(self.spots(device))
     }
-}
-
-// Those of each device, from the forms of its cells.
-pub(crate) fn device_spots(
-    alloc: Global,
-    layout: &[Listed<CellForm>],
-) -> Result<Vec<Listed<Spot>>, AllocError>
-    requires { (k : ℕ) → length (get_or layout.now k []) ≤ MOST_ITEMS }
-    ensures { IfOk result (λ spots. spots.items ≡ map form_spots layout.now) }
-{
-    let mut spots = Vec::with_capacity(alloc, layout.len())?;
-    for forms in layout {
-        spots.push(Listed::new(lay_out(alloc, forms.as_slice())?))?;
-    }
-    Ok(spots)
 }

@@ -1,11 +1,6 @@
 -- A list that was written from the front to its end.
-use Rattle.std.proofs.Common.{◌≡◌, ℕ, ◌<◌, ◌≤◌, List, Option, None, length, get_or, map, replicate, arith, sym, ◌∙◌}
-use Rattle.std.proofs.lemmas.List.{ext_get_or, length-map, length-replicate, get_or-replicate}
-
-pub filled_with : {X Y : Type 0} (f : X → Y) (d : Y) (new : List Y) (old : List X) (i : ℕ) → length new ≡ length old → length old ≤ i
-    → ((k : ℕ) → k < i → get_or new k d ≡ get_or (map f old) k d) → new ≡ map f old
-filled_with f d new old i long all written =
-    ext_get_or d new (map f old) (long ∙ sym (length-map old f)) (λ k h. written k (omega (arith, long, h)))
+use Rattle.std.proofs.Common.{◌≡◌, ℕ, ◌<◌, ◌≤◌, List, Option, None, length, get_or, replicate, arith, sym, ◌∙◌}
+use Rattle.std.proofs.lemmas.List.{ext_get_or, length-replicate, get_or-replicate}
 
 pub cleared : (new old : List (Option ℕ)) (i : ℕ) → length new ≡ length old → length old ≤ i
     → ((k : ℕ) → k < i → get_or new k None ≡ None) → new ≡ replicate (length old) None

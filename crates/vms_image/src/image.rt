@@ -11,7 +11,7 @@ ghost use Rattle.vms_spots.specs.Spots.{raw_of, no_spot, codes_of, AreOne, put_f
 
 use std::alloc::{AllocError, Global};
 use std::marker::Model;
-use vms_desc::{CellForm, Cells, DescSet};
+use vms_desc::{Cells, DescSet};
 use vms_io::NoMemory;
 use vms_kinds::Kind;
 use vms_spots::{Buffer, Spot};
@@ -46,12 +46,10 @@ impl Image {
         ensures { IfOk result (λ image. image ≡ default_at (described set.now) device) }
     {
         let described = set.device(device);
-        let mut cells = Buffer::new(alloc, set.spots(device))?;
-        put_defaults(&mut cells, set.cell_forms(device));
         Ok(Image {
             version: described.desc.version,
             came: none_came(alloc, described.subs.as_slice().len())?,
-            cells,
+            cells: set.defaults(device).copy(alloc)?,
         })
     }
 
@@ -66,8 +64,7 @@ impl Image {
     {
         self.version = set.device(device).desc.version;
         clear(&mut self.came);
-        self.cells.clear();
-        put_defaults(&mut self.cells, set.cell_forms(device));
+        self.cells.copy_from(set.defaults(device));
     }
 
     /// Whether the image is one of this device: it has cells of its kinds, and something for each of its
@@ -216,34 +213,5 @@ fn clear(came: &mut Vec<Option<u32>>)
 {
     for sub in 0..came.len() {
         came[sub] = None;
-    }
-}
-
-// Each cell, which is 0, gets its default.
-fn put_defaults(cells: &mut Buffer, forms: &[CellForm])
-    requires few { length forms.now ≤ MOST_ITEMS }
-    requires zero { cells.old.numbers ≡ replicate (length forms.now) (pos 0) }
-    requires kinds { cells.old.kinds ≡ map (λ form. form.kind) forms.now }
-    requires range { (k : ℕ) → k < length forms.now
-        → InRange (get_or (map (λ form. form.kind) forms.now) k U8)
-        (get_or (map (λ form. form.default) forms.now) k (pos 0)) }
-    ensures { cells.new ≡ record cells.old { numbers = map (λ form. form.default) forms.now } }
-{
-    for (cell, form) in forms.iter().enumerate() {
-        put_default(cells, cell as u32, form.default);
-    }
-}
-
-// A cell, which is 0, gets its default.
-fn put_default(cells: &mut Buffer, cell: u32, default: i128)
-    requires cell { cell < length cells.old.numbers }
-    requires zero { get_or cells.old.numbers cell (pos 0) ≡ pos 0 }
-    requires range { InRange (get_or cells.old.kinds cell U8) default }
-    ensures { cells.new ≡ record cells.old {
-      numbers = slice_set cells.old.numbers cell default;
-    } }
-{
-    if default != 0 {
-        cells.set(cell, default);
     }
 }

@@ -2,8 +2,8 @@
 use Rattle.std.proofs.Common.{◌≡◌, ℕ, zero, suc, ◌-◌, ◌<◌, ◌≤◌, List, [], ◌∷◌, length, Option, Some, None, option_map, option_and_then, refl, ap, ◌∙◌}
 use Rattle.json.specs.Token.{Token}
 use Rattle.json.specs.Json as json
-use Rattle.json.specs.Json.{Parse, parse_map, after_end_array, read_key, items_step, items, members, value, if_last}
-use Rattle.json.proofs.Grammar.{items_end, items_more, members_end, members_no_key, members_more, value-begin_object, read_key_is}
+use Rattle.json.specs.Json.{Parse, parse_map, after_end_array, read_key, items_step, items, members, if_last}
+use Rattle.json.proofs.Grammar.{items_end, items_more, members_end, members_no_key, members_more}
 use Rattle.serde_json.specs.Data.{Data, array, object, Items, no_items, item, Members, no_members, put}
 use Rattle.serde_json.specs.Read.{of_json, of_items, of_members, converted}
 
@@ -34,15 +34,6 @@ converted-array (Some p) = twice array p.1 (of_items p.0)
 pub converted-object : (o : Option (json.Members × List Token)) → converted of_json (parse_map json.object o) ≡ parse_map object (converted (λ ms. of_members ms no_members) o)
 converted-object None = refl
 converted-object (Some p) = twice object p.1 (of_members p.0 no_members)
-
-pub object_opened : (depth : ℕ) (all ts : List Token) → 0 < depth → all ≡ Token.begin_object ∷ ts
-    → converted of_json (value depth all) ≡ parse_map object (converted (λ ms. of_members ms no_members) (members (value (depth - 1)) (length ts) ts))
-object_opened depth all ts some first = ap (converted of_json) (ap (value depth) first ∙ value-begin_object depth ts some) ∙ converted-object (members (value (depth - 1)) (length ts) ts)
-
--- the members of an object whose first key was passed
-pub at_key : (p : Parse json.Json) (k : List ℕ) (ts s : List Token) → read_key ts ≡ Some (Some k, s)
-    → converted (λ ms. of_members ms no_members) (members p (length ts) ts) ≡ converted (λ ms. of_members ms no_members) (members p (length (Token.key k ∷ s)) (Token.key k ∷ s))
-at_key p k ts s named = ap (λ us. converted (λ ms. of_members ms no_members) (members p (length us) us)) (read_key_is ts (Some k) s named)
 
 with_item : (j : json.Json) (d : Data) → of_json j ≡ Some d → (o : Option (json.Items × List Token)) → converted of_items (parse_map (json.item j) o) ≡ parse_map (item d) (converted of_items o)
 with_item j d e None = refl

@@ -1,7 +1,6 @@
 // Reads JSON texts as trees.
-ghost use Rattle.std.specs.Prelude.{◌≡◌, ◌<◌, ◌∷◌, length, Some, None, Err, IfOk, OnOk};
+ghost use Rattle.std.specs.Prelude.{◌≡◌, ◌<◌, ◌++◌, ◌∷◌, [], length, Some, None, Err, IfOk, IfErr, OnOk};
 ghost use Rattle.json.specs.Json.{value, items, members};
-ghost use Rattle.json.specs.Token.{key};
 ghost use Rattle.serde_json.specs.Data.{no_members};
 ghost use Rattle.serde_json.specs.Read.{of_json, of_items, of_members, converted, read};
 ghost use Rattle.vms_json.specs.Nodes.{view, items_view, members_view};
@@ -99,10 +98,7 @@ fn read<'a>(alloc: Global, reader: &mut Reader<'a>, depth: usize) -> Result<Node
             if depth == 0 {
                 return Err(NoNode::Syntax);
             }
-            match reader.next_key()? {
-                Some(name) => Ok(Node::Object(read_members(alloc, reader, name, depth - 1)?)),
-                None => Ok(Node::Object(Vec::new(alloc))),
-            }
+            Ok(Node::Object(read_members(alloc, reader, depth - 1)?))
         }
     }
 }
@@ -129,34 +125,42 @@ fn read_items<'a>(
     Ok(found)
 }
 
-// The members of an object whose first key was read: an object without members takes no call.
 #[cycle(read)]
 #[inline(never)]
 fn read_members<'a>(
     alloc: Global,
     reader: &mut Reader<'a>,
-    first: &'a str,
     depth: usize,
 ) -> Result<Vec<(&'a str, Node<'a>)>, NoNode>
     ensures ok { IfOk result
         (λ m. converted (λ ms. of_members ms no_members)
-        (members (value depth) (length (key first.now ∷ reader.old)) (key first.now ∷ reader.old))
+        (members (value depth) (length reader.old) reader.old)
         ≡ Some (members_view m.items, reader.new)) }
     ensures shorter { OnOk result (length reader.new < length reader.old) }
     ensures err { result ≡ Err NoNode.Syntax
         → converted (λ ms. of_members ms no_members)
-        (members (value depth) (length (key first.now ∷ reader.old)) (key first.now ∷ reader.old))
-        ≡ None }
+        (members (value depth) (length reader.old) reader.old) ≡ None }
 {
-    // Most objects have a field's name and its kind.
-    let mut found = Vec::with_capacity(alloc, 2)?;
-    let mut name = first;
-    'members: loop {
+    let mut found = Vec::new(alloc);
+    'members: while let Some(name) = reader.next_key()? {
         let member = read(alloc, reader, depth)?;
-        found.push((name, member))?;
-        match reader.next_key()? {
-            Some(next) => name = next,
-            None => return Ok(found),
-        }
+        put_member(alloc, &mut found, (name, member))?;
     }
+    Ok(found)
+}
+
+// Appends a member. The first takes room for two: most objects have a field's name and its kind.
+fn put_member<'a>(
+    alloc: Global,
+    members: &mut Vec<(&'a str, Node<'a>)>,
+    member: (&'a str, Node<'a>),
+) -> Result<(), NoNode>
+    ensures put { OnOk result (members.new.items ≡ members.old.items ++ member.entry ∷ []) }
+    ensures wanting { IfErr result (λ fault. fault ≡ NoNode.NoMemory) }
+{
+    if members.is_empty() {
+        *members = Vec::with_capacity(alloc, 2)?;
+    }
+    members.push(member)?;
+    Ok(())
 }

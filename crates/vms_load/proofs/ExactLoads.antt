@@ -1,5 +1,5 @@
 -- A load answers exactly by what the input is.
-use Rattle.std.proofs.Common.{◌≡◌, ℕ, ◌+◌, ◌≤◌, List, [], ◌++◌, length, drop, Option, Some, Ok, Err, refl, ap, ◌∙◌, subst, arith, length-append, length-drop, append-nil}
+use Rattle.std.proofs.Common.{ℕ, ◌+◌, ◌≤◌, List, length, drop, Option, Some, Ok, Err, ap, arith, length-append, length-drop}
 use Rattle.vms_io.proofs.ReadingLemmas.{reads_as}
 use Rattle.vms_frames.specs.declared.fault.Refusal.{Refusal}
 use Rattle.vms_spec.specs.Units.{Piece, spell, spelled}

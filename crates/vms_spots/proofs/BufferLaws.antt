@@ -194,15 +194,11 @@ starts spots bytes n few laid size e =
     (holds spots (replicate (length kinds) (pos 0)) bytes few laid (zeros_fit kinds)
     (e ∙ ap (λ (m : ℕ). replicate m 0) (size ∙ sym all) ∙ sym (zeros 0 kinds)))
 
--- 0 in each place holds 0 at each spot
-pub clears : (spots : List Spot) (bytes new : List ℕ) (seen : Held) → held spots bytes ≡ seen → IsHeld spots bytes → new ≡ replicate (length bytes) 0
-    → IsHeld spots new × (held spots new ≡ record seen { numbers = replicate (length seen.numbers) (pos 0) })
-clears spots bytes new seen same h e =
-    let kinds = kinds_of spots in
-    let numbers = map (number_at bytes) spots in
-    let size : length bytes ≡ bytes_of kinds = omega (arith, ap length h.raw, raw_long 0 kinds numbers h.fit.long) in
-    let r = starts spots new (length bytes) h.few h.laid size e in
-    let seen_is : held spots new ≡ record seen { numbers = replicate (length seen.numbers) (pos 0) } =
-    r.seen ∙ ap (λ (n : ℕ). let y : Held = record { kinds = kinds; numbers = replicate n (pos 0) } in y) (sym (length-map spots (number_at bytes)))
-    ∙ ap (λ (x : Held). let y : Held = record x { numbers = replicate (length x.numbers) (pos 0) } in y) same in
-    (r.held_is, seen_is)
+-- buffers of the same kinds have the same spots and as many bytes
+pub same_spots : (spots others : List Spot) (bytes more : List ℕ) (seen other : Held) → held spots bytes ≡ seen → held others more ≡ other → IsHeld spots bytes → IsHeld others more → seen.kinds ≡ other.kinds
+    → (spots ≡ others) × (length bytes ≡ length more)
+same_spots spots others bytes more seen other s o h k same =
+    let kinds : kinds_of spots ≡ kinds_of others = ap (λ (x : Held). x.kinds) s ∙ same ∙ sym (ap (λ (x : Held). x.kinds) o) in
+    let long = raw_long 0 (kinds_of spots) (map (number_at bytes) spots) h.fit.long in
+    let longer = raw_long 0 (kinds_of others) (map (number_at more) others) k.fit.long in
+    (h.laid ∙ ap spots_of kinds ∙ sym k.laid, omega (arith, ap length h.raw, ap length k.raw, long, longer, ap (end_from 0) kinds))

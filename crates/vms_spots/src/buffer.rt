@@ -45,13 +45,22 @@ impl Buffer {
         })
     }
 
-    /// Puts 0 into each cell.
-    pub fn clear(&mut self)
-        ensures { self.new ≡ record self.old {
-          numbers = replicate (length self.old.numbers) (pos 0);
-        } }
+    /// A buffer of the same spots with the same numbers.
+    pub fn copy(&self, alloc: Global) -> Result<Buffer, AllocError>
+        ensures { IfOk result (λ b. b ≡ self.now) }
     {
-        self.bytes.fill(0);
+        Ok(Buffer {
+            spots: self.spots.to_vec(alloc)?,
+            bytes: self.bytes.to_vec(alloc)?,
+        })
+    }
+
+    /// Takes the numbers of another buffer of its kinds.
+    pub fn copy_from(&mut self, other: &Buffer)
+        requires { self.old.kinds ≡ other.now.kinds }
+        ensures { self.new ≡ other.now }
+    {
+        self.bytes.copy_from_slice(&other.bytes);
     }
 
     /// How many numbers it has.

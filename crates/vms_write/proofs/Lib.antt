@@ -3,6 +3,7 @@ pub mod ByteLemmas
 pub mod FineParts
 pub mod FineReady
 pub mod Formed
+pub mod FormedLaws
 pub mod ReadyImages
 pub mod RunBytes
 pub mod Sections

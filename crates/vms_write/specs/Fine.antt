@@ -1,5 +1,6 @@
 -- What the walk answers that judges whether an image may be written. Forms are those of the device's cells.
 use Rattle.std.specs.Prelude.{ℕ, suc, zero, ◌+◌, Bool, true, false, not, ◌&&◌, ◌||◌, ◌==◌, List, [], ◌∷◌, length, get_or, Option, Some, None, ℤ, pos}
+use Rattle.vms_kinds.specs.declared.Kind.{Kind}
 use Rattle.vms_kinds.specs.declared.Kind.TheVariants.{U8}
 use Rattle.vms_spec.specs.Numbers.{same_number}
 use Rattle.vms_spec.specs.Rules.{in_range, int_le, counts_well}
@@ -8,9 +9,19 @@ use Rattle.vms_spec.specs.Layout.{Slot, Number, Constant, Filler, Rule, desc_cel
 use Rattle.vms_spec.specs.Images.{Image, has_cell, sub_slots}
 use Rattle.vms_spec.specs.Streams.{is_needed}
 use Rattle.vms_parts.specs.declared.types.CellForm.{CellForm}
+use Rattle.vms_spots.specs.Spots.{Held}
 
 abbrev pub no_form : CellForm
 no_form = record { kind = U8; default = pos 0 }
+
+-- the forms of cells, by their kinds and their numbers at their defaults
+abbrev pub formed_of : List Kind → List ℤ → List CellForm
+formed_of [] numbers = []
+formed_of (kind ∷ kinds) [] = []
+formed_of (kind ∷ kinds) (z ∷ numbers) = record { kind = kind; default = z } ∷ formed_of kinds numbers
+
+abbrev pub formed : Held → List CellForm
+formed defaults = formed_of defaults.kinds defaults.numbers
 
 abbrev pub is_within : Option ℕ → ℤ → Bool
 is_within None z = true

@@ -7,32 +7,33 @@ ghost use Rattle.vms_spec.specs.Numbers.{same_number};
 ghost use Rattle.vms_desc.specs.Described.{described};
 ghost use Rattle.vms_desc.specs.Parts.{desc_at};
 ghost use Rattle.vms_walk.specs.Steps.{HasSpot, spot_slots};
-ghost use Rattle.vms_write.specs.Fine.{no_form, is_within, settle, is_fine};
+ghost use Rattle.vms_write.specs.Fine.{no_form, formed, is_within, settle, is_fine};
 ghost use Rattle.vms_write.specs.Steps.{is_number_fine};
 
-use vms_desc::{CellForm, Cells, DescSet};
+use vms_desc::{Cells, DescSet};
 use vms_image::Image;
 use vms_kinds::Kind;
+use vms_spots::Buffer;
 use vms_walk::{PartAt, WalkStep, Walker, walk};
 
 // Whether each number of a part is in range and counts no more than there is room for, each of its cells that
 // doesn't stand in the bytes is at its default, and its validations hold, those of its structures among them.
-pub(crate) fn is_part_fine(set: &DescSet, spot: PartAt, image: &Image, forms: &[CellForm]) -> bool
+pub(crate) fn is_part_fine(set: &DescSet, spot: PartAt, image: &Image, defaults: &Buffer) -> bool
     requires spot { HasSpot (described set.now) spot image.now.numbers }
-    requires forms { length forms.now ≡ length image.now.numbers }
+    requires forms { length (formed defaults.now) ≡ length image.now.numbers }
     ensures { let slots = spot_slots (described set.now) spot image.now.numbers in
         let size = own_cell_count (described set.now) (desc_at (described set.now) spot.part) in
-        result ≡ is_fine forms.now image.now.numbers slots spot.base size }
+        result ≡ is_fine (formed defaults.now) image.now.numbers slots spot.base size }
 {
     let mut judge = Judge {
         image,
-        forms,
+        defaults,
         next: spot.base,
     };
     match walk(set, spot, &mut judge) {
         Ok(()) => {
             let end = spot.base + set.cells_of(spot.part);
-            are_default(image, forms, judge.next, end)
+            are_default(image, defaults, judge.next, end)
         }
         Err(Unfit) => false,
     }
@@ -42,7 +43,7 @@ pub(crate) fn is_part_fine(set: &DescSet, spot: PartAt, image: &Image, forms: &[
 #[derive(Clone, Copy, Drop)]
 struct Judge<'a> {
     image: &'a Image,
-    forms: &'a [CellForm],
+    defaults: &'a Buffer,
     next: u32,
 }
 
@@ -62,19 +63,20 @@ impl Walker for Judge<'_> {
     ghost use Rattle.std.specs.Prelude.{◌≡◌, ◌≤◌, true, false, refl, length};
     ghost use Rattle.std.proofs.Common.{ap, sym, ◌∙◌};
     ghost use Rattle.vms_walk.proofs.Kept.{keeps_same};
+    ghost use Rattle.vms_write.specs.Fine.{formed};
     ghost use Rattle.vms_write.specs.Steps.{behind, behind_append};
     ghost use Rattle.vms_write.specs.Steps.{are_steps_fine, fine_then, fine_before};
 
     type Fault = Unfit;
 
-    ghost goes = { λ xs a b. (b.image ≡ a.image) × (b.forms ≡ a.forms) × (b.next ≡ behind a.next xs)
-        × (are_steps_fine a.forms.now a.image.now.numbers a.next xs ≡ true) };
+    ghost goes = { λ xs a b. (b.image ≡ a.image) × (b.defaults ≡ a.defaults) × (b.next ≡ behind a.next xs)
+        × (are_steps_fine (formed a.defaults.now) a.image.now.numbers a.next xs ≡ true) };
 
     ghost stops = { λ xs a fault b. (b.image ≡ a.image)
-        × (are_steps_fine a.forms.now a.image.now.numbers a.next xs ≡ false) };
+        × (are_steps_fine (formed a.defaults.now) a.image.now.numbers a.next xs ≡ false) };
 
     ghost may = { λ a step. (length a.image.now.numbers ≤ MOST_ITEMS)
-        × (length a.forms.now ≡ length a.image.now.numbers) };
+        × (length (formed a.defaults.now) ≡ length a.image.now.numbers) };
 
     ghost keeps = { λ xs a b h. keeps_same xs _ _ (ap (λ image. image.now.numbers) h.0) };
 
@@ -84,7 +86,7 @@ impl Walker for Judge<'_> {
     ghost none = { λ a. (refl, refl, refl, refl) };
 
     ghost more = { λ xs ys a b c h k.
-        let forms = ap (λ forms. forms.now) h.1 in
+        let forms = ap (λ defaults. formed defaults.now) h.1 in
         let numbers = ap (λ image. image.now.numbers) h.0 in
         let next = k.2 ∙ ap (λ n. behind n ys) h.2 ∙ sym (behind_append a.next xs ys) in (
           k.0 ∙ h.0,
@@ -94,7 +96,7 @@ impl Walker for Judge<'_> {
         ) };
 
     ghost stops_after = { λ xs ys a b c fault h k.
-        let forms = ap (λ forms. forms.now) h.1 in
+        let forms = ap (λ defaults. formed defaults.now) h.1 in
         let numbers = ap (λ image. image.now.numbers) h.0 in
         (k.0 ∙ h.0, fine_then _ _ _ _ a.next b.next xs ys false forms numbers h.2 h.3 k.1) };
 
@@ -106,7 +108,7 @@ impl Walker for Judge<'_> {
                 if !is_number_fine(kind, most, self.image.get(cell)) {
                     return Err(Unfit);
                 }
-                if !are_default(self.image, self.forms, self.next, cell) {
+                if !are_default(self.image, self.defaults, self.next, cell) {
                     return Err(Unfit);
                 }
                 self.next = cell + 1;
@@ -141,24 +143,24 @@ fn is_within(most: Option<u32>, number: i128) -> bool
 }
 
 // The cells from one up to another are at their defaults.
-pub(crate) fn are_default(image: &Image, forms: &[CellForm], first: u32, end: u32) -> bool
-    requires forms { length forms.now ≡ length image.now.numbers }
+pub(crate) fn are_default(image: &Image, defaults: &Buffer, first: u32, end: u32) -> bool
+    requires forms { length (formed defaults.now) ≡ length image.now.numbers }
     requires end { end ≤ length image.now.numbers }
-    ensures { result ≡ settle [] forms.now image.now.numbers first (end - first) }
+    ensures { result ≡ settle [] (formed defaults.now) image.now.numbers first (end - first) }
 {
     for cell in first..end {
-        if !is_default(image, forms, cell) {
+        if !is_default(image, defaults, cell) {
             return false;
         }
     }
     true
 }
 
-fn is_default(image: &Image, forms: &[CellForm], cell: u32) -> bool
-    requires forms { length forms.now ≡ length image.now.numbers }
+fn is_default(image: &Image, defaults: &Buffer, cell: u32) -> bool
+    requires forms { length (formed defaults.now) ≡ length image.now.numbers }
     requires inside { cell < length image.now.numbers }
-    ensures { let default = (get_or forms.now cell no_form).default in
+    ensures { let default = (get_or (formed defaults.now) cell no_form).default in
         result ≡ same_number (get_or image.now.numbers cell (pos 0)) default }
 {
-    image.get(cell) == forms[cell as usize].default
+    image.get(cell) == defaults.get(cell)
 }

@@ -75,7 +75,7 @@ fn is_own_fine(set: &DescSet, device: u32, image: &Image) -> bool
         base: 0,
     };
     version == set.device(device).desc.version
-        && is_part_fine(set, own, image, set.cell_forms(device))
+        && is_part_fine(set, own, image, set.defaults(device))
 }
 
 // The subsections, those that came and the others.
@@ -113,7 +113,7 @@ pub fn is_bare(set: &DescSet, device: u32, image: &Image, sub: u32) -> bool
     let part = Part::Sub(device, sub);
     let first = set.first_cell(part);
     let end = first + set.cells_of(part);
-    are_default(image, set.cell_forms(device), first, end)
+    are_default(image, set.defaults(device), first, end)
 }
 
 // One that came.
@@ -128,5 +128,5 @@ fn is_sent_fine(set: &DescSet, device: u32, image: &Image, sub: u32, version: u3
         version,
         base: set.first_cell(part),
     };
-    version == set.desc(part).version && is_part_fine(set, spot, image, set.cell_forms(device))
+    version == set.desc(part).version && is_part_fine(set, spot, image, set.defaults(device))
 }

@@ -1,6 +1,5 @@
 use Rattle.std.proofs.Common.{ℕ, refl, ap, ◌∙◌, sym, subst}
 use Rattle.std.proofs.KnownBytes.{Keeps-refl}
-use Rattle.dev_board.specs.State.{State}
 use Rattle.vms_io.specs.Told.{intake, outlet}
 use Rattle.vms_commands.proofs.EndLemmas.{comes_to_nothing}
 use Rattle.vms_script.specs.Views.{event_lines}

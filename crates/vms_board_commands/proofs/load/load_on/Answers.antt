@@ -1,7 +1,7 @@
 use Rattle.std.proofs.Common.{Ok, Err, ap, ◌∙◌, refl}
 use Rattle.std.proofs.KnownBytes.{Keeps-refl}
 use Rattle.vms_board.proofs.Restored.{within}
-use Rattle.vms_io.specs.Told.{intake, outlet}
+use Rattle.vms_io.specs.Told.{outlet}
 use Rattle.vms_commands.proofs.CourseLemmas.{draws_took}
 use Rattle.vms_commands.proofs.EndLemmas.{comes_to_nothing}
 use Rattle.vms_commands.specs.Lines.{refused_line}

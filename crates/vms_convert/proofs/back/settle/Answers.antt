@@ -9,14 +9,12 @@ pub loop-sub-preserved : goal.loop-sub-preserved
 loop-sub-preserved c =
     let set = described c.args.set.now in
     let k = c.args.device in
-    let before = c.loop-sub.image in
-    let now = c.settle_sub.new.image in
     let j = c.loop-sub.sub in
     let well : WellFormed set = none_is (first_fault set) c.args.set.now.well_formed in
     let less : j < length (device_at set k).subs = omega (arith, c.loop-sub-test.true, c.sub_count-sub-end.ensures) in
     record {
-      rest = rest_more c.args.image.now before now c.loop-sub.invariant.rest (settle_rest set k c.requires.device before now j c.settle_sub.ensures);
-      settled = settle_one set k c.requires.device well c.args.image.now.numbers before now j less c.loop-sub.invariant.settled c.settle_sub.ensures;
+      rest = rest_more c.args.image.now c.loop-sub.image c.settle_sub.new.image c.loop-sub.invariant.rest (settle_rest set k c.requires.device c.loop-sub.image c.settle_sub.new.image j c.settle_sub.ensures);
+      settled = settle_one set k c.requires.device well c.args.image.now.numbers c.loop-sub.image c.settle_sub.new.image j less c.loop-sub.invariant.settled c.settle_sub.ensures;
     }
 
 pub returns-clause-settled : goal.returns-clause-settled

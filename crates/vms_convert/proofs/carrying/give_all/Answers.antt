@@ -24,12 +24,11 @@ give_part-requires-clause-part c =
 
 pub loop-sub-init : goal.loop-sub-init
 loop-sub-init c =
-    let set = described c.args.set.now in
     let image = c.args.gift.image.now in
     let ps = c.args.gift.partners.now in
     let target = c.args.target.now in
-    c.give_part.ensures ∙ ap (λ (p : PartAt). record target { numbers = changed (give_step ps image.numbers) (steps_of (spot_slots set p image.numbers)) target.numbers }) c.own_part.ensures
-    ∙ ap (λ (l : List ℤ). record target { numbers = l }) (gave_own set c.args.device c.requires.device (state_of image) c.requires.of.subs c.requires.version ps target.numbers)
+    c.give_part.ensures ∙ ap (λ (p : PartAt). record target { numbers = changed (give_step ps image.numbers) (steps_of (spot_slots (described c.args.set.now) p image.numbers)) target.numbers }) c.own_part.ensures
+    ∙ ap (λ (l : List ℤ). record target { numbers = l }) (gave_own (described c.args.set.now) c.args.device c.requires.device (state_of image) c.requires.of.subs c.requires.version ps target.numbers)
 
 pub give_sub-requires-clause-targets : goal.give_sub-requires-clause-targets
 give_sub-requires-clause-targets c =

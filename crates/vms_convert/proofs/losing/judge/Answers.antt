@@ -9,53 +9,45 @@ use Rattle.vms_check.specs.Carrying.{carried}
 use Rattle.vms_convert.specs.Converted.{recast_each}
 use Rattle.vms_convert.specs.Losing.{KeepsMachine, first_cell_at}
 use Rattle.vms_convert.specs.Lost.{Loses, numbers_in}
-use Rattle.vms_convert.proofs.JudgeLaws.{cell_first, device_first, invalid_by, machine_last, writable_back}
+use Rattle.vms_convert.proofs.JudgeLaws.{ComesBack, cell_first, device_first, invalid_by, machine_last, writable_back}
+use Rattle.vms_convert.proofs.losing.judge.Goals.{Start}
 use Rattle.vms_convert.proofs.losing.judge.Goals as goal
 
+came : (c : Start) → ComesBack (described c.args.to.now) (loads c.args.loader.now) (kept c.args.loader.now) c.args.returns.now
+came c = record {
+  fit = fit_of (described c.args.to.now) c.args.to.now.well_formed c.args.to.now.heads;
+  newest = c.requires.newest;
+  compatible = c.requires.compatible;
+  kept = c.requires.kept;
+  returned = c.requires.returned;
+}
+
 pub returns-in-Some : goal.returns-in-Some
-returns-in-Some c =
-    let to = described c.args.to.now in
-    let new = loads c.args.loader.now in
-    let fit = fit_of to c.args.to.now.well_formed c.args.to.now.heads in
-    let images = kept c.args.loader.now in
-    let r = c.args.returns.now in
-    let name = name_of new c.args.machine in
-    cell_first to new fit c.requires.newest c.requires.compatible images c.requires.kept r c.requires.returned name c.in-Some.lost c.in-Some.is
+returns-in-Some c = cell_first _ _ _ _ (came (goal.at.returns-in-Some c).Start) (name_of (loads c.args.loader.now) c.args.machine) c.in-Some.lost c.in-Some.is
 
 pub first_invalid-requires : goal.first_invalid-requires
-first_invalid-requires c =
-    let to = described c.args.to.now in
-    let new = loads c.args.loader.now in
-    let fit = fit_of to c.args.to.now.well_formed c.args.to.now.heads in
-    let images = kept c.args.loader.now in
-    let r = c.args.returns.now in
-    writable_back to new fit c.requires.newest c.requires.compatible images c.requires.kept r c.requires.returned c.deref.result.now c.deref.ensures.value
+first_invalid-requires c = writable_back _ _ _ _ (came (goal.at.first_invalid-requires c).Start) c.deref.result.now c.deref.ensures.value
 
 pub returns-in-Some-first_invalid : goal.returns-in-Some-first_invalid
 returns-in-Some-first_invalid c =
     let to = described c.args.to.now in
     let new = loads c.args.loader.now in
-    let fit = fit_of to c.args.to.now.well_formed c.args.to.now.heads in
-    let images = kept c.args.loader.now in
     let r = c.args.returns.now in
     let name = name_of new c.args.machine in
     let k = c.in-Some-first_invalid.device in
-    let wanted = recast_each to new.devices (numbers_in images) in
+    let wanted = recast_each to new.devices (numbers_in (kept c.args.loader.now)) in
     let there = numbers_in (carried to new (map state_of r.images.items)) in
     let cell : c.first_cell.result ≡ first_cell_at new k = c.first_cell.ensures ∙ ap (λ (s : Set). first_cell_at s k) c.set-in-Some-first_invalid.ensures in
     subst (λ (o : Option ℕ). Loses to new name wanted there (map state_of r.images.items) (Some k) o) (sym cell)
-    (device_first to new fit c.requires.newest c.requires.compatible images c.requires.kept r c.requires.returned name c.in_default.is k
+    (device_first _ _ _ _ (came (goal.at.returns-in-Some-first_invalid c).Start) name c.in_default.is k
     (invalid_by to new r.images.items _ c.deref.result.now (Some k) c.first_invalid.result c.set.ensures c.deref.ensures.value c.first_invalid.ensures c.in-Some-first_invalid.is))
 
 pub returns : goal.returns
 returns c =
     let to = described c.args.to.now in
-    let new = loads c.args.loader.now in
-    let fit = fit_of to c.args.to.now.well_formed c.args.to.now.heads in
-    let images = kept c.args.loader.now in
-    let r = c.args.returns.now in
-    let name = name_of new c.args.machine in
+    let name = name_of (loads c.args.loader.now) c.args.machine in
     let machine : KeepsMachine to name c.machine_under.result =
     subst (λ (s : Set). KeepsMachine to (name_of s c.args.machine) c.machine_under.result) c.set-2.ensures c.machine_under.ensures in
-    machine_last to new fit c.requires.newest c.requires.compatible images c.requires.kept r c.requires.returned name c.in_default.is
-    (invalid_by to new r.images.items _ c.deref.result.now None c.first_invalid.result c.set.ensures c.deref.ensures.value c.first_invalid.ensures c.in_default-first_invalid.is) c.machine_under.result machine
+    machine_last _ _ _ _ (came (goal.at.returns c).Start) name c.in_default.is
+    (invalid_by to (loads c.args.loader.now) c.args.returns.now.images.items _ c.deref.result.now None c.first_invalid.result c.set.ensures c.deref.ensures.value c.first_invalid.ensures c.in_default-first_invalid.is)
+    c.machine_under.result machine

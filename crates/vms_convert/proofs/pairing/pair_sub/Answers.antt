@@ -1,4 +1,4 @@
-use Rattle.std.proofs.Common.{◌≡◌, List, length, map, Some, ap, ◌∙◌, sym, arith, ◌++◌, ℕ, Option}
+use Rattle.std.proofs.Common.{◌≡◌, ◌<◌, List, length, map, Some, ap, ◌∙◌, sym, arith, ◌++◌, ℕ, Option}
 use Rattle.std.proofs.lemmas.List.{length-map}
 use Rattle.vms_spec.specs.Lookup.{find_sub}
 use Rattle.vms_spec.specs.Sets.{Desc, Device, Sub}
@@ -10,46 +10,52 @@ use Rattle.std.proofs.lemmas.Result.{on_ok_weaker}
 use Rattle.vms_check.proofs.WholeLaws.{sub_in}
 use Rattle.vms_check.specs.Sides.{desc_on}
 use Rattle.vms_convert.proofs.PartnerSteps.{room_sub, sub_pairs}
+use Rattle.vms_convert.proofs.pairing.pair_sub.Goals.{After-as_slice, After-find_sub, In-Some}
 use Rattle.vms_convert.proofs.pairing.pair_sub.Goals as goal
+
+subs_are : (c : After-as_slice) → map sub_of c.as_slice.result.now ≡ (device_at (described c.args.new.now) c.args.in_new).subs
+subs_are c = ap (λ (l : List CodeSub). map sub_of l) c.as_slice.ensures ∙ ap (λ (d : Device). d.subs) c.device.ensures
+
+found : (c : After-find_sub) → c.find_sub.result ≡ find_sub 0 (device_at (described c.args.new.now) c.args.in_new).subs c.as_bytes-name.result.now
+found c =
+    c.find_sub.ensures
+    ∙ ap (λ (l : List Sub). find_sub 0 l c.as_bytes-name.result.now) (ap (λ (l : List CodeSub). map sub_of l) c.as_slice.ensures ∙ ap (λ (d : Device). d.subs) c.device.ensures)
+
+-- the subsection that was found
+inside : (c : In-Some) → c.in-Some.found < length (device_at (described c.args.new.now) c.args.in_new).subs
+inside c =
+    let subs = (device_at (described c.args.new.now) c.args.in_new).subs in
+    let name = c.as_bytes-name.result.now in
+    sub_in subs name c.find_sub.result c.in-Some.found
+    (c.find_sub.ensures ∙ ap (λ (l : List Sub). find_sub 0 l name) (ap (λ (l : List CodeSub). map sub_of l) c.as_slice.ensures ∙ ap (λ (d : Device). d.subs) c.device.ensures)) c.in-Some.is
 
 pub find_sub-requires : goal.find_sub-requires
 find_sub-requires c =
-    let new = described c.args.new.now in
-    let subs : map sub_of c.as_slice.result.now ≡ (device_at new c.args.in_new).subs = ap (λ (l : List CodeSub). map sub_of l) c.as_slice.ensures ∙ ap (λ (d : Device). d.subs) c.device.ensures in
-    omega (arith, length-map c.as_slice.result.now sub_of, ap length subs, few_subs new c.args.new.now.well_formed c.args.in_new c.requires.new)
+    omega (
+      arith,
+      length-map c.as_slice.result.now sub_of,
+      ap length (subs_are (goal.at.find_sub-requires c).After-as_slice),
+      few_subs (described c.args.new.now) c.args.new.now.well_formed c.args.in_new c.requires.new,
+    )
 
 pub first_cell-requires : goal.first_cell-requires
-first_cell-requires c =
-    let new = described c.args.new.now in
-    let name = c.as_bytes-name.result.now in
-    let subs : map sub_of c.as_slice.result.now ≡ (device_at new c.args.in_new).subs = ap (λ (l : List CodeSub). map sub_of l) c.as_slice.ensures ∙ ap (λ (d : Device). d.subs) c.device.ensures in
-    (c.requires.new, sub_in (device_at new c.args.in_new).subs name c.find_sub.result c.in-Some.found (c.find_sub.ensures ∙ ap (λ (l : List Sub). find_sub 0 l name) subs) c.in-Some.is)
+first_cell-requires c = (c.requires.new, inside (goal.at.first_cell-requires c).In-Some)
 
 pub pair_descs-requires-clause-new : goal.pair_descs-requires-clause-new
-pair_descs-requires-clause-new c =
-    let new = described c.args.new.now in
-    let name = c.as_bytes-name.result.now in
-    let subs : map sub_of c.as_slice.result.now ≡ (device_at new c.args.in_new).subs = ap (λ (l : List CodeSub). map sub_of l) c.as_slice.ensures ∙ ap (λ (d : Device). d.subs) c.device.ensures in
-    (c.requires.new, sub_in (device_at new c.args.in_new).subs name c.find_sub.result c.in-Some.found (c.find_sub.ensures ∙ ap (λ (l : List Sub). find_sub 0 l name) subs) c.in-Some.is)
+pair_descs-requires-clause-new c = (c.requires.new, inside (goal.at.pair_descs-requires-clause-new c).In-Some)
 
 pub pair_descs-requires-clause-room : goal.pair_descs-requires-clause-room
 pair_descs-requires-clause-room c =
-    let new = described c.args.new.now in
-    let name = c.as_bytes-name.result.now in
-    let subs : map sub_of c.as_slice.result.now ≡ (device_at new c.args.in_new).subs = ap (λ (l : List CodeSub). map sub_of l) c.as_slice.ensures ∙ ap (λ (d : Device). d.subs) c.device.ensures in
-    let lt = sub_in (device_at new c.args.in_new).subs name c.find_sub.result c.in-Some.found (c.find_sub.ensures ∙ ap (λ (l : List Sub). find_sub 0 l name) subs) c.in-Some.is in
-    omega (arith, c.first_cell.ensures, room_sub c.args.new c.args.in_new c.in-Some.found lt)
+    omega (arith, c.first_cell.ensures, room_sub c.args.new c.args.in_new c.in-Some.found (inside (goal.at.pair_descs-requires-clause-room c).In-Some))
 
 pub returns-in-Some : goal.returns-in-Some
 returns-in-Some c =
     let new = described c.args.new.now in
     let name = c.as_bytes-name.result.now in
     let before = c.args.partners.now.items in
-    let after = c.pair_descs.new.partners.items in
-    let subs : map sub_of c.as_slice.result.now ≡ (device_at new c.args.in_new).subs = ap (λ (l : List CodeSub). map sub_of l) c.as_slice.ensures ∙ ap (λ (d : Device). d.subs) c.device.ensures in
-    let lt = sub_in (device_at new c.args.in_new).subs name c.find_sub.result c.in-Some.found (c.find_sub.ensures ∙ ap (λ (l : List Sub). find_sub 0 l name) subs) c.in-Some.is in
+    let lt = inside (goal.at.returns-in-Some c).In-Some in
     let named : name ≡ (desc_on c.args.older).name = c.as_bytes-name.ensures ∙ ap (λ (d : Desc). d.name) c.desc.ensures in
     let is : find_sub 0 (device_at new c.args.in_new).subs (desc_on c.args.older).name ≡ Some c.in-Some.found =
-    ap (λ (n : List ℕ). find_sub 0 (device_at new c.args.in_new).subs n) (sym named) ∙ sym (c.find_sub.ensures ∙ ap (λ (l : List Sub). find_sub 0 l name) subs) ∙ c.in-Some.is in
+    ap (λ (n : List ℕ). find_sub 0 (device_at new c.args.in_new).subs n) (sym named) ∙ sym (found (goal.at.returns-in-Some c).After-find_sub) ∙ c.in-Some.is in
     let pairs = sub_pairs c.args.older c.args.new c.args.in_new c.in-Some.found c.first_cell.result c.requires.version lt is c.first_cell.ensures in
     on_ok_weaker c.pair_descs.result (λ e. e ∙ ap (λ (l : List (Option ℕ)). before ++ l) pairs) c.pair_descs.ensures

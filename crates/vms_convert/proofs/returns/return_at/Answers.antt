@@ -14,20 +14,31 @@ use Rattle.vms_convert.specs.Recast.{recast}
 use Rattle.vms_convert.specs.Returning.{IsReturned}
 use Rattle.vms_convert.specs.Returns.{IsRecastFor}
 use Rattle.vms_convert.proofs.ReturnAt.{recast_for, wanted_is}
+use Rattle.vms_convert.proofs.returns.return_at.Goals.{After-index-images-pair, Start}
 use Rattle.vms_convert.proofs.returns.return_at.Goals as goal
+
+inside : (c : Start) → c.args.pair.other < length (loads c.args.loader.now).devices
+inside c = slice_get_within (loads c.args.loader.now).devices c.args.pair.other _ c.requires.pair.in_new
+
+-- the image that is kept of the pair's newer device
+kept_at : (c : After-index-images-pair) → slice_get (kept c.args.loader.now) c.args.pair.other ≡ Some (state_of c.index-images-pair.result)
+kept_at c =
+    let k = c.args.pair.other in
+    let images = c.images.result.now in
+    let image = c.index-images-pair.result in
+    let inside : k < length (loads c.args.loader.now).devices = slice_get_within (loads c.args.loader.now).devices k _ c.requires.pair.in_new in
+    let within : k < length images = omega (arith, inside, length-map images state_of, ap length c.images.ensures.images, c.requires.kept.one_each) in
+    subst (λ (l : List Image). slice_get l k ≡ Some (state_of image)) c.images.ensures.images (at_state images k image (image_at images k image within c.index-images-pair.is))
 
 pub return_image-requires-clause-recast : goal.return_image-requires-clause-recast
 return_image-requires-clause-recast c =
     let to = described c.args.pair.to.now in
     let new = loads c.args.loader.now in
     let k = c.args.pair.other in
-    let images = c.images.result.now in
     let image = c.index-images-pair.result in
-    let inside : k < length new.devices = slice_get_within new.devices k _ c.requires.pair.in_new in
-    let within : k < length images = omega (arith, inside, length-map images state_of, ap length c.images.ensures.images, c.requires.kept.one_each) in
-    let at : slice_get (kept c.args.loader.now) k ≡ Some (state_of image) =
-    subst (λ (l : List Image). slice_get l k ≡ Some (state_of image)) c.images.ensures.images (at_state images k image (image_at images k image within c.index-images-pair.is)) in
-    subst (λ (s : Set). IsRecastFor to s k image.numbers) (sym c.requires.same) (recast_for to new c.requires.newest (kept c.args.loader.now) c.requires.kept k inside (state_of image) at)
+    let p = goal.at.return_image-requires-clause-recast c in
+    subst (λ (s : Set). IsRecastFor to s k image.numbers) (sym c.requires.same)
+    (recast_for to new c.requires.newest (kept c.args.loader.now) c.requires.kept k (inside p.Start) (state_of image) (kept_at p.After-index-images-pair))
 
 pub returns : goal.returns
 returns c =
@@ -35,13 +46,9 @@ returns c =
     let new = loads c.args.loader.now in
     let i = c.args.pair.device in
     let k = c.args.pair.other in
-    let images = c.images.result.now in
     let image = c.index-images-pair.result in
-    let inside : k < length new.devices = slice_get_within new.devices k _ c.requires.pair.in_new in
-    let within : k < length images = omega (arith, inside, length-map images state_of, ap length c.images.ensures.images, c.requires.kept.one_each) in
-    let at : slice_get (kept c.args.loader.now) k ≡ Some (state_of image) =
-    subst (λ (l : List Image). slice_get l k ≡ Some (state_of image)) c.images.ensures.images (at_state images k image (image_at images k image within c.index-images-pair.is)) in
+    let p = goal.at.returns c in
     let is : get_or (recast_each to new.devices (numbers_in (kept c.args.loader.now))) k [] ≡ recast to (device_at new k) image.numbers =
-    wanted_is to new c.requires.newest (kept c.args.loader.now) c.requires.kept k inside (state_of image) at in
+    wanted_is to new c.requires.newest (kept c.args.loader.now) c.requires.kept k (inside p.Start) (state_of image) (kept_at p.After-index-images-pair) in
     subst (λ (l : List ℤ). IfOk c.return_image.result (IsReturned to new i k l)) (sym is)
     (subst (λ (s : Set). IfOk c.return_image.result (IsReturned to s i k (recast to (device_at s k) image.numbers))) c.requires.same c.return_image.ensures)

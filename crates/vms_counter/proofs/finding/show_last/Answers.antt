@@ -1,39 +1,22 @@
 use Rattle.std.proofs.Common.{ℕ, List, Option, Some, None, map, sym, subst}
-use Rattle.vms_spec.specs.Lists.{at_option}
 use Rattle.vms_desc.specs.Described.{described}
-use Rattle.vms_image.specs.Typed.{Typed, state_of}
-use Rattle.vms_frames.specs.declared.fault.Refusal.{Refusal}
+use Rattle.vms_image.specs.Typed.{state_of}
 use Rattle.vms_load.specs.Kept.{loads}
 use Rattle.vms_counter_laws.specs.Counters.{Counters, State}
 use Rattle.vms_counter.specs.Found.{refusal_of}
-use Rattle.vms_counter.specs.Trying.{Tries}
-use Rattle.vms_counter.proofs.FoundLemmas.{second_found, neither_found}
+use Rattle.vms_counter.proofs.FoundLemmas.{neither_found, second_found, tries_by}
 use Rattle.vms_counter.proofs.finding.show_last.Goals as goal
 
 pub returns-in-Some-clause-found : goal.returns-in-Some-clause-found
 returns-in-Some-clause-found c =
-    let trial = c.args.trial.now in
-    let old = described trial.old.now in
-    let new = loads c.args.new.now in
-    let m = trial.mismatch in
-    let images = map state_of c.args.images.items in
+    let t = c.requires.trial in
+    let m = c.args.trial.now.mismatch in
     let r = c.in-Some.refusal in
-    let machine = at_option old.machines trial.machine in
-    subst (λ (k : Option (List ℕ)). Counters old new (State m k images (refusal_of r))) (sym c.requires.trial.name)
-    (second_found old new m c.requires.trial.first images r c.requires.tried c.requires.second
-    (subst (λ (k : Option (List ℕ)). Tries old new k images (Some r)) c.requires.trial.name
-    (subst (λ (l : List Typed). Tries old new machine (map state_of l) (Some r)) c.deref.ensures.value
-    (subst (λ (o : Option Refusal). Tries old new machine (map state_of c.deref.result.now) o) c.in-Some.is c.in_ok-refusal.ensures.tries))))
+    subst (λ (k : Option (List ℕ)). Counters (described c.args.trial.now.old.now) (loads c.args.new.now) (State m k (map state_of c.args.images.items) (refusal_of r))) (sym t.name)
+    (second_found (described c.args.trial.now.old.now) (loads c.args.new.now) m t.first _ r c.requires.tried c.requires.second
+    (tries_by _ _ _ _ c.deref.result.now c.args.images.items _ (Some r) t.name c.deref.ensures.value c.in-Some.is c.in_ok-refusal.ensures.tries))
 
 pub returns-in-None-clause-found : goal.returns-in-None-clause-found
 returns-in-None-clause-found c =
-    let trial = c.args.trial.now in
-    let old = described trial.old.now in
-    let new = loads c.args.new.now in
-    let m = trial.mismatch in
-    let images = map state_of c.args.images.items in
-    let machine = at_option old.machines trial.machine in
-    neither_found old new m c.requires.trial.first images c.requires.tried c.requires.second
-    (subst (λ (k : Option (List ℕ)). Tries old new k images None) c.requires.trial.name
-    (subst (λ (l : List Typed). Tries old new machine (map state_of l) None) c.deref.ensures.value
-    (subst (λ (o : Option Refusal). Tries old new machine (map state_of c.deref.result.now) o) c.in-None.is c.in_ok-refusal.ensures.tries)))
+    neither_found (described c.args.trial.now.old.now) (loads c.args.new.now) c.args.trial.now.mismatch c.requires.trial.first _ c.requires.tried c.requires.second
+    (tries_by _ _ _ _ c.deref.result.now c.args.images.items _ None c.requires.trial.name c.deref.ensures.value c.in-None.is c.in_ok-refusal.ensures.tries)

@@ -1,4 +1,4 @@
-use Rattle.std.proofs.Common.{◌≡◌, ℕ, ◌+◌, map, ap, ◌∙◌, subst, sym, arith}
+use Rattle.std.proofs.Common.{ℕ, ◌+◌, map, ap, ◌∙◌, subst, sym, arith}
 use Rattle.vms_spec.specs.Sets.{Set}
 use Rattle.vms_parts.specs.Views.{desc_of, device_of}
 use Rattle.vms_desc.specs.Described.{described}
@@ -11,16 +11,16 @@ use Rattle.vms_counter.proofs.room.room.Goals as goal
 pub overflow_add-result : goal.overflow_add-result
 overflow_add-result c =
     let set = c.args.set.now in
-    let few = (sections_are (described set) set.well_formed c.devices_bytes.result
-    (read_bytes (described set) c.as_slice.result.now c.as_slice-2.result.now c.deref.result.now c.in_ok-structs.structs.items c.devices_bytes.result c.devices_bytes.ensures c.deref.ensures.value c.in_ok-structs.ensures
+    let few = (sections_are (described set) set.well_formed c.all_bytes.result
+    (read_bytes (described set) c.as_slice.result.now c.as_slice-2.result.now c.deref.result.now c.in_ok-structs.structs.items c.all_bytes.result c.all_bytes.ensures c.deref.ensures.value c.in_ok-structs.ensures
     (ap (map desc_of) c.as_slice.ensures ∙ ap (λ (s : Set). s.structs) c.parts.ensures) (ap (map device_of) c.as_slice-2.ensures ∙ ap (λ (s : Set). s.devices) c.parts-2.ensures))).1 in
     omega (arith, few)
 
 pub returns-clause-bytes : goal.returns-clause-bytes
 returns-clause-bytes c =
     let set = c.args.set.now in
-    ap (λ (n : ℕ). LONGEST_HEAD + n) (sections_are (described set) set.well_formed c.devices_bytes.result
-    (read_bytes (described set) c.as_slice.result.now c.as_slice-2.result.now c.deref.result.now c.in_ok-structs.structs.items c.devices_bytes.result c.devices_bytes.ensures c.deref.ensures.value c.in_ok-structs.ensures
+    ap (λ (n : ℕ). LONGEST_HEAD + n) (sections_are (described set) set.well_formed c.all_bytes.result
+    (read_bytes (described set) c.as_slice.result.now c.as_slice-2.result.now c.deref.result.now c.in_ok-structs.structs.items c.all_bytes.result c.all_bytes.ensures c.deref.ensures.value c.in_ok-structs.ensures
     (ap (map desc_of) c.as_slice.ensures ∙ ap (λ (s : Set). s.structs) c.parts.ensures) (ap (map device_of) c.as_slice-2.ensures ∙ ap (λ (s : Set). s.devices) c.parts-2.ensures))).0
 
 pub returns-clause-room : goal.returns-clause-room

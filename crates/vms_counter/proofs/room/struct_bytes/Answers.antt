@@ -14,6 +14,6 @@ loop-desc-init c = c.in_ok-bytes.ensures.items
 pub loop-desc-preserved : goal.loop-desc-preserved
 loop-desc-preserved c =
     c.in_ok-push.ensures.items
-    ∙ structs_more c.args.structs.now c.loop-desc.bytes.items c.loop-desc.desc-index c.desc-item.result c.fields_bytes.result c.desc-item.is c.loop-desc-test.true c.loop-desc.invariant
-    (c.fields_bytes.ensures ∙ ap (λ (l : List ℕ). in_u32 (fields_bytes l (map field_of c.as_slice.result.now))) c.deref.ensures.value
+    ∙ structs_more c.args.structs.now c.loop-desc.bytes.items c.loop-desc.desc-index c.desc-item.result c.all_bytes.result c.desc-item.is c.loop-desc-test.true c.loop-desc.invariant
+    (c.all_bytes.ensures ∙ ap (λ (l : List ℕ). in_u32 (fields_bytes l (map field_of c.as_slice.result.now))) c.deref.ensures.value
     ∙ ap (λ (l : List Field). in_u32 (fields_bytes c.loop-desc.bytes.items (map field_of l))) c.as_slice.ensures)

@@ -1,15 +1,15 @@
-use Rattle.std.proofs.Common.{◌≡◌, ◌-◌, ◌<◌, [], ◌∷◌, length, Some, None, refl, sym, ap, ap₂, ◌∙◌, arith, rules}
-use Rattle.json.specs.Token.{Token, key}
+use Rattle.std.proofs.Common.{◌≡◌, ◌-◌, ◌<◌, [], ◌∷◌, ◌++◌, length, Some, None, sym, ap, ap₂, ◌∙◌, arith, rules}
+use Rattle.json.specs.Token.{Token}
 use Rattle.json.specs.Json.{parse_map, after_end_array, read_key, items, members, value}
 use Rattle.json.specs.Reads.{token_of}
-use Rattle.json.proofs.Grammar.{value_is, value-begin_array, read_key-shorter, read_key_is}
-use Rattle.serde_json.specs.Data.{null, boolean, number, string, array, object, no_members, put}
+use Rattle.json.proofs.Grammar.{value_is, value-begin_array, value-begin_object, read_key-shorter}
+use Rattle.serde_json.specs.Data.{null, boolean, number, string, array, object, put}
 use Rattle.serde_json.specs.Read.{of_json, of_items, of_members, converted}
 use Rattle.serde_json.specs.View.{number_view}
 use Rattle.vms_json.specs.Nodes.{view, members_view}
 use Rattle.vms_json.specs.declared.node.Node.{Text, Number, Bool, Null, the_lemmas}
-use Rattle.vms_json.proofs.ReadingLaws.{converted-array, object_opened, at_key, item_read, item_refused, items_over, member_read, member_refused, key_refused, members_over, none_before}
-use Rattle.vms_json.proofs.NodeLaws.{view-List, view-Object, items_before, items_before-no_items, one_more_item, one_more_member}
+use Rattle.vms_json.proofs.ReadingLaws.{converted-array, converted-object, item_read, item_refused, items_over, member_read, member_refused, key_refused, members_over, none_before}
+use Rattle.vms_json.proofs.NodeLaws.{view-List, view-Object, Member, items_before, items_before-no_items, one_more_item, one_more_member}
 use Rattle.vms_json.proofs.parse.+read.Goals as goal
 
 pub read-returns-in_err-token-clause-err : goal.read-returns-in_err-token-clause-err
@@ -37,24 +37,11 @@ read-returns-in_err-read_items-in-BeginArray-clause-err t c refused =
     let opened = ap (converted of_json) (ap (value c.args.depth) (first ∙ ap (λ k. token_of k ∷ c.next.new.self) c.in-BeginArray.is) ∙ value-begin_array c.args.depth c.next.new.self (omega arith)) ∙ converted-array (items (value (c.args.depth - 1)) (length c.next.new.self) c.next.new.self) in
     opened ∙ ap (parse_map array) (c.read_items.ensures.err (grind arith))
 
-pub read-returns-in_err-name-in-BeginObject-clause-err : goal.read-returns-in_err-name-in-BeginObject-clause-err
-read-returns-in_err-name-in-BeginObject-clause-err t c refused =
+pub read-returns-in_err-read_members-in-BeginObject-clause-err : goal.read-returns-in_err-read_members-in-BeginObject-clause-err
+read-returns-in_err-read_members-in-BeginObject-clause-err t c refused =
     let first : c.args.reader.now ≡ token_of c.in_ok-token.token ∷ c.next.new.self = grind arith in
-    let ts = c.next.new.self in
-    let p = value (c.args.depth - 1) in
-    let opened = object_opened c.args.depth c.args.reader.now ts (omega arith) (first ∙ ap (λ k. token_of k ∷ ts) c.in-BeginObject.is) in
-    opened ∙ ap (parse_map object) (key_refused p no_members (length ts) ts c.in_err-name-in-BeginObject.ensures.value)
-
-pub read-returns-in_err-read_members-in-Some-2-clause-err : goal.read-returns-in_err-read_members-in-Some-2-clause-err
-read-returns-in_err-read_members-in-Some-2-clause-err t c refused =
-    let first : c.args.reader.now ≡ token_of c.in_ok-token.token ∷ c.next.new.self = grind arith in
-    let ts = c.next.new.self in
-    let p = value (c.args.depth - 1) in
-    let opened = object_opened c.args.depth c.args.reader.now ts (omega arith) (first ∙ ap (λ k. token_of k ∷ ts) c.in-BeginObject.is) in
-    let k = c.in-Some-2.name.now in
-    let s = c.next_key.new.self in
-    let named : read_key ts ≡ Some (Some k, s) = grind arith in
-    opened ∙ ap (parse_map object) (at_key p k ts s named) ∙ ap (parse_map object) (c.read_members.ensures.err (grind arith))
+    let opened = ap (converted of_json) (ap (value c.args.depth) (first ∙ ap (λ k. token_of k ∷ c.next.new.self) c.in-BeginObject.is) ∙ value-begin_object c.args.depth c.next.new.self (omega arith)) ∙ converted-object (members (value (c.args.depth - 1)) (length c.next.new.self) c.next.new.self) in
+    opened ∙ ap (parse_map object) (c.read_members.ensures.err (grind arith))
 
 pub read-returns-in-String-clause-ok : goal.read-returns-in-String-clause-ok
 read-returns-in-String-clause-ok t c =
@@ -103,28 +90,12 @@ read-returns-in_ok-read_items-in-BeginArray-clause-ok t c =
     let found = c.in_ok-read_items-in-BeginArray in
     opened ∙ ap (parse_map array) found.ensures.ok ∙ ap (λ d. Some (d, c.read_items.new.reader)) (sym (view-List found.field-0))
 
-pub read-returns-in_ok-read_members-in-Some-2-clause-ok : goal.read-returns-in_ok-read_members-in-Some-2-clause-ok
-read-returns-in_ok-read_members-in-Some-2-clause-ok t c =
+pub read-returns-in_ok-read_members-in-BeginObject-clause-ok : goal.read-returns-in_ok-read_members-in-BeginObject-clause-ok
+read-returns-in_ok-read_members-in-BeginObject-clause-ok t c =
     let first : c.args.reader.now ≡ token_of c.in_ok-token.token ∷ c.next.new.self = grind arith in
-    let ts = c.next.new.self in
-    let p = value (c.args.depth - 1) in
-    let opened = object_opened c.args.depth c.args.reader.now ts (omega arith) (first ∙ ap (λ k. token_of k ∷ ts) c.in-BeginObject.is) in
-    let k = c.in-Some-2.name.now in
-    let s = c.next_key.new.self in
-    let named : read_key ts ≡ Some (Some k, s) = grind arith in
-    let found = c.in_ok-read_members-in-Some-2 in
-    opened ∙ ap (parse_map object) (at_key p k ts s named) ∙ ap (parse_map object) found.ensures.ok ∙ ap (λ d. Some (d, c.read_members.new.reader)) (sym (view-Object found.field-0))
-
-pub read-returns-in-None-2-clause-ok : goal.read-returns-in-None-2-clause-ok
-read-returns-in-None-2-clause-ok t c =
-    let first : c.args.reader.now ≡ token_of c.in_ok-token.token ∷ c.next.new.self = grind arith in
-    let ts = c.next.new.self in
-    let p = value (c.args.depth - 1) in
-    let opened = object_opened c.args.depth c.args.reader.now ts (omega arith) (first ∙ ap (λ k. token_of k ∷ ts) c.in-BeginObject.is) in
-    let s = c.next_key.new.self in
-    let ended : read_key ts ≡ Some (None, s) = grind arith in
-    opened ∙ ap (parse_map object) (members_over p no_members (length ts) ts s (omega arith) ended)
-    ∙ ap (λ d. Some (d, s)) (sym (view-Object c.new.result ∙ ap (λ ms. object (members_view ms)) c.new.ensures.items))
+    let opened = ap (converted of_json) (ap (value c.args.depth) (first ∙ ap (λ k. token_of k ∷ c.next.new.self) c.in-BeginObject.is) ∙ value-begin_object c.args.depth c.next.new.self (omega arith)) ∙ converted-object (members (value (c.args.depth - 1)) (length c.next.new.self) c.next.new.self) in
+    let found = c.in_ok-read_members-in-BeginObject in
+    opened ∙ ap (parse_map object) found.ensures.ok ∙ ap (λ d. Some (d, c.read_members.new.reader)) (sym (view-Object found.field-0))
 
 pub read_items-items-init : goal.read_items-items-init
 read_items-items-init t c =
@@ -167,81 +138,56 @@ read_items-returns-clause-ok t c =
 
 pub read_members-members-init : goal.read_members-members-init
 read_members-members-init t c =
-    let ts = key c.args.first.now ∷ c.args.reader.now in
-    let all = members (value c.args.depth) (length ts) ts in
-    (search rules, length ts, omega arith, ap (λ es. converted (λ ms. of_members ms (members_view es)) all) (sym c.in_ok-found.ensures.items), omega arith)
+    let all = members (value c.args.depth) (length c.args.reader.now) c.args.reader.now in
+    (length c.args.reader.now, omega arith, ap (λ es. converted (λ ms. of_members ms (members_view es)) all) (sym c.new-found.ensures.items), omega arith)
+
+pub read_members-returns-in_err-name-clause-err : goal.read_members-returns-in_err-name-clause-err
+read_members-returns-in_err-name-clause-err t c refused =
+    let p = value c.args.depth in
+    let l = c.members in
+    let n = l.invariant.0 in
+    let old = members_view l.found.items in
+    l.invariant.2 ∙ key_refused p old n l.reader c.in_err-name.ensures.value
 
 pub read_members-returns-in_err-member-clause-err : goal.read_members-returns-in_err-member-clause-err
 read_members-returns-in_err-member-clause-err t c refused =
     let p = value c.args.depth in
     let l = c.members in
-    let n = l.invariant.1 in
+    let n = l.invariant.0 in
     let old = members_view l.found.items in
-    let k = l.name.now in
-    l.invariant.3 ∙ member_refused p old n k (key k ∷ l.reader) l.reader refl (c.read.ensures.err (grind arith))
-
-pub read_members-returns-in_err-next-clause-err : goal.read_members-returns-in_err-next-clause-err
-read_members-returns-in_err-next-clause-err t c refused =
-    let p = value c.args.depth in
-    let l = c.members in
-    let n = l.invariant.1 in
-    let old = members_view l.found.items in
-    let k = l.name.now in
-    let done = c.in_ok-member.ensures in
-    let v = c.in_ok-member.member in
-    let r = c.read.new.reader in
-    let some : 0 < n = omega (arith, l.invariant.2) in
-    l.invariant.3 ∙ member_read p old n k (key k ∷ l.reader) l.reader r (view v) some refl done.ok ∙ key_refused p (put k (view v) old) (n - 1) r c.in_err-next.ensures.value
+    let k = c.in-Some.name.now in
+    let s = c.next_key.new.self in
+    let named : read_key l.reader ≡ Some (Some k, s) = grind arith in
+    l.invariant.2 ∙ member_refused p old n k l.reader s named (c.read.ensures.err (grind arith))
 
 pub read_members-members-preserved : goal.read_members-members-preserved
 read_members-members-preserved t c =
     let p = value c.args.depth in
     let l = c.members in
-    let n = l.invariant.1 in
+    let n = l.invariant.0 in
     let old = members_view l.found.items in
-    let k = l.name.now in
+    let k = c.in-Some.name.now in
+    let s = c.next_key.new.self in
+    let named : read_key l.reader ≡ Some (Some k, s) = grind arith in
     let done = c.in_ok-member.ensures in
     let v = c.in_ok-member.member in
     let r = c.read.new.reader in
-    let q = c.in-Some.next.now in
-    let s = c.next_key.new.self in
-    let named : read_key r ≡ Some (Some q, s) = grind arith in
+    let less = read_key-shorter l.reader (Some k) s named in
     let lesser = done.shorter in
-    let less = read_key-shorter r (Some q) s named in
-    let some : 0 < n = omega (arith, l.invariant.2) in
-    let pushed = c.in_ok-push.ensures.items in
-    let inserted = ap members_view pushed ∙ one_more_member l.found.items (l.name, v) in (
-      search rules,
+    let m : Member = (c.in-Some.name, v) in
+    let pushed : c.put_member.new.members.items ≡ l.found.items ++ m ∷ [] = c.in_ok-put_member.ensures.put in
+    let inserted : members_view c.put_member.new.members.items ≡ put k (view v) old = ap members_view pushed ∙ one_more_member l.found.items m in (
       n - 1,
-      omega (arith, l.invariant.2),
-      l.invariant.3 ∙ member_read p old n k (key k ∷ l.reader) l.reader r (view v) some refl done.ok
-          ∙ ap (λ found. converted (λ ms. of_members ms found) (members p (n - 1) r)) (sym inserted)
-          ∙ ap (λ ts. converted (λ ms. of_members ms (members_view c.push.new.self.items)) (members p (n - 1) ts)) (read_key_is r (Some q) s named),
-      omega (arith, l.invariant.4),
+      omega (arith, l.invariant.1),
+      l.invariant.2 ∙ member_read p old n k l.reader s r (view v) (omega (arith, l.invariant.1)) named done.ok
+          ∙ ap (λ found. converted (λ ms. of_members ms found) (members p (n - 1) r)) (sym inserted),
+      omega (arith, l.invariant.3),
     )
 
-pub read_members-returns-in-None-clause-ok : goal.read_members-returns-in-None-clause-ok
-read_members-returns-in-None-clause-ok t c =
+pub read_members-returns-clause-ok : goal.read_members-returns-clause-ok
+read_members-returns-clause-ok t c =
     let p = value c.args.depth in
     let l = c.members in
-    let n = l.invariant.1 in
+    let n = l.invariant.0 in
     let old = members_view l.found.items in
-    let k = l.name.now in
-    let done = c.in_ok-member.ensures in
-    let v = c.in_ok-member.member in
-    let r = c.read.new.reader in
-    let s = c.next_key.new.self in
-    let some : 0 < n = omega (arith, l.invariant.2) in
-    let lesser = done.shorter in
-    let pushed = c.in_ok-push.ensures.items in
-    let inserted = ap members_view pushed ∙ one_more_member l.found.items (l.name, v) in
-    l.invariant.3 ∙ member_read p old n k (key k ∷ l.reader) l.reader r (view v) some refl done.ok
-    ∙ members_over p (put k (view v) old) (n - 1) r s (omega (arith, l.invariant.2)) (grind arith) ∙ ap (λ ms. Some (ms, s)) (sym inserted)
-
-pub read_members-returns-in-None-clause-shorter : goal.read_members-returns-in-None-clause-shorter
-read_members-returns-in-None-clause-shorter t c =
-    let l = c.members in
-    let r = c.read.new.reader in
-    let s = c.next_key.new.self in
-    let ended : read_key r ≡ Some (None, s) = grind arith in
-    omega (arith, l.invariant.4, c.in_ok-member.ensures.shorter, read_key-shorter r None s ended)
+    l.invariant.2 ∙ members_over p old n l.reader c.next_key.new.self l.invariant.1 (grind arith)

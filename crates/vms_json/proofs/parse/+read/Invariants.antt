@@ -1,7 +1,4 @@
-use Rattle.std.proofs.Common.{◌≡◌, ℕ, ◌+◌, ◌*◌, ◌<◌, ◌≤◌, ◌∷◌, length}
-use denote.Shadow.{shadow}
-use denote.Text.{Utf8}
-use Rattle.json.specs.Token.{key}
+use Rattle.std.proofs.Common.{◌≡◌, ℕ, ◌+◌, ◌*◌, ◌≤◌, length}
 use Rattle.json.specs.Json.{items, members, value, parse_map}
 use Rattle.serde_json.specs.Data.{no_members}
 use Rattle.serde_json.specs.Read.{of_items, of_members, converted}
@@ -29,10 +26,8 @@ decreases-read_items-items l = length l.reader
 
 abbrev pub invariant-read_members-members : goal.invariant-read_members-members
 invariant-read_members-members l =
-    shadow (Utf8 l.name)
-    × (n : ℕ) × (length l.reader < n)
-    × (converted (λ ms. of_members ms no_members) (members (value l.depth) (length (key l.first ∷ l.initial.reader)) (key l.first ∷ l.initial.reader))
-    ≡ converted (λ ms. of_members ms (members_view l.found.items)) (members (value l.depth) n (key l.name ∷ l.reader)))
+    (n : ℕ) × (length l.reader ≤ n)
+    × (converted (λ ms. of_members ms no_members) (members (value l.depth) (length l.initial.reader) l.initial.reader) ≡ converted (λ ms. of_members ms (members_view l.found.items)) (members (value l.depth) n l.reader))
     × (length l.reader ≤ length l.initial.reader)
 
 abbrev pub decreases-read_members-members : goal.decreases-read_members-members

@@ -1,4 +1,4 @@
-use Rattle.std.proofs.Common.{List, ℕ, Some, sym, ap, subst, ◌∙◌}
+use Rattle.std.proofs.Common.{Some, sym, ap, subst, ◌∙◌}
 use Rattle.dev_board.proofs.ClockLaws.{clock_goes_on}
 use Rattle.dev_board.proofs.WireBits.{names}
 use Rattle.dev_board.specs.State.{State}

@@ -1,7 +1,7 @@
 use Rattle.std.proofs.Common.{◌≡◌, ℕ, suc, ◌+◌, ◌-◌, ◌&&◌, [], List, ℤ, get_or, pos, ap, sym, ◌∙◌, arith, Bool}
 use Rattle.vms_spec.specs.Numbers.{same_number}
 use Rattle.vms_parts.specs.declared.types.CellForm.{CellForm}
-use Rattle.vms_write.specs.Fine.{no_form, settle}
+use Rattle.vms_write.specs.Fine.{no_form, formed, settle}
 use Rattle.vms_write.proofs.fine.are_default.Goals as goal
 
 one_more : (f : List CellForm) (n : List ℤ) (at left more : ℕ) → left ≡ suc more
@@ -10,7 +10,7 @@ one_more f n at left more e = ap (settle [] f n at) e
 
 pub loop-cell-preserved : goal.loop-cell-preserved
 loop-cell-preserved c =
-    let f = c.args.forms.now in
+    let f = formed c.args.defaults.now in
     let n = c.args.image.now.numbers in
     let cell = c.loop-cell.cell in
     let end = c.args.end in

@@ -1,6 +1,6 @@
 use Rattle.std.proofs.Common.{◌≡◌, ◌-◌, []}
-use Rattle.vms_write.specs.Fine.{settle}
+use Rattle.vms_write.specs.Fine.{formed, settle}
 use Rattle.vms_write.proofs.fine.are_default.Given as goal
 
 abbrev pub invariant-loop-cell : goal.invariant-loop-cell
-invariant-loop-cell l = settle [] l.forms l.image.numbers l.cell (l.end - l.cell) ≡ settle [] l.forms l.image.numbers l.first (l.end - l.first)
+invariant-loop-cell l = settle [] (formed l.defaults) l.image.numbers l.cell (l.end - l.cell) ≡ settle [] (formed l.defaults) l.image.numbers l.first (l.end - l.first)

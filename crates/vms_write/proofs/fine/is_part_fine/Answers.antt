@@ -4,7 +4,7 @@ use Rattle.vms_spec.specs.Places.{own_cell_count}
 use Rattle.vms_desc.specs.Described.{described}
 use Rattle.vms_desc.specs.Parts.{desc_at}
 use Rattle.vms_walk.specs.Steps.{steps_of, spot_slots}
-use Rattle.vms_write.specs.Fine.{settle}
+use Rattle.vms_write.specs.Fine.{formed, settle}
 use Rattle.vms_write.specs.Steps.{are_steps_fine, behind}
 use Rattle.vms_write.proofs.StepsFine.{part_fine, part_unfit}
 use Rattle.vms_write.proofs.fine.is_part_fine.Goals as goal
@@ -14,7 +14,7 @@ returns-in-Ok c =
     let set = described c.args.set.now in
     let spot = c.args.spot in
     let n = c.args.image.now.numbers in
-    let forms = c.args.forms.now in
+    let forms = formed c.args.defaults.now in
     let judge = c.walk.new.walker in
     let went = c.in-Ok.ensures.ok in
     let steps = λ (m : List ℤ). steps_of (spot_slots set spot m) in
@@ -32,4 +32,4 @@ returns-in-Err c =
     let n = c.args.image.now.numbers in
     let stopped = c.in-Err.ensures.err in
     let same : c.walk.new.walker.image.now.numbers ≡ n = ap (λ image. image.now.numbers) stopped.0 in
-    part_unfit set c.args.spot c.args.forms.now n (ap (λ (m : List ℤ). are_steps_fine c.args.forms.now n c.args.spot.base (steps_of (spot_slots set c.args.spot m))) (sym same) ∙ stopped.1)
+    part_unfit set c.args.spot (formed c.args.defaults.now) n (ap (λ (m : List ℤ). are_steps_fine (formed c.args.defaults.now) n c.args.spot.base (steps_of (spot_slots set c.args.spot m))) (sym same) ∙ stopped.1)

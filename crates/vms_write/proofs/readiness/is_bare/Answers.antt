@@ -7,6 +7,7 @@ use Rattle.vms_desc.specs.Parts.{sub_at}
 use Rattle.vms_desc.proofs.AskLaws.{sub_inside}
 use Rattle.vms_write.specs.Fine.{settle}
 use Rattle.vms_write.specs.Judged.{forms_of}
+use Rattle.vms_write.proofs.FormedLaws.{formed_defaults, formed_long}
 use Rattle.vms_write.proofs.readiness.is_bare.Goals as goal
 
 pub overflow_add-end : goal.overflow_add-end
@@ -15,6 +16,9 @@ overflow_add-end c =
     let size : c.cells_of.result ≡ in_u32 (own_cell_count set (sub_at (device_at set c.args.device) c.args.sub).desc) = c.cells_of.ensures in
     let inside = sub_inside set c.args.device c.args.sub c.requires.is_sub in
     omega (arith, size, c.first_cell-first.ensures, inside, c.requires.device.cells, c.requires.device.few)
+
+pub are_default-requires-clause-forms : goal.are_default-requires-clause-forms
+are_default-requires-clause-forms c = formed_long (described c.args.set.now) c.args.device c.defaults.result.now c.args.image.now.numbers c.defaults.ensures.defaults c.requires.device.cells
 
 pub are_default-requires-clause-end : goal.are_default-requires-clause-end
 are_default-requires-clause-end c =
@@ -33,4 +37,4 @@ returns c =
     let size : c.cells_of.result ≡ in_u32 count = c.cells_of.ensures in
     let inside = sub_inside set c.args.device c.args.sub c.requires.is_sub in
     let exact : (first + c.cells_of.result) - first ≡ count = omega (arith, size, inside, c.requires.device.cells, c.requires.device.few) in
-    c.are_default.ensures ∙ ap (λ (fs : List CellForm). settle [] fs n first ((first + c.cells_of.result) - first)) c.cell_forms.ensures.forms ∙ ap (settle [] forms n first) exact ∙ ap (λ (k : ℕ). settle [] forms n k count) c.first_cell-first.ensures
+    c.are_default.ensures ∙ ap (λ (fs : List CellForm). settle [] fs n first ((first + c.cells_of.result) - first)) (formed_defaults set c.args.device c.defaults.result.now c.defaults.ensures.defaults) ∙ ap (settle [] forms n first) exact ∙ ap (λ (k : ℕ). settle [] forms n k count) c.first_cell-first.ensures

@@ -1,6 +1,7 @@
-use Rattle.std.proofs.Common.{arith}
+use Rattle.std.proofs.Common.{rules, arith}
 use Rattle.vms_desc.specs.Described.{described}
 use Rattle.vms_desc.proofs.AskLaws.{sub_inside}
+use Rattle.vms_write.proofs.FormedLaws.{formed_defaults, formed_long}
 use Rattle.vms_write.proofs.readiness.is_sent_fine.Goals as goal
 
 pub is_part_fine-requires-clause-spot : goal.is_part_fine-requires-clause-spot
@@ -11,3 +12,11 @@ is_part_fine-requires-clause-spot c =
       few = c.requires.device.few;
       room = omega (arith, c.first_cell.ensures, sub_inside set c.args.device c.args.sub c.requires.is_sub, c.requires.device.cells);
     }
+
+pub is_part_fine-requires-clause-forms : goal.is_part_fine-requires-clause-forms
+is_part_fine-requires-clause-forms c = formed_long (described c.args.set.now) c.args.device c.defaults.result.now c.args.image.now.numbers c.defaults.ensures.defaults c.requires.device.cells
+
+pub returns-then-version-desc : goal.returns-then-version-desc
+returns-then-version-desc c =
+    let fine = rw (formed_defaults (described c.args.set.now) c.args.device c.defaults.result.now c.defaults.ensures.defaults) at c.is_part_fine.ensures in
+    search (rules, fine)

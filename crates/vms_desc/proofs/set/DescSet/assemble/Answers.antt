@@ -1,21 +1,18 @@
-use Rattle.vms_spec.specs.declared.TheConstants.{MOST_ITEMS}
-use Rattle.std.proofs.Common.{◌≡◌, List, [], ap, sym, ◌∙◌, ℕ, length, map, get_or, ◌≤◌, arith, subst}
+use Rattle.std.proofs.Common.{◌≡◌, List, ap, sym, ◌∙◌, ℕ, length, map, arith, subst}
 use Rattle.std.proofs.lemmas.List.{length-map}
 use Rattle.vms_parts.specs.declared.types.Desc.{Desc}
-use Rattle.vms_parts.specs.declared.types.CellForm.{CellForm}
 use Rattle.vms_parts.specs.declared.sizes.Measure.TheVariants.{Cells}
 use Rattle.vms_parts.specs.Sizes.{in_u32, sizes_to}
 use Rattle.vms_parts.specs.Views.{set_of, desc_of, device_of}
 use Rattle.vms_parts.specs.declared.types.Device.{Device}
 use Rattle.vms_desc.specs.Numbers.{sizes_of}
-use Rattle.vms_desc.specs.Spots.{form_spots}
 use Rattle.vms_desc.specs.Tables.{AreTables, AreDeviceTables}
 use Rattle.vms_desc.proofs.HeadLaws.{heads_of}
-use Rattle.vms_desc.proofs.Bounds.{few_devices, small_layout, sizes_are}
+use Rattle.vms_desc.proofs.Bounds.{few_devices, sizes_are}
 use Rattle.vms_desc.proofs.set.DescSet.assemble.Goals as goal
 
-pub device_spots-requires : goal.device_spots-requires
-device_spots-requires c = λ k. subst (λ (l : List (List CellForm)). length (get_or l k []) ≤ MOST_ITEMS) (sym (c.as_slice-2.ensures ∙ c.in_ok-layout.ensures)) (small_layout (set_of c.args.parts) c.requires k)
+pub device_defaults-requires-clause-heads : goal.device_defaults-requires-clause-heads
+device_defaults-requires-clause-heads c = heads_of c.args.parts c.as_slice-3.result.now c.as_slice-3.ensures c.in_ok-devices.ensures.heads
 
 pub invariant_of-result : goal.invariant_of-result
 invariant_of-result c =
@@ -24,20 +21,18 @@ invariant_of-result c =
     ∙ ap (λ (l : List Desc). map in_u32 (sizes_to Cells (map desc_of l) (length l))) c.as_slice.ensures
     ∙ ap (λ (n : ℕ). map in_u32 (sizes_to Cells (map desc_of c.args.parts.structs) n)) (sym (length-map c.args.parts.structs desc_of))
     ∙ sizes_are set in
-    let same : c.deref-2.result.now ≡ sizes_of set = c.deref-2.ensures.value ∙ sized in
-    let same-2 : c.deref-3.result.now ≡ sizes_of set = c.deref-3.ensures.value ∙ sized in
+    let same : c.deref.result.now ≡ sizes_of set = c.deref.ensures.value ∙ sized in
+    let same-2 : c.deref-2.result.now ≡ sizes_of set = c.deref-2.ensures.value ∙ sized in
     record {
       well_formed = c.requires;
-      heads = heads_of c.args.parts c.as_slice-4.result.now c.as_slice-4.ensures c.in_ok-devices.ensures.heads;
+      heads = heads_of c.args.parts c.as_slice-3.result.now c.as_slice-3.ensures c.in_ok-devices.ensures.heads;
       few = omega (arith, few_devices set c.requires, length-map c.args.parts.devices device_of);
-      laid = c.in_ok-layout.ensures;
-      spotted = c.new.ensures ∙ c.in_ok-spots.ensures ∙ ap (λ (l : List (List CellForm)). map form_spots l) c.as_slice-2.ensures;
+      at_default = c.new.ensures ∙ c.in_ok-defaults.ensures;
       sized = c.new-2.ensures ∙ sized;
       structs_tabled = subst (AreTables (sizes_of set) (map (λ d. d.fields) set.structs)) (sym c.new-3.ensures)
           (subst (λ (l : List ℕ). AreTables l (map (λ d. d.fields) set.structs) c.in_ok-structs.structs.items) same
-          (subst (λ (l : List Desc). AreTables c.deref-2.result.now (map (λ d. d.fields) (map desc_of l)) c.in_ok-structs.structs.items) c.as_slice-3.ensures c.in_ok-structs.ensures));
+          (subst (λ (l : List Desc). AreTables c.deref.result.now (map (λ d. d.fields) (map desc_of l)) c.in_ok-structs.structs.items) c.as_slice-2.ensures c.in_ok-structs.ensures));
       devices_tabled = subst (AreDeviceTables (sizes_of set) set.devices) (sym c.new-4.ensures)
           (subst (λ (l : List ℕ). AreDeviceTables l set.devices c.in_ok-devices.devices.items) same-2
-          (subst (λ (l : List Device). AreDeviceTables c.deref-3.result.now (map device_of l) c.in_ok-devices.devices.items) c.as_slice-4.ensures c.in_ok-devices.ensures.tables));
-      small = λ k. subst (λ (l : List (List CellForm)). length (get_or l k []) ≤ MOST_ITEMS) (sym c.in_ok-layout.ensures) (small_layout set c.requires k);
+          (subst (λ (l : List Device). AreDeviceTables c.deref-2.result.now (map device_of l) c.in_ok-devices.devices.items) c.as_slice-3.ensures c.in_ok-devices.ensures.tables));
     }

@@ -1,16 +1,16 @@
-use Rattle.std.proofs.Common.{◌≡◌, ◌<◌, ◌≤◌, [], List, ℕ, Option, Some, length, get_or, map, sym, ap, subst, ◌∙◌}
+use Rattle.std.proofs.Common.{◌≡◌, ◌<◌, ◌≤◌, List, ℕ, Option, Some, length, get_or, map, sym, ap, subst, ◌∙◌}
 use Rattle.std.specs.List.{slice_get}
 use Rattle.vms_spec.specs.declared.TheConstants.{MOST_ITEMS}
 use Rattle.vms_spec.specs.Layout.{device_cells}
 use Rattle.vms_spec.specs.Places.{path_at, cell_in}
 use Rattle.vms_spec.specs.Sets as sets
-use Rattle.vms_parts.specs.declared.types.CellForm.{CellForm}
 use Rattle.vms_parts.specs.declared.types.Device.{Device}
 use Rattle.vms_parts.specs.Views.{desc_of, device_of}
 use Rattle.vms_desc.specs.declared.set.DescSet.{DescSet}
 use Rattle.vms_desc.specs.Described.{described}
 use Rattle.vms_desc.specs.Numbers.{sizes_of}
 use Rattle.vms_desc.specs.Paths.{begin_desc, Begins, IsPlaced}
+use Rattle.vms_desc.proofs.Bounds.{small_layout}
 use Rattle.vms_desc.proofs.PathLaws.{at_there}
 use Rattle.vms_desc.proofs.PathBegins.{base_of, begins_placed, same_base, begins_at, nowhere, few_of_device, long_sizes}
 use Rattle.vms_desc.proofs.set.DescSet.cell.Goals as goal
@@ -20,7 +20,7 @@ there set devices slice k x e same lt is =
     ap (λ (l : List sets.Device). slice_get l k) (sym e) ∙ ap (λ (l : List Device). slice_get (map device_of l) k) (sym same) ∙ at_there device_of slice k x lt is
 
 few : (s : DescSet) (k : ℕ) (d : sets.Device) → slice_get (described s).devices k ≡ Some d → length (device_cells (described s) d) ≤ MOST_ITEMS
-few s k d is = few_of_device (described s) k d is (subst (λ (l : List (List CellForm)). length (get_or l k []) ≤ MOST_ITEMS) s.laid (s.small k))
+few s k d is = few_of_device (described s) k d is (small_layout (described s) s.well_formed k)
 
 pub returns-in_err-placed : goal.returns-in_err-placed
 returns-in_err-placed c =

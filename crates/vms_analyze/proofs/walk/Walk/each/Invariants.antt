@@ -1,0 +1,7 @@
+use Rattle.std.proofs.Common.{take}
+use Rattle.std.specs.List.{flat_map}
+use Rattle.vms_analyze.specs.Walking.{Goes}
+use Rattle.vms_analyze.proofs.walk.Walk.each.Given as goal
+
+abbrev pub invariant-loop-item : goal.invariant-loop-item
+invariant-loop-item g l = Goes (flat_map g.T.Sought.wants (take l.item-index l.items)) l.initial.self l.self
