@@ -6,7 +6,6 @@ use Rattle.arrayvec.specs.ArrayVec.{ArrayVec}
 use Rattle.vms_io.specs.Shelves.{Held}
 use Rattle.vms_io.specs.Told.{Intake, Outlet, Stock}
 use Rattle.vms_io.proofs.ReadingLemmas.{reads_as}
-use Rattle.vms_io.proofs.ShelvingLemmas.{reaches_none}
 use Rattle.vms_kinds.specs.Bytes.{IsBytes}
 use Rattle.vms_spec.specs.declared.Reason.{Reason}
 use Rattle.vms_spec.specs.Good.{IsFit}
@@ -33,7 +32,7 @@ use Rattle.vms_commands.specs.Lines.{refused_line}
 use Rattle.vms_commands.specs.Outcomes.{Outcome, done, ended}
 use Rattle.vms_commands.specs.SetLines.{mismatch_line}
 use Rattle.vms_commands.specs.Steps.{Step, Gives, Ends}
-use Rattle.vms_commands.proofs.CourseLemmas.{wrong}
+use Rattle.vms_commands.proofs.CourseLemmas.{unshelved_so, wrong}
 use Rattle.vms_commands.proofs.EndLemmas.{comes_to_nothing, ends_with, same_keeps}
 use Rattle.vms_board_commands.specs.Seen.{Seen, SeenAs}
 use Rattle.vms_board_commands.proofs.SeenLemmas.{content_seen, load_seen, other_seen, seen_lost, seen_written, sees_as}
@@ -270,17 +269,8 @@ module _ (to : Set) (fit : IsFit to) (i i' : Intake) (o o' : Outlet) where
   so_by : (s : Stock) (asks : Bool) (e : Ending) → is_among (convert_course asks).statuses (status_of e) ≡ true → Risen i i' o o' s s e
       → (is_among (convert_course asks).writes (status_of e) ≡ false → Keeps o.written o'.written) → (is_among (convert_course asks).takes (status_of e) ≡ false → i' ≡ i) → Stands i i' o o'
       → EndsSo i i' o o' s s (convert_course asks) e
-  so_by s asks e can risen out input stands = record {
-    can = can;
-    risen = risen;
-    out = out;
-    input = input;
-    held = λ f. refl;
-    shelf = λ f. refl;
-    draws = record { later = stands.input_count; promise = stands.input_promise };
-    serves = record { later = stands.out_count; promise = stands.out_promise };
-    reaches = reaches_none s;
-  }
+  so_by s asks e can risen out input stands =
+      unshelved_so s (convert_course asks) e can risen out input (record { later = stands.input_count; promise = stands.input_promise }) (record { later = stands.out_count; promise = stands.out_promise })
 
   pub convert_so : (r : Result (Unit {0}) ConvertFault) (e : Ending) → EndsLike r e → Calls to newest i i' o o' r → (s : Stock) (asks : Bool) → EndsSo i i' o o' s s (convert_course asks) e
   convert_so _ _ (IsDone u) c s asks = so_by s asks endings.Done refl tt (λ f. absurd (wrong f)) (λ f. absurd (wrong f)) (convert_stands (Ok u) c)
