@@ -3,7 +3,7 @@ use Rattle.std.proofs.Common.{◌≡◌, ℕ, ◌+◌, ◌≤◌, true, false, L
 use Rattle.std.proofs.lemmas.List.{drop_at}
 use Rattle.std.specs.Io.KnownBytes.{Keeps}
 use Rattle.vms_io.proofs.ShelvingLemmas.{reaches_none}
-use Rattle.vms_io.specs.Reading.{Takes, Reads, Last}
+use Rattle.vms_io.specs.Reading.{Takes, Reads, Course, Last, MayFollow}
 use Rattle.vms_io.specs.Shelves.{Held}
 use Rattle.vms_io.specs.Told.{Intake, Outlet, Stock}
 use Rattle.vms_io.proofs.ReadingLemmas.{nothing_follows, reads_as}
@@ -58,29 +58,21 @@ took_so listing bytes more all lists = record {
   rest = ap (λ (l : List ℕ). Some l) (sym (drop_at bytes more (bytes_taken (bytes ++ more)) all));
 }
 
+took_by : {course : Course} {i i' : Intake} {IsLong : ℕ → Type 0} {Says : List ℕ → List ℕ → Type 0} {listing : Listing} (r : Reads course i i' IsLong Says) → length r.bytes ≤ longest_input + 1
+    → ((more : List ℕ) → MayFollow Last i'.left more → TakesSo (HasListed listing) (r.bytes ++ more) more) → Took i i' listing
+took_by r few says = record { bytes = r.bytes; takes = r.takes; long = few; says = says; cause = tt }
+
 listed_took : {i i' : Intake} {listing : Listing} → IsListed i i' listing → Took i i' listing
 listed_took {i} {i'} {listing} p =
     let r = p.reads in
-    record {
-      bytes = r.bytes;
-      takes = r.takes;
-      long = omega (arith, r.long);
-      says = λ more f.
-          let none = nothing_follows i'.left more p.end f in
-          took_so listing r.bytes more (omega (arith, r.long, ap length none, length-append r.bytes more)) (r.says more f);
-      cause = tt;
-    }
+    took_by r (omega (arith, r.long)) (λ more f.
+    let none = nothing_follows i'.left more p.end f in
+    took_so listing r.bytes more (omega (arith, r.long, ap length none, length-append r.bytes more)) (r.says more f))
 
 too_much_took : {i i' : Intake} {listing : Listing} → IsTooMuch i i' listing → Took i i' listing
 too_much_took {i} {i'} {listing} p =
     let r = p.reads in
-    record {
-      bytes = r.bytes;
-      takes = r.takes;
-      long = omega (arith, r.long);
-      says = λ more f. took_so listing r.bytes more (omega (arith, r.long, length-append r.bytes more)) (r.says more tt);
-      cause = tt;
-    }
+    took_by r (omega (arith, r.long)) (λ more f. took_so listing r.bytes more (omega (arith, r.long, length-append r.bytes more)) (r.says more tt))
 
 refused_took : {i i' : Intake} (at : ℕ) (reason : AnalyzeReason) → ListsTaken i i' (Err (faults.Refused at reason)) → Took i i' (Refused at reason)
 refused_took at reasons.TooLong p = too_much_took p

@@ -1,5 +1,5 @@
 -- `check @c1 @c2` accepts.
-use Rattle.std.proofs.Common.{ℕ, Option, sym, subst, refl, arith}
+use Rattle.std.proofs.Common.{Option, sym, subst, refl, arith}
 use Rattle.dev_clock_images.proofs.ClockSets.{sets_are_compatible}
 use Rattle.vms_check.specs.declared.mismatch.Mismatch.{Mismatch}
 use Rattle.vms_commands.specs.Outcomes.{done}

@@ -13,7 +13,7 @@ use Rattle.vms_spec.specs.Images.{Image}
 use Rattle.vms_spec.specs.Sets.{Set}
 use Rattle.vms_stream.specs.Faults.{Fault}
 use Rattle.vms_stream.specs.Streams.{Takes}
-use Rattle.vms_stream.proofs.Stated.{one_stream_holds, never_both_holds, one_fault_holds}
+use Rattle.vms_stream.proofs.Stated.{one_stream_holds, never_both_holds}
 use Rattle.vms_frames.specs.declared.fault.Refusal.{Refusal}
 use Rattle.vms_load.specs.Going.{LoadReads}
 use Rattle.vms_load.specs.Staging.{most_given, name_of}
@@ -39,6 +39,7 @@ use Rattle.vms_board_commands.proofs.SeenLemmas.{content_seen, load_seen, other_
 use Rattle.vms_cli.specs.Statuses.{convert_course}
 use Rattle.vms_cli.specs.Convert.{Converts, ConvertGives, ConvertsBy, ConvertsWith, EndsLike, FailsReading, FailsWriting, IsDone, IsLost, IsMismatch, IsRefused, LacksMemory, MayLackMemory, NamesCell, Refuses, Rewrites, WouldLose, agreed, agrees, lost_line, newest}
 use Rattle.vms_cli.proofs.AnalyzeLemmas.{Stands}
+use Rattle.vms_cli.proofs.ShowLemmas.{same_refusal}
 use Rattle.vms_cli.proofs.Conversions.{lost_inside, never_both, newest_fit, one_loss, one_stream}
 
 -- ---- the outcome of an input
@@ -96,12 +97,7 @@ module _ (to : Set) (fit : IsFit to) (compatible : Compatible to newest) (bytes 
       → x ≡ ended 1 (refused_line newest place section reason) (place + size)
   refused_is place section reason size x fault (Rewrites taken machine images stream takes q) = no_fault taken machine images place section reason size takes fault
   refused_is place section reason size x fault (WouldLose taken machine images section' cell takes q) = no_fault taken machine images place section reason size takes fault
-  refused_is place section reason size x fault (Refuses place' section' reason' size' fault') =
-      let same = one_fault_holds newest newest.machines bytes ok place' place section' section reason' reason size' size fault' fault in
-      ap (λ (n : ℕ). ended 1 (refused_line newest n section' reason') (n + size')) same.places
-      ∙ ap (λ (o : Option ℕ). ended 1 (refused_line newest place o reason') (place + size')) same.sections
-      ∙ ap (λ (r : Reason). ended 1 (refused_line newest place section r) (place + size')) same.reasons
-      ∙ ap (λ (n : ℕ). ended 1 (refused_line newest place section reason) (place + n)) same.sizes
+  refused_is place section reason size x fault (Refuses place' section' reason' size' fault') = same_refusal newest bytes ok place place' section section' reason reason' size size' fault fault'
 
   -- so an input has one
   pub converts_same : (x y : Outcome) → Converts to bytes held x → Converts to bytes held y → y ≡ x

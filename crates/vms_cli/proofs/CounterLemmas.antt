@@ -1,4 +1,4 @@
--- Of `counter`: what is answered is the text that its steps give, and what is untouched where it ends.
+-- Of `counter`: what is answered is the text that its steps give.
 use Rattle.std.proofs.Common.{◌≡◌, ℕ, true, List, ◌++◌, get_or, map, Option, sym, ap, ◌∙◌, subst, arith}
 use Rattle.std.specs.declared.alloc.Global.{Global}
 use Rattle.std.specs.declared.vec.Vec.{Vec}

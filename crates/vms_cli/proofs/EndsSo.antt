@@ -3,6 +3,7 @@ use Rattle.std.proofs.Common.{◌≡◌, ℕ, Bool, true, false, List, [], ◌�
 use Rattle.std.specs.Io.KnownBytes.{Keeps}
 use Rattle.vms_io.specs.Causes.{Rose}
 use Rattle.vms_io.specs.Shelving.{Looks, Reaches}
+use Rattle.vms_io.proofs.ShelvingLemmas.{looks_reaches}
 use Rattle.vms_io.specs.Told.{Intake, Outlet, Stock}
 use Rattle.vms_io.specs.Writing.{Serves}
 use Rattle.vms_board_commands.specs.Causes.{save_course}
@@ -10,12 +11,15 @@ use Rattle.vms_commands.specs.declared.ending.Ending.{Ending}
 use Rattle.vms_commands.specs.declared.ending.Ending.TheVariants.{Done, BadText, NotCompatible, ReadFault, WriteFault, ShelfFault, NotThere, TooLarge, NoMemory}
 use Rattle.vms_commands.specs.Endings.{Caused, Quiet, status_of}
 use Rattle.vms_commands.specs.Courses.{Draws, EndsSo, Risen, is_among, of_shelf, text_course}
-use Rattle.vms_commands.proofs.CourseLemmas.{so_since, wrong}
+use Rattle.vms_commands.proofs.CourseLemmas.{draws_none, so_since, wrong}
 use Rattle.vms_board_commands.proofs.CourseLemmas.{among_left, shelf_has}
-use Rattle.vms_cli.specs.Causes.{WriteCause}
+use Rattle.vms_cli.specs.Causes.{WriteCause, WritesBy}
 use Rattle.vms_cli.specs.Commands.{Asked}
 use Rattle.vms_cli.specs.Statuses.{check_course, counter_course, course_of, stores_at, writes_at}
 use Rattle.vms_cli.proofs.RowTables.{stores_one, writes_one}
+use Rattle.vms_io.specs.Shelves.{Held}
+use Rattle.vms_board_commands.specs.Seen.{SeenAs}
+use Rattle.vms_cli.specs.Rows.{OutcomeWith}
 
 -- ---- the causes of commands, by those of their steps
 
@@ -131,12 +135,33 @@ module _ (i : Intake) (o o' : Outlet) (s s' : Stock) where
       let own = 0 ∷ 6 ∷ 10 ∷ [] in
       text_by own true e (text_so i i o o' s s' own true false (compares_none own refl refl refl) e c) l
 
-  pub check_ends : (b : Bool) (e : Ending) → TextCause b true o o' s s' e → Left i i o o' s s' b → EndsSo i i o o' s s' (check_course b) e
-  check_ends b e c l =
-      let own = 0 ∷ 4 ∷ 6 ∷ 10 ∷ [] in
-      text_by own b e (text_so i i o o' s s' own b true (record { none = refl; six = refl; ten = refl; four = λ f. refl }) e c) l
+  -- once all sets are there, no text is bad
+  written_so : (asks compares : Bool) (e : Ending) → WriteCause false compares o o' e → TextCause asks compares o o' s s' e
+  written_so asks compares Done c = tt
+  written_so asks compares (BadText line) c = absurd (wrong (sym c.0))
+  written_so asks compares (NotCompatible line) c = c
+  written_so asks compares WriteFault c = c
+  written_so asks compares NoMemory c = c
+  written_so asks compares e c = absurd c
 
-  pub counter_ends : (b : Bool) (e : Ending) → TextCause b false o o' s s' e → Left i i o o' s s' b → EndsSo i i o o' s s' (counter_course b) e
-  counter_ends b e c l =
+  -- where the shelf was asked alone
+  looked : (b : Bool) → Looks s s' → (b ≡ false → s' ≡ s) → Serves o o' → Left i i o o' s s' b
+  looked b looks unasked serves = record { held = looks.held; unasked = unasked; draws = draws_none i; serves = serves; reaches = looks_reaches looks }
+
+  pub check_ends : (b : Bool) (e : Ending) → WritesBy false true o o' e → Looks s s' → (b ≡ false → s' ≡ s) → EndsSo i i o o' s s' (check_course b) e
+  check_ends b e w looks unasked =
+      let own = 0 ∷ 4 ∷ 6 ∷ 10 ∷ [] in
+      text_by own b e (text_so i i o o' s s' own b true (record { none = refl; six = refl; ten = refl; four = λ f. refl }) e (written_so b true e w.cause)) (looked b looks unasked w.serves)
+
+  pub counter_ends : (b : Bool) (e : Ending) → WritesBy false false o o' e → Looks s s' → (b ≡ false → s' ≡ s) → EndsSo i i o o' s s' (counter_course b) e
+  counter_ends b e w looks unasked =
       let own = 0 ∷ 6 ∷ 10 ∷ [] in
-      text_by own b e (text_so i i o o' s s' own b false (compares_none own refl refl refl) e c) l
+      text_by own b e (text_so i i o o' s s' own b false (compares_none own refl refl refl) e (written_so b false e w.cause)) (looked b looks unasked w.serves)
+
+-- ---- of the command that is asked for
+
+pub asked_so : {i i' : Intake} {o o' : Outlet} {s s' : Stock} {e : Ending} (asked own : Option Asked) → own ≡ asked → EndsSo i i' o o' s s' (course_of own) e → EndsSo i i' o o' s s' (course_of asked) e
+asked_so {i} {i'} {o} {o'} {s} {s'} {e} asked own same h = subst (λ (a : Option Asked). EndsSo i i' o o' s s' (course_of a) e) same h
+
+pub asked_seen : (held : Option Held) {i i' : Intake} {o o' : Outlet} {s s' : Stock} {e : Ending} (asked own : Option Asked) → own ≡ asked → SeenAs (OutcomeWith own held) i i' o o' s s' e → SeenAs (OutcomeWith asked held) i i' o o' s s' e
+asked_seen held {i} {i'} {o} {o'} {s} {s'} {e} asked own same h = subst (λ (a : Option Asked). SeenAs (OutcomeWith a held) i i' o o' s s' e) same h

@@ -21,6 +21,7 @@ pub mod RowTables
 pub mod SaveLaws
 pub mod ShowLemmas
 pub mod StateLaws
+pub mod StepsOfTwo
 pub mod UpgradeLemmas
 pub mod VerdictLaws
 pub mod WordLaws

@@ -17,10 +17,28 @@ use Rattle.vms_cli.specs.Statuses.{course_of, reads, statuses_of, stores_at, tak
 use Rattle.vms_cli.proofs.EndsSo.{caused_so}
 use Rattle.vms_cli.proofs.VerdictLaws.{StopsAt}
 use Rattle.vms_cli.proofs.RowTables.{HasSix, at_six, six_among, stores_six, takes_six, writes_six}
+use Rattle.vms_commands.specs.Lines.{bad_words, out_of_memory, read_fault, shelf_fault, write_fault}
 
 -- the statuses of refusals, of texts, of sets and of what would be lost
 abbrev is_own : ℕ → Bool
 is_own k = is_among (1 ∷ 3 ∷ 4 ∷ 8 ∷ 9 ∷ 11 ∷ []) k
+
+-- why a status of no command's own was answered
+data Why : Type 0 where
+  Well : Why
+  Words : Why
+  Input : Why
+  Sink : Why
+  Shelf : Why
+  Memory : Why
+
+abbrev status_at : Why → ℕ
+status_at Well = 0
+status_at Words = 2
+status_at Input = 5
+status_at Sink = 6
+status_at Shelf = 7
+status_at Memory = 10
 
 -- how a command ends: what it touches, how much of the input is given, and what is seen of it
 pub record RunsSo (i i' : Intake) (o o' : Outlet) (s s' : Stock) (asked : Option Asked) (e : Ending) : Type 0 where
@@ -64,67 +82,42 @@ module _ (i i' : Intake) (o o' n n' : Outlet) (s s' : Stock) where
         let same : k ≡ m = sym is ∙ e in
         wrong (sym own ∙ ap is_own same ∙ other)
 
-  six_cause : (status : ℕ) → status ≡ 6 → Rose n.faults n'.faults → HasCause status old new
-  six_cause status six rose = record {
-    done = λ e. absurd (omega (arith, e, six));
-    words = λ e. absurd (omega (arith, e, six));
-    input = λ e. absurd (omega (arith, e, six));
-    sink = λ e. inr rose;
-    shelf = λ e. absurd (omega (arith, e, six));
-    memory = λ e. absurd (omega (arith, e, six));
+  abbrev Holds : Why → Type 0
+  Holds Well = new.notes ≡ old.notes
+  Holds Words = Appends old.notes.written new.notes.written bad_words
+  Holds Input = Rose old.input.faults new.input.faults × Appends old.notes.written new.notes.written read_fault
+  Holds Sink = (Rose old.out.faults new.out.faults × Appends old.notes.written new.notes.written write_fault) ⊎ Rose old.notes.faults new.notes.faults
+  Holds Shelf = Rose old.shelf.faults new.shelf.faults × Appends old.notes.written new.notes.written shelf_fault
+  Holds Memory = Appends old.notes.written new.notes.written out_of_memory
+
+  same_why : (a b : Why) → status_at a ≡ status_at b → Holds a → Holds b
+  same_why Well Well e h = h
+  same_why Words Words e h = h
+  same_why Input Input e h = h
+  same_why Sink Sink e h = h
+  same_why Shelf Shelf e h = h
+  same_why Memory Memory e h = h
+  same_why _ _ e h = absurd (omega (arith, e))
+
+  why_cause : (why : Why) (status : ℕ) → status ≡ status_at why → Holds why → HasCause status old new
+  why_cause why status is h = record {
+    done = λ e. same_why why Well (sym is ∙ e) h;
+    words = λ e. same_why why Words (sym is ∙ e) h;
+    input = λ e. same_why why Input (sym is ∙ e) h;
+    sink = λ e. same_why why Sink (sym is ∙ e) h;
+    shelf = λ e. same_why why Shelf (sym is ∙ e) h;
+    memory = λ e. same_why why Memory (sym is ∙ e) h;
   }
 
   has_cause : (asked : Option Asked) (e : Ending) (status : ℕ) → EndsSo i i' o o' s s' (course_of asked) e → Tells n n' e status → HasCause status old new
-  has_cause asked Done status h t = record {
-    done = λ e. t.1;
-    words = λ e. absurd (omega (arith, e, t.0));
-    input = λ e. absurd (omega (arith, e, t.0));
-    sink = λ e. absurd (omega (arith, e, t.0));
-    shelf = λ e. absurd (omega (arith, e, t.0));
-    memory = λ e. absurd (omega (arith, e, t.0));
-  }
-  has_cause asked BadWords status h (inl t) = record {
-    done = λ e. absurd (omega (arith, e, t.0));
-    words = λ e. t.1;
-    input = λ e. absurd (omega (arith, e, t.0));
-    sink = λ e. absurd (omega (arith, e, t.0));
-    shelf = λ e. absurd (omega (arith, e, t.0));
-    memory = λ e. absurd (omega (arith, e, t.0));
-  }
-  has_cause asked ReadFault status h (inl t) = record {
-    done = λ e. absurd (omega (arith, e, t.0));
-    words = λ e. absurd (omega (arith, e, t.0));
-    input = λ e. (h.risen, t.1);
-    sink = λ e. absurd (omega (arith, e, t.0));
-    shelf = λ e. absurd (omega (arith, e, t.0));
-    memory = λ e. absurd (omega (arith, e, t.0));
-  }
-  has_cause asked WriteFault status h (inl t) = record {
-    done = λ e. absurd (omega (arith, e, t.0));
-    words = λ e. absurd (omega (arith, e, t.0));
-    input = λ e. absurd (omega (arith, e, t.0));
-    sink = λ e. inl (h.risen, t.1);
-    shelf = λ e. absurd (omega (arith, e, t.0));
-    memory = λ e. absurd (omega (arith, e, t.0));
-  }
-  has_cause asked ShelfFault status h (inl t) = record {
-    done = λ e. absurd (omega (arith, e, t.0));
-    words = λ e. absurd (omega (arith, e, t.0));
-    input = λ e. absurd (omega (arith, e, t.0));
-    sink = λ e. absurd (omega (arith, e, t.0));
-    shelf = λ e. (h.risen, t.1);
-    memory = λ e. absurd (omega (arith, e, t.0));
-  }
-  has_cause asked NoMemory status h (inl t) = record {
-    done = λ e. absurd (omega (arith, e, t.0));
-    words = λ e. absurd (omega (arith, e, t.0));
-    input = λ e. absurd (omega (arith, e, t.0));
-    sink = λ e. absurd (omega (arith, e, t.0));
-    shelf = λ e. absurd (omega (arith, e, t.0));
-    memory = λ e. t.1;
-  }
+  has_cause asked Done status h t = why_cause Well status t.0 t.1
+  has_cause asked BadWords status h (inl t) = why_cause Words status t.0 t.1
+  has_cause asked ReadFault status h (inl t) = why_cause Input status t.0 (h.risen, t.1)
+  has_cause asked WriteFault status h (inl t) = why_cause Sink status t.0 (inl (h.risen, t.1))
+  has_cause asked ShelfFault status h (inl t) = why_cause Shelf status t.0 (h.risen, t.1)
+  has_cause asked NoMemory status h (inl t) = why_cause Memory status t.0 t.1
   has_cause asked e status h (inl t) = own_cause (status_of e) status t.0 refl
-  has_cause asked e status h (inr t) = six_cause status t.0 t.1
+  has_cause asked e status h (inr t) = why_cause Sink status t.0 (inr t.1)
 
   -- ---- what is touched
 

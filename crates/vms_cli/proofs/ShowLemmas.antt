@@ -59,17 +59,23 @@ shown_is set fit bytes held taken machine images x ok takes (Values taken' machi
 shown_is set fit bytes held taken machine images x ok takes (Refuses place section reason size fault) =
     absurd (never_both_holds set set.machines fit.well fit.heads bytes ok taken machine images place section reason size takes fault)
 
--- the outcome of an input that is at fault
-pub refused_is : (set : Set) → IsFit set → (bytes : List ℕ) (held : Option Held) (place : ℕ) (section : Option ℕ) (reason : Reason) (size : ℕ) (x : Outcome) → IsBytes bytes
-    → Fault set set.machines bytes place section reason size → Shows set bytes held x → x ≡ ended 1 (refused_line set place section reason) (place + size)
-refused_is set fit bytes held place section reason size x ok fault (Values taken machine images takes) =
-    absurd (never_both_holds set set.machines fit.well fit.heads bytes ok taken machine images place section reason size takes fault)
-refused_is set fit bytes held place section reason size x ok fault (Refuses place' section' reason' size' fault') =
+-- an input is at fault in one way
+pub same_refusal : (set : Set) (bytes : List ℕ) → IsBytes bytes → (place place' : ℕ) (section section' : Option ℕ) (reason reason' : Reason) (size size' : ℕ)
+    → Fault set set.machines bytes place section reason size → Fault set set.machines bytes place' section' reason' size'
+    → ended 1 (refused_line set place' section' reason') (place' + size') ≡ ended 1 (refused_line set place section reason) (place + size)
+same_refusal set bytes ok place place' section section' reason reason' size size' fault fault' =
     let same = one_fault_holds set set.machines bytes ok place' place section' section reason' reason size' size fault' fault in
     ap (λ (n : ℕ). ended 1 (refused_line set n section' reason') (n + size')) same.places
     ∙ ap (λ (o : Option ℕ). ended 1 (refused_line set place o reason') (place + size')) same.sections
     ∙ ap (λ (r : Reason). ended 1 (refused_line set place section r) (place + size')) same.reasons
     ∙ ap (λ (n : ℕ). ended 1 (refused_line set place section reason) (place + n)) same.sizes
+
+-- the outcome of an input that is at fault
+pub refused_is : (set : Set) → IsFit set → (bytes : List ℕ) (held : Option Held) (place : ℕ) (section : Option ℕ) (reason : Reason) (size : ℕ) (x : Outcome) → IsBytes bytes
+    → Fault set set.machines bytes place section reason size → Shows set bytes held x → x ≡ ended 1 (refused_line set place section reason) (place + size)
+refused_is set fit bytes held place section reason size x ok fault (Values taken machine images takes) =
+    absurd (never_both_holds set set.machines fit.well fit.heads bytes ok taken machine images place section reason size takes fault)
+refused_is set fit bytes held place section reason size x ok fault (Refuses place' section' reason' size' fault') = same_refusal set bytes ok place place' section section' reason reason' size size' fault fault'
 
 -- so an input has one
 pub shows_same : (set : Set) → IsFit set → (bytes : List ℕ) (held : Option Held) (x y : Outcome) → IsBytes bytes → Shows set bytes held x → Shows set bytes held y → y ≡ x

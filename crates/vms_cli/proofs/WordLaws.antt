@@ -1,5 +1,5 @@
 -- Words name boards that there are.
-use Rattle.std.proofs.Common.{◌≡◌, ℕ, ◌≤◌, Bool, true, false, if◌then◌else◌, List, [], ◌∷◌, Option, Some, None, codes, arith, refl}
+use Rattle.std.proofs.Common.{◌≡◌, ℕ, Bool, true, false, if◌then◌else◌, List, [], ◌∷◌, Option, Some, None, codes, arith, refl}
 use Rattle.std.proofs.lemmas.Bool.Decides.{nat_tests}
 use Rattle.std.specs.Str.{bytes_eq}
 use Rattle.dev_base.specs.Levels.{IsLevel, ReachesSet}
@@ -92,21 +92,19 @@ pack-asked : (set : Option SetWord) (values : List ℕ) → CanBeAsked (pack_of 
 pack-asked None values = tt
 pack-asked (Some set) values = either-asked (is_shelf_name values) (Some (Pack set values)) None tt tt
 
-load-if : (b : Bool) (board : BoardWord) (script : List ℕ) → IsBoard board → CanBeAsked (load_of (if b then Some (board, script) else None))
-load-if true board script is = is
-load-if false board script is = tt
+-- of a word with its script, where the script's name is one of the shelf
+scripted-asked : {A : Type 0} (ask : Option (A × List ℕ) → Option Asked) (b : Bool) (x : A) (script : List ℕ) → CanBeAsked (ask (Some (x, script))) → CanBeAsked (ask None)
+    → CanBeAsked (ask (if b then Some (x, script) else None))
+scripted-asked ask true x script p q = p
+scripted-asked ask false x script p q = q
 
 load-asked : (board : Option BoardWord) (script : List ℕ) → IsThere board → CanBeAsked (load_of (on_board board script))
 load-asked None script is = tt
-load-asked (Some board) script is = load-if (is_shelf_name script) board script is
-
-play-if : (b : Bool) (level : ℕ) (script : List ℕ) → IsLevel level → CanBeAsked (play_of (if b then Some (level, script) else None))
-play-if true level script is = is
-play-if false level script is = tt
+load-asked (Some board) script is = scripted-asked load_of (is_shelf_name script) board script is tt
 
 play-asked : (level : Option ℕ) (script : List ℕ) → HasLevel level → CanBeAsked (play_of (on_board level script))
 play-asked None script is = tt
-play-asked (Some level) script is = play-if (is_shelf_name script) level script is
+play-asked (Some level) script is = scripted-asked play_of (is_shelf_name script) level script is tt
 
 under-asked : (board : BoardWord) (newest number set : ℕ) (script : List ℕ) (b : Bool) → is_set_of newest number set ≡ b → IsBoard board
     → (ReachesSet newest number set → MaySaveOn board set)

@@ -16,5 +16,6 @@ pub mod Rows
 pub mod Show
 pub mod States
 pub mod Statuses
+pub mod TwoSets
 pub mod Upgrade
 pub mod ValuesLines

@@ -1,5 +1,5 @@
 // The command `counter`: a state that shows why a newer set refuses what an older one writes.
-ghost use Rattle.std.specs.Prelude.{◌≡◌, ◌≤◌, ◌<◌, ◌^◌, ◌++◌, ◌||◌, false, length, map, IfSome, IfOk, string_bytes};
+ghost use Rattle.std.specs.Prelude.{◌≡◌, ◌<◌, ◌^◌, ◌++◌, false, length, map, IfSome, IfOk, string_bytes};
 ghost use Rattle.vms_io.specs.Told.{Intake, outlet, stock};
 ghost use Rattle.vms_io.specs.Writing.{Wrote};
 ghost use Rattle.vms_spec.specs.Lists.{at_option};
@@ -11,23 +11,22 @@ ghost use Rattle.vms_counter_laws.specs.Computed.{computed};
 ghost use Rattle.vms_counter.specs.Found.{answer_of, IsFindingOf};
 ghost use Rattle.vms_commands.specs.Asks.{set_asked};
 ghost use Rattle.vms_commands.specs.Endings.{EndsAs};
-ghost use Rattle.vms_commands.specs.Fetching.{is_text, named_sets, set_in, sets_in};
+ghost use Rattle.vms_commands.specs.Fetching.{named_sets};
 ghost use Rattle.vms_commands.specs.Lines.{refused_line};
 ghost use Rattle.vms_commands.specs.Outcomes.{Outcome};
 ghost use Rattle.vms_commands.specs.SetLines.{mismatch_line};
-ghost use Rattle.vms_commands.specs.StepEndings.{TextEnds, WrittenAs, text_of};
-ghost use Rattle.vms_commands.specs.Steps.{next};
+ghost use Rattle.vms_commands.specs.StepEndings.{WrittenAs};
 ghost use Rattle.vms_cli.specs.Causes.{WritesBy};
 ghost use Rattle.vms_cli.specs.Statuses.{counter_course};
 ghost use Rattle.vms_commands.specs.Courses.{EndsSo};
 ghost use Rattle.vms_cli.specs.Check.{asks_shelf};
-ghost use Rattle.vms_cli.specs.Counter.{CountersBy, counted, counter_text, no_state};
+ghost use Rattle.vms_cli.specs.TwoSets.{sets_of};
+ghost use Rattle.vms_cli.specs.Counter.{CountersBy, counter_text, no_state};
 
+use crate::two_sets::{TwoSets, two_sets};
 use std::alloc::Global;
 use vms_check::Mismatch;
-use vms_commands::{
-    Ending, SetText, SetWord, fetch_set, mismatch_line, read_fetched, refused_line,
-};
+use vms_commands::{Ending, SetWord, mismatch_line, refused_line};
 use vms_counter::Finding;
 use vms_desc::DescSet;
 use vms_image::Image;
@@ -51,54 +50,20 @@ pub(crate) fn counter<O: Sink, H: Shelf>(
         (outlet O.Sink out.new) (stock H.Shelf shelf.old) (stock H.Shelf shelf.new)
         (counter_course (asks_shelf (set_asked old.entry) (set_asked new.entry))) result }
 {
-    let old = match fetch_set(alloc, old, shelf) {
-        Ok(text) => text,
-        Err(ending) => return ending,
-    };
-    let new = match fetch_set(alloc, new, shelf) {
-        Ok(text) => text,
-        Err(ending) => return ending,
-    };
-    counter_texts(alloc, &old, &new, out)
-}
-
-// Once both sets are fetched.
-fn counter_texts<O: Sink>(alloc: Global, old: &SetText, new: &SetText, out: &mut O) -> Ending
-    ensures ends { TextEnds
-        (next (sets_in (record { old = text_of old.now; new = text_of new.now })) counted)
-        (outlet O.Sink out.old) (outlet O.Sink out.new) result }
-    ensures so { WritesBy (is_text (text_of old.now) || is_text (text_of new.now)) false
-        (outlet O.Sink out.old) (outlet O.Sink out.new) result }
-{
-    match read_fetched(alloc, old) {
-        Ok(old) => counter_text(alloc, &old, new, out),
+    match two_sets(alloc, old, new, shelf) {
+        Ok(sets) => find(alloc, sets, out),
         Err(ending) => ending,
     }
 }
 
-// Once the old set is read.
-fn counter_text<O: Sink>(alloc: Global, old: &DescSet, new: &SetText, out: &mut O) -> Ending
-    ensures ends { TextEnds
-        (next (set_in (text_of new.now))
-        (λ set. counted (record { old = described old.now; new = set })))
-        (outlet O.Sink out.old) (outlet O.Sink out.new) result }
-    ensures so { WritesBy (is_text (text_of new.now)) false
-        (outlet O.Sink out.old) (outlet O.Sink out.new) result }
-{
-    match read_fetched(alloc, new) {
-        Ok(new) => find(alloc, old, new, out),
-        Err(ending) => ending,
-    }
-}
-
-fn find<O: Sink>(alloc: Global, old: &DescSet, new: DescSet, out: &mut O) -> Ending
-    ensures ends { WrittenAs (counter_text (described old.now) (described new)
-        (computed (described old.now) (described new)))
+fn find<O: Sink>(alloc: Global, sets: TwoSets, out: &mut O) -> Ending
+    ensures ends { let two = sets_of sets in WrittenAs
+        (counter_text two.old two.new (computed two.old two.new))
         (outlet O.Sink out.old) (outlet O.Sink out.new) result }
     ensures so { WritesBy false false (outlet O.Sink out.old) (outlet O.Sink out.new) result }
 {
-    match Loader::new(alloc, new) {
-        Ok(mut loader) => find_with(alloc, old, &mut loader, out),
+    match Loader::new(alloc, sets.new) {
+        Ok(mut loader) => find_with(alloc, &sets.old, &mut loader, out),
         Err(_) => Ending::NoMemory,
     }
 }

@@ -12,6 +12,7 @@ pub mod laws;
 mod pack;
 mod show;
 mod top;
+mod two_sets;
 mod values_notes;
 mod words;
 

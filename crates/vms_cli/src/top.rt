@@ -100,7 +100,8 @@ fn run<I: Source, O: Sink, H: Shelf>(
         (stock H.Shelf shelf.old) (stock H.Shelf shelf.new) result o }
     ensures so { EndsSo (intake I.Source input.old) (intake I.Source input.new)
         (outlet O.Sink out.old) (outlet O.Sink out.new)
-        (stock H.Shelf shelf.old) (stock H.Shelf shelf.new) (course_of (asked_of words.now)) result }
+        (stock H.Shelf shelf.old) (stock H.Shelf shelf.new)
+        (course_of (asked_of words.now)) result }
     ensures given { Gives (asked_of words.now) (H.held shelf.old)
         (intake I.Source input.old) (intake I.Source input.new) }
     ensures seen { reads (asked_of words.now) ≡ true

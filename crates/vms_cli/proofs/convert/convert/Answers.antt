@@ -3,7 +3,7 @@ use Rattle.vms_io.specs.Told.{intake, outlet, stock}
 use Rattle.vms_desc.specs.Described.{described}
 use Rattle.vms_commands.specs.Asks.{set_asked}
 use Rattle.vms_commands.specs.Fetching.{fetched_set, is_on_shelf, set_in, word_set}
-use Rattle.vms_commands.specs.StepEndings.{ReadCause, text_of}
+use Rattle.vms_commands.specs.StepEndings.{ReadCause, StepAs, text_of}
 use Rattle.vms_commands.proofs.EndLemmas.{quiet_same}
 use Rattle.vms_commands.proofs.StepLemmas.{ended_by, first_err, had_by, then_as}
 use Rattle.vms_cli.specs.Convert.{ConvertsWell, agrees}
@@ -13,33 +13,32 @@ use Rattle.vms_board_commands.proofs.CourseLemmas.{text_asks, unset_so}
 use Rattle.vms_board_commands.proofs.ScriptLemmas.{unfetched, unread}
 use Rattle.vms_cli.proofs.EndsSo.{behind_so}
 use Rattle.vms_board_commands.proofs.SeenLemmas.{other_seen, set_other}
+use Rattle.vms_cli.proofs.convert.convert.Given.{Over}
+use Rattle.vms_cli.proofs.convert.convert.Goals.{In-Ok-read_fetched}
 use Rattle.vms_cli.proofs.convert.convert.Goals as goal
+
+-- the set that is read is the word's
+had : (g : Over) (c : In-Ok-read_fetched g) → StepAs described (word_set (g.H.Shelf.held c.args.shelf.now) (set_asked c.args.set)) (Ok c.in-Ok-read_fetched.set)
+had g c =
+    then_as text_of described set_in (fetched_set (g.H.Shelf.held c.args.shelf.now) (set_asked c.args.set)) c.in-Ok.text (Ok c.in-Ok-read_fetched.set) c.in-Ok.ensures.fetched c.in-Ok-read_fetched.ensures.read
 
 pub returns-in-Ok-read_fetched-clause-content : goal.returns-in-Ok-read_fetched-clause-content
 returns-in-Ok-read_fetched-clause-content g c = λ o has.
     let held = g.H.Shelf.held c.args.shelf.now in
     let left = g.I.Source.left c.args.input.now in
-    let word = set_asked c.args.set in
-    let set = c.in-Ok-read_fetched.set in
-    let had = then_as text_of described set_in (fetched_set held word) c.in-Ok.text (Ok set) c.in-Ok.ensures.fetched c.in-Ok-read_fetched.ensures.read in
+    let step = word_set held (set_asked c.args.set) in
     c.convert_to.ensures.content (stock g.H.Shelf c.args.shelf.now) (stock g.H.Shelf c.fetch_set.new.shelf) o c.in-Ok.ensures.asks.looks.held
-    (had_by described (converts_after left held) (word_set held word) set o had (converts_next left held (word_set held word) o has))
+    (had_by described (converts_after left held) step c.in-Ok-read_fetched.set o (had g (goal.at.returns-in-Ok-read_fetched-clause-content g c).In-Ok-read_fetched) (converts_next left held step o has))
 
 pub returns-in-Ok-read_fetched-clause-given : goal.returns-in-Ok-read_fetched-clause-given
 returns-in-Ok-read_fetched-clause-given g c =
-    let held = g.H.Shelf.held c.args.shelf.now in
-    let word = set_asked c.args.set in
-    let set = c.in-Ok-read_fetched.set in
-    let had = then_as text_of described set_in (fetched_set held word) c.in-Ok.text (Ok set) c.in-Ok.ensures.fetched c.in-Ok-read_fetched.ensures.read in
-    gives_next described agrees (word_set held word) set (intake g.I.Source c.args.input.now) (intake g.I.Source c.convert_to.new.input) had c.convert_to.ensures.given
+    gives_next described agrees (word_set (g.H.Shelf.held c.args.shelf.now) (set_asked c.args.set)) c.in-Ok-read_fetched.set (intake g.I.Source c.args.input.now) (intake g.I.Source c.convert_to.new.input)
+    (had g (goal.at.returns-in-Ok-read_fetched-clause-given g c).In-Ok-read_fetched) c.convert_to.ensures.given
 
 pub returns-in-Ok-read_fetched-clause-seen : goal.returns-in-Ok-read_fetched-clause-seen
 returns-in-Ok-read_fetched-clause-seen g c =
     let held = g.H.Shelf.held c.args.shelf.now in
-    let word = set_asked c.args.set in
-    let set = c.in-Ok-read_fetched.set in
-    let had = then_as text_of described set_in (fetched_set held word) c.in-Ok.text (Ok set) c.in-Ok.ensures.fetched c.in-Ok-read_fetched.ensures.read in
-    seen_next described agrees (ConvertsWell held) c.convert_to.result (word_set held word) set had
+    seen_next described agrees (ConvertsWell held) c.convert_to.result (word_set held (set_asked c.args.set)) c.in-Ok-read_fetched.set (had g (goal.at.returns-in-Ok-read_fetched-clause-seen g c).In-Ok-read_fetched)
     (c.convert_to.ensures.seen (stock g.H.Shelf c.args.shelf.now) (stock g.H.Shelf c.fetch_set.new.shelf) c.in-Ok.ensures.asks.looks.held)
 
 pub returns-in-Err-clause-content : goal.returns-in-Err-clause-content

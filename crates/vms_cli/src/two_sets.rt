@@ -1,0 +1,38 @@
+// Two sets that words name: both are fetched, and then both are read.
+ghost use Rattle.vms_io.specs.Told.{stock};
+ghost use Rattle.vms_commands.specs.Asks.{set_asked};
+ghost use Rattle.vms_commands.specs.Fetching.{named_sets};
+ghost use Rattle.vms_commands.specs.StepEndings.{AsksIf, HadCause, StepAs};
+ghost use Rattle.vms_cli.specs.Check.{asks_shelf};
+ghost use Rattle.vms_cli.specs.TwoSets.{sets_of};
+
+use std::alloc::Global;
+use vms_commands::{Ending, SetWord, fetch_set, read_fetched};
+use vms_desc::DescSet;
+use vms_io::Shelf;
+
+/// An older and a newer set.
+#[derive(Drop)]
+pub(crate) struct TwoSets {
+    pub(crate) old: DescSet,
+    pub(crate) new: DescSet,
+}
+
+/// The sets that two words name, or how the command ends where one can't be had: the older is fetched and read first.
+pub(crate) fn two_sets<H: Shelf>(
+    alloc: Global,
+    old: SetWord,
+    new: SetWord,
+    shelf: &mut H,
+) -> Result<TwoSets, Ending>
+    ensures had { StepAs sets_of
+        (named_sets (H.held shelf.old) (set_asked old.entry) (set_asked new.entry)) result }
+    ensures asks { AsksIf HadCause (asks_shelf (set_asked old.entry) (set_asked new.entry))
+        (stock H.Shelf shelf.old) (stock H.Shelf shelf.new) result }
+{
+    let old = fetch_set(alloc, old, shelf)?;
+    let new = fetch_set(alloc, new, shelf)?;
+    let old = read_fetched(alloc, &old)?;
+    let new = read_fetched(alloc, &new)?;
+    Ok(TwoSets { old, new })
+}
