@@ -69,7 +69,8 @@ impl Walker for Judge<'_> {
 
     type Fault = Unfit;
 
-    ghost goes = { λ xs a b. (b.image ≡ a.image) × (b.defaults ≡ a.defaults) × (b.next ≡ behind a.next xs)
+    ghost goes = { λ xs a b. (b.image ≡ a.image) × (b.defaults ≡ a.defaults)
+        × (b.next ≡ behind a.next xs)
         × (are_steps_fine (formed a.defaults.now) a.image.now.numbers a.next xs ≡ true) };
 
     ghost stops = { λ xs a fault b. (b.image ≡ a.image)
