@@ -11,9 +11,9 @@ use Rattle.vms_json.specs.Keys.{fits}
 use Rattle.vms_selfdesc.specs.Tree.{entry_tree, list_tree}
 use Rattle.vms_analyze.specs.Told.{Told, told_entry, ToldSub, told_sub, ToldDevice, told_device, told_tree, is_path, fits_four, is_good, is_kept, is_good_sub, is_good_device}
 use Rattle.vms_analyze.specs.Sorted.{IsSorted, AreSorted, HoldSorted}
-use Rattle.vms_analyze.specs.Read.{next, path_at, four_at, flag_at, list_at, each, element_in, elements_in, sub_keys, sub_from, sub_in, subs_in, device_keys, device_from, device_in, devices_in}
+use Rattle.vms_analyze.specs.Read.{next, path_at, four_at, flag_at, list_at, each, element_in, elements_in, sub_keys, sub_in, subs_in, device_keys, device_in, devices_in}
 use Rattle.vms_analyze.proofs.Ordered.{is_picked}
-use Rattle.vms_analyze.proofs.MembersRead.{after, first_then, only_is, only_so, under, path_is, four_is, flag_is, list_is, Says, each_says, each_back}
+use Rattle.vms_analyze.proofs.MembersRead.{after, first_then, only_is, only_so, under, path_is, IsPathAt, four_is, flag_is, list_is, Says, each_says, each_back}
 use Rattle.vms_analyze.proofs.ElementsRead.{element_tree, element_says, element_back}
 
 -- ---- what a member holds is sorted
@@ -73,39 +73,36 @@ sub_same f f' n n' s s' v v' a b c d = cc
 abbrev a_sub : List ℕ → Bool → ℕ → List Told → ToldSub
 a_sub name sent version elements = record { name = name; sent = sent; version = version; elements = elements }
 
-sub_from_says : (d : Data) → IsSorted d → fits sub_keys [] d ≡ true → (s : ToldSub) → sub_from d ≡ Some s → Says told_sub is_good_sub d s
-sub_from_says d sorted h s e =
-    let a = after (path_at 255 (codes "name") d) _ s e in
-    let b = after (flag_at (codes "sent") d) _ s a.then in
+-- of an object with these keys, which has a name
+by_keys : {A : Type 0} (tree : A → Data) (good : A → Bool) (keys : List (List ℕ)) (rest : List ℕ → Option A) (d : Data) (a : A)
+    → (if fits keys [] d then next (path_at 255 (codes "name") d) rest else None) ≡ Some a
+    → (fits keys [] d ≡ true → (name : List ℕ) → IsPathAt 255 (codes "name") d name → rest name ≡ Some a → Says tree good d a) → Says tree good d a
+by_keys tree good keys rest d a e says = go (fits keys [] d) refl e
+  where
+    go : (b : Bool) → fits keys [] d ≡ b → (if b then next (path_at 255 (codes "name") d) rest else None) ≡ Some a → Says tree good d a
+    go true f e =
+        let n = after (path_at 255 (codes "name") d) rest a e in
+        says f n.value (path_is 255 (codes "name") d n.value n.first) n.then
+    go false f e = cc
+
+pub sub_says : (d : Data) → IsSorted d → (s : ToldSub) → sub_in d ≡ Some s → Says told_sub is_good_sub d s
+sub_says d sorted s e = by_keys told_sub is_good_sub sub_keys _ d s e (λ h name named rest.
+    let b = after (flag_at (codes "sent") d) _ s rest in
     let c = after (four_at (codes "version") d) _ s b.then in
     let l = after (elements_in d) _ s c.then in
-    let o = only_is (b.value || list_all is_kept l.value) (a_sub a.value b.value c.value l.value) s l.then in
-    let name = path_is 255 (codes "name") d a.value a.first in
+    let o = only_is (b.value || list_all is_kept l.value) (a_sub name b.value c.value l.value) s l.then in
     let version = four_is (codes "version") d c.value c.first in
     let elements = list_says element_tree is_good element_in element_says (codes "fields") d sorted l.value l.first in
     record {
       tree_is =
           is_picked sub_keys ((refl, (refl, (refl, tt))), ((refl, (refl, tt)), ((refl, tt), (tt, tt)))) d sorted h
-          ∙ sub_same _ _ _ _ _ _ _ _ (entries_are d l.value elements.is) name.is (flag_is (codes "sent") d b.value b.first) version.is
+          ∙ sub_same _ _ _ _ _ _ _ _ (entries_are d l.value elements.is) named.is (flag_is (codes "sent") d b.value b.first) version.is
           ∙ ap told_sub o.same;
       good_is =
           ap is_good_sub (sym o.same)
-          ∙ and_from (is_path 255 a.value && fits_four c.value && list_all is_good l.value) (b.value || list_all is_kept l.value)
-          (and_from (is_path 255 a.value && fits_four c.value) (list_all is_good l.value) (and_from (is_path 255 a.value) (fits_four c.value) name.good version.good) elements.fine) o.so;
-    }
-
--- of an object with these keys
-by_keys : {A : Type 0} (tree : A → Data) (good : A → Bool) (keys : List (List ℕ)) (from : Data → Option A)
-    → ((d : Data) → IsSorted d → fits keys [] d ≡ true → (a : A) → from d ≡ Some a → Says tree good d a)
-    → (d : Data) → IsSorted d → (a : A) → (if fits keys [] d then from d else None) ≡ Some a → Says tree good d a
-by_keys tree good keys from says d sorted a e = go (fits keys [] d) refl e
-  where
-    go : (b : Bool) → fits keys [] d ≡ b → (if b then from d else None) ≡ Some a → Says tree good d a
-    go true f e = says d sorted f a e
-    go false f e = cc
-
-pub sub_says : (d : Data) → IsSorted d → (s : ToldSub) → sub_in d ≡ Some s → Says told_sub is_good_sub d s
-sub_says d sorted s e = by_keys told_sub is_good_sub sub_keys sub_from sub_from_says d sorted s e
+          ∙ and_from (is_path 255 name && fits_four c.value && list_all is_good l.value) (b.value || list_all is_kept l.value)
+          (and_from (is_path 255 name && fits_four c.value) (list_all is_good l.value) (and_from (is_path 255 name) (fits_four c.value) named.good version.good) elements.fine) o.so;
+    })
 
 pub sub_back : (s : ToldSub) → is_good_sub s ≡ true → sub_in (told_sub s) ≡ Some s
 sub_back s e =
@@ -132,15 +129,13 @@ device_same f f' i i' n n' s s' v v' a b c d e = cc
 abbrev a_device : List ℕ → ℕ → ℕ → List Told → List ToldSub → ToldDevice
 a_device name instance version elements subs = record { name = name; instance = instance; version = version; elements = elements; subs = subs }
 
-device_from_says : (d : Data) → IsSorted d → fits device_keys [] d ≡ true → (t : ToldDevice) → device_from d ≡ Some t → Says told_device is_good_device d t
-device_from_says d sorted h t e =
-    let a = after (path_at 255 (codes "name") d) _ t e in
-    let b = after (four_at (codes "instance_id") d) _ t a.then in
+pub device_says : (d : Data) → IsSorted d → (t : ToldDevice) → device_in d ≡ Some t → Says told_device is_good_device d t
+device_says d sorted t e = by_keys told_device is_good_device device_keys _ d t e (λ h name named rest.
+    let b = after (four_at (codes "instance_id") d) _ t rest in
     let c = after (four_at (codes "version") d) _ t b.then in
     let l = after (elements_in d) _ t c.then in
     let m = after (subs_in d) _ t l.then in
-    let same : a_device a.value b.value c.value l.value m.value ≡ t = Rattle.std.proofs.lemmas.Option.same_Some _ _ m.then in
-    let name = path_is 255 (codes "name") d a.value a.first in
+    let same : a_device name b.value c.value l.value m.value ≡ t = Rattle.std.proofs.lemmas.Option.same_Some _ _ m.then in
     let instance = four_is (codes "instance_id") d b.value b.first in
     let version = four_is (codes "version") d c.value c.first in
     let elements = list_says element_tree is_good element_in element_says (codes "fields") d sorted l.value l.first in
@@ -148,17 +143,14 @@ device_from_says d sorted h t e =
     record {
       tree_is =
           is_picked device_keys ((refl, (refl, (refl, (refl, tt)))), ((refl, (refl, (refl, tt))), ((refl, (refl, tt)), ((refl, tt), (tt, tt))))) d sorted h
-          ∙ device_same _ _ _ _ _ _ _ _ _ _ (entries_are d l.value elements.is) instance.is name.is subs.is version.is
+          ∙ device_same _ _ _ _ _ _ _ _ _ _ (entries_are d l.value elements.is) instance.is named.is subs.is version.is
           ∙ ap told_device same;
       good_is =
           ap is_good_device (sym same)
-          ∙ and_from (is_path 255 a.value && fits_four b.value && fits_four c.value && list_all is_good l.value) (list_all is_good_sub m.value)
-          (and_from (is_path 255 a.value && fits_four b.value && fits_four c.value) (list_all is_good l.value)
-          (and_from (is_path 255 a.value && fits_four b.value) (fits_four c.value) (and_from (is_path 255 a.value) (fits_four b.value) name.good instance.good) version.good) elements.fine) subs.fine;
-    }
-
-pub device_says : (d : Data) → IsSorted d → (t : ToldDevice) → device_in d ≡ Some t → Says told_device is_good_device d t
-device_says d sorted t e = by_keys told_device is_good_device device_keys device_from device_from_says d sorted t e
+          ∙ and_from (is_path 255 name && fits_four b.value && fits_four c.value && list_all is_good l.value) (list_all is_good_sub m.value)
+          (and_from (is_path 255 name && fits_four b.value && fits_four c.value) (list_all is_good l.value)
+          (and_from (is_path 255 name && fits_four b.value) (fits_four c.value) (and_from (is_path 255 name) (fits_four b.value) named.good instance.good) version.good) elements.fine) subs.fine;
+    })
 
 pub device_back : (t : ToldDevice) → is_good_device t ≡ true → device_in (told_device t) ≡ Some t
 device_back t e =

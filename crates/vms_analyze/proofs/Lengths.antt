@@ -53,8 +53,10 @@ machine_long id rest name u e =
     omega (arith, only_long _ _ u e, few)
 
 taken_long : (w : Want) (id : ℕ) (rest : List ℕ) (u : Took) → taken w id rest ≡ Some u → u.long ≤ most_of w
+taken_long (Bytes bytes) id rest u e = omega (arith, only_long _ _ u e)
+taken_long (Any n) id rest u e = omega (arith, only_long _ _ u e)
+taken_long (Number path kind) id rest u e = omega (arith, only_long _ _ u e)
 taken_long Machine id rest u e = go (get_or rest 0 0 == 7) e
-taken_long _ id rest u e = omega (arith, only_long _ _ u e)
   where
     go : (b : Bool) → (if b then take_machine id rest (bytes_at (number_at 4 1 rest) 5 rest) else Some (took 0 id [])) ≡ Some u → u.long ≤ 260
     go true e = machine_long id rest _ u e

@@ -2,7 +2,7 @@
 use Rattle.std.proofs.Common.{◌≡◌, ℕ, Bool, true, false, ◌&&◌, List, [], ◌∷◌, map, unwrap_or, Option, Some, None, ℤ, pos, negsuc, int_lt, refl, sym, ap, ap₂, ◌∙◌, arith}
 use Rattle.std.specs.List.{list_all}
 use Rattle.std.proofs.lemmas.Bool.{and_parts, le-ltb}
-use Rattle.serde_json.specs.Data.{Num, unsigned, negative, float, Data, null, boolean, number, string, array, Items, no_items, item}
+use Rattle.serde_json.specs.Data.{Num, unsigned, negative, float, Data, null, boolean, number, string, array, object, Items, no_items, item}
 use Rattle.serde_json.specs.Find.{get, as_bool, as_number, as_str, as_array, as_u64, of_integer}
 use Rattle.serde_json.specs.View.{items_of}
 use Rattle.vms_selfdesc.specs.Tree.{natural}
@@ -45,7 +45,12 @@ under key d = unwrap_or (get key d) null
 
 text_in : (o : Option Data) (t : List ℕ) → next o as_str ≡ Some t → unwrap_or o null ≡ string t
 text_in None t e = cc
-text_in _ t e = cc
+text_in (Some null) t e = cc
+text_in (Some (boolean b)) t e = cc
+text_in (Some (number n)) t e = cc
+text_in (Some (string s)) t e = cc
+text_in (Some (array ds)) t e = cc
+text_in (Some (object ms)) t e = cc
 
 pub text_is : (key : List ℕ) (d : Data) (t : List ℕ) → text_at key d ≡ Some t → under key d ≡ string t
 text_is key d t e = text_in (get key d) t e
@@ -62,25 +67,41 @@ path_is most key d t e =
 
 flag_in : (o : Option Data) (b : Bool) → next o as_bool ≡ Some b → unwrap_or o null ≡ boolean b
 flag_in None t e = cc
-flag_in _ t e = cc
+flag_in (Some null) t e = cc
+flag_in (Some (boolean b)) t e = cc
+flag_in (Some (number n)) t e = cc
+flag_in (Some (string s)) t e = cc
+flag_in (Some (array ds)) t e = cc
+flag_in (Some (object ms)) t e = cc
 
 pub flag_is : (key : List ℕ) (d : Data) (b : Bool) → flag_at key d ≡ Some b → under key d ≡ boolean b
 flag_is key d b e = flag_in (get key d) b e
 
 list_in : (o : Option Data) (ds : Items) → next o as_array ≡ Some ds → unwrap_or o null ≡ array ds
 list_in None t e = cc
-list_in _ t e = cc
+list_in (Some null) t e = cc
+list_in (Some (boolean b)) t e = cc
+list_in (Some (number n)) t e = cc
+list_in (Some (string s)) t e = cc
+list_in (Some (array ds)) t e = cc
+list_in (Some (object ms)) t e = cc
 
 pub list_is : (key : List ℕ) (d : Data) (ds : Items) → list_at key d ≡ Some ds → under key d ≡ array ds
 list_is key d ds e = list_in (get key d) ds e
 
 number_in : (o : Option Data) (n : Num) → next o as_number ≡ Some n → unwrap_or o null ≡ number n
 number_in None t e = cc
-number_in _ t e = cc
+number_in (Some null) t e = cc
+number_in (Some (boolean b)) t e = cc
+number_in (Some (number n)) t e = cc
+number_in (Some (string s)) t e = cc
+number_in (Some (array ds)) t e = cc
+number_in (Some (object ms)) t e = cc
 
 unsigned_is : (n : Num) (k : ℕ) → as_u64 n ≡ Some k → n ≡ unsigned k
 unsigned_is (unsigned m) k e = cc
-unsigned_is _ k e = cc
+unsigned_is (negative z) k e = cc
+unsigned_is (float x) k e = cc
 
 pub natural_is : (key : List ℕ) (d : Data) (k : ℕ) → natural_at key d ≡ Some k → under key d ≡ natural k
 natural_is key d k e =

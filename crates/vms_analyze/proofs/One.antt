@@ -1,5 +1,5 @@
 -- An input has one listing at most.
-use Rattle.std.proofs.Common.{◌≡◌, ℕ, Bool, true, false, nat_lt, List, [], ◌∷◌, map, take, Some, None, ℤ, pos, refl, sym, ap, ap₂, ◌∙◌, subst, arith, codes}
+use Rattle.std.proofs.Common.{◌≡◌, ℕ, Bool, true, false, nat_lt, List, [], ◌∷◌, map, take, Some, None, ℤ, pos, negsuc, refl, sym, ap, ap₂, ◌∙◌, subst, arith, codes}
 use Rattle.std.proofs.lemmas.Bool.{ltb-true, ltb-false}
 use Rattle.serde_json.specs.Data.{Data, number, string, boolean, array, object, Members, no_members, member}
 use Rattle.serde_json.specs.Find.{of_integer}
@@ -11,7 +11,7 @@ use Rattle.vms_words.specs.Words.{kind_word, kind_named}
 use Rattle.vms_selfdesc.specs.Tree.{natural, entry_tree, list_tree}
 use Rattle.vms_analyze.specs.Told.{Told, Sent, Kept, Fixed, Skipped, told_entry, ToldSub, told_sub, ToldDevice, told_device, told_tree}
 use Rattle.vms_analyze.specs.Wanted.{wants, found}
-use Rattle.vms_analyze.specs.Listing.{IsLastPlace, Tells, Listing, listing_of, IsTooLong, HasNone, HasNoShape, IsRead}
+use Rattle.vms_analyze.specs.Listing.{IsPlace, IsLastPlace, Tells, Listing, listing_of, Lists, IsTooLong, HasNone, HasNoShape, IsRead}
 use Rattle.vms_analyze.specs.Laws.{OneLaw}
 use Rattle.vms_analyze.proofs.ReadBack.{map_twice}
 use Rattle.vms_words.proofs.WordLaws.{word_named}
@@ -31,7 +31,9 @@ no_word k word none e = no k (sym (word_named k) ∙ ap kind_named e ∙ none) w
 
 integer_same : (y z : ℤ) → of_integer y ≡ of_integer z → y ≡ z
 integer_same (pos m) (pos n) e = cc
-integer_same _ _ e = cc
+integer_same (pos m) (negsuc n) e = cc
+integer_same (negsuc m) (pos n) e = cc
+integer_same (negsuc m) (negsuc n) e = cc
 
 -- the members of an entry
 pub record SameMembers (p q v w : List ℕ) (m n : ℕ) : Type 0 where
@@ -65,13 +67,16 @@ element_same (Kept p k y) (Kept q l z) e =
     let s = same_members p q (kind_word k) (kind_word l) 0 0 (value y) (value z) e in
     let v : of_integer y ≡ of_integer z = cc in
     ap₂ (λ (a : List ℕ) (b : Kind). Kept a b y) s.path (word_same k l s.type) ∙ ap (Kept q l) (integer_same y z v)
+element_same (Kept p k y) (Fixed q n) e = cc
+element_same (Kept p k y) (Skipped q n) e = cc
 element_same (Fixed p m) (Sent q l) e = absurd (no_word l (codes "equal") refl (sym (same_members p q (codes "equal") (kind_word l) m (width l) no_members no_members e).type))
+element_same (Fixed p m) (Kept q l z) e = cc
 element_same (Fixed p m) (Fixed q n) e = let s = same_members p q (codes "equal") (codes "equal") m n no_members no_members e in ap₂ Fixed s.path s.size
 element_same (Fixed p m) (Skipped q n) e = absurd (other_words (same_members p q (codes "equal") (codes "unused") m n no_members no_members e).type)
 element_same (Skipped p m) (Sent q l) e = absurd (no_word l (codes "unused") refl (sym (same_members p q (codes "unused") (kind_word l) m (width l) no_members no_members e).type))
+element_same (Skipped p m) (Kept q l z) e = cc
 element_same (Skipped p m) (Fixed q n) e = absurd (other_words (sym (same_members p q (codes "unused") (codes "equal") m n no_members no_members e).type))
 element_same (Skipped p m) (Skipped q n) e = let s = same_members p q (codes "unused") (codes "unused") m n no_members no_members e in ap₂ Skipped s.path s.size
-element_same _ _ e = cc
 
 -- lists of trees
 module _ {A : Type 0} (tree : A → Data) (one : (x y : A) → tree x ≡ tree y → x ≡ y) where

@@ -1,5 +1,5 @@
 -- What the description of a well-formed set tells is of the shape: the elements of one part.
-use Rattle.std.proofs.Common.{◌≡◌, ℕ, suc, ◌+◌, ◌*◌, ◌<◌, ◌≤◌, Bool, true, false, cond, ◌&&◌, ◌||◌, ◌==◌, nat_lt, nat_le, List, [], ◌∷◌, ◌++◌, length, length-append, get_or, map, ℤ, refl, sym, ap, subst, arith, codes}
+use Rattle.std.proofs.Common.{◌≡◌, ℕ, zero, suc, ◌+◌, ◌*◌, ◌<◌, ◌≤◌, Bool, true, false, cond, ◌&&◌, ◌||◌, ◌==◌, nat_lt, nat_le, List, [], ◌∷◌, ◌++◌, length, length-append, append_assoc, get_or, map, ℤ, refl, sym, ap, ◌∙◌, subst, arith, codes}
 use Rattle.std.specs.List.{list_all}
 use Rattle.std.proofs.lemmas.Bool.{and_parts, ltb-true, ltb-false, and_from}
 use Rattle.std.proofs.Math.ListN.{get_or-eq_default}
@@ -19,7 +19,7 @@ use Rattle.vms_spec.specs.Rules.{in_range, defaults_well, counts_well, is_small_
 use Rattle.vms_spec.specs.Sets.{Field, Desc, Set}
 use Rattle.vms_spec.specs.Layout.{no_desc, no_field, counted}
 use Rattle.vms_spec.specs.WellFormed.{WellFormed, struct_items, struct_depths, items_in, deepest}
-use Rattle.vms_elements.specs.Elements.{What, Number, Constant, Filler, Element, shapes}
+use Rattle.vms_elements.specs.Elements.{What, Number, Constant, Filler, Rule, Element, shapes}
 use Rattle.vms_elements.specs.Parts.{elements_in}
 use Rattle.vms_elements.proofs.Members.{Each}
 use Rattle.vms_desc.specs.Parts.{HasPart, desc_at}
@@ -50,7 +50,8 @@ byte_some x = go (nat_lt 0 (escape_letter x)) (nat_lt x 32)
   where
     go : (a b : Bool) → 1 ≤ length (cond a (92 ∷ escape_letter x ∷ []) (cond b (92 ∷ 117 ∷ 48 ∷ 48 ∷ Rattle.std.specs.Char.digit_char (Rattle.std.proofs.Common.◌/◌ x 16) ∷ Rattle.std.specs.Char.digit_char (Rattle.std.proofs.Common.◌%◌ x 16) ∷ []) (x ∷ [])))
     go true b = omega arith
-    go _ _ = omega arith
+    go false true = omega arith
+    go false false = omega arith
 
 escape_longer : (s : List ℕ) → length s ≤ length (escape s)
 escape_longer [] = omega arith
@@ -91,14 +92,25 @@ fine_append (x ∷ xs) ys p q = (p.0, fine_append xs ys p.1 q)
 
 width_fits : (kind : Kind) → (width kind == 1 || width kind == 2 || width kind == 4 || width kind == 8) ≡ true
 width_fits kinds.U8 = refl
-width_fits _ = refl
+width_fits kinds.U16 = refl
+width_fits kinds.U32 = refl
+width_fits kinds.U64 = refl
+width_fits kinds.I8 = refl
+width_fits kinds.I16 = refl
+width_fits kinds.I32 = refl
+width_fits kinds.I64 = refl
+width_fits kinds.Bool = refl
+width_fits kinds.Timer = refl
 
 what_fine : (w : What) (counted present : Bool) (path : List ℕ) → list_all is_path_byte path ≡ true → IsGoodWhat w → HasPath w path → AreFine (told_what w counted present path)
 what_fine (Number cell) true true path bytes good some = (record { some = some; bytes = bytes; shape = tt }, tt)
 what_fine (Number cell) true false path bytes good some = (record { some = some; bytes = bytes; shape = good }, tt)
+what_fine (Number cell) false present path bytes good some = tt
 what_fine (Constant kind z) counted true path bytes good some = (record { some = some; bytes = bytes; shape = width_fits kind }, tt)
+what_fine (Constant kind z) counted false path bytes good some = tt
 what_fine (Filler n) counted true path bytes good some = (record { some = some; bytes = bytes; shape = good }, tt)
-what_fine _ _ _ path bytes good some = tt
+what_fine (Filler n) counted false path bytes good some = tt
+what_fine (Rule holds) counted present path bytes good some = tt
 
 all_fine : (sent : Bool) (xs : List Element) → Each IsGoodElement xs → AreFine (tolds sent xs)
 all_fine sent [] h = tt
@@ -125,7 +137,10 @@ kept_append (x ∷ xs) ys e f =
 
 what_kept : (w : What) (counted : Bool) (path : List ℕ) → list_all is_kept (told_what w counted false path) ≡ true
 what_kept (Number cell) true path = refl
-what_kept _ _ path = refl
+what_kept (Number cell) false path = refl
+what_kept (Constant kind z) counted path = refl
+what_kept (Filler n) counted path = refl
+what_kept (Rule holds) counted path = refl
 
 pub all_kept : (xs : List Element) → list_all is_kept (tolds false xs) ≡ true
 all_kept [] = refl

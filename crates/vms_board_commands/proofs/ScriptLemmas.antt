@@ -1,12 +1,13 @@
 -- A script that is fetched and read, as a step.
-use Rattle.std.proofs.Common.{◌≡◌, ℕ, List, Option, Result, None, Ok, Err, IfOk, refl, sym, subst, Bool, true}
+use Rattle.std.proofs.Common.{◌≡◌, ℕ, List, Option, Result, None, Ok, Err, IfOk, IsErrAnd, refl, sym, subst, Bool, true}
 use Rattle.std.specs.declared.alloc.Global.{Global}
 use Rattle.std.specs.declared.vec.Vec.{Vec}
 use Rattle.dev_board.specs.Laws.{AreEvents}
 use Rattle.dev_board.specs.declared.event.Event.{Event}
+use Rattle.vms_io.specs.Shelving.{Looks}
 use Rattle.vms_io.specs.Told.{Stock}
 use Rattle.vms_commands.specs.Endings.{SetCause}
-use Rattle.vms_commands.specs.StepEndings.{FetchCause, HadCause, ReadCause}
+use Rattle.vms_commands.specs.StepEndings.{Asks, FetchCause, HadCause, ReadCause}
 use Rattle.vms_commands.specs.declared.ending.Ending.{Ending}
 use Rattle.vms_commands.specs.declared.ending.Ending.TheVariants.{BadText, ShelfFault, NotThere, TooLarge, NoMemory}
 use Rattle.vms_session.proofs.RunLemmas.{are_events}
@@ -47,9 +48,14 @@ unread T asks s s' (BadText line) c = c
 unread T asks s s' NoMemory c = tt
 unread T asks s s' e c = absurd c
 
-pub read_caused : (T : Type 0) (s s' : Stock) (r : Result T Ending) → ReadCause true r → HadCause true s s' r
-read_caused T s s' (Ok v) h = tt
-read_caused T s s' (Err e) h = unread T true s s' e h
+-- what is read of a text that was fetched, and the end where it wasn't
+pub read_asks : {T : Type 0} {s s' : Stock} (r : Result T Ending) → Looks s s' → ReadCause true r → Asks (HadCause true) s s' r
+read_asks (Ok v) looks h = record { looks = looks; cause = tt }
+read_asks {T} {s} {s'} (Err e) looks h = record { looks = looks; cause = unread T true s s' e h }
+
+pub unfetched_asks : {T U : Type 0} {s s' : Stock} {e : Ending} (r : Result U Ending) → IsErrAnd r (λ x. x ≡ e) → Asks (FetchCause {T = T}) s s' (Err e) → Asks (HadCause true) s s' r
+unfetched_asks (Ok v) h a = absurd h
+unfetched_asks {T} {U} {s} {s'} {e} (Err x) h a = rw h (record { looks = a.looks; cause = unfetched T true s s' e refl a.cause })
 
 -- events that are had may happen
 pub had_events : (text : List ℕ) (read : Result (Vec Event Global) ScriptFault) (r : Result (Vec Event Global) Ending) → ReadsLines (λ (v : Vec Event Global). event_lines v.items) (script_read None text) read

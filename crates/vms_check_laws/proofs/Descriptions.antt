@@ -102,8 +102,8 @@ module _ (ks : List Comparer) (cs : List Carrier) (ms ns : List Meaning) (a b : 
     desc_settles rows =
         let z : at' ≡ at' + 0 = omega arith in
         let carried = carry_desc cs (cells_in ms) (cells_in ns) numbers v w a b at in
-        let settled = fields_settle ks cs ms ns a b v w part part' o n numbers numbers' at at' below below' table 0 0 b.fields es rows agree (fields_below b.fields new) link
-        (all_known ms a.fields v numbers at) (all_known ns b.fields w numbers' at') (olds old) news (all_fit fits) in
+        let settled = fields_settle ks cs ms ns a b v w part part' o n numbers numbers' at at' below below' table 0 0 b.fields es rows agree (fields_below b.fields new)
+        (record { linked = link; known = all_known ms a.fields v numbers at; known' = all_known ns b.fields w numbers' at'; old = olds old; new = news; fits = all_fit fits }) in
         let moved : Settled (slots_from ns b.fields w own' numbers' 0 at' b.fields) at' (desc_cells (cells_in ns) b) carried =
         subst (λ (q : ℕ). Settled (slots_from ns b.fields w own' numbers' 0 q b.fields) q (desc_cells (cells_in ns) b) carried) (sym z) settled in
         settled_more (slots_from ns b.fields w own' numbers' 0 at' b.fields) (Rule (all_hold b.validate w own') ∷ []) at' (desc_cells (cells_in ns) b) carried moved

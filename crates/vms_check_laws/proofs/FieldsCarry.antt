@@ -182,6 +182,15 @@ module _ (ks : List Comparer) (cs : List Carrier) (ms ns : List Meaning) (a b : 
   NewEntries [] = Unit {0}
   NewEntries (f ∷ fs) = EntryGood f × NewEntries fs
 
+  -- what is known of the entries of both sides
+  pub record Premises (es fs : List Entry) : Type 0 where
+    pub linked : AllLinked es fs
+    pub known : KnownOld es
+    pub known' : KnownNew fs
+    pub old : OldEntries es
+    pub new : NewEntries fs
+    pub fits : FitEntries ms a.fields v numbers at es
+
   pub fields_carry : (es fs : List Entry) → Agree o n ok own own' → AllLinked es fs → KnownOld es → KnownNew fs → OldEntries es → NewEntries fs → FitEntries ms a.fields v numbers at es
       → Carries numbers (entries_slots ms a.fields v own numbers at es) numbers' (entries_slots ns b.fields w own' numbers' at' fs)
   fields_carry [] [] agree linked known known' old new fits = carries_nil numbers numbers'

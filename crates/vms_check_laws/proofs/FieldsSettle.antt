@@ -18,12 +18,12 @@ use Rattle.vms_check_laws.specs.Segments.{Holds, FitsAt}
 use Rattle.vms_check_laws.proofs.Segments.{holds_left, holds_right, holds_at, fits_left, fits_right, fits_at}
 use Rattle.vms_spec.proofs.Sizes.{size_same, field_size, elements_fit}
 use Rattle.vms_spec.proofs.Prefixes.{ItemBelow, FieldsBelow}
-use Rattle.vms_check_laws.proofs.Pairing.{cells_in, slots_at, IsKnown, AreKnown, FitEntries, kinds_same}
+use Rattle.vms_check_laws.proofs.Pairing.{cells_in, slots_at, IsKnown, AreKnown, kinds_same}
 use Rattle.vms_check_laws.proofs.Linking.{defaults_size, PairGood, decoded, Linked, linked, carry_item_size, carry_field_size, Matched}
 use Rattle.vms_check_laws.proofs.Settling.{Settled, settled_defaults, settled_empty, settled_append, settled_at, same_defaults, has_itself}
 use Rattle.vms_check_laws.proofs.Describing.{there_here, not_covered, steady, steady_rest, rest_none, one_number}
 use Rattle.vms_check_laws.proofs.Premises.{covered_empty, Table, OldGood, later_new, later_old}
-use Rattle.vms_check_laws.proofs.FieldsCarry.{same_elements, elements_room, EntryGood, OldEntries, NewEntries}
+use Rattle.vms_check_laws.proofs.FieldsCarry.{same_elements, elements_room, EntryGood, Premises}
 use Rattle.std.specs.List.{slice_get}
 use Rattle.std.proofs.lemmas.Bool.{eqb-true}
 use Rattle.vms_kinds.specs.Codes.{width, residue}
@@ -41,15 +41,6 @@ module _ (ks : List Comparer) (cs : List Carrier) (ms ns : List Meaning) (a b : 
 
   abbrev ok : ℕ → Bool
   ok k = is_steady_in b k
-
-  abbrev AllLinked : List Entry → List Entry → Type 0
-  AllLinked es fs = Linked ks a b v w part part' o n cs (cells_in ms) (cells_in ns) numbers numbers' own at at' below' table.sized es fs
-
-  abbrev KnownOld : List Entry → Type 0
-  KnownOld es = AreKnown ms a.fields v numbers at es
-
-  abbrev KnownNew : List Entry → Type 0
-  KnownNew fs = AreKnown ns b.fields w numbers' at' fs
 
   -- ---- numbers that may be named
 
@@ -80,7 +71,7 @@ module _ (ks : List Comparer) (cs : List Carrier) (ms ns : List Meaning) (a b : 
       (length (item_cells (cells_in ms) e.field.item [] (pos 0))) (at + e.place) (at' + f.place) s.item s.count m.item m.count there_is held
       ∙ sym known'.number
 
-  pub agree_from : (i j p : ℕ) (es fs : List Entry) → AllLinked es fs → KnownOld es → KnownNew fs → ok j ≡ true → same_place (position_from p es i) (position_from p fs j) ≡ true → own i ≡ own' j
+  pub agree_from : (i j p : ℕ) (es fs : List Entry) → Linked ks a b v w part part' o n cs (cells_in ms) (cells_in ns) numbers numbers' own at at' below' table.sized es fs → AreKnown ms a.fields v numbers at es → AreKnown ns b.fields w numbers' at' fs → ok j ≡ true → same_place (position_from p es i) (position_from p fs j) ≡ true → own i ≡ own' j
   agree_from i j p [] fs linked known known' named h = absurd (cc)
   agree_from i j p (e ∷ es) [] linked known known' named h = absurd linked
   agree_from i j p (e ∷ es) (f ∷ fs) linked known known' named h =
@@ -198,41 +189,39 @@ module _ (ks : List Comparer) (cs : List Carrier) (ms ns : List Meaning) (a b : 
       ]
 
   settle_next : (i p : ℕ) (g : Field) (pr : Option (Option Formula)) (es after : List Entry) (slots : List Slot) (rest : List Entry → List ℤ) (cells : List Cell) → SettledRow → Agree o n ok own own' → ItemBelow below' g.item
-      → AllLinked es (entry_of i p g pr ++ after) → KnownOld es → KnownNew (entry_of i p g pr ++ after) → OldEntries ks cs ms ns a b v w part part' o n numbers numbers' at at' below below' table ok es → NewEntries ks cs ms ns a b v w part part' o n numbers numbers' at at' below below' table ok (entry_of i p g pr ++ after) → FitEntries ms a.fields v numbers at es
-      → ((es' : List Entry) → AllLinked es' after → KnownOld es' → KnownNew after → OldEntries ks cs ms ns a b v w part part' o n numbers numbers' at at' below below' table ok es' → NewEntries ks cs ms ns a b v w part part' o n numbers numbers' at at' below below' table ok after → FitEntries ms a.fields v numbers at es'
-      → Settled slots (at' + (p + length (field_cells (cells_in ns) b.fields i g))) cells (rest es'))
+      → Premises ks cs ms ns a b v w part part' o n numbers numbers' at at' below below' table ok es (entry_of i p g pr ++ after)
+      → ((es' : List Entry) → Premises ks cs ms ns a b v w part part' o n numbers numbers' at at' below below' table ok es' after → Settled slots (at' + (p + length (field_cells (cells_in ns) b.fields i g))) cells (rest es'))
       → Settled (slots_at ns b.fields w own' numbers' at' i p g ++ slots) (at' + p) (field_cells (cells_in ns) b.fields i g ++ cells)
       (carry_next cs (cells_in ms) (cells_in ns) numbers own v at b.fields i g pr es ++ rest (entries_left cs (cells_in ms) (cells_in ns) numbers pr es))
-  settle_next i p g None es after slots rest cells row agree lt linked known known' old new fits go =
+  settle_next i p g None es after slots rest cells row agree lt all go =
       let size = defaults_size (field_cells (cells_in ns) b.fields i g) in
       let e : at' + (p + length (field_cells (cells_in ns) b.fields i g)) ≡ (at' + p) + length (default_field cs (cells_in ms) (cells_in ns) numbers b.fields i g) = omega (arith, size) in
       settled_append (slots_at ns b.fields w own' numbers' at' i p g) slots (at' + p) (field_cells (cells_in ns) b.fields i g) cells
       (default_field cs (cells_in ms) (cells_in ns) numbers b.fields i g) (rest es) size
       (settled_defaults (slots_at ns b.fields w own' numbers' at' i p g) (at' + p) (field_cells (cells_in ns) b.fields i g))
-      (settled_at slots _ _ cells (rest es) e (go es linked known known' old new fits))
-  settle_next i p g (Some left) [] after slots rest cells row agree lt linked known known' old new fits go = absurd linked
-  settle_next i p g (Some left) (x ∷ es) after slots rest cells row agree lt linked known known' old new fits go =
+      (settled_at slots _ _ cells (rest es) e (go es all))
+  settle_next i p g (Some left) [] after slots rest cells row agree lt all go = absurd all.linked
+  settle_next i p g (Some left) (x ∷ es) after slots rest cells row agree lt all go =
       let first = carry_field cs (cells_in ms) (cells_in ns) numbers own v at x g in
       let size : length first ≡ length (field_cells (cells_in ns) b.fields i g) =
       carry_field_size ks a b v w part part' o n cs (cells_in ms) (cells_in ns) numbers numbers' own at at' below' table.sized x b.fields i g lt in
       let e : at' + (p + length (field_cells (cells_in ns) b.fields i g)) ≡ (at' + p) + length first = omega (arith, size) in
       settled_append (slots_at ns b.fields w own' numbers' at' i p g) slots (at' + p) (field_cells (cells_in ns) b.fields i g) cells first (rest es) size
-      (pair_settles x (record { index = i; place = p; field = g; rest = left }) row agree known.0 known'.0 linked.0.0 linked.0.1 old.0 new.0 fits.0)
-      (settled_at slots _ _ cells (rest es) e (go es linked.1 known.1 known'.1 old.1 new.1 fits.1))
+      (pair_settles x (record { index = i; place = p; field = g; rest = left }) row agree all.known.0 all.known'.0 all.linked.0.0 all.linked.0.1 all.old.0 all.new.0 all.fits.0)
+      (settled_at slots _ _ cells (rest es) e (go es (record { linked = all.linked.1; known = all.known.1; known' = all.known'.1; old = all.old.1; new = all.new.1; fits = all.fits.1 })))
 
   pub fields_settle : (i p : ℕ) (gs : List Field) (es : List Entry) → SettledRow → Agree o n ok own own' → FieldsBelow below' gs
-      → AllLinked es (present_from (cells_in ns) b.fields w i p gs) → KnownOld es → KnownNew (present_from (cells_in ns) b.fields w i p gs) → OldEntries ks cs ms ns a b v w part part' o n numbers numbers' at at' below below' table ok es → NewEntries ks cs ms ns a b v w part part' o n numbers numbers' at at' below below' table ok (present_from (cells_in ns) b.fields w i p gs)
-      → FitEntries ms a.fields v numbers at es
+      → Premises ks cs ms ns a b v w part part' o n numbers numbers' at at' below below' table ok es (present_from (cells_in ns) b.fields w i p gs)
       → Settled (slots_from ns b.fields w own' numbers' i (at' + p) gs) (at' + p) (cells_from (cells_in ns) b.fields i gs) (carry_from cs (cells_in ms) (cells_in ns) numbers own v w at b.fields i gs es)
-  fields_settle i p [] es row agree lt linked known known' old new fits = settled_empty [] (at' + p) [] [] refl
-  fields_settle i p (g ∷ gs) es row agree lt linked known known' old new fits =
+  fields_settle i p [] es row agree lt all = settled_empty [] (at' + p) [] [] refl
+  fields_settle i p (g ∷ gs) es row agree lt all =
       let len = length (field_cells (cells_in ns) b.fields i g) in
       let e : at' + (p + len) ≡ (at' + p) + len = omega arith in
       let after = present_from (cells_in ns) b.fields w (suc i) (p + len) gs in
       let slots = slots_from ns b.fields w own' numbers' (suc i) (at' + (p + len)) gs in
       let whole = settle_next i p g (presence w g.test g.since) es after slots (λ es'. carry_from cs (cells_in ms) (cells_in ns) numbers own v w at b.fields (suc i) gs es')
-      (cells_from (cells_in ns) b.fields (suc i) gs) row agree lt.0 linked known known' old new fits
-      (λ es' l k k' ol ne fi. fields_settle (suc i) (p + len) gs es' row agree lt.1 l k k' ol ne fi) in
+      (cells_from (cells_in ns) b.fields (suc i) gs) row agree lt.0 all
+      (λ es' all. fields_settle (suc i) (p + len) gs es' row agree lt.1 all) in
       subst (λ (q : ℕ). Settled (slots_at ns b.fields w own' numbers' at' i p g ++ slots_from ns b.fields w own' numbers' (suc i) q gs) (at' + p)
       (field_cells (cells_in ns) b.fields i g ++ cells_from (cells_in ns) b.fields (suc i) gs)
       (carry_next cs (cells_in ms) (cells_in ns) numbers own v at b.fields i g (presence w g.test g.since) es

@@ -41,16 +41,17 @@ capped_devices bytes [] = refl
 capped_devices bytes (d ∷ devices) = omega (arith, capped_fields bytes d.desc.fields, capped_subs bytes d.subs, capped_devices bytes devices)
 
 -- one structure more
-pub structs_more : (structs : List Desc) (bytes : List ℕ) (i : ℕ) (d : Desc) (own : ℕ) → d ≡ get_or structs i d → i < length structs
-    → bytes ≡ map in_u32 (struct_bytes (map desc_of structs) i) → own ≡ in_u32 (fields_bytes bytes (map field_of d.fields))
+pub structs_more : (structs : List Desc) (bytes given : List ℕ) (i : ℕ) (d : Desc) (fields : List Field) (own : ℕ) → d ≡ get_or structs i d → i < length structs
+    → bytes ≡ map in_u32 (struct_bytes (map desc_of structs) i) → own ≡ in_u32 (fields_bytes given (map field_of fields)) → given ≡ bytes → fields ≡ d.fields
     → bytes ++ own ∷ [] ≡ map in_u32 (struct_bytes (map desc_of structs) (i + 1))
 unfolding first
-structs_more structs bytes i d own is lt e s =
+structs_more structs bytes given i d fields own is lt e s same of =
     let ds = map desc_of structs in
     let here : get_or ds i no_desc ≡ desc_of d = get_map_at desc_of structs i d no_desc lt is in
     let more : struct_bytes ds (i + 1) ≡ struct_bytes ds i ++ fields_bytes (struct_bytes ds i) (get_or ds i no_desc).fields ∷ [] = ap (λ (k : ℕ). struct_bytes ds k) (add-one i) in
     let one : own ≡ in_u32 (fields_bytes (struct_bytes ds i) (get_or ds i no_desc).fields) =
-    s ∙ ap (λ (l : List ℕ). in_u32 (fields_bytes l (map field_of d.fields))) e ∙ capped_fields (struct_bytes ds i) (map field_of d.fields)
+    s ∙ ap (λ (l : List ℕ). in_u32 (fields_bytes l (map field_of fields))) (same ∙ e)
+    ∙ ap (λ (l : List Field). in_u32 (fields_bytes (map in_u32 (struct_bytes ds i)) (map field_of l))) of ∙ capped_fields (struct_bytes ds i) (map field_of d.fields)
     ∙ ap (λ (x : sets.Desc). in_u32 (fields_bytes (struct_bytes ds i) x.fields)) (sym here) in
     ap (λ (l : List ℕ). l ++ own ∷ []) e ∙ ap (λ (n : ℕ). map in_u32 (struct_bytes ds i) ++ n ∷ []) one
     ∙ sym (map-append in_u32 (struct_bytes ds i) (fields_bytes (struct_bytes ds i) (get_or ds i no_desc).fields ∷ [])) ∙ ap (map in_u32) (sym more)

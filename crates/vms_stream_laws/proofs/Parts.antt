@@ -12,7 +12,7 @@ use Rattle.vms_spec.specs.Layout.{Cell, Slot, Number, Constant, Filler, Rule, Me
 use Rattle.vms_spec.specs.Sets.{Desc, Device, Field, Set, Sub}
 use Rattle.vms_spec.specs.SoFar.{fresh, part_slots, slots_of_sub, subs_of}
 use Rattle.vms_spec.specs.Tests.{is_there}
-use Rattle.vms_stream.specs.SoFar.{Tail, beyond, skipped}
+use Rattle.vms_stream.specs.SoFar.{Tail, Footed, beyond, skipped}
 use Rattle.vms_stream.specs.Dues.{due_field, rules_hold}
 use Rattle.vms_stream_laws.specs.Unruled.{unruled, unruled_desc, unruled_device, unruled_sub}
 use Rattle.vms_stream_laws.proofs.Lists.{map_both}
@@ -28,36 +28,27 @@ held_slot (Filler n) = Filler n
 abbrev pub held : List Slot → List Slot
 held slots = map held_slot slots
 
+-- what is due, that rules hold and how many slots are passed over, of slots whose rules are made to hold
+held_as : (t : Tail) (k : ℕ) (slots : List Slot) → (due_field t (Some k) (held slots) ≡ due_field t (Some k) slots) × (rules_hold (held slots) ≡ true) × (skipped (held slots) ≡ skipped slots)
+held_as t k [] = (refl, refl, refl)
+held_as t k (Rule b ∷ slots) = let h = held_as t k slots in (h.0, h.1, ap suc h.2)
+held_as t k (Filler zero ∷ slots) = let h = held_as t k slots in (h.0, h.1, ap suc h.2)
+held_as t k (Filler (suc n) ∷ slots) = (refl, refl, refl)
+held_as t k (Number c kind capacities ∷ slots) = (refl, refl, refl)
+held_as t k (Constant kind z ∷ slots) = (refl, refl, refl)
+
 pub due_held : (t : Tail) (o : Option ℕ) (slots : List Slot) → due_field t o (held slots) ≡ due_field t o slots
 due_held t None slots = refl
-due_held t (Some k) [] = refl
-due_held t (Some k) (Rule b ∷ slots) = due_held t (Some k) slots
-due_held t (Some k) (Filler zero ∷ slots) = due_held t (Some k) slots
-due_held t (Some k) (Filler (suc n) ∷ slots) = refl
-due_held t (Some k) (Number c kind capacities ∷ slots) = refl
-due_held t (Some k) (Constant kind z ∷ slots) = refl
+due_held t (Some k) slots = (held_as t k slots).0
 
 pub rules_held : (slots : List Slot) → rules_hold (held slots) ≡ true
-rules_held [] = refl
-rules_held (Rule b ∷ slots) = rules_held slots
-rules_held (Filler zero ∷ slots) = rules_held slots
-rules_held (Filler (suc n) ∷ slots) = refl
-rules_held (Number c kind capacities ∷ slots) = refl
-rules_held (Constant kind z ∷ slots) = refl
-
-skipped_held : (slots : List Slot) → skipped (held slots) ≡ skipped slots
-skipped_held [] = refl
-skipped_held (Rule b ∷ slots) = ap suc (skipped_held slots)
-skipped_held (Filler zero ∷ slots) = ap suc (skipped_held slots)
-skipped_held (Filler (suc n) ∷ slots) = refl
-skipped_held (Number c kind capacities ∷ slots) = refl
-skipped_held (Constant kind z ∷ slots) = refl
+rules_held slots = (held_as Footed 0 slots).1
 
 pub drop_held : (n : ℕ) (slots : List Slot) → drop n (held slots) ≡ held (drop n slots)
 drop_held n slots = drop-map held_slot n slots
 
 pub beyond_held : (n : ℕ) (slots : List Slot) → beyond n (held slots) ≡ beyond n slots
-beyond_held n slots = ap (λ (k : ℕ). suc (n + k)) (ap skipped (drop_held n slots) ∙ skipped_held (drop n slots))
+beyond_held n slots = ap (λ (k : ℕ). suc (n + k)) (ap skipped (drop_held n slots) ∙ (held_as Footed 0 (drop n slots)).2)
 
 -- ---- structures
 

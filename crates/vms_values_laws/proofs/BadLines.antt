@@ -43,37 +43,15 @@ split (t ∷ taken) P Q (e ∷ es) fine f a =
 
 -- ---- the first bad line
 
+-- the relation says of it that it is bad
 pub record FirstBad (set : Set) (text : List ℕ) (line : ℕ) (reason : ValuesReason) : Type 0 where
   pub machine : Option (List ℕ)
-  pub images : List Image
   pub taken : List Taken
   pub rest : List ℕ
   pub named : machine ≡ machine_named set.machines (first_line text)
-  pub shaped : AreShaped set set.devices images
-  pub short : AllShort images
   pub follows : (images : List Image) → AreShaped set set.devices images → AllShort images → Follows taken (λ es. front_reason es rest ≡ Some reason) (entries set machine images)
-  pub along : Along taken (λ es. front_reason es rest ≡ Some reason) (entries set machine images)
   pub moved : Moved 1 text taken line rest
-
--- what the relation says of it
-pub bad_line : (set : Set) (text : List ℕ) (line : ℕ) (reason : ValuesReason) → FirstBad set text line reason → IsBadLine set text line reason
-bad_line set text line reason b =
-    let P : List Entry → Type 0 = λ es. front_reason es b.rest ≡ Some reason in
-    let s = split b.taken P P (entries set b.machine b.images) b.moved.fine (b.follows b.images b.shaped b.short) b.along in
-    record {
-      machine = b.machine;
-      images = b.images;
-      before = s.before;
-      after = s.after;
-      rest = b.rest;
-      named = b.named;
-      shaped = b.shaped;
-      state = s.is;
-      fine = s.fine;
-      begins = b.moved.texts ∙ ap (λ (l : List (List ℕ)). text_of l ++ b.rest) (sym s.lines);
-      number = omega (arith, b.moved.further, s.long);
-      bad = s.rest;
-    }
+  pub is_bad : IsBadLine set text line reason
 
 -- ---- a text without one
 
@@ -149,17 +127,32 @@ module _ (set : Set) (text : List ℕ) (machine : Option (List ℕ)) (line : ℕ
       → Moved line after taken at rest → ((es : List Entry) → Q es → front_reason es rest ≡ Some reason) → FirstBad set text at reason
   first_bad images taken at rest reason Q shaped short follows along moved bad =
       let P : List Entry → Type 0 = λ es. front_reason es rest ≡ Some reason in
+      let all = machine_taken machine ++ taken in
+      let passed : Moved 1 text all at rest = moved_then 1 line at text after rest (machine_taken machine) taken head.moved moved in
+      let its : (images : List Image) → AreShaped set set.devices images → AllShort images → Follows all P (entries set machine images) =
+      λ images shaped short. follows_machine set machine images taken P (follows_ends taken Q P (devices_entries set set.devices images) (follows images shaped short) bad) in
+      let s = split all P P (entries set machine images) passed.fine (its images shaped short) (along_machine set machine images taken P (along_ends taken Q P (devices_entries set set.devices images) along bad)) in
       record {
         machine = machine;
-        images = images;
-        taken = machine_taken machine ++ taken;
+        taken = all;
         rest = rest;
         named = head.named;
-        shaped = shaped;
-        short = short;
-        follows = λ images shaped short. follows_machine set machine images taken P (follows_ends taken Q P (devices_entries set set.devices images) (follows images shaped short) bad);
-        along = along_machine set machine images taken P (along_ends taken Q P (devices_entries set set.devices images) along bad);
-        moved = moved_then 1 line at text after rest (machine_taken machine) taken head.moved moved;
+        follows = its;
+        moved = passed;
+        is_bad = record {
+          machine = machine;
+          images = images;
+          before = s.before;
+          after = s.after;
+          rest = rest;
+          named = head.named;
+          shaped = shaped;
+          state = s.is;
+          fine = s.fine;
+          begins = passed.texts ∙ ap (λ (l : List (List ℕ)). text_of l ++ rest) (sym s.lines);
+          number = omega (arith, passed.further, s.long);
+          bad = s.rest;
+        };
       }
 
   pub stopped_first : (e : BadLine) → AllStop set set.devices line after e → FirstBad set text e.line e.reason

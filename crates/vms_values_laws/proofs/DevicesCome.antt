@@ -17,13 +17,13 @@ use Rattle.vms_elements.specs.Lines.{section_line, printed}
 use Rattle.vms_elements.specs.Entries.{Entry, OfSection, OfNumber, number_entries, subs_entries, device_entries}
 use Rattle.vms_elements.specs.Reading.{has_line, AreAtVersions}
 use Rattle.vms_values_laws.specs.Said.{Said, Agrees, AreBelow}
-use Rattle.vms_values_laws.specs.Taken.{Demand, ForSection, ForNumber, reason_for, Taken, Follows, Along, Begins, Moved}
+use Rattle.vms_values_laws.specs.Taken.{ForSection, ForNumber, reason_for, Taken, Follows, Along, Begins, Moved}
 use Rattle.vms_values_laws.proofs.SaidLaws.{agrees_front}
 use Rattle.vms_values_laws.proofs.Following.{follows_then, along_then, moved_none, moved_one, moved_then}
 use Rattle.vms_values_laws.proofs.Unsaid.{has_said, said_both, lines_both, lines_said}
 use Rattle.vms_values_laws.proofs.SecondPass.{sub_numbers, subs_past}
 use Rattle.vms_values_laws.proofs.Numbers.{AreShort, taken_of, all_taken, Told, NumbersRead, NumbersStop, NumbersCome, numbers_come}
-use Rattle.vms_values_laws.proofs.SubsCome.{told_none, told_both, agrees_later, line_taken, SubsRead, SubsStop, SubsCome, AreSoundSubs, cells_long, none_at, subs_come}
+use Rattle.vms_values_laws.proofs.SubsCome.{told_none, told_both, agrees_later, line_taken, Stopped, SubsRead, SubsStop, SubsCome, AreSoundSubs, cells_long, none_at, subs_come}
 
 abbrev pub AllShort : List Image → Type 0
 AllShort [] = Unit {0}
@@ -48,20 +48,10 @@ pub record DeviceRead (set : Set) (d : Device) (line : ℕ) (text : List ℕ) (r
   pub along : (more : List Entry) → Along taken (λ es. es ≡ more) (device_entries set d (image_of d r) ++ more)
   pub moved : Moved line text taken r.place.line r.place.rest
 
-pub record DeviceStop (set : Set) (d : Device) (line : ℕ) (text : List ℕ) (e : BadLine) : Type 0 where
-  pub said : List Said
-  pub taken : List Taken
-  pub demand : Demand
-  pub came : List (Option ℕ)
-  pub numbers : List ℤ
-  pub rest : List ℕ
-  pub told : Told 0 (default_numbers set d) said numbers
-  pub one_each : length came ≡ length d.subs
-  pub versions : AreAtVersions d.subs came
-  pub follows : (image : Image) (more : List Entry) → length image.came ≡ length d.subs → AreShort image.numbers → Follows taken (λ es. Begins demand es) (device_entries set d image ++ more)
-  pub along : (more : List Entry) → Along taken (λ es. Begins demand es) (device_entries set d (record { version = d.desc.version; came = came; numbers = numbers }) ++ more)
-  pub moved : Moved line text taken e.line rest
-  pub wrong : reason_for demand (first_line rest) ≡ Some e.reason
+abbrev pub DeviceStop : Set → Device → ℕ → List ℕ → BadLine → Type 0
+DeviceStop set d line text e = Stopped d.subs 0 (record { numbers = default_numbers set d; line = line; rest = text }) e
+    (λ demand taken. (image : Image) (more : List Entry) → length image.came ≡ length d.subs → AreShort image.numbers → Follows taken (λ es. Begins demand es) (device_entries set d image ++ more))
+    (λ demand taken said came numbers. (more : List Entry) → Along taken (λ es. Begins demand es) (device_entries set d (record { version = d.desc.version; came = came; numbers = numbers }) ++ more))
 
 abbrev pub DeviceComes : Set → Device → ℕ → List ℕ → Result ReadSubs BadLine → Type 0
 DeviceComes set d line text (Ok r) = DeviceRead set d line text r

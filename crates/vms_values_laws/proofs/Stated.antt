@@ -16,7 +16,6 @@ use Rattle.vms_elements.proofs.LinesOf.{text_is}
 use Rattle.vms_values_laws.specs.Laws.{ReadLaw, OnlyLaw, AcceptedLaw, PrintedLaw}
 use Rattle.vms_values_laws.proofs.SecondPass.{parts_from}
 use Rattle.vms_values_laws.proofs.GoodDevices.{good_devices}
-use Rattle.vms_values_laws.proofs.BadLines.{bad_line}
 use Rattle.vms_values_laws.proofs.AllCome.{images_of}
 use Rattle.vms_values_laws.proofs.FirstPass.{FirstPass, first_pass}
 use Rattle.vms_values_laws.proofs.Back.{bad_back}
@@ -62,7 +61,7 @@ by_parts set text machine images (Some b) fit says e = inr (bad_part set text ma
 by_parts set text machine images None fit says e = text_of_ready set text machine images fit says (none_good set 1 (entries set machine images) e)
 
 by_pass : (set : Set) (text : List ℕ) (v : ValuesRead) → IsFit set → FirstPass set text v → Reads set text v
-by_pass set text v fit (inl b) = subst (λ (v : ValuesRead). Reads set text v) (sym b.is) (inl (bad_line set text b.line b.reason b.first))
+by_pass set text v fit (inl b) = subst (λ (v : ValuesRead). Reads set text v) (sym b.is) (inl b.first.is_bad)
 by_pass set text v fit (inr n) =
     let images = images_of n.all.devices in
     subst (λ (v : ValuesRead). Reads set text v) (sym (none_answers set text v n))

@@ -107,6 +107,22 @@ sub_taken : (s : Sub) (o : Option (List ℕ × List ℕ)) (came : Option ℕ) �
 sub_taken s None came e = cc
 sub_taken s (Some (line, rest)) came e = one_way s line rest came (bytes_eq line (sub_line s (Some s.desc.version))) (bytes_eq line (sub_line s None)) refl refl e
 
+-- what was told and taken up to a bad line, where the entries follow on it and have its lines
+pub record Stopped (subs : List Sub) (at : ℕ) (p : Standing) (e : BadLine) (Behind : Demand → List Taken → Type 0) (Lined : Demand → List Taken → List Said → List (Option ℕ) → List ℤ → Type 0) : Type 0 where
+  pub said : List Said
+  pub taken : List Taken
+  pub demand : Demand
+  pub came : List (Option ℕ)
+  pub numbers : List ℤ
+  pub rest : List ℕ
+  pub told : Told at p.numbers said numbers
+  pub one_each : length came ≡ length subs
+  pub versions : AreAtVersions subs came
+  pub follows : Behind demand taken
+  pub along : Lined demand taken said came numbers
+  pub moved : Moved p.line p.rest taken e.line rest
+  pub wrong : reason_for demand (first_line rest) ≡ Some e.reason
+
 -- ---- all of them
 
 module _ (set : Set) (d : Device) where
@@ -130,20 +146,9 @@ module _ (set : Set) (d : Device) where
     pub along : (image : Image) (more : List Entry) → Agrees said image.numbers → Along taken (λ es. es ≡ more) (subs_entries set d image j at subs r.came ++ more)
     pub moved : Moved p.line p.rest taken r.place.line r.place.rest
 
-  pub record SubsStop (subs : List Sub) (j at : ℕ) (p : Standing) (e : BadLine) : Type 0 where
-    pub said : List Said
-    pub taken : List Taken
-    pub demand : Demand
-    pub came : List (Option ℕ)
-    pub numbers : List ℤ
-    pub rest : List ℕ
-    pub told : Told at p.numbers said numbers
-    pub one_each : length came ≡ length subs
-    pub versions : AreAtVersions subs came
-    pub follows : FollowSubs subs j at taken (λ more es. Begins demand es)
-    pub along : (image : Image) (more : List Entry) → Agrees said image.numbers → Along taken (λ es. Begins demand es) (subs_entries set d image j at subs came ++ more)
-    pub moved : Moved p.line p.rest taken e.line rest
-    pub wrong : reason_for demand (first_line rest) ≡ Some e.reason
+  abbrev pub SubsStop : List Sub → ℕ → ℕ → Standing → BadLine → Type 0
+  SubsStop subs j at p e = Stopped subs at p e (λ demand taken. FollowSubs subs j at taken (λ more es. Begins demand es))
+      (λ demand taken said came numbers. (image : Image) (more : List Entry) → Agrees said image.numbers → Along taken (λ es. Begins demand es) (subs_entries set d image j at subs came ++ more))
 
   abbrev pub SubsCome : List Sub → ℕ → ℕ → Standing → Result ReadSubs BadLine → Type 0
   SubsCome subs j at p (Ok r) = SubsRead subs j at p r

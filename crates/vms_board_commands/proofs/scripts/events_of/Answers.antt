@@ -1,16 +1,15 @@
-use Rattle.std.proofs.Common.{ℕ, List, true, None, refl, subst}
+use Rattle.std.proofs.Common.{ℕ, List, None, subst}
 use Rattle.std.specs.declared.alloc.Global.{Global}
 use Rattle.std.specs.declared.vec.Vec.{Vec}
 use Rattle.dev_board.specs.declared.event.Event.{Event}
 use Rattle.std.proofs.lemmas.Result.{err_from_is_err_and}
-use Rattle.vms_io.specs.Told.{stock}
 use Rattle.vms_commands.proofs.StepLemmas.{first_err, then_as}
 use Rattle.vms_commands.specs.Fetching.{fetched}
 use Rattle.vms_commands.specs.StepEndings.{StepAs}
 use Rattle.vms_script.specs.Lines.{ScriptLine}
 use Rattle.vms_script.specs.Script.{script_read}
 use Rattle.vms_script.specs.Views.{event_lines}
-use Rattle.vms_board_commands.proofs.ScriptLemmas.{had_events, read_caused, unfetched}
+use Rattle.vms_board_commands.proofs.ScriptLemmas.{had_events, read_asks, unfetched_asks}
 use Rattle.vms_board_commands.specs.Scripts.{longest_script, said_lines}
 use Rattle.vms_board_commands.proofs.scripts.events_of.Goals as goal
 
@@ -35,16 +34,7 @@ returns-in_err-text-clause-read g c =
     (fetched longest_script (g.H.Shelf.held c.args.shelf.now) c.args.name.now) c.in_err-text.field-0.0 c.in_err-text.ensures.fetched)
 
 pub returns-clause-asks : goal.returns-clause-asks
-returns-clause-asks g c = record {
-  looks = c.in_ok-text.ensures.asks.looks;
-  cause = read_caused (Vec Event Global) (stock g.H.Shelf c.args.shelf.now) (stock g.H.Shelf c.fetch.new.shelf) c.had.result c.had.ensures.ends;
-}
+returns-clause-asks g c = read_asks c.had.result c.in_ok-text.ensures.asks.looks c.had.ensures.ends
 
 pub returns-in_err-text-clause-asks : goal.returns-in_err-text-clause-asks
-returns-in_err-text-clause-asks g c =
-    let p = err_from_is_err_and c.from_residual.result c.from_residual.ensures.1 in
-    rw (p.1, p.2)
-    (record {
-      looks = c.in_err-text.ensures.asks.looks;
-      cause = unfetched (Vec ℕ Global) true (stock g.H.Shelf c.args.shelf.now) (stock g.H.Shelf c.fetch.new.shelf) c.in_err-text.field-0.0 refl c.in_err-text.ensures.asks.cause;
-    })
+returns-in_err-text-clause-asks g c = unfetched_asks c.from_residual.result c.from_residual.ensures.1 c.in_err-text.ensures.asks
