@@ -1,16 +1,15 @@
 -- Each ending of a command, by what it touches.
 use Rattle.std.proofs.Common.{◌≡◌, ℕ, Bool, true, false, List, [], ◌∷◌, ◌++◌, Option, refl, sym, subst}
 use Rattle.std.specs.Io.KnownBytes.{Keeps}
-use Rattle.vms_io.specs.Causes.{Rose}
-use Rattle.vms_io.specs.Shelving.{Looks, Reaches}
+use Rattle.vms_io.specs.Shelving.{Looks}
 use Rattle.vms_io.proofs.ShelvingLemmas.{looks_reaches}
 use Rattle.vms_io.specs.Told.{Intake, Outlet, Stock}
 use Rattle.vms_io.specs.Writing.{Serves}
 use Rattle.vms_board_commands.specs.Causes.{save_course}
 use Rattle.vms_commands.specs.declared.ending.Ending.{Ending}
-use Rattle.vms_commands.specs.declared.ending.Ending.TheVariants.{Done, BadText, NotCompatible, ReadFault, WriteFault, ShelfFault, NotThere, TooLarge, NoMemory}
+use Rattle.vms_commands.specs.declared.ending.Ending.TheVariants.{Done, BadText, NotCompatible, ReadFault, WriteFault, ShelfFault, NoMemory}
 use Rattle.vms_commands.specs.Endings.{Caused, Quiet, status_of}
-use Rattle.vms_commands.specs.Courses.{Draws, EndsSo, Risen, is_among, of_shelf, text_course}
+use Rattle.vms_commands.specs.Courses.{EndsSo, Risen, is_among, of_shelf, text_course}
 use Rattle.vms_commands.proofs.CourseLemmas.{draws_none, so_since, wrong}
 use Rattle.vms_board_commands.proofs.CourseLemmas.{among_left, shelf_has}
 use Rattle.vms_cli.specs.Causes.{WriteCause, WritesBy}
@@ -21,19 +20,7 @@ use Rattle.vms_io.specs.Shelves.{Held}
 use Rattle.vms_board_commands.specs.Seen.{SeenAs}
 use Rattle.vms_cli.specs.Rows.{OutcomeWith}
 
--- ---- the causes of commands, by those of their steps
-
--- by whether the shelf is asked, and whether two sets are compared
-abbrev TextCause : (asks compares : Bool) (out out' : Outlet) (shelf shelf' : Stock) → Ending → Type 0
-TextCause asks compares out out' shelf shelf' Done = Unit {0}
-TextCause asks compares out out' shelf shelf' (BadText line) = (asks ≡ true) × Keeps out.written out'.written
-TextCause asks compares out out' shelf shelf' (NotCompatible line) = (compares ≡ true) × Keeps out.written out'.written
-TextCause asks compares out out' shelf shelf' WriteFault = Rose out.faults out'.faults
-TextCause asks compares out out' shelf shelf' ShelfFault = (asks ≡ true) × Rose shelf.faults shelf'.faults × Keeps out.written out'.written
-TextCause asks compares out out' shelf shelf' (NotThere line) = (asks ≡ true) × Keeps out.written out'.written
-TextCause asks compares out out' shelf shelf' (TooLarge line) = (asks ≡ true) × Keeps out.written out'.written
-TextCause asks compares out out' shelf shelf' NoMemory = Keeps out.written out'.written
-TextCause asks compares out out' shelf shelf' _ = ⊥
+-- ---- the cause of a command that writes one text
 
 pub write_quiet : (asks compares : Bool) (o o' : Outlet) (e : Ending) → WriteCause asks compares o o' e → Quiet o o' e
 write_quiet asks compares o o' Done c = tt
@@ -64,39 +51,6 @@ compares_none : (own : List ℕ) → is_among own 0 ≡ true → is_among own 6 
 compares_none own none six ten = record { none = none; six = six; ten = ten; four = λ f. absurd (wrong (sym f)) }
 
 module _ (i i' : Intake) (o o' : Outlet) (s s' : Stock) where
-  -- ---- which ending it is, by the lists of a command
-
-  abbrev IsOf : (all writes : List ℕ) → Ending → Type 0
-  IsOf all writes e = (is_among all (status_of e) ≡ true) × Risen i i' o o' s s' e × (is_among writes (status_of e) ≡ false → Keeps o.written o'.written)
-
-  abbrev text_at : List ℕ
-  text_at = 0 ∷ 6 ∷ []
-
-  module _ (own : List ℕ) (asks compares : Bool) (has : HasOwn own compares) where
-    own_has : (k : ℕ) → is_among own k ≡ true → is_among (own ++ of_shelf asks) k ≡ true
-    own_has k is = among_left own (of_shelf asks) k is
-
-    text_so : (e : Ending) → TextCause asks compares o o' s s' e → IsOf (own ++ of_shelf asks) text_at e
-    text_so Done c = (own_has 0 has.none, tt, λ f. absurd (wrong f))
-    text_so (BadText line) c = (shelf_has own asks 3 c.0 refl, tt, λ f. c.1)
-    text_so (NotCompatible line) c = (own_has 4 (has.four c.0), tt, λ f. c.1)
-    text_so WriteFault c = (own_has 6 has.six, c, λ f. absurd (wrong f))
-    text_so ShelfFault c = (shelf_has own asks 7 c.0 refl, c.1, λ f. c.2)
-    text_so (NotThere line) c = (shelf_has own asks 8 c.0 refl, tt, λ f. c.1)
-    text_so (TooLarge line) c = (shelf_has own asks 9 c.0 refl, tt, λ f. c.1)
-    text_so NoMemory c = (own_has 10 has.ten, tt, λ f. c)
-    text_so e c = absurd c
-
-  -- ---- so a command ends
-
-  -- with what it leaves of the objects
-  pub record Left (asks : Bool) : Type 0 where
-    pub held : s'.held ≡ s.held
-    pub unasked : asks ≡ false → s' ≡ s
-    pub draws : Draws i i'
-    pub serves : Serves o o'
-    pub reaches : Reaches s s'
-
   -- ---- the cause of an ending, as the outcome wants it
 
   -- at these statuses nothing is written or stored
@@ -117,26 +71,43 @@ module _ (i i' : Intake) (o o' : Outlet) (s s' : Stock) where
 
 -- of a command that reads nothing of the input
 module _ (i : Intake) (o o' : Outlet) (s s' : Stock) where
-  text_by : (own : List ℕ) (b : Bool) (e : Ending) → IsOf i i o o' s s' (own ++ of_shelf b) (0 ∷ 6 ∷ []) e → Left i i o o' s s' b → EndsSo i i o o' s s' (text_course own [] b) e
-  text_by own b e r l = record {
-    can = r.0;
-    risen = r.1;
-    out = r.2;
-    input = λ f. refl;
-    held = λ f. l.held;
-    shelf = l.unasked;
-    draws = l.draws;
-    serves = l.serves;
-    reaches = l.reaches;
-  }
+  -- which ending it is, by the lists of a command
+  abbrev IsOf : List ℕ → Ending → Type 0
+  IsOf all e = (is_among all (status_of e) ≡ true) × Risen i i o o' s s' e × (is_among (0 ∷ 6 ∷ []) (status_of e) ≡ false → Keeps o.written o'.written)
 
-  pub pack_ends : (e : Ending) → TextCause true false o o' s s' e → Left i i o o' s s' true → EndsSo i i o o' s s' save_course e
-  pack_ends e c l =
-      let own = 0 ∷ 6 ∷ 10 ∷ [] in
-      text_by own true e (text_so i i o o' s s' own true false (compares_none own refl refl refl) e c) l
+  module _ (own : List ℕ) (asks compares : Bool) (has : HasOwn own compares) where
+    own_has : (k : ℕ) → is_among own k ≡ true → is_among (own ++ of_shelf asks) k ≡ true
+    own_has k is = among_left own (of_shelf asks) k is
+
+    text_so : (e : Ending) → WriteCause asks compares o o' e → IsOf (own ++ of_shelf asks) e
+    text_so Done c = (own_has 0 has.none, tt, λ f. absurd (wrong f))
+    text_so (BadText line) c = (shelf_has own asks 3 c.0 refl, tt, λ f. c.1)
+    text_so (NotCompatible line) c = (own_has 4 (has.four c.0), tt, λ f. c.1)
+    text_so WriteFault c = (own_has 6 has.six, c, λ f. absurd (wrong f))
+    text_so NoMemory c = (own_has 10 has.ten, tt, λ f. c)
+    text_so e c = absurd c
+
+    -- where the shelf was looked at alone
+    text_by : (e : Ending) → WriteCause asks compares o o' e → Serves o o' → Looks s s' → (asks ≡ false → s' ≡ s) → EndsSo i i o o' s s' (text_course own [] asks) e
+    text_by e c serves looks unasked =
+        let r = text_so e c in
+        record {
+          can = r.0;
+          risen = r.1;
+          out = r.2;
+          input = λ f. refl;
+          held = λ f. looks.held;
+          shelf = unasked;
+          draws = draws_none i;
+          serves = serves;
+          reaches = looks_reaches looks;
+        }
+
+  pub pack_ends : (e : Ending) → WritesBy true false o o' e → Looks s s' → EndsSo i i o o' s s' save_course e
+  pack_ends e w looks = text_by (0 ∷ 6 ∷ 10 ∷ []) true false (compares_none (0 ∷ 6 ∷ 10 ∷ []) refl refl refl) e w.cause w.serves looks (λ f. absurd (wrong f))
 
   -- once all sets are there, no text is bad
-  written_so : (asks compares : Bool) (e : Ending) → WriteCause false compares o o' e → TextCause asks compares o o' s s' e
+  written_so : (asks compares : Bool) (e : Ending) → WriteCause false compares o o' e → WriteCause asks compares o o' e
   written_so asks compares Done c = tt
   written_so asks compares (BadText line) c = absurd (wrong (sym c.0))
   written_so asks compares (NotCompatible line) c = c
@@ -144,19 +115,13 @@ module _ (i : Intake) (o o' : Outlet) (s s' : Stock) where
   written_so asks compares NoMemory c = c
   written_so asks compares e c = absurd c
 
-  -- where the shelf was asked alone
-  looked : (b : Bool) → Looks s s' → (b ≡ false → s' ≡ s) → Serves o o' → Left i i o o' s s' b
-  looked b looks unasked serves = record { held = looks.held; unasked = unasked; draws = draws_none i; serves = serves; reaches = looks_reaches looks }
-
   pub check_ends : (b : Bool) (e : Ending) → WritesBy false true o o' e → Looks s s' → (b ≡ false → s' ≡ s) → EndsSo i i o o' s s' (check_course b) e
   check_ends b e w looks unasked =
-      let own = 0 ∷ 4 ∷ 6 ∷ 10 ∷ [] in
-      text_by own b e (text_so i i o o' s s' own b true (record { none = refl; six = refl; ten = refl; four = λ f. refl }) e (written_so b true e w.cause)) (looked b looks unasked w.serves)
+      text_by (0 ∷ 4 ∷ 6 ∷ 10 ∷ []) b true (record { none = refl; six = refl; ten = refl; four = λ f. refl }) e (written_so b true e w.cause) w.serves looks unasked
 
   pub counter_ends : (b : Bool) (e : Ending) → WritesBy false false o o' e → Looks s s' → (b ≡ false → s' ≡ s) → EndsSo i i o o' s s' (counter_course b) e
   counter_ends b e w looks unasked =
-      let own = 0 ∷ 6 ∷ 10 ∷ [] in
-      text_by own b e (text_so i i o o' s s' own b false (compares_none own refl refl refl) e (written_so b false e w.cause)) (looked b looks unasked w.serves)
+      text_by (0 ∷ 6 ∷ 10 ∷ []) b false (compares_none (0 ∷ 6 ∷ 10 ∷ []) refl refl refl) e (written_so b false e w.cause) w.serves looks unasked
 
 -- ---- of the command that is asked for
 

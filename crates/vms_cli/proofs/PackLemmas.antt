@@ -24,10 +24,10 @@ use Rattle.vms_commands.specs.declared.ending.Ending.{Ending}
 use Rattle.vms_commands.specs.declared.ending.Ending.TheVariants.{BadText}
 use Rattle.vms_commands.specs.Fetching.{SetText, fetched, fetched_set, longest_file, set_in, word_set}
 use Rattle.vms_commands.specs.SetWords.{SetWord}
-use Rattle.vms_commands.specs.StepEndings.{StepAs, TextEnds, WrittenAs}
+use Rattle.vms_commands.specs.StepEndings.{TextEnds, WrittenAs}
 use Rattle.vms_commands.specs.Steps.{Step, Untold, Gives, Ends, next}
-use Rattle.vms_commands.proofs.StepLemmas.{IsSound, err_text, regroup, sound_fetch, sound_next, sound_set, sound_word, then_text}
-use Rattle.vms_cli.specs.Pack.{Texts, described_stream, fetched_texts, packed, packed_by, packed_texts, packs}
+use Rattle.vms_commands.proofs.StepLemmas.{IsSound, sound_fetch, sound_next, sound_set, sound_word}
+use Rattle.vms_cli.specs.Pack.{described_stream, named_parts, packed, packed_by, packed_parts, packs, with_values}
 use Rattle.vms_cli.specs.ValuesLines.{values_line}
 
 ready_of : (set : Set) → IsFit set → (text : List ℕ) (r : ValuesRead) (v : Given) → values_read set text ≡ r → ReadsAs set r (Ok v) → AreReady set (map state_of v.images.items)
@@ -70,43 +70,16 @@ module _ (set : Set) (text : List ℕ) (o o' : Outlet) where
       → string_bytes line ≡ values_line l why → TextEnds (packed set text) o o' (BadText line)
   packs_bad l why line reads said = bad_by set (values_read set text) l why line o o' reads said
 
--- ---- the words' texts
+-- ---- what the words name
 
-abbrev pub with_values : Option Held → List ℕ → SetText → Step Texts
-with_values held name set = next (fetched longest_file held name) (λ values. Gives (record { set = set; values = values }))
-
-module _ (held : Option Held) (word : SetWord) (name : List ℕ) (o o' : Outlet) (e : Ending) where
-  -- the set ended it
-  pub set_ends : {T : Type 0} (m : T → SetText) → StepAs {A = SetText} {T = T} m (fetched_set held word) (Err e) → TextEnds (packs held word name) o o' e
-  set_ends m h = regroup (fetched_set held word) (with_values held name) packed_texts o o' e
-      (err_text m (λ set. next (with_values held name set) packed_texts) o o' e (fetched_set held word) h)
-
-  -- the values text did
-  pub values_end : {T U : Type 0} (m : T → SetText) (n : U → List ℕ) (t : T) → StepAs m (fetched_set held word) (Ok t)
-      → StepAs {A = List ℕ} {T = U} n (fetched longest_file held name) (Err e) → TextEnds (packs held word name) o o' e
-  values_end m n t first h = regroup (fetched_set held word) (with_values held name) packed_texts o o' e
-      (then_text m (λ set. next (with_values held name set) packed_texts) o o' e (fetched_set held word) t first
-      (regroup (fetched longest_file held name) (λ values. Gives (record { set = m t; values = values })) packed_texts o o' e
-      (err_text n (λ values. packed_texts (record { set = m t; values = values })) o o' e (fetched longest_file held name) h)))
-
-  -- both were there
-  pub texts_end : {T U : Type 0} (m : T → SetText) (n : U → List ℕ) (t : T) (u : U) → StepAs m (fetched_set held word) (Ok t)
-      → StepAs n (fetched longest_file held name) (Ok u) → TextEnds (packed_texts (record { set = m t; values = n u })) o o' e
-      → TextEnds (packs held word name) o o' e
-  texts_end m n t u first second h = regroup (fetched_set held word) (with_values held name) packed_texts o o' e
-      (then_text m (λ set. next (with_values held name set) packed_texts) o o' e (fetched_set held word) t first
-      (regroup (fetched longest_file held name) (λ values. Gives (record { set = m t; values = values })) packed_texts o o' e
-      (then_text n (λ values. packed_texts (record { set = m t; values = values })) o o' e (fetched longest_file held name) u second h)))
-
--- both texts were there and read
 module _ (held : Option Held) (word : SetWord) (name : List ℕ) (set : Set) (text stream : List ℕ) where
   gives_by : (t : Step SetText) → next t set_in ≡ Gives set → fetched longest_file held name ≡ Gives text → packed set text ≡ Gives stream
-      → next (next t (with_values held name)) packed_texts ≡ Gives stream
+      → next (next t (with_values held name)) packed_parts ≡ Gives stream
   gives_by Untold there values reads = absurd (cc)
   gives_by (Ends status line) there values reads = absurd (cc)
   gives_by (Gives t) there values reads =
-      ap (λ (s : Step (List ℕ)). next (next s (λ v. Gives (record { set = t; values = v }))) packed_texts) values
-      ∙ ap (λ (s : Step Set). next s (λ x. packed x text)) there ∙ reads
+      ap (λ (s : Step (List ℕ)). next (next s (λ v. next (set_in t) (λ x. Gives (record { set = x; values = v })))) packed_parts) values
+      ∙ ap (λ (s : Step Set). next (next s (λ x. Gives (record { set = x; values = text }))) packed_parts) there ∙ reads
 
   pub pack_gives : word_set held word ≡ Gives set → fetched longest_file held name ≡ Gives text → packed set text ≡ Gives stream
       → packs held word name ≡ Gives stream
@@ -118,9 +91,8 @@ sound_read held set (Bad line reason) = omega arith
 
 pub sound_pack : (held : Option Held) (word : SetWord) (name : List ℕ) → IsSound held (packs held word name)
 sound_pack held word name =
-    sound_next held (fetched_texts held word name) packed_texts
+    sound_next held (named_parts held word name) packed_parts
     (sound_next held (fetched_set held word) (with_values held name) (sound_word held word)
-    (λ set. sound_next held (fetched longest_file held name) (λ values. Gives (record { set = set; values = values })) (sound_fetch held longest_file name)
-    (λ values. tt)))
-    (λ texts. sound_next held (set_in texts.set) (λ set. packed set texts.values) (sound_set held texts.set)
-    (λ set. sound_read held set (values_read set texts.values)))
+    (λ t. sound_next held (fetched longest_file held name) _ (sound_fetch held longest_file name)
+    (λ values. sound_next held (set_in t) _ (sound_set held t) (λ set. tt))))
+    (λ parts. sound_read held parts.set (values_read parts.set parts.values))

@@ -25,9 +25,9 @@ use Rattle.vms_commands.proofs.StepLemmas.{fetched_gives}
 use Rattle.vms_cli.specs.Analyze.{IsListing}
 use Rattle.vms_cli.specs.AnalyzeLaws.{PackThenAnalyzeLaw, ShowThenAnalyzeLaw}
 use Rattle.vms_cli.specs.Laws.{PackThenShowLaw, ShowThenPackLaw}
-use Rattle.vms_cli.specs.Pack.{described_stream, packed, packed_by, packed_texts, packs}
+use Rattle.vms_cli.specs.Pack.{described_stream, packed_by, packed_parts, packs, with_values}
 use Rattle.vms_cli.specs.Show.{Shows, ShowsBy, Values as Printed, Refuses}
-use Rattle.vms_cli.proofs.PackLemmas.{pack_gives, with_values}
+use Rattle.vms_cli.proofs.PackLemmas.{pack_gives}
 
 abbrev pub first_text : List Part → List ℕ
 first_text [] = []
@@ -95,23 +95,23 @@ module _ (map : Held) (text stream : List ℕ) where
       )
   shown_of set fit (Bad line reason) e has = absurd (done_apart 3 _ stream (Some map) 0 0 has)
 
-  set_shown : (s : Step Set) → FitStep s → is_packed (next s (λ set. packed set text)) → is_shown s
+  set_shown : (s : Step Set) → FitStep s → is_packed (next (next s (λ set. Gives (record { set = set; values = text }))) packed_parts) → is_shown s
   set_shown Untold fit has = absurd has
   set_shown (Gives set) fit has = shown_of set fit (values_read set text) refl has
   set_shown (Ends status line) fit has = absurd (done_apart status _ stream (Some map) 0 0 has)
 
   within_shown : (name : List ℕ) (t : SetText) (b : Bool) → FitStep (set_in t)
-      → is_packed (next (next (if b then Gives text else Ends 9 (too_large_line name)) (λ v. Gives (record { set = t; values = v }))) packed_texts)
+      → is_packed (next (next (if b then Gives text else Ends 9 (too_large_line name)) (λ v. next (set_in t) (λ set. Gives (record { set = set; values = v })))) packed_parts)
       → is_shown (set_in t)
   within_shown name t true fit has = set_shown (set_in t) fit has
   within_shown name t false fit has = absurd (done_apart 9 _ stream (Some map) 0 0 has)
 
   text_shown : (name : List ℕ) (t : Step SetText) → map name ≡ Some text → FitStep (next t set_in)
-      → is_packed (next (next t (with_values (Some map) name)) packed_texts) → is_shown (next t set_in)
+      → is_packed (next (next t (with_values (Some map) name)) packed_parts) → is_shown (next t set_in)
   text_shown name Untold under fit has = absurd has
   text_shown name (Gives t) under fit has =
       within_shown name t (nat_le (length text) longest_file) fit
-      (subst (λ (u : Option (List ℕ)). is_packed (next (next (text_under longest_file name u) (λ v. Gives (record { set = t; values = v }))) packed_texts)) under has)
+      (subst (λ (u : Option (List ℕ)). is_packed (next (next (text_under longest_file name u) (λ v. next (set_in t) (λ set. Gives (record { set = set; values = v })))) packed_parts)) under has)
   text_shown name (Ends status line) under fit has = absurd (done_apart status _ stream (Some map) 0 0 has)
 
 pub pack_then_show : PackThenShowLaw

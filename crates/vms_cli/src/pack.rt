@@ -1,5 +1,5 @@
 // The command `pack`: the stream of a values text on the shelf.
-ghost use Rattle.std.specs.Prelude.{◌<◌, ◌≤◌, true, false, length, map, IfSome};
+ghost use Rattle.std.specs.Prelude.{◌<◌, ◌≤◌, true, false, length, map, vec_len, IfOk, IfSome};
 ghost use Rattle.vms_io.specs.Told.{Intake, outlet, stock};
 ghost use Rattle.vms_spec.specs.Lists.{at_option};
 ghost use Rattle.vms_spec.specs.Streams.{AreReady};
@@ -7,16 +7,16 @@ ghost use Rattle.vms_desc.specs.Described.{described};
 ghost use Rattle.vms_image.specs.Typed.{AreImagesOf, state_of};
 ghost use Rattle.vms_commands.specs.Asks.{set_asked};
 ghost use Rattle.vms_commands.specs.Fetching.{longest_file};
-ghost use Rattle.vms_commands.specs.StepEndings.{TextEnds, WrittenAs, text_of};
+ghost use Rattle.vms_commands.specs.StepEndings.{AsksIf, HadCause, StepAs, TextEnds, WrittenAs};
 ghost use Rattle.vms_commands.specs.Texts.{TextContent};
 ghost use Rattle.vms_commands.specs.Courses.{EndsSo};
 ghost use Rattle.vms_board_commands.specs.Causes.{save_course};
 ghost use Rattle.vms_cli.specs.Causes.{WritesBy};
-ghost use Rattle.vms_cli.specs.Pack.{described_stream, packed, packed_texts, packs};
+ghost use Rattle.vms_cli.specs.Pack.{described_stream, named_parts, packed, packs, parts_of};
 
 use crate::values_notes::values_line;
 use std::alloc::Global;
-use vms_commands::{Ending, LONGEST_FILE, SetText, SetWord, fetch, fetch_set, read_fetched};
+use vms_commands::{Ending, LONGEST_FILE, SetWord, fetch, fetch_set, read_fetched};
 use vms_desc::DescSet;
 use vms_io::{Shelf, Sink};
 use vms_selfdesc::describe;
@@ -37,27 +37,36 @@ pub(crate) fn pack<O: Sink, H: Shelf>(
         (outlet O.Sink out.new) (stock H.Shelf shelf.old) (stock H.Shelf shelf.new) save_course
         result }
 {
-    let set = match fetch_set(alloc, set, shelf) {
-        Ok(text) => text,
-        Err(ending) => return ending,
-    };
-    match fetch(alloc, values, LONGEST_FILE, shelf) {
-        Ok(text) => pack_texts(alloc, &set, &text, out),
+    match pack_parts(alloc, set, values, shelf) {
+        Ok(parts) => pack_text(alloc, &parts.set, &parts.values, out),
         Err(ending) => ending,
     }
 }
 
-// Once both texts are fetched.
-fn pack_texts<O: Sink>(alloc: Global, set: &SetText, text: &[u8], out: &mut O) -> Ending
-    requires { length text.now ≤ longest_file }
-    ensures ends { TextEnds (packed_texts (record { set = text_of set.now; values = text.now }))
-        (outlet O.Sink out.old) (outlet O.Sink out.new) result }
-    ensures so { WritesBy true false (outlet O.Sink out.old) (outlet O.Sink out.new) result }
+// A set, and a values text.
+#[derive(Drop)]
+struct PackParts {
+    set: DescSet,
+    values: Vec<u8>,
+}
+
+// What two words name, or how the command ends where it can't be had: the set is read once both texts are fetched.
+fn pack_parts<H: Shelf>(
+    alloc: Global,
+    set: SetWord,
+    values: &str,
+    shelf: &mut H,
+) -> Result<PackParts, Ending>
+    ensures had { StepAs parts_of (named_parts (H.held shelf.old) (set_asked set.entry) values.now)
+        result }
+    ensures within { IfOk result (λ parts. vec_len parts.values ≤ longest_file) }
+    ensures asks { AsksIf HadCause true (stock H.Shelf shelf.old) (stock H.Shelf shelf.new)
+        result }
 {
-    match read_fetched(alloc, set) {
-        Ok(set) => pack_text(alloc, &set, text, out),
-        Err(ending) => ending,
-    }
+    let text = fetch_set(alloc, set, shelf)?;
+    let values = fetch(alloc, values, LONGEST_FILE, shelf)?;
+    let set = read_fetched(alloc, &text)?;
+    Ok(PackParts { set, values })
 }
 
 // Once the set is read.
