@@ -1,9 +1,16 @@
 -- Two steps, one after the other: what is said of the first that ends the command, or of what both give.
-use Rattle.std.proofs.Common.{◌≡◌, Ok, Err}
+use Rattle.std.proofs.Common.{◌≡◌, ℕ, ◌<◌, ◌^◌, Bool, List, Ok, Err}
+use Rattle.vms_io.specs.Shelving.{Looks}
+use Rattle.vms_io.specs.Told.{Intake, Outlet, Stock}
 use Rattle.vms_commands.specs.declared.ending.Ending.{Ending}
-use Rattle.vms_commands.specs.StepEndings.{StepAs}
-use Rattle.vms_commands.specs.Steps.{Both, Gives, Step, both, next}
-use Rattle.vms_commands.proofs.StepLemmas.{first_err, then_as}
+use Rattle.vms_commands.specs.Endings.{EndsAs}
+use Rattle.vms_commands.specs.Outcomes.{Outcome}
+use Rattle.vms_commands.specs.StepEndings.{StepAs, TextEnds}
+use Rattle.vms_commands.specs.Steps.{Both, Gives, HasText, Step, both, next}
+use Rattle.vms_commands.proofs.EndLemmas.{quiet_same}
+use Rattle.vms_commands.proofs.StepLemmas.{err_text, first_err, text_ends, then_as, then_text}
+use Rattle.vms_cli.specs.Causes.{WritesBy}
+use Rattle.vms_cli.proofs.EndsSo.{write_quiet}
 
 module _ {A T U : Type 0} (m : T → A) (n : U → Both A) where
   -- the first ended it
@@ -21,3 +28,14 @@ module _ {A T U : Type 0} (m : T → A) (n : U → Both A) where
   two_of s r t v u is h k =
       then_as m n (λ a. next r (λ b. Gives (record { old = a; new = b }))) s t (Ok u) h
       (then_as m n (λ b. Gives (record { old = m t; new = b })) r v (Ok u) k is)
+
+-- ---- a command that writes the text of a step, by a step before
+
+module _ {A T : Type 0} (m : T → A) (f : A → Step (List ℕ)) (step : Step A) (i : Intake) (o : Outlet) (s s' : Stock) (few : i.given < 2 ^ 64) (looks : Looks s s') (x : Outcome) (has : HasText s.held (next step f) x) where
+  -- where it gave something
+  pub had_text : (o' : Outlet) (t : T) (e : Ending) (asks compares : Bool) → StepAs m step (Ok t) → WritesBy asks compares o o' e → TextEnds (f (m t)) o o' e → EndsAs i i o o' s s' e x
+  had_text o' t e asks compares h w k = text_ends (next step f) i o o' s s' e x few looks.held (write_quiet asks compares o o' e w.cause) (then_text m f o o' e step t h k) has
+
+  -- where it ended the command
+  pub lacks_text : (e : Ending) → StepAs {A = A} {T = T} m step (Err e) → EndsAs i i o o s s' e x
+  lacks_text e h = text_ends (next step f) i o o s s' e x few looks.held (quiet_same o e) (err_text m f o o e step h) has

@@ -86,6 +86,7 @@ pub fn tell<N: Sink>(notes: &mut N, ending: &Ending) -> u8
     }
 }
 
+#[tactic(auto, using(crate::proofs::EndsSo::asked_so, crate::proofs::EndsSo::asked_seen, crate::proofs::RowTables::unread))]
 fn run<I: Source, O: Sink, H: Shelf>(
     alloc: Global,
     words: &Words,

@@ -2,41 +2,30 @@ use Rattle.std.proofs.Common.{[], ◌∷◌, refl}
 use Rattle.vms_io.specs.Told.{outlet, stock}
 use Rattle.vms_commands.specs.Asks.{set_asked}
 use Rattle.vms_commands.specs.Fetching.{named_sets}
-use Rattle.vms_commands.specs.Steps.{next}
-use Rattle.vms_commands.proofs.EndLemmas.{quiet_same}
-use Rattle.vms_commands.proofs.StepLemmas.{err_text, text_ends, then_text}
-use Rattle.vms_cli.specs.Counter.{counted}
-use Rattle.vms_cli.specs.TwoSets.{sets_of}
-use Rattle.vms_cli.proofs.CounterLemmas.{counters_text, fit_sets}
+use Rattle.vms_board_commands.proofs.CourseLemmas.{text_asks, unset_so}
 use Rattle.vms_cli.specs.Check.{asks_shelf}
 use Rattle.vms_cli.specs.Statuses.{counter_course}
-use Rattle.vms_board_commands.proofs.CourseLemmas.{text_asks, unset_so}
-use Rattle.vms_cli.proofs.EndsSo.{counter_ends, write_quiet}
+use Rattle.vms_cli.specs.TwoSets.{sets_of}
+use Rattle.vms_cli.specs.Counter.{counted}
+use Rattle.vms_cli.proofs.CounterLemmas.{counters_text, fit_sets}
+use Rattle.vms_cli.proofs.EndsSo.{counter_ends}
+use Rattle.vms_cli.proofs.StepsOfTwo.{had_text, lacks_text}
 use Rattle.vms_cli.proofs.counter.counter.Goals as goal
 
 pub returns-in-Ok-clause-content : goal.returns-in-Ok-clause-content
 returns-in-Ok-clause-content g c = λ input o few has.
     let held = g.H.Shelf.held c.args.shelf.now in
-    let sets = named_sets held (set_asked c.args.old) (set_asked c.args.new) in
-    let out = outlet g.O.Sink c.args.out.now in
-    let out' = outlet g.O.Sink c.find.new.out in
-    text_ends (next sets counted) input out out' (stock g.H.Shelf c.args.shelf.now) (stock g.H.Shelf c.two_sets.new.shelf) c.find.result o few
-    c.in-Ok.ensures.asks.looks.held (write_quiet _ _ out out' c.find.result c.find.ensures.so.cause)
-    (then_text sets_of counted out out' c.find.result sets c.in-Ok.sets c.in-Ok.ensures.had c.find.ensures.ends) (counters_text held sets o (fit_sets held (set_asked c.args.old) (set_asked c.args.new)) has)
+    let text = counters_text held (named_sets held (set_asked c.args.old) (set_asked c.args.new)) o (fit_sets held (set_asked c.args.old) (set_asked c.args.new)) has in
+    had_text sets_of counted (named_sets held (set_asked c.args.old) (set_asked c.args.new)) input _ (stock g.H.Shelf c.args.shelf.now) _ few c.in-Ok.ensures.asks.looks o text _ c.in-Ok.sets _ _ _ c.in-Ok.ensures.had c.find.ensures.so c.find.ensures.ends
 
 pub returns-in-Err-clause-content : goal.returns-in-Err-clause-content
 returns-in-Err-clause-content g c = λ input o few has.
     let held = g.H.Shelf.held c.args.shelf.now in
-    let sets = named_sets held (set_asked c.args.old) (set_asked c.args.new) in
-    let out = outlet g.O.Sink c.args.out.now in
-    let ending = c.in-Err.ending in
-    text_ends (next sets counted) input out out (stock g.H.Shelf c.args.shelf.now) (stock g.H.Shelf c.two_sets.new.shelf) ending o few
-    c.in-Err.ensures.asks.looks.held (quiet_same out ending) (err_text sets_of counted out out ending sets c.in-Err.ensures.had) (counters_text held sets o (fit_sets held (set_asked c.args.old) (set_asked c.args.new)) has)
+    let text = counters_text held (named_sets held (set_asked c.args.old) (set_asked c.args.new)) o (fit_sets held (set_asked c.args.old) (set_asked c.args.new)) has in
+    lacks_text sets_of counted (named_sets held (set_asked c.args.old) (set_asked c.args.new)) input (outlet g.O.Sink c.args.out.now) (stock g.H.Shelf c.args.shelf.now) _ few c.in-Err.ensures.asks.looks o text c.in-Err.ending c.in-Err.ensures.had
 
 pub returns-in-Ok-clause-so : goal.returns-in-Ok-clause-so
-returns-in-Ok-clause-so g c = λ input.
-    let e = c.in-Ok.ensures.asks in
-    counter_ends input _ _ _ _ _ _ c.find.ensures.so e.looks e.unasked
+returns-in-Ok-clause-so g c = λ input. counter_ends input _ _ _ _ _ _ c.find.ensures.so c.in-Ok.ensures.asks.looks c.in-Ok.ensures.asks.unasked
 
 pub returns-in-Err-clause-so : goal.returns-in-Err-clause-so
 returns-in-Err-clause-so g c = λ input.

@@ -1,17 +1,12 @@
-use Rattle.std.proofs.Common.{refl}
 use Rattle.vms_io.specs.Told.{intake, stock}
 use Rattle.vms_cli.proofs.EndsSo.{asked_so, asked_seen}
-use Rattle.vms_cli.proofs.RowTables.{unread}
 use Rattle.vms_cli.proofs.top.run.Goals as goal
-
-pub returns-in-Some-Show-clause-so : goal.returns-in-Some-Show-clause-so
-returns-in-Some-Show-clause-so g c = asked_so _ _ (rw c.in-Some-Show.field-0-is at c.in-Some-Show.ensures) c.show.ensures.so
-
-pub returns-in-Some-Convert-clause-so : goal.returns-in-Some-Convert-clause-so
-returns-in-Some-Convert-clause-so g c = asked_so _ _ (rw c.in-Some-Convert.field-0-is at c.in-Some-Convert.ensures) c.convert.ensures.so
 
 pub returns-in-Some-Analyze-clause-so : goal.returns-in-Some-Analyze-clause-so
 returns-in-Some-Analyze-clause-so g c = asked_so _ _ (rw c.in-Some-Analyze.field-0-is at c.in-Some-Analyze.ensures) (c.analyze_input.ensures.so (stock g.H.Shelf c.args.shelf.now))
+
+pub returns-in-Some-Analyze-clause-seen : goal.returns-in-Some-Analyze-clause-seen
+returns-in-Some-Analyze-clause-seen g c = λ is. asked_seen (g.H.Shelf.held c.args.shelf.now) _ _ (rw c.in-Some-Analyze.field-0-is at c.in-Some-Analyze.ensures) (c.analyze_input.ensures.seen (stock g.H.Shelf c.args.shelf.now))
 
 pub returns-in-Some-Pack-clause-so : goal.returns-in-Some-Pack-clause-so
 returns-in-Some-Pack-clause-so g c = asked_so _ _ (rw c.in-Some-Pack.field-0-is at c.in-Some-Pack.ensures) (c.pack.ensures.so (intake g.I.Source c.args.input.now))
@@ -30,32 +25,3 @@ returns-in-Some-Play-clause-so g c = asked_so _ _ (rw c.in-Some-Play.field-0-is 
 
 pub returns-in-Some-Drill-clause-so : goal.returns-in-Some-Drill-clause-so
 returns-in-Some-Drill-clause-so g c = asked_so _ _ (rw c.in-Some-Drill.field-0-is at c.in-Some-Drill.ensures) (c.drill_board.ensures.so (intake g.I.Source c.args.input.now) (stock g.H.Shelf c.args.shelf.now))
-
--- ---- what is seen
-
-pub returns-in-Some-Show-clause-seen : goal.returns-in-Some-Show-clause-seen
-returns-in-Some-Show-clause-seen g c = λ is. asked_seen (g.H.Shelf.held c.args.shelf.now) _ _ (rw c.in-Some-Show.field-0-is at c.in-Some-Show.ensures) c.show.ensures.seen
-
-pub returns-in-Some-Convert-clause-seen : goal.returns-in-Some-Convert-clause-seen
-returns-in-Some-Convert-clause-seen g c = λ is. asked_seen (g.H.Shelf.held c.args.shelf.now) _ _ (rw c.in-Some-Convert.field-0-is at c.in-Some-Convert.ensures) c.convert.ensures.seen
-
-pub returns-in-Some-Analyze-clause-seen : goal.returns-in-Some-Analyze-clause-seen
-returns-in-Some-Analyze-clause-seen g c = λ is. asked_seen (g.H.Shelf.held c.args.shelf.now) _ _ (rw c.in-Some-Analyze.field-0-is at c.in-Some-Analyze.ensures) (c.analyze_input.ensures.seen (stock g.H.Shelf c.args.shelf.now))
-
-pub returns-in-Some-Pack-clause-seen : goal.returns-in-Some-Pack-clause-seen
-returns-in-Some-Pack-clause-seen g c = λ is. unread _ _ (rw c.in-Some-Pack.field-0-is at c.in-Some-Pack.ensures) refl is
-
-pub returns-in-Some-Check-clause-seen : goal.returns-in-Some-Check-clause-seen
-returns-in-Some-Check-clause-seen g c = λ is. unread _ _ (rw c.in-Some-Check.field-0-is at c.in-Some-Check.ensures) refl is
-
-pub returns-in-Some-Counter-clause-seen : goal.returns-in-Some-Counter-clause-seen
-returns-in-Some-Counter-clause-seen g c = λ is. unread _ _ (rw c.in-Some-Counter.field-0-is at c.in-Some-Counter.ensures) refl is
-
-pub returns-in-Some-Save-clause-seen : goal.returns-in-Some-Save-clause-seen
-returns-in-Some-Save-clause-seen g c = λ is. unread _ _ (rw c.in-Some-Save.field-0-is at c.in-Some-Save.ensures) refl is
-
-pub returns-in-Some-Play-clause-seen : goal.returns-in-Some-Play-clause-seen
-returns-in-Some-Play-clause-seen g c = λ is. unread _ _ (rw c.in-Some-Play.field-0-is at c.in-Some-Play.ensures) refl is
-
-pub returns-in-Some-Drill-clause-seen : goal.returns-in-Some-Drill-clause-seen
-returns-in-Some-Drill-clause-seen g c = λ is. unread _ _ (rw c.in-Some-Drill.field-0-is at c.in-Some-Drill.ensures) refl is
