@@ -6,7 +6,6 @@ ghost use Rattle.vms_spec.specs.Lists.{at_option};
 ghost use Rattle.vms_spec.specs.Values.{values_text};
 ghost use Rattle.vms_desc.specs.Described.{described};
 ghost use Rattle.vms_image.specs.Typed.{state_of, AreImagesOf};
-ghost use Rattle.vms_load.specs.Kept.{loads};
 ghost use Rattle.vms_counter_laws.specs.Computed.{computed};
 ghost use Rattle.vms_counter.specs.Found.{answer_of, IsFindingOf};
 ghost use Rattle.vms_commands.specs.Asks.{set_asked};
@@ -62,21 +61,11 @@ fn find<O: Sink>(alloc: Global, sets: TwoSets, out: &mut O) -> Ending
         (outlet O.Sink out.old) (outlet O.Sink out.new) result }
     ensures so { WritesBy false false (outlet O.Sink out.old) (outlet O.Sink out.new) result }
 {
-    match Loader::new(alloc, sets.new) {
-        Ok(mut loader) => find_with(alloc, &sets.old, &mut loader, out),
-        Err(_) => Ending::NoMemory,
-    }
-}
-
-// Once there is a loader of the new set.
-fn find_with<O: Sink>(alloc: Global, old: &DescSet, new: &mut Loader, out: &mut O) -> Ending
-    ensures ends { WrittenAs (counter_text (described old.now) (loads new.old)
-        (computed (described old.now) (loads new.old)))
-        (outlet O.Sink out.old) (outlet O.Sink out.new) result }
-    ensures so { WritesBy false false (outlet O.Sink out.old) (outlet O.Sink out.new) result }
-{
-    match vms_counter::counter(alloc, old, new) {
-        Ok(finding) => write_finding(alloc, old, new.set(), &finding, out),
+    let Ok(mut loader) = Loader::new(alloc, sets.new) else {
+        return Ending::NoMemory;
+    };
+    match vms_counter::counter(alloc, &sets.old, &mut loader) {
+        Ok(finding) => write_finding(alloc, &sets.old, loader.set(), &finding, out),
         Err(_) => Ending::NoMemory,
     }
 }

@@ -1,0 +1,28 @@
+use Rattle.std.proofs.Common.{◌∙◌, subst}
+use Rattle.vms_io.specs.Told.{outlet}
+use Rattle.vms_spec.specs.Good.{IsFit}
+use Rattle.vms_spec.specs.Sets.{Set}
+use Rattle.vms_desc.specs.Described.{described}
+use Rattle.vms_load.specs.Kept.{loads}
+use Rattle.vms_load.proofs.SetFacts.{well_of}
+use Rattle.vms_counter_laws.specs.Counters.{Answer}
+use Rattle.vms_counter.specs.Found.{answer_of}
+use Rattle.vms_commands.specs.StepEndings.{WrittenAs}
+use Rattle.vms_counter_laws.specs.Computed.{computed}
+use Rattle.vms_cli.specs.Counter.{counter_text}
+use Rattle.vms_cli.proofs.CounterLemmas.{answered}
+use Rattle.vms_cli.proofs.counter.find.Goals as goal
+
+pub returns-in-Ok-counter-clause-ends : goal.returns-in-Ok-counter-clause-ends
+returns-in-Ok-counter-clause-ends g c =
+    let old = described c.args.sets.old in
+    let new = loads c.in-Ok.loader in
+    let out = outlet g.O.Sink c.args.out.now in
+    let out' = outlet g.O.Sink c.write_finding.new.out in
+    let r = c.write_finding.result in
+    let found = answer_of old c.in-Ok-counter.finding in
+    let fit : IsFit old = record { well = well_of old c.args.sets.old.well_formed; heads = c.args.sets.old.heads } in
+    let fit' : IsFit new = record { well = well_of new c.in-Ok.loader.set.well_formed; heads = c.in-Ok.loader.set.heads } in
+    subst (λ (n : Set). WrittenAs (counter_text old n (computed old n)) out out' r) c.in-Ok.ensures.set
+    (subst (λ (a : Answer). WrittenAs (counter_text old new a) out out' r) (answered old new fit fit' found c.in-Ok-counter.ensures.found)
+    (subst (λ (s : Set). WrittenAs (counter_text old s found) out out' r) (c.set.ensures ∙ c.in-Ok-counter.ensures.set) c.write_finding.ensures.ends))
