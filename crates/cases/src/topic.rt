@@ -82,24 +82,15 @@ fn run_cases<'a>(
     tally: &mut Tally,
 ) -> Result<()> {
     shared.read(alloc, topic)?;
-    for case in topic.list("case")? {
-        one_case(alloc, Entry::of(case)?, shared, tally)?;
+    for entry in topic.list("case")? {
+        let mut case = Case::new(alloc);
+        let read = case.read(alloc, shared, Entry::of(entry)?);
+        read.context(format_args!("case {}", tally.cases))?;
+        run_case(alloc, &case, tally)?;
+        let out = &case.wanted.answer.out;
+        put_copy(alloc, &mut shared.known.outs, case.name, out)?;
     }
     Ok(())
-}
-
-fn one_case<'a>(
-    alloc: Global,
-    entry: Entry<'a>,
-    shared: &mut Shared<'a>,
-    tally: &mut Tally,
-) -> Result<()> {
-    let mut case = Case::new(alloc);
-    let read = case.read(alloc, shared, entry);
-    read.context(format_args!("case {}", tally.cases))?;
-    run_case(alloc, &case, tally)?;
-    let out = &case.wanted.answer.out;
-    put_copy(alloc, &mut shared.known.outs, case.name, out)
 }
 
 // Runs a case up to its first difference.

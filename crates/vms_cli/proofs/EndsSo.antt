@@ -1,5 +1,5 @@
 -- Each ending of a command, by what it touches.
-use Rattle.std.proofs.Common.{◌≡◌, ℕ, Bool, true, false, List, [], ◌∷◌, ◌++◌, Option, refl, sym, subst}
+use Rattle.std.proofs.Common.{Err, ◌≡◌, ℕ, Bool, true, false, List, [], ◌∷◌, ◌++◌, Option, refl, sym, subst}
 use Rattle.std.specs.Io.KnownBytes.{Keeps}
 use Rattle.vms_io.specs.Shelving.{Looks}
 use Rattle.vms_io.proofs.ShelvingLemmas.{looks_reaches}
@@ -9,9 +9,10 @@ use Rattle.vms_board_commands.specs.Causes.{save_course}
 use Rattle.vms_commands.specs.declared.ending.Ending.{Ending}
 use Rattle.vms_commands.specs.declared.ending.Ending.TheVariants.{Done, BadText, NotCompatible, ReadFault, WriteFault, ShelfFault, NoMemory}
 use Rattle.vms_commands.specs.Endings.{Caused, Quiet, status_of}
+use Rattle.vms_commands.specs.StepEndings.{AsksIf, HadCause}
 use Rattle.vms_commands.specs.Courses.{EndsSo, Risen, is_among, of_shelf, text_course}
 use Rattle.vms_commands.proofs.CourseLemmas.{draws_none, so_since, wrong}
-use Rattle.vms_board_commands.proofs.CourseLemmas.{among_left, shelf_has}
+use Rattle.vms_board_commands.proofs.CourseLemmas.{among_left, shelf_has, text_asks, unset_so}
 use Rattle.vms_cli.specs.Causes.{WriteCause, WritesBy}
 use Rattle.vms_cli.specs.Commands.{Asked}
 use Rattle.vms_cli.specs.Statuses.{check_course, counter_course, course_of, stores_at, writes_at}
@@ -31,6 +32,10 @@ write_quiet asks compares o o' NoMemory c = c
 write_quiet asks compares o o' e c = absurd c
 
 -- ---- a set that a word names
+
+-- where it isn't had, input and out aren't touched
+pub lacks_so : {T : Type 0} (own takes : List ℕ) → is_among own 10 ≡ true → {b : Bool} (i : Intake) (o : Outlet) {s s' : Stock} {e : Ending} → AsksIf (HadCause {T = T}) b s s' (Err e) → EndsSo i i o o s s' (text_course own takes b) e
+lacks_so own takes ten {b} i o {s} {s'} {e} a = unset_so (text_course own takes b) b (text_asks own takes b ten) i o a.looks a.unasked e a.cause
 
 -- what is done behind the fetch is done of the shelf as it was before
 pub behind_so : (own takes : List ℕ) (b : Bool) {i i' : Intake} {o o' : Outlet} {s s' : Stock} (e : Ending) → (b ≡ false → s' ≡ s) → Looks s s' → EndsSo i i' o o' s' s' (text_course own takes b) e

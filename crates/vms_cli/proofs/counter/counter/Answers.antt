@@ -2,13 +2,10 @@ use Rattle.std.proofs.Common.{[], ◌∷◌, refl}
 use Rattle.vms_io.specs.Told.{outlet, stock}
 use Rattle.vms_commands.specs.Asks.{set_asked}
 use Rattle.vms_commands.specs.Fetching.{named_sets}
-use Rattle.vms_board_commands.proofs.CourseLemmas.{text_asks, unset_so}
-use Rattle.vms_cli.specs.Check.{asks_shelf}
-use Rattle.vms_cli.specs.Statuses.{counter_course}
 use Rattle.vms_cli.specs.TwoSets.{sets_of}
 use Rattle.vms_cli.specs.Counter.{counted}
 use Rattle.vms_cli.proofs.CounterLemmas.{counters_text, fit_sets}
-use Rattle.vms_cli.proofs.EndsSo.{counter_ends}
+use Rattle.vms_cli.proofs.EndsSo.{counter_ends, lacks_so}
 use Rattle.vms_cli.proofs.StepsOfTwo.{had_text, lacks_text}
 use Rattle.vms_cli.proofs.counter.counter.Goals as goal
 
@@ -28,7 +25,4 @@ pub returns-in-Ok-clause-so : goal.returns-in-Ok-clause-so
 returns-in-Ok-clause-so g c = λ input. counter_ends input _ _ _ _ _ _ c.find.ensures.so c.in-Ok.ensures.asks.looks c.in-Ok.ensures.asks.unasked
 
 pub returns-in-Err-clause-so : goal.returns-in-Err-clause-so
-returns-in-Err-clause-so g c = λ input.
-    let e = c.in-Err.ensures.asks in
-    let b = asks_shelf (set_asked c.args.old) (set_asked c.args.new) in
-    unset_so (counter_course b) b (text_asks (0 ∷ 6 ∷ 10 ∷ []) [] b refl) input (outlet g.O.Sink c.args.out.now) e.looks e.unasked c.in-Err.ending e.cause
+returns-in-Err-clause-so g c = λ input. lacks_so (0 ∷ 6 ∷ 10 ∷ []) [] refl input (outlet g.O.Sink c.args.out.now) c.in-Err.ensures.asks

@@ -8,9 +8,7 @@ use Rattle.vms_commands.proofs.StepLemmas.{ended_by, had_by}
 use Rattle.vms_board_commands.proofs.SeenLemmas.{other_seen, seen_given, set_other}
 use Rattle.vms_load.proofs.SetFacts.{well_of}
 use Rattle.vms_cli.specs.Show.{ShowsWell}
-use Rattle.vms_cli.proofs.EndsSo.{behind_so}
-use Rattle.vms_cli.specs.Statuses.{show_course}
-use Rattle.vms_board_commands.proofs.CourseLemmas.{text_asks, unset_so}
+use Rattle.vms_cli.proofs.EndsSo.{behind_so, lacks_so}
 use Rattle.vms_cli.proofs.ShowLemmas.{gives_none, gives_within, shows_under}
 use Rattle.vms_cli.proofs.show.show.Goals as goal
 
@@ -42,9 +40,7 @@ returns-in-Err-clause-content g c = λ o has.
 
 pub returns-in-Err-clause-so : goal.returns-in-Err-clause-so
 returns-in-Err-clause-so g c =
-    let had = c.in-Err.ensures.asks in
-    let b = is_on_shelf (set_asked c.args.set) in
-    unset_so (show_course b) b (text_asks (0 ∷ 1 ∷ 5 ∷ 6 ∷ 10 ∷ []) (0 ∷ 1 ∷ 5 ∷ 6 ∷ []) b refl) (intake g.I.Source c.args.input.now) (outlet g.O.Sink c.args.out.now) had.looks had.unasked c.in-Err.ending had.cause
+    lacks_so (0 ∷ 1 ∷ 5 ∷ 6 ∷ 10 ∷ []) (0 ∷ 1 ∷ 5 ∷ 6 ∷ []) refl (intake g.I.Source c.args.input.now) (outlet g.O.Sink c.args.out.now) c.in-Err.ensures.asks
 
 pub returns-in-Err-clause-given : goal.returns-in-Err-clause-given
 returns-in-Err-clause-given g c =
