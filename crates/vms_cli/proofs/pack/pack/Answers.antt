@@ -1,12 +1,10 @@
-use Rattle.std.proofs.Common.{List, ℕ, subst}
+use Rattle.std.proofs.Common.{List, ℕ, [], ◌∷◌, refl, subst}
 use Rattle.vms_io.specs.Told.{outlet, stock}
 use Rattle.vms_desc.specs.Described.{described}
 use Rattle.vms_commands.specs.Asks.{set_asked}
 use Rattle.vms_commands.specs.StepEndings.{TextEnds}
-use Rattle.vms_board_commands.proofs.CourseLemmas.{save_asks, unset_so}
-use Rattle.vms_board_commands.specs.Causes.{save_course}
 use Rattle.vms_cli.specs.Pack.{named_parts, packed, packed_parts, parts_of}
-use Rattle.vms_cli.proofs.EndsSo.{pack_ends}
+use Rattle.vms_cli.proofs.EndsSo.{lacks_so, pack_ends}
 use Rattle.vms_cli.proofs.StepsOfTwo.{had_text, lacks_text}
 use Rattle.vms_cli.proofs.pack.pack.Goals as goal
 
@@ -26,6 +24,4 @@ pub returns-in-Ok-clause-so : goal.returns-in-Ok-clause-so
 returns-in-Ok-clause-so g c = λ input. pack_ends input _ _ _ _ _ c.pack_text.ensures.so c.in-Ok.ensures.asks.looks
 
 pub returns-in-Err-clause-so : goal.returns-in-Err-clause-so
-returns-in-Err-clause-so g c = λ input.
-    let e = c.in-Err.ensures.asks in
-    unset_so save_course _ save_asks input (outlet g.O.Sink c.args.out.now) e.looks e.unasked c.in-Err.ending e.cause
+returns-in-Err-clause-so g c = λ input. lacks_so (0 ∷ 6 ∷ 10 ∷ []) [] refl input (outlet g.O.Sink c.args.out.now) c.in-Err.ensures.asks
