@@ -15,7 +15,7 @@ use Rattle.vms_commands.specs.Lines.{too_large_line}
 use Rattle.vms_commands.specs.Outcomes.{Outcome, done, ended}
 use Rattle.vms_commands.specs.SetWords.{SetWord, Shipped, OnShelf}
 use Rattle.vms_commands.specs.StepEndings.{IsFree, EndedAs, StepAs, WrittenAs, TextEnds}
-use Rattle.vms_commands.specs.Steps.{Step, Untold, Gives, Ends, next, Both, both, HasBy, HasText}
+use Rattle.vms_commands.specs.Steps.{Step, Untold, Gives, Ends, next, both, HasBy, HasText}
 use Rattle.vms_commands.proofs.EndLemmas.{comes_to_nothing, ends_with, takes_nothing}
 
 -- ---- one step after another
@@ -70,42 +70,6 @@ module _ {A T : Type 0} (m : T → A) (f : A → Step (List ℕ)) (o o' : Outlet
   then_text Untold t first h = tt
   then_text (Gives a) t first h = subst (λ (x : A). TextEnds (f x) o o' e) first h
   then_text (Ends status line) t first h = absurd first
-
-next_next : {A B C : Type 0} (s : Step A) (f : A → Step B) (g : B → Step C) → next s (λ a. next (f a) g) ≡ next (next s f) g
-next_next Untold f g = refl
-next_next (Gives a) f g = refl
-next_next (Ends status line) f g = refl
-
-module _ {A T : Type 0} (m : T → A) (f : Both A → Step (List ℕ)) (o o' : Outlet) (e : Ending) where
-  -- the first of two steps ended the command
-  pub first_ends : (s r : Step A) → StepAs {A = A} {T = T} m s (Err e) → TextEnds (next (both s r) f) o o' e
-  first_ends Untold r h = tt
-  first_ends (Gives a) r h = free_text (next (both (Gives a) r) f) o o' e h
-  first_ends (Ends status line) r h = h
-
-  -- the second did
-  pub second_ends : (s r : Step A) (t : T) → StepAs m s (Ok t) → StepAs {A = A} {T = T} m r (Err e) → TextEnds (next (both s r) f) o o' e
-  second_ends Untold r t first h = tt
-  second_ends (Gives a) Untold t first h = tt
-  second_ends (Gives a) (Gives b) t first h = free_text (f (record { old = a; new = b })) o o' e h
-  second_ends (Gives a) (Ends status line) t first h = h
-  second_ends (Ends status line) r t first h = absurd first
-
-  -- both gave something
-  pub both_give : (s r : Step A) (t u : T) → StepAs m s (Ok t) → StepAs m r (Ok u) → TextEnds (f (record { old = m t; new = m u })) o o' e
-      → TextEnds (next (both s r) f) o o' e
-  both_give Untold r t u first second h = tt
-  both_give (Gives a) Untold t u first second h = tt
-  both_give (Gives a) (Gives b) t u first second h =
-      subst (λ (x : A). TextEnds (f (record { old = x; new = b })) o o' e) first
-      (subst (λ (y : A). TextEnds (f (record { old = m t; new = y })) o o' e) second h)
-  both_give (Gives a) (Ends status line) t u first second h = absurd second
-  both_give (Ends status line) r t u first second h = absurd first
-
--- what comes after the second step comes after both
-pub regroup : {A B : Type 0} (s : Step A) (f : A → Step B) (g : B → Step (List ℕ)) (o o' : Outlet) (e : Ending)
-    → TextEnds (next s (λ a. next (f a) g)) o o' e → TextEnds (next (next s f) g) o o' e
-regroup s f g o o' e h = subst (λ (x : Step (List ℕ)). TextEnds x o o' e) (next_next s f g) h
 
 -- ---- the outcome
 
