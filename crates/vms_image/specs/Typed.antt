@@ -1,7 +1,8 @@
 -- An image as it is held: the state that a section carries, and the kind of each cell.
-use Rattle.std.specs.Prelude.{◌≡◌, ℕ, List, length, Option, Some, ℤ}
+use Rattle.std.specs.Prelude.{◌≡◌, ℕ, ◌<◌, ◌≤◌, List, length, Option, Some, ℤ}
 use Rattle.std.specs.List.{slice_get}
 use Rattle.vms_kinds.specs.declared.Kind.{Kind}
+use Rattle.vms_spec.specs.declared.TheConstants.{MOST_ITEMS}
 use Rattle.vms_spec.specs.Sets.{Set}
 use Rattle.vms_spec.specs.Layout.{device_cells}
 use Rattle.vms_spec.specs.Images.{Image, default_image}
@@ -25,6 +26,13 @@ typed kinds image = record { version = image.version; came = image.came; numbers
 -- the image of the device of a number at the set's version, with no subsection and all defaults
 abbrev pub default_at : Set → ℕ → Typed
 default_at set device = typed (kinds_at set device) (default_image set (device_at set device))
+
+-- a state of the device of a number
+pub record IsOfDevice (set : Set) (i : ℕ) (image : Image) : Type 0 where
+  pub is_device : i < length set.devices
+  pub cells : length image.numbers ≡ length (device_cells set (device_at set i))
+  pub subs : length image.came ≡ length (device_at set i).subs
+  pub few : length image.numbers ≤ MOST_ITEMS
 
 -- an image of the device of a number: something for each subsection, and its cells with their kinds
 pub record IsImageOf (set : Set) (device : ℕ) (image : Typed) : Type 0 where

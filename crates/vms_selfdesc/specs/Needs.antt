@@ -1,13 +1,11 @@
 -- What the calls of this crate need.
-use Rattle.std.specs.Prelude.{◌≡◌, ℕ, ◌+◌, ◌*◌, ◌<◌, ◌≤◌, true, ◌&&◌, List, length, ℤ, pos, negsuc, int_le, int_lt}
+use Rattle.std.specs.Prelude.{◌≡◌, ℕ, ◌+◌, ◌*◌, ◌≤◌, true, ◌&&◌, List, length, ℤ, pos, negsuc, int_le, int_lt}
 use Rattle.vms_spec.specs.declared.TheConstants.{MOST_ITEMS}
 use Rattle.vms_spec.specs.Sets.{Set, Field}
 use Rattle.vms_spec.specs.Rules.{uses_below, defaults_well}
-use Rattle.vms_spec.specs.Layout.{item_size, struct_cells, device_cells}
-use Rattle.vms_spec.specs.Images.{Image}
+use Rattle.vms_spec.specs.Layout.{item_size, struct_cells}
 use Rattle.vms_spec.specs.declared.Part.{Part}
 use Rattle.vms_desc.specs.Asks.{HasCells}
-use Rattle.vms_desc.specs.Described.{device_at}
 use Rattle.vms_desc.specs.Parts.{HasPart}
 
 -- a number of 64 bits, with or without a sign
@@ -27,10 +25,3 @@ pub record HasElements (set : Set) (f : Field) (cell n : ℕ) (numbers : List �
   pub few : length numbers ≤ MOST_ITEMS
   pub small : item_size (struct_cells set) f.item ≤ MOST_ITEMS
   pub room : cell + n * item_size (struct_cells set) f.item ≤ length numbers
-
--- the image is one of device i
-pub record HasDevice (set : Set) (i : ℕ) (image : Image) : Type 0 where
-  pub has : i < length set.devices
-  pub cells : length image.numbers ≡ length (device_cells set (device_at set i))
-  pub subs : length image.came ≡ length (device_at set i).subs
-  pub few : length image.numbers ≤ MOST_ITEMS

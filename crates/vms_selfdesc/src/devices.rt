@@ -7,10 +7,9 @@ ghost use Rattle.vms_spec.specs.declared.Part.TheVariants as parts;
 ghost use Rattle.vms_desc.specs.Asks.{first_cell};
 ghost use Rattle.vms_desc.specs.Described.{device_at};
 ghost use Rattle.vms_desc.specs.Parts.{sub_at};
-ghost use Rattle.vms_image.specs.Typed.{state_of};
+ghost use Rattle.vms_image.specs.Typed.{state_of, IsOfDevice};
 ghost use Rattle.vms_selfdesc.specs.Drafts.{Adds, IsPlain, Lays, PutsSub, PutsName};
 ghost use Rattle.vms_selfdesc.specs.Listing.{set_in, numbers_in, IsPlace, part_list};
-ghost use Rattle.vms_selfdesc.specs.Needs.{HasDevice};
 ghost use Rattle.vms_selfdesc.specs.Tree.{entry_tree, list_tree, sub_tree, sub_trees, device_tree};
 
 use crate::draft::{Draft, begin, put_flag, put_natural, put_text};
@@ -49,7 +48,7 @@ fn put_sub_head(text: &mut String, desc: &Desc, sent: bool) -> Result<(), AllocE
 
 // A subsection, whether or not it stands in the stream.
 fn write_sub(lister: &Lister, device: u32, sub: u32, draft: &mut Draft) -> Result<(), AllocError>
-    requires device { HasDevice (set_in lister.now) device (state_of lister.now.image.now) }
+    requires device { IsOfDevice (set_in lister.now) device (state_of lister.now.image.now) }
     requires is_sub { sub < length (device_at (set_in lister.now) device).subs }
     requires no_path { string_bytes draft.old.path ≡ [] }
     ensures { let set = set_in lister.now in
@@ -72,7 +71,7 @@ fn write_sub(lister: &Lister, device: u32, sub: u32, draft: &mut Draft) -> Resul
 
 // The subsections, one after the other.
 fn write_each(lister: &Lister, device: u32, draft: &mut Draft) -> Result<(), AllocError>
-    requires device { HasDevice (set_in lister.now) device (state_of lister.now.image.now) }
+    requires device { IsOfDevice (set_in lister.now) device (state_of lister.now.image.now) }
     requires no_path { string_bytes draft.old.path ≡ [] }
     ensures { let set = set_in lister.now in
         let image = state_of lister.now.image.now in
@@ -87,7 +86,7 @@ fn write_each(lister: &Lister, device: u32, draft: &mut Draft) -> Result<(), All
 }
 
 fn write_subs(lister: &Lister, device: u32, draft: &mut Draft) -> Result<(), AllocError>
-    requires device { HasDevice (set_in lister.now) device (state_of lister.now.image.now) }
+    requires device { IsOfDevice (set_in lister.now) device (state_of lister.now.image.now) }
     requires no_path { string_bytes draft.old.path ≡ [] }
     ensures { let set = set_in lister.now in
         let image = state_of lister.now.image.now in
@@ -117,7 +116,7 @@ pub(crate) fn write_device(
     device: u32,
     draft: &mut Draft,
 ) -> Result<(), AllocError>
-    requires device { HasDevice (set_in lister.now) device (state_of lister.now.image.now) }
+    requires device { IsOfDevice (set_in lister.now) device (state_of lister.now.image.now) }
     requires no_path { string_bytes draft.old.path ≡ [] }
     ensures { let set = set_in lister.now in
         let tree = device_tree set (device_at set device) (state_of lister.now.image.now) in

@@ -4,14 +4,13 @@ use Rattle.std.specs.List.{flat_map, slice_get}
 use Rattle.std.proofs.lemmas.List.{length-map}
 use Rattle.vms_spec.specs.declared.Part.TheVariants as parts
 use Rattle.vms_spec.specs.Sets.{Set}
-use Rattle.vms_image.specs.Typed.{Typed, state_of, default_at, IsImageOf, AreImagesOf}
+use Rattle.vms_image.specs.Typed.{Typed, state_of, default_at, IsOfDevice, IsImageOf, AreImagesOf}
 use Rattle.vms_spec.specs.Layout.{device_cells, desc_cells, struct_cells}
 use Rattle.vms_desc.specs.Described.{device_at}
 use Rattle.vms_desc.specs.Formed.{is_well_formed}
 use Rattle.vms_desc.specs.Spots.{kinds_at}
 use Rattle.vms_desc.proofs.AskLaws.{few_cells}
 use Rattle.vms_walk.specs.Steps.{HasSpot}
-use Rattle.vms_write.specs.Judged.{IsOfDevice}
 use Rattle.vms_values.specs.Taken.{IsKept}
 use Rattle.vms_values.specs.SubsTaken.{IsAlike}
 

@@ -6,14 +6,13 @@ use Rattle.vms_spec.specs.declared.Part.TheVariants as parts
 use Rattle.vms_spec.specs.Sets.{Set, Sub, AtLeast}
 use Rattle.vms_spec.specs.Layout.{no_desc, desc_cells, struct_cells}
 use Rattle.vms_spec.specs.Images.{own_cells}
-use Rattle.vms_image.specs.Typed.{Typed, state_of}
+use Rattle.vms_image.specs.Typed.{Typed, state_of, IsOfDevice}
 use Rattle.vms_spec.specs.Spelling.{first_line}
 use Rattle.vms_spec.specs.ValuesReading.{BadLine, Standing, Read, ReadSubs, readers, read_desc, next_line, sub_said, also, then_subs, read_sub, read_subs}
 use Rattle.vms_desc.specs.Asks.{first_cell}
 use Rattle.vms_desc.specs.Described.{device_at}
 use Rattle.vms_desc.specs.Parts.{sub_at}
 use Rattle.vms_desc.proofs.AskLaws.{sub_next}
-use Rattle.vms_write.specs.Judged.{IsOfDevice}
 use Rattle.vms_values.specs.declared.fault.LineFault.{LineFault}
 use Rattle.vms_values.specs.declared.fault.LineFault.TheVariants as faults
 use Rattle.vms_values.specs.declared.taken.Taken.{Taken}

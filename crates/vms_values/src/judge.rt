@@ -7,9 +7,8 @@ ghost use Rattle.vms_spec.specs.ValuesReading.{judge_device as device_judged, su
 ghost use Rattle.vms_desc.specs.Asks.{first_cell};
 ghost use Rattle.vms_desc.specs.Described.{described, device_at};
 ghost use Rattle.vms_desc.specs.Parts.{sub_at};
-ghost use Rattle.vms_image.specs.Typed.{state_of};
+ghost use Rattle.vms_image.specs.Typed.{state_of, IsOfDevice};
 ghost use Rattle.vms_walk.specs.Steps.{HasSpot, spot_slots};
-ghost use Rattle.vms_write.specs.Judged.{IsOfDevice};
 ghost use Rattle.vms_values.specs.Judging.{bad_of, read_of, sub_judged, sub_defaults};
 
 use vms_desc::{Cells, Desc, DescSet, Part};

@@ -11,9 +11,8 @@ ghost use Rattle.vms_desc.specs.Asks.{first_cell};
 ghost use Rattle.vms_desc.specs.Described.{described, device_at};
 ghost use Rattle.vms_desc.specs.Parts.{sub_at};
 ghost use Rattle.vms_desc.specs.Spots.{kinds_at};
-ghost use Rattle.vms_image.specs.Typed.{state_of};
+ghost use Rattle.vms_image.specs.Typed.{state_of, IsOfDevice};
 ghost use Rattle.vms_parts.specs.Views.{sub_of};
-ghost use Rattle.vms_write.specs.Judged.{IsOfDevice};
 ghost use Rattle.vms_values.specs.Taken.{place_of};
 ghost use Rattle.vms_values.specs.SubsTaken.{line_said, SubPassed, sub_read, SubReached, SubsReached};
 

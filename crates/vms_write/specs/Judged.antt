@@ -1,6 +1,5 @@
 -- What the test of readiness answers of the parts of a device.
-use Rattle.std.specs.Prelude.{◌≡◌, ℕ, ◌<◌, ◌≤◌, Bool, ◌&&◌, ◌==◌, List, [], length, get_or, map, None}
-use Rattle.vms_spec.specs.declared.TheConstants.{MOST_ITEMS}
+use Rattle.std.specs.Prelude.{ℕ, Bool, ◌&&◌, ◌==◌, List, [], get_or, map, None}
 use Rattle.vms_spec.specs.declared.Part.TheVariants as parts
 use Rattle.vms_spec.specs.Sets.{Set, Device}
 use Rattle.vms_spec.specs.Images.{Image, own_cells, own_slots, sub_slots}
@@ -12,13 +11,6 @@ use Rattle.vms_desc.specs.Asks.{first_cell}
 use Rattle.vms_desc.specs.Described.{device_at}
 use Rattle.vms_desc.specs.Parts.{sub_at}
 use Rattle.vms_write.specs.Fine.{settle, is_fine, sub_fine, subs_fine}
-
--- the image is one of device i
-pub record IsOfDevice (set : Set) (i : ℕ) (image : Image) : Type 0 where
-  pub is_device : i < length set.devices
-  pub cells : length image.numbers ≡ length (device_cells set (device_at set i))
-  pub subs : length image.came ≡ length (device_at set i).subs
-  pub few : length image.numbers ≤ MOST_ITEMS
 
 -- the forms of a device's cells
 abbrev pub forms_of : Set → Device → List CellForm

@@ -4,8 +4,7 @@ ghost use Rattle.std.specs.Bool.{OnTrue, OnFalse};
 ghost use Rattle.vms_spec.specs.Layout.{device_cells};
 ghost use Rattle.vms_spec.specs.Streams.{IsReady, AreReady};
 ghost use Rattle.vms_desc.specs.Described.{described, device_at};
-ghost use Rattle.vms_image.specs.Typed.{state_of, IsImageOf, AreImagesOf};
-ghost use Rattle.vms_write.specs.Judged.{IsOfDevice};
+ghost use Rattle.vms_image.specs.Typed.{state_of, IsOfDevice, IsImageOf, AreImagesOf};
 ghost use Rattle.vms_write.specs.Judged.{own_fine, all_subs_fine, sub_fine_at, is_bare_at, is_sent_fine_at};
 
 use crate::fine::{are_default, is_part_fine};

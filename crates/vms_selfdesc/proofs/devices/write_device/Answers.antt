@@ -21,7 +21,7 @@ pub write_fields-requires-clause-place : goal.write_fields-requires-clause-place
 write_fields-requires-clause-place c =
     let set = described c.args.lister.now.set.now in
     let device = c.requires.device in
-    record { has = device.has; few = device.few; room = omega (arith, own_inside_device set c.args.device, device.cells) }
+    record { has = device.is_device; few = device.few; room = omega (arith, own_inside_device set c.args.device, device.cells) }
 
 pub write_fields-requires-clause-no_path : goal.write_fields-requires-clause-no_path
 write_fields-requires-clause-no_path c = c.in_ok-begin.ensures.keeps.path ∙ c.requires.no_path
@@ -29,7 +29,7 @@ write_fields-requires-clause-no_path c = c.in_ok-begin.ensures.keeps.path ∙ c.
 pub put_name-requires : goal.put_name-requires
 put_name-requires c =
     let set = described c.args.lister.now.set.now in
-    subst IsPlain (sym (ap (λ (d : Device). d.desc.name) c.device-described.ensures)) (device_plain set c.args.lister.now.set.now.well_formed c.args.device c.requires.device.has)
+    subst IsPlain (sym (ap (λ (d : Device). d.desc.name) c.device-described.ensures)) (device_plain set c.args.lister.now.set.now.well_formed c.args.device c.requires.device.is_device)
 
 pub write_subs-requires-clause-no_path : goal.write_subs-requires-clause-no_path
 write_subs-requires-clause-no_path c = c.in_ok-write_fields.ensures.path ∙ c.in_ok-begin.ensures.keeps.path ∙ c.requires.no_path

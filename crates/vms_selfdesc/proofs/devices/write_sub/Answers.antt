@@ -21,7 +21,7 @@ write_fields-requires-clause-place c =
     let set = described c.args.lister.now.set.now in
     let device = c.requires.device in
     record {
-      has = (device.has, c.requires.is_sub);
+      has = (device.is_device, c.requires.is_sub);
       few = device.few;
       room = omega (arith, c.first_cell-cell.ensures, sub_inside set c.args.device c.args.sub c.requires.is_sub, device.cells);
     }
@@ -32,7 +32,7 @@ write_fields-requires-clause-no_path c = c.in_ok-begin.ensures.keeps.path ∙ c.
 pub put_sub_head-requires : goal.put_sub_head-requires
 put_sub_head-requires c =
     let set = described c.args.lister.now.set.now in
-    subst IsPlain (sym (ap (λ (d : Desc). d.name) c.desc.ensures)) (sub_plain set c.args.lister.now.set.now.well_formed c.args.device c.args.sub c.requires.device.has c.requires.is_sub)
+    subst IsPlain (sym (ap (λ (d : Desc). d.name) c.desc.ensures)) (sub_plain set c.args.lister.now.set.now.well_formed c.args.device c.args.sub c.requires.device.is_device c.requires.is_sub)
 
 pub returns : goal.returns
 returns c =

@@ -2,10 +2,10 @@ use Rattle.std.proofs.Common.{◌≡◌, ◌&&◌, arith, ap, sym, ◌∙◌, re
 use Rattle.std.specs.Bool.{OnTrue, OnFalse}
 use Rattle.vms_spec.specs.Streams.{IsReady}
 use Rattle.vms_desc.specs.Described.{described, device_at}
-use Rattle.vms_image.specs.Typed.{state_of}
+use Rattle.vms_image.specs.Typed.{state_of, IsOfDevice}
 use Rattle.vms_desc.proofs.AskLaws.{few_cells}
 use Rattle.vms_desc.proofs.Bounds.{good_of}
-use Rattle.vms_write.specs.Judged.{IsOfDevice, forms_of, all_subs_fine}
+use Rattle.vms_write.specs.Judged.{forms_of, all_subs_fine}
 use Rattle.vms_write.proofs.FineReady.{device_fine, ready_by, other_by}
 use Rattle.vms_write.proofs.readiness.ready.Goals as goal
 use Rattle.vms_write.proofs.readiness.ready.Goals.{After-is_own_fine, Start}
