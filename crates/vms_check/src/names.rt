@@ -1,21 +1,9 @@
 // Names of machines and fields.
 ghost use Rattle.std.specs.Prelude.{◌≡◌};
 ghost use Rattle.vms_parts.specs.Views.{field_of};
-ghost use Rattle.vms_spec.specs.Streams.{is_one_of};
 ghost use Rattle.vms_check.specs.Comparing.{names_match};
 
-use vms_desc::{Field, Text};
-
-pub(crate) fn is_one_of(names: &[Text], name: &[u8]) -> bool
-    ensures { result ≡ is_one_of names.now name.now }
-{
-    for known in names {
-        if known.as_bytes() == name {
-            return true;
-        }
-    }
-    false
-}
+use vms_desc::{Field, is_one_of};
 
 // Whether the old field's name is the new one's, or one that it had.
 pub(crate) fn names_match(old: &Field, new: &Field) -> bool

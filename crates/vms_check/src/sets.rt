@@ -14,10 +14,9 @@ ghost use Rattle.vms_check.specs.Sides.{IsSide};
 ghost use Rattle.vms_check.specs.Wholes.{device_mismatch, is_missing, lost_mismatch, machines_mismatch, part_mismatch, verdict_of};
 
 use crate::descs::compare_descs;
-use crate::names::is_one_of;
 use crate::side::{Side, at_own_version, desc_of, here};
 use crate::{Mismatch, Verdict};
-use vms_desc::{Desc, DescSet, Device, Part, Sub, Text};
+use vms_desc::{Desc, DescSet, Device, Part, Sub, Text, is_one_of};
 
 /// Whether the newer set reads what the older one writes, or else the first rule that fails with its place on each side.
 pub fn check(old: &DescSet, new: &DescSet) -> Verdict

@@ -1,12 +1,9 @@
 -- What was found of the devices, as the relations say it.
-use Rattle.std.proofs.Common.{◌≡◌, ℕ, zero, suc, ◌<◌, Bool, true, false, ◌||◌, List, [], ◌∷◌, length, get_or, map, Option, Some, None, Result, Ok, Err, ℤ, refl, sym, ap, ◌∙◌, subst, arith}
-use Rattle.std.proofs.lemmas.Bool.{or_right}
+use Rattle.std.proofs.Common.{◌≡◌, ℕ, ◌<◌, Bool, true, false, List, [], ◌∷◌, length, get_or, map, Option, Some, None, Result, Ok, Err, ℤ, refl, sym, ap, ◌∙◌, subst, arith}
 use Rattle.std.proofs.lemmas.List.{length-map}
 use Rattle.std.proofs.lemmas.Option.{slice_get-get_or, slice_get_within}
-use Rattle.std.proofs.lemmas.Slice.Eq.{bytes_eq-Decides}
 use Rattle.std.specs.List.{slice_get}
 use Rattle.std.specs.Bool.{OnFalse, OnTrue}
-use Rattle.std.specs.Str.{bytes_eq}
 use Rattle.vms_spec.specs.Good.{IsFit}
 use Rattle.vms_spec.specs.Sets.{Device, Set}
 use Rattle.vms_spec.specs.Images.{Image, IsValid}
@@ -16,6 +13,7 @@ use Rattle.vms_spec.specs.Shipped.{set_4}
 use Rattle.vms_spec.specs.Streams.{AreReady, IsReady, is_one_of}
 use Rattle.vms_spec.specs.WellFormed.{WellFormed}
 use Rattle.vms_desc.specs.Described.{device_at}
+use Rattle.vms_desc.specs.Names.{IsNameAt}
 use Rattle.vms_desc.proofs.AskLaws.{device_is}
 use Rattle.vms_image.specs.Typed.{Typed, state_of}
 use Rattle.vms_bodies.proofs.Stated.{shipped_holds}
@@ -31,7 +29,7 @@ use Rattle.vms_check_laws.proofs.Partnered.{back, pair}
 use Rattle.vms_check_laws.proofs.Streaming.{all_in}
 use Rattle.vms_convert.specs.Back.{IsBack}
 use Rattle.vms_convert.specs.Converted.{AreBack, IsPairAt, recast_each}
-use Rattle.vms_convert.specs.Losing.{AreWritable, FirstInvalid, IsNameAt, Judges, KeepsMachine, KeepsName, first_cell_at, first_of}
+use Rattle.vms_convert.specs.Losing.{AreWritable, FirstInvalid, Judges, KeepsMachine, KeepsName, first_cell_at, first_of}
 use Rattle.vms_convert.specs.Lost.{IsValidAt, Loses, OfDevice, OfMachine, first_cell, numbers_in}
 use Rattle.vms_convert.specs.Returns.{AreReturned, AreReturnedTo, IsFirstLost}
 use Rattle.vms_convert.specs.declared.fault.Loss.{Loss}
@@ -129,18 +127,6 @@ module _ (to new : Set) (images : List Typed) (writable : AreWritable to images)
       let same : None ≡ Some j = sym none ∙ ap (λ (x : Device). find_device 0 to.devices x.desc.name x.instance) e_is ∙ found in
       absurd (cc)
 
--- ---- names
-
--- a name that is found at a number
-pub name_at : (names : List (List ℕ)) (m : ℕ) (name known : List ℕ) → m < length names → known ≡ get_or names m known → bytes_eq known name ≡ true → slice_get names m ≡ Some name
-name_at names m name known lt is same =
-    slice_get-get_or names m known lt ∙ ap (λ (n : List ℕ). Some n) (sym is ∙ (bytes_eq-Decides known name).0 same)
-
-pub first_name : (names : List (List ℕ)) (name : List ℕ) (m : ℕ) → slice_get names m ≡ Some name → is_one_of names name ≡ true
-first_name [] name m e = absurd (cc)
-first_name (n ∷ names) name zero e = let same : n ≡ name = cc in ap (λ (b : Bool). b || is_one_of names name) ((bytes_eq-Decides n name).1 same)
-first_name (n ∷ names) name (suc m) e = or_right (bytes_eq n name) (is_one_of names name) (first_name names name m e)
-
 -- ---- all together
 
 module _ (to new : Set) (name : Option (List ℕ)) (wanted there : List (List ℤ)) (backs : List Image) (same : wanted ≡ there) where
@@ -156,9 +142,11 @@ module _ (to new : Set) (name : Option (List ℕ)) (wanted there : List (List �
 pub keeps_machine : (to new : Set) (names : List (List ℕ)) (name : List ℕ) (k own : ℕ) → names ≡ to.machines → name ≡ get_or new.machines k [] → IsNameAt names name (Some own)
     → KeepsName to (name_of new (Some k)) (Some own)
 keeps_machine to new names name k own names_are name_is h =
-    let inside : own < length to.machines = subst (λ (l : List (List ℕ)). own < length l) names_are h.0 in
-    let at : slice_get to.machines own ≡ Some (get_or new.machines k []) = ap (λ (l : List (List ℕ)). slice_get l own) (sym names_are) ∙ h.1 ∙ ap (λ (n : List ℕ). Some n) name_is in
-    record { is = at; inside = inside; one = first_name to.machines (get_or new.machines k []) own at }
+    let inside : own < length to.machines = subst (λ (l : List (List ℕ)). own < length l) names_are h.1 in
+    let at : slice_get to.machines own ≡ Some (get_or new.machines k []) =
+    ap (λ (l : List (List ℕ)). slice_get l own) (sym names_are) ∙ slice_get-get_or names own [] h.1 ∙ ap (λ (n : List ℕ). Some n) (h.2 ∙ name_is) in
+    let one = ap (λ (l : List (List ℕ)). is_one_of l (get_or new.machines k [])) (sym names_are) ∙ ap (is_one_of names) (sym name_is) ∙ h.0 in
+    record { is = at; inside = inside; one = one }
 
 -- ---- the answer, of what comes back of the images that a loader of the newest set keeps
 

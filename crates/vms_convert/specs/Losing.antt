@@ -36,11 +36,6 @@ abbrev pub FirstInvalid : (to new : Set) → List Image → Option ℕ → Type 
 FirstInvalid to new backs None = (k : ℕ) → k < length new.devices → IsValidAt to new backs k
 FirstInvalid to new backs (Some k) = (k < length new.devices) × ((i : ℕ) → i < k → IsValidAt to new backs i) × (IsValidAt to new backs k → ⊥)
 
--- one of some names, by its number
-abbrev pub IsNameAt : List (List ℕ) → List ℕ → Option ℕ → Type 0
-IsNameAt names name None = is_one_of names name ≡ false
-IsNameAt names name (Some m) = (m < length names) × (slice_get names m ≡ Some name)
-
 -- a machine that is named is one of the older set's, by this number
 pub record KeepsName (to : Set) (name : Option (List ℕ)) (m : Option ℕ) : Type 0 where
   pub is : at_option to.machines m ≡ name

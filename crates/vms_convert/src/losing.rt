@@ -1,5 +1,5 @@
 // What would be lost of a stream: a cell, a device that isn't valid, or the machine.
-ghost use Rattle.std.specs.Prelude.{◌≡◌, ◌<◌, ◌^◌, length, map};
+ghost use Rattle.std.specs.Prelude.{◌≡◌, ◌<◌, length, map};
 ghost use Rattle.std.specs.Bool.{OnFalse, OnTrue};
 ghost use Rattle.dev_base.specs.declared.limits.TheConstants.{NEWEST};
 ghost use Rattle.vms_check.specs.Carrying.{carried};
@@ -11,13 +11,13 @@ ghost use Rattle.vms_load.specs.Good.{AreKept};
 ghost use Rattle.vms_load.specs.Kept.{kept, loads};
 ghost use Rattle.vms_load.specs.Staging.{IsMachine, name_of};
 ghost use Rattle.vms_convert.specs.Converted.{recast_each};
-ghost use Rattle.vms_convert.specs.Losing.{AreWritable, FirstInvalid, IsNameAt, Judges, KeepsMachine, first_cell_at};
+ghost use Rattle.vms_convert.specs.Losing.{AreWritable, FirstInvalid, Judges, KeepsMachine, first_cell_at};
 ghost use Rattle.vms_convert.specs.Lost.{IsValidAt, numbers_in};
 ghost use Rattle.vms_convert.specs.Returns.{AreReturned};
 
 use crate::fault::Loss;
 use crate::returns::Returns;
-use vms_desc::{DescSet, Text};
+use vms_desc::{DescSet, find_name};
 use vms_image::Image;
 use vms_load::Loader;
 use vms_write::ready;
@@ -119,17 +119,4 @@ fn machine_under(to: &DescSet, newest: &DescSet, machine: Option<u32>) -> Result
             cell: None,
         }),
     }
-}
-
-// The number of the first of these names that is this one.
-fn find_name(names: &[Text], name: &[u8]) -> Option<u32>
-    requires { length names.now < 2 ^ 32 }
-    ensures { IsNameAt names.now name.now result }
-{
-    for (number, known) in names.iter().enumerate() {
-        if known.as_bytes() == name {
-            return Some(number as u32);
-        }
-    }
-    None
 }

@@ -1,23 +1,11 @@
 // What a candidate's stream names, and the first candidate.
 ghost use Rattle.std.specs.Prelude.{◌≡◌, ◌<◌, ◌^◌, length, IfSome};
 ghost use Rattle.vms_spec.specs.Lists.{at_option};
-ghost use Rattle.vms_spec.specs.Streams.{is_one_of};
 ghost use Rattle.vms_desc.specs.Described.{described};
 ghost use Rattle.vms_counter_laws.specs.Candidates.{lacking, machine_for};
 
 use vms_check::Mismatch;
-use vms_desc::{DescSet, Text};
-
-fn is_one_of(names: &[Text], name: &[u8]) -> bool
-    ensures { result ≡ is_one_of names.now name.now }
-{
-    for known in names {
-        if known.as_bytes() == name {
-            return true;
-        }
-    }
-    false
-}
+use vms_desc::{DescSet, Text, is_one_of};
 
 // The number of the first of these machines that isn't one of those names.
 fn lacking(names: &[Text], machines: &[Text]) -> Option<u32>

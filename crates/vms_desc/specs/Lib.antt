@@ -3,6 +3,7 @@ pub mod Described
 pub mod Formed
 pub mod Forms
 pub mod Heads
+pub mod Names
 pub mod Numbers
 pub mod Parts
 pub mod Paths

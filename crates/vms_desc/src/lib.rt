@@ -8,12 +8,14 @@ mod defaults;
 mod eval;
 mod forms;
 mod judged;
+mod names;
 mod path;
 mod set;
 mod spots;
 mod table;
 
 pub use eval::{Cells, Numbers};
+pub use names::{find_name, is_one_of};
 pub use set::DescSet;
 pub use vms_parts::{
     CellForm, Count, Desc, Device, Field, Listed, Part, Parts, Place, Rel, Sub, Test, Text, Whose,

@@ -97,7 +97,7 @@ read_from set only staged spot = reading_on (judge (by_state (described set) (ac
 -- the number of a machine of this name that is accepted, or none
 abbrev pub IsAccepted : List (List ℕ) → Option ℕ → List ℕ → Option ℕ → Type 0
 IsAccepted machines only name None = is_one_of (accepted machines only) name ≡ false
-IsAccepted machines only name (Some machine) = (is_one_of (accepted machines only) name ≡ true) × (get_or machines machine [] ≡ name) × (machine < length machines)
+IsAccepted machines only name (Some machine) = (is_one_of (accepted machines only) name ≡ true) × (machine < length machines) × (get_or machines machine [] ≡ name)
 
 -- ---- how many bytes there may be
 

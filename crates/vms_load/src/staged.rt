@@ -15,7 +15,7 @@ use crate::LoadFault;
 use crate::fault::refused;
 use arrayvec::ArrayVec;
 use std::alloc::Global;
-use vms_desc::{DescSet, Text};
+use vms_desc::{DescSet, Text, find_name};
 use vms_frames::{Between, Tail};
 use vms_image::Image;
 use vms_io::NoMemory;
@@ -143,23 +143,10 @@ fn machine_of(machines: &[Text], only: Option<u32>, name: &[u8]) -> Option<u32>
     ensures { IsAccepted machines.now only name.now result }
 {
     match only {
-        None => find_machine(machines, name),
+        None => find_name(machines, name),
         Some(machine) if machines[machine as usize].as_bytes() == name => Some(machine),
         Some(_) => None,
     }
-}
-
-// The number of the first machine of this name.
-fn find_machine(machines: &[Text], name: &[u8]) -> Option<u32>
-    requires { length machines.now < 2 ^ 32 }
-    ensures { IsAccepted machines.now None name.now result }
-{
-    for (i, machine) in machines.iter().enumerate() {
-        if machine.as_bytes() == name {
-            return Some(i as u32);
-        }
-    }
-    None
 }
 
 /// Takes the end mark at this place, before which each device's section must have come: no place is after it.

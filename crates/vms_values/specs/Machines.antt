@@ -5,12 +5,7 @@ use Rattle.vms_spec.specs.Spelling.{begins_with, first_line}
 use Rattle.vms_spec.specs.ValuesReading.{rest_of}
 use Rattle.vms_values.specs.declared.machine.Start.{Start}
 
--- the number of a machine of this name, or none
-abbrev pub IsMachine : List (List ℕ) → List ℕ → Option ℕ → Type 0
-IsMachine machines name None = is_one_of machines name ≡ false
-IsMachine machines name (Some m) = (is_one_of machines name ≡ true) × (m < length machines) × (get_or machines m [] ≡ name)
-
--- the same for a line
+-- the number of the machine that a line names, or none
 abbrev pub IsMachineLine : List (List ℕ) → List ℕ → Option ℕ → Type 0
 IsMachineLine machines line None = (begins_with (codes "machine ") line && is_one_of machines (drop 8 line)) ≡ false
 IsMachineLine machines line (Some m) =

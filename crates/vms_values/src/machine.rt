@@ -2,10 +2,10 @@
 ghost use Rattle.std.specs.Prelude.{◌<◌, length};
 ghost use Rattle.vms_spec.specs.Spelling.{first_line};
 ghost use Rattle.vms_spec.specs.ValuesReading.{machine_named};
-ghost use Rattle.vms_values.specs.Machines.{IsMachine, IsMachineLine, StartsAt};
+ghost use Rattle.vms_values.specs.Machines.{IsMachineLine, StartsAt};
 
 use crate::cursor::Lines;
-use vms_desc::Text;
+use vms_desc::{Text, find_name};
 use vms_words::next_line;
 
 /// The number of the machine that a text names, and what follows.
@@ -48,20 +48,7 @@ fn machine_in(machines: &[Text], line: &[u8]) -> Option<u32>
     ensures { IsMachineLine machines.now line.now result }
 {
     match line.strip_prefix(b"machine ") {
-        Some(name) => find_machine(machines, name),
+        Some(name) => find_name(machines, name),
         None => None,
     }
-}
-
-/// The number of the first machine of this name.
-fn find_machine(machines: &[Text], name: &[u8]) -> Option<u32>
-    requires { length machines.now < 4294967296 }
-    ensures { IsMachine machines.now name.now result }
-{
-    for (i, machine) in machines.iter().enumerate() {
-        if machine.as_bytes() == name {
-            return Some(i as u32);
-        }
-    }
-    None
 }

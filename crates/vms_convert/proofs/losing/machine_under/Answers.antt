@@ -2,9 +2,10 @@ use Rattle.std.proofs.Common.{◌≡◌, ◌<◌, [], List, ℕ, Option, Some, l
 use Rattle.std.proofs.lemmas.List.{get_or_default}
 use Rattle.vms_spec.specs.Sets.{Set}
 use Rattle.vms_desc.specs.Described.{described}
+use Rattle.vms_desc.specs.Names.{IsNameAt}
 use Rattle.vms_desc.proofs.Bounds.{few_machines}
 use Rattle.vms_load.specs.Staging.{IsMachine, name_of}
-use Rattle.vms_convert.specs.Losing.{IsNameAt, KeepsName}
+use Rattle.vms_convert.specs.Losing.{KeepsName}
 use Rattle.vms_convert.proofs.JudgeLaws.{keeps_machine}
 use Rattle.vms_convert.proofs.losing.machine_under.Goals as goal
 

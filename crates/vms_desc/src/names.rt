@@ -1,0 +1,31 @@
+// Names among others.
+ghost use Rattle.std.specs.Prelude.{◌≡◌, ◌<◌, ◌^◌, length};
+ghost use Rattle.vms_spec.specs.Streams.{is_one_of};
+ghost use Rattle.vms_desc.specs.Names.{IsNameAt};
+
+use crate::Text;
+
+/// Whether a name is one of these, byte by byte.
+pub fn is_one_of(names: &[Text], name: &[u8]) -> bool
+    ensures { result ≡ is_one_of names.now name.now }
+{
+    for known in names {
+        if known.as_bytes() == name {
+            return true;
+        }
+    }
+    false
+}
+
+/// The number, from 0, of the first of these names that is this one; `None` if none is.
+pub fn find_name(names: &[Text], name: &[u8]) -> Option<u32>
+    requires { length names.now < 2 ^ 32 }
+    ensures { IsNameAt names.now name.now result }
+{
+    for (number, known) in names.iter().enumerate() {
+        if known.as_bytes() == name {
+            return Some(number as u32);
+        }
+    }
+    None
+}
