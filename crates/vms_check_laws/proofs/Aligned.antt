@@ -1,17 +1,15 @@
 -- Bytes of both sides at one front: where slots of the newer set are spelled at the front of what the older wrote, they take
 -- the bytes that the older wrote for its own slots, and no others.
-use Rattle.std.proofs.Common.{◌≡◌, ℕ, ◌^◌, ◌<◌, Bool, List, [], ◌∷◌, ◌++◌, length, get_or, refl, sym, ap, ◌∙◌, arith, append_assoc, ℤ, pos, negsuc, ◌*◌}
+use Rattle.std.proofs.Common.{◌≡◌, ℕ, Bool, List, [], ◌∷◌, ◌++◌, length, get_or, refl, sym, ap, ◌∙◌, arith, append_assoc, ℤ, pos}
 use Rattle.std.proofs.lemmas.List.{length-append}
 use Rattle.byteorder.specs.Endian.{big_number}
 use Rattle.vms_kinds.specs.declared.Kind.{Kind}
-use Rattle.vms_kinds.specs.declared.Kind.TheVariants.{U8}
 use Rattle.vms_kinds.specs.Codes.{width, residue, code}
 use Rattle.vms_spec.specs.Layout.{Slot, Number, Constant, Filler, Rule}
 use Rattle.vms_spec.specs.Images.{Spells, zeroed}
-use Rattle.vms_spec.proofs.KindLaws.{length-code, read_back}
+use Rattle.vms_spec.proofs.KindLaws.{length-code, code_read}
 use Rattle.vms_check_laws.specs.Segments.{Aligns}
 use Rattle.vms_check_laws.proofs.Segments.{zeroed_append}
-use Rattle.std.proofs.lemmas.Nat.{mod_below, pow_pos}
 
 -- ---- lists
 
@@ -86,16 +84,6 @@ aligns_rule x y r s = aligns_sized x (Rule r ∷ []) y (Rule s ∷ []) (λ body 
 
 -- ---- numbers by their bytes
 
-residue_low : (w : ℕ) (z : ℤ) → residue w z < 2 ^ (8 * w)
-residue_low w (pos n) = mod_below n (2 ^ (8 * w)) (pow_pos (8 * w))
-residue_low w (negsuc n) = omega (arith, pow_pos (8 * w))
-
-low : (kind : Kind) (z : ℤ) → residue (width kind) z < 256 ^ (width kind)
-low U8 z = residue_low 1 z
-low kind z = residue_low (width kind) z
-
 -- numbers of the same bytes are the same modulo 2 ^ (8 w)
 pub same_code : (kind : Kind) (z u : ℤ) → code kind z ≡ code kind u → residue (width kind) z ≡ residue (width kind) u
-unfolding code
-same_code kind z u h =
-    sym (read_back (width kind) (residue (width kind) z) (low kind z)) ∙ ap (big_number (width kind)) h ∙ read_back (width kind) (residue (width kind) u) (low kind u)
+same_code kind z u h = sym (code_read kind z) ∙ ap (big_number (width kind)) h ∙ code_read kind u

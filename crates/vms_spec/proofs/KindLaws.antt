@@ -1,7 +1,8 @@
 -- Numbers are read back from their bytes.
-use Rattle.std.proofs.Common.{◌≡◌, List, ◌++◌, ℕ, ◌%◌, ◌^◌, ◌<◌, length, ℤ, pos, negsuc, refl, sym, ap, ◌∙◌, arith, append-nil, false, ◌≤◌, []}
+use Rattle.std.proofs.Common.{◌≡◌, List, ◌++◌, ℕ, ◌%◌, ◌^◌, ◌*◌, ◌<◌, length, ℤ, pos, negsuc, refl, sym, ap, ◌∙◌, arith, append-nil, false, ◌≤◌, []}
 use Rattle.std.proofs.lemmas.Bool.{le-ltb}
 use Rattle.std.proofs.lemmas.Int.{ints}
+use Rattle.std.proofs.lemmas.Nat.{mod_below, pow_pos}
 use Rattle.byteorder.specs.Endian.{big_number, big_bytes, big_from, twos_complement}
 use Rattle.byteorder.specs.Numbers.{big_number-reads_back}
 use Rattle.vms_kinds.specs.declared.Kind.{Kind}
@@ -38,56 +39,41 @@ width_small I64 = omega arith
 width_small Bool = omega arith
 width_small Timer = omega arith
 
-low_8 : (z : ℤ) → InRange I8 z → residue 1 z < 256 ^ 1
-low_8 (pos n) h = omega (arith, ints)
-low_8 (negsuc n) h = omega (arith, ints)
+-- ---- numbers by their bytes
 
-low_16 : (z : ℤ) → InRange I16 z → residue 2 z < 256 ^ 2
-low_16 (pos n) h = omega (arith, ints)
-low_16 (negsuc n) h = omega (arith, ints)
+residue_low : (w : ℕ) (z : ℤ) → residue w z < 2 ^ (8 * w)
+residue_low w (pos n) = mod_below n (2 ^ (8 * w)) (pow_pos (8 * w))
+residue_low w (negsuc n) = omega (arith, pow_pos (8 * w))
 
-low_32 : (z : ℤ) → InRange I32 z → residue 4 z < 256 ^ 4
-low_32 (pos n) h = omega (arith, ints)
-low_32 (negsuc n) h = omega (arith, ints)
+low : (kind : Kind) (z : ℤ) → residue (width kind) z < 256 ^ (width kind)
+low U8 z = residue_low 1 z
+low kind z = residue_low (width kind) z
 
-low_64 : (z : ℤ) → InRange I64 z → residue 8 z < 256 ^ 8
-low_64 (pos n) h = omega (arith, ints)
-low_64 (negsuc n) h = omega (arith, ints)
-
-back_8 : (z : ℤ) → InRange I8 z → twos_complement 1 (residue 1 z) ≡ z
-back_8 (pos n) h = grind (arith, ints)
-back_8 (negsuc n) h = grind (arith, ints)
-
-back_16 : (z : ℤ) → InRange I16 z → twos_complement 2 (residue 2 z) ≡ z
-back_16 (pos n) h = grind (arith, ints)
-back_16 (negsuc n) h = grind (arith, ints)
-
-back_32 : (z : ℤ) → InRange I32 z → twos_complement 4 (residue 4 z) ≡ z
-back_32 (pos n) h = grind (arith, ints)
-back_32 (negsuc n) h = grind (arith, ints)
-
-back_64 : (z : ℤ) → InRange I64 z → twos_complement 8 (residue 8 z) ≡ z
-back_64 (pos n) h = grind (arith, ints)
-back_64 (negsuc n) h = grind (arith, ints)
+pub code_read : (kind : Kind) (z : ℤ) → big_number (width kind) (code kind z) ≡ residue (width kind) z
+unfolding code
+code_read kind z = read_back (width kind) (residue (width kind) z) (low kind z)
 
 pub value_code : (kind : Kind) (z : ℤ) → InRange kind z → value_of kind (code kind z) ≡ z
-unfolding code
-value_code U8 (pos n) h = ap pos (read_back 1 (n % 256) (omega arith) ∙ omega (arith, ints))
-value_code U16 (pos n) h = ap pos (read_back 2 (n % 65536) (omega arith) ∙ omega (arith, ints))
-value_code U32 (pos n) h = ap pos (read_back 4 (n % 4294967296) (omega arith) ∙ omega (arith, ints))
-value_code U64 (pos n) h = ap pos (read_back 8 (n % 18446744073709551616) (omega arith) ∙ omega (arith, ints))
-value_code Bool (pos n) h = ap pos (read_back 1 (n % 256) (omega arith) ∙ omega (arith, ints))
-value_code Timer (pos n) h = ap pos (read_back 8 (n % 18446744073709551616) (omega arith) ∙ omega (arith, ints))
+value_code U8 (pos n) h = ap pos (code_read U8 (pos n) ∙ omega (arith, ints))
+value_code U16 (pos n) h = ap pos (code_read U16 (pos n) ∙ omega (arith, ints))
+value_code U32 (pos n) h = ap pos (code_read U32 (pos n) ∙ omega (arith, ints))
+value_code U64 (pos n) h = ap pos (code_read U64 (pos n) ∙ omega (arith, ints))
+value_code Bool (pos n) h = ap pos (code_read Bool (pos n) ∙ omega (arith, ints))
+value_code Timer (pos n) h = ap pos (code_read Timer (pos n) ∙ omega (arith, ints))
 value_code U8 (negsuc n) h = absurd (omega (arith, ints))
 value_code U16 (negsuc n) h = absurd (omega (arith, ints))
 value_code U32 (negsuc n) h = absurd (omega (arith, ints))
 value_code U64 (negsuc n) h = absurd (omega (arith, ints))
 value_code Bool (negsuc n) h = absurd (omega (arith, ints))
 value_code Timer (negsuc n) h = absurd (omega (arith, ints))
-value_code I8 z h = ap (twos_complement 1) (read_back 1 (residue 1 z) (low_8 z h)) ∙ back_8 z h
-value_code I16 z h = ap (twos_complement 2) (read_back 2 (residue 2 z) (low_16 z h)) ∙ back_16 z h
-value_code I32 z h = ap (twos_complement 4) (read_back 4 (residue 4 z) (low_32 z h)) ∙ back_32 z h
-value_code I64 z h = ap (twos_complement 8) (read_back 8 (residue 8 z) (low_64 z h)) ∙ back_64 z h
+value_code I8 (pos n) h = ap (twos_complement 1) (code_read I8 (pos n)) ∙ grind (arith, ints)
+value_code I8 (negsuc n) h = ap (twos_complement 1) (code_read I8 (negsuc n)) ∙ grind (arith, ints)
+value_code I16 (pos n) h = ap (twos_complement 2) (code_read I16 (pos n)) ∙ grind (arith, ints)
+value_code I16 (negsuc n) h = ap (twos_complement 2) (code_read I16 (negsuc n)) ∙ grind (arith, ints)
+value_code I32 (pos n) h = ap (twos_complement 4) (code_read I32 (pos n)) ∙ grind (arith, ints)
+value_code I32 (negsuc n) h = ap (twos_complement 4) (code_read I32 (negsuc n)) ∙ grind (arith, ints)
+value_code I64 (pos n) h = ap (twos_complement 8) (code_read I64 (pos n)) ∙ grind (arith, ints)
+value_code I64 (negsuc n) h = ap (twos_complement 8) (code_read I64 (negsuc n)) ∙ grind (arith, ints)
 
 pub good_code : (kind : Kind) (z : ℤ) → InRange kind z → is_bad_bool kind (code kind z) ≡ false
 unfolding code
