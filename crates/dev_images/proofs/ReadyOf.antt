@@ -141,10 +141,6 @@ pub ready-plain : (set : Set) (d : Device) (numbers : List ℤ) → d.desc.minim
 ready-plain set d numbers minimum subs are plain settled valid =
     ready-of set d numbers minimum subs are (counts-none (device_cells set d) numbers plain) settled valid
 
-or-mono : (a b c : Bool) → (b ≡ true → c ≡ true) → (a || b) ≡ true → (a || c) ≡ true
-or-mono true b c f e = refl
-or-mono false b c f e = f e
-
 pub or-lift : (a b c : Bool) → (a ≡ true → b ≡ true) → (a || c) ≡ true → (b || c) ≡ true
 or-lift true b c f e = ap (λ b. b || c) (f refl)
 or-lift false true c f e = refl

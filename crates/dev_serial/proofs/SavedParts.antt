@@ -68,10 +68,6 @@ status_at : (on : Bool) (h w : Bool) (a b c d : Bool) → (on ≡ true → ((h |
 status_at true h w a b c d p q = p refl
 status_at false h w a b c d p q = q refl
 
-not-not : (b : Bool) → not (not b) ≡ b
-not-not true = refl
-not-not false = refl
-
 pub status-saved : (fifos : Option Trigger) (held waiting : List ℕ) (ready empty : Bool) → ready ≡ not (is_empty held) → empty ≡ is_empty waiting
     → cond (fcr_number fifos == 0) ((ready || (single_byte fifos held == 0)) && (not empty || (single_byte fifos waiting == 0))) (same ready (not (is_empty (fifo_bytes fifos held))) && same empty (is_empty (fifo_bytes fifos waiting))) ≡ true
 status-saved None held waiting ready empty r e = rw (r, e) (and_from _ _ (single-none None held) (single-none None waiting))

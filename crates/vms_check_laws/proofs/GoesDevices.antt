@@ -42,11 +42,6 @@ module _ {A : Type 0} (set : Set) (f : Sub → List A) where
     pub inside : c < sub_size set sub
     pub here : slice_get (f sub) c ≡ Some o
 
-  inside_some : (xs : List A) (c : ℕ) (o : A) → slice_get xs c ≡ Some o → c < length xs
-  inside_some [] c o e = cc
-  inside_some (x ∷ xs) zero o e = omega arith
-  inside_some (x ∷ xs) (suc c) o e = let l = inside_some xs c o e in omega (arith, l)
-
   pub stands_in : (from : ℕ) (subs : List Sub) (b : ℕ) (o : A) → Sized subs → slice_get (flat_map f subs) b ≡ Some o → StandsIn from subs b o
   stands_in from [] b o size e = absurd (cc)
   stands_in from (s ∷ subs) b o size e =

@@ -76,9 +76,6 @@ module _ (p q : List (Option ℕ)) (first : IsOnce p) (second : IsOnce q) (apart
   once_append b c k e f = once_either b c k e f (before_or_behind (length p) b) (before_or_behind (length p) c)
 
 module _ (xs ys us vs : List Cell) (at : ℕ) (p q : List (Option ℕ)) (h : AreFrom xs us at p) (g : AreFrom ys vs (at + length us) q) where
-  kind_left : (c : ℕ) → c < length xs → (get_or (xs ++ ys) c no_cell).kind ≡ (get_or xs c no_cell).kind
-  kind_left c lt = ap (λ (x : Cell). x.kind) (get_or_append_left xs ys no_cell c lt)
-
   pair_left : (c k : ℕ) → c < length p → slice_get (p ++ q) c ≡ Some (Some k) → IsPair xs us at c k
   pair_left c k lt e = h.pairs c k (sym (at_left p q c lt) ∙ e)
 

@@ -46,9 +46,6 @@ module _ (old new : Set) (m : Mismatch) (first : first_mismatch old new ≡ Some
   pub shown : (images : List Image) (r : Refused) → Tries old new (machine_for old new m) images (Some r) → Shows old new m images
   shown images r t = record { ready = t.0; untaken = t.1.untaken }
 
-  with_second : Option (List Image) → List (List Image)
-  with_second o = default_images old ∷ and_raised old new o
-
   pub first_found : (images : List Image) (r : Refused) → images ≡ default_images old → Tries old new (machine_for old new m) images (Some r)
       → Counters old new (State m (machine_for old new m) images (refusal_of r))
   first_found images r e t =

@@ -15,7 +15,7 @@ use Rattle.vms_spec.specs.Rules.{nodes, is_small_test, is_small_optional, is_sma
 use Rattle.vms_spec.specs.Rules as rules
 use Rattle.vms_spec.specs.WellFormed.{WellFormed, has_few, struct_rules, device_rules, sub_rules}
 use Rattle.vms_spec.proofs.WellFormedLaws.{Clean, struct_clean, device_parts, sub_clean}
-use Rattle.vms_descwrite.specs.Written.{list_file, natural_file, given_as, unless, list_as, own_names, is_zero, item_word, capacity_in, length_in, counter_in, equal_in, size_in, struct_in, rel_file, compared_file, test_file, integer_file, front_file, field_file, desc_members, struct_file, sub_file, whole_file, device_file, set_file}
+use Rattle.vms_descwrite.specs.Written.{list_file, natural_file, given_as, unless, list_as, own_names, is_zero, item_word, capacity_in, length_in, counter_in, equal_in, size_in, struct_in, rel_file, test_file, integer_file, front_file, field_file, desc_members, struct_file, sub_file, whole_file, device_file, set_file}
 
 in_order : (n : ℕ) (o : Ordering) (a b c : Members) → members_depth a ≤ n → members_depth b ≤ n → members_depth c ≤ n → members_depth (match_ordering o a b c) ≤ n
 in_order n Less a b c p q r = p
@@ -64,9 +64,6 @@ rel_flat rels.Eq = omega arith
 rel_flat rels.Ne = omega arith
 rel_flat rels.Lt = omega arith
 rel_flat rels.Ge = omega arith
-
-compared_flat : (mask : ℕ) (rel : Rel) (value : ℕ) → members_depth (compared_file mask rel value) ≤ 0
-compared_flat mask rel value = let flat = rel_flat rel in omega arith
 
 test_nests : (own parent : List (List ℕ)) (t : Formula) → depth (test_file own parent t) ≤ rules.depth t + rules.depth t
 test_nests own parent (AtLeast n) = omega arith

@@ -17,10 +17,6 @@ use Rattle.vms_elements.proofs.Tables.{shapes_cells}
 use Rattle.vms_elements.proofs.Members.{Each, each_append, each_map, Has, has_left, has_right, has_map}
 use Rattle.std.proofs.lemmas.List.{get_or_past}
 
-lt_true : (a b : ℕ) → a < b → (t : Bool) → nat_lt a b ≡ t → t ≡ true
-lt_true a b lt true e = refl
-lt_true a b lt false e = let le : b ≤ a = ltb-false a b e in absurd (omega arith)
-
 -- an element of a field that there is
 element_is : (cs : List (List Cell)) (d : Desc) (base i e place : ℕ) (f : Field) (go : Item → ℕ → Option ℕ) → slice_get d.fields i ≡ Some f → nat_lt e (capacity_of f.count) ≡ true
     → place_of cs d.fields 0 base d.fields i + e * item_size cs f.item ≡ place → element_at cs d base i e (slice_get d.fields i) go ≡ go f.item place

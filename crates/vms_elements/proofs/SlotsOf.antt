@@ -34,24 +34,12 @@ pick_on true true e xs ys rest h = ap (λ l. xs ++ l) h
 pick_on true false e xs ys rest h = cc
 pick_on false below e xs ys rest h = h
 
-pick_off : {B : Type 0} (there below : Bool) → below ≡ false → (xs rest : List B) → rest ≡ (if there then [] else []) → (if there && below then xs else []) ++ rest ≡ (if there then [] else [])
-pick_off true true e xs rest h = cc
-pick_off true false e xs rest h = h
-pick_off false below e xs rest h = h
-
 is_below : (e m : ℕ) → (b : Bool) → nat_lt e (e + suc m) ≡ b → b ≡ true
 is_below e m true h = refl
 is_below e m false h = let le : e + suc m ≤ e = ltb-false e (e + suc m) h in absurd (omega arith)
 
-not_below : (e : ℕ) (b : Bool) → nat_lt e (e + 0) ≡ b → b ≡ false
-not_below e true h = let lt : e < e + 0 = ltb-true e (e + 0) h in absurd (omega arith)
-not_below e false h = refl
-
 pub below_true : (e m count : ℕ) → count ≡ e + suc m → nat_lt e count ≡ true
 below_true e m count h = ap (nat_lt e) h ∙ is_below e m (nat_lt e (e + suc m)) refl
-
-pub below_false : (e count : ℕ) → count ≡ e + 0 → nat_lt e count ≡ false
-below_false e count h = ap (nat_lt e) h ∙ not_below e (nat_lt e (e + 0)) refl
 
 pub past_false : (e count : ℕ) → count ≤ e → (b : Bool) → nat_lt e count ≡ b → b ≡ false
 past_false e count le true h = let lt : e < count = ltb-true e count h in absurd (omega arith)

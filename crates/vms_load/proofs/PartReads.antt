@@ -5,7 +5,7 @@ use Rattle.std.specs.List.{slice_get}
 use Rattle.std.proofs.lemmas.Option.{slice_get-get_or}
 use Rattle.vms_spec.specs.declared.Reason.{Reason}
 use Rattle.vms_spec.specs.Sets.{Desc, Sub, Device, Set}
-use Rattle.vms_spec.specs.Layout.{meanings, desc_slots, device_cells}
+use Rattle.vms_spec.specs.Layout.{meanings, desc_slots}
 use Rattle.vms_spec.specs.Images.{Image}
 use Rattle.vms_spec.specs.Readings.{Reading, Refused}
 use Rattle.vms_spec.specs.SoFar.{part_slots, slots_of_sub}
@@ -18,10 +18,7 @@ use Rattle.vms_frames.specs.Calls.{ahead, tail_of}
 use Rattle.vms_spec.specs.Taking.{Taken, Progress, take_desc, takers}
 use Rattle.vms_spec.specs.Good.{IsGood}
 use Rattle.vms_spec.specs.Sound.{IsSound}
-use Rattle.vms_bodies.specs.Cells.{AreCells}
 use Rattle.vms_bodies.proofs.LeftLaws.{Leaves, desc_leaves}
-use Rattle.vms_bodies.proofs.PartLaws.{sub_are}
-use Rattle.vms_bodies.proofs.SectionLaws.{own_are}
 use Rattle.vms_parts.specs.Devices.{device_at}
 use Rattle.vms_desc.specs.Parts.{sub_at}
 use Rattle.vms_frames.specs.declared.fault.FrameFault.{FrameFault}
@@ -53,10 +50,6 @@ module _ (set : Set) (good : IsGood set) (section : Section) (here : section.dev
   part_sound : (o : Option ℕ) → IsIn device o → IsSound (part_desc device o)
   part_sound None h = good.devices section.device device there
   part_sound (Some j) h = good.subs section.device j device (sub_at device j) there (sub_there j h)
-
-  part_are : (o : Option ℕ) → IsIn device o → (m : List ℤ) → AreCells (device_cells set device) (desc_slots (meanings set.structs (length set.structs)) (part_desc device o) v m (part_base set device o))
-  part_are None h m = own_are set device v m
-  part_are (Some j) h m = sub_are set device j (sub_at device j) v m (sub_there j h)
 
   module _ (names : List (List ℕ)) (state : State) (image : Image) where
     slots_are : (o : Option ℕ) → IsOpen device image o v → (m : List ℤ)

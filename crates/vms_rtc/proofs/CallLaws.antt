@@ -44,9 +44,6 @@ flags_are_kept = record {
 
 -- ---- the version
 
-abbrev version-of : Rtc → ℕ
-version-of chip = chip.version
-
 read-version : (port : ℕ) (chip : Rtc) → (read_of port chip).1.version ≡ chip.version
 unfolding read_of data_read
 read-version port chip =

@@ -39,9 +39,6 @@ one_map old a b name bytes p q = let same = same-held old a b name bytes p q in 
 abbrev session : State → Held → Session
 session board held = record { board = board; held = held }
 
-session-is : (a : Session) → a ≡ session a.board a.held
-session-is a = refl
-
 same-left : (said : List ℕ) (after : Session) (text text' : List ℕ) (new new' : Session) → Leaves said after text new → Leaves said after text' new' → IsOneEnd text text' new new'
 same-left said after text text' new new' a b = record { texts = a.text_is ∙ sym b.text_is; ends = a.new_is ∙ sym b.new_is }
 
