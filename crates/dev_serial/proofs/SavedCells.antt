@@ -23,6 +23,7 @@ use Rattle.dev_serial.specs.Stored.{byte_of, padded, counted_of, ring_of}
 use Rattle.dev_serial.specs.declared.interrupt.Interrupt.{Interrupt}
 use Rattle.dev_serial.specs.declared.interrupt.Interrupt.TheVariants.{LineStatus, ReceivedData, CharacterTimeout, ThrEmpty, NonePending}
 use Rattle.dev_serial.specs.declared.shift.Shift.{Shift}
+use Rattle.dev_serial.specs.declared.stored.TheConstants.{ARRAY_CELLS, RING_CELLS}
 use Rattle.dev_serial.specs.declared.trigger.Trigger.{Trigger}
 use Rattle.dev_serial.specs.declared.trigger.Trigger.TheVariants.{One, Four, Eight, Fourteen}
 use Rattle.dev_serial.proofs.CarriedLaw.{each_set}
@@ -95,11 +96,11 @@ run f a (suc n) h = of_more U8 (pos (f a)) (replicate n U8) (map pos (map f (ran
 small : (n : ℕ) → n ≤ 16 → n < 256
 small n h = omega arith
 
-array-of : (bytes : List ℕ) → length bytes ≤ 16 → AreBytes bytes → AreOf (replicate 17 U8) (array_cells (counted_of bytes))
+array-of : (bytes : List ℕ) → length bytes ≤ 16 → AreBytes bytes → AreOf (replicate ARRAY_CELLS U8) (array_cells (counted_of bytes))
 unfolding array_cells
 array-of bytes s b = of_more U8 (pos (length bytes)) (replicate 16 U8) (map pos (padded bytes)) (byte (length bytes) (small (length bytes) s)) (run (byte_of bytes) 0 16 (λ i. byte_of-lt bytes i b))
 
-ring-of : (bytes : List ℕ) → length bytes ≤ 16 → AreBytes bytes → AreOf (replicate 18 U8) (ring_cells (ring_of bytes))
+ring-of : (bytes : List ℕ) → length bytes ≤ 16 → AreBytes bytes → AreOf (replicate RING_CELLS U8) (ring_cells (ring_of bytes))
 unfolding ring_cells
 ring-of bytes s b =
     let zero-small : 0 < 256 = omega arith in
@@ -128,11 +129,11 @@ module _ (set now : ℕ) (port : Port) (early : now ≤ LAST_MOMENT) (sound : Is
       (of_more U8 (pos (shift_number port.transmitter.shift)) _ _ (byte _ (shift-range now port.transmitter.shift sound.transmitter.shift))
       (one Timer (pos (due_number port.transmitter.shift)) (timer _ (due-range now port.transmitter.shift early sound.transmitter.shift))))))))))))
 
-  array-part : (is : Bool) (bytes : List ℕ) → IsShort (is_some port.fifos) bytes → AreBytes bytes → AreOf (cond is (replicate 17 U8) []) (cond is (array_cells (counted_of (in_array set port.fifos bytes))) [])
-  array-part is bytes s b = of_where is (replicate 17 U8) (array_cells (counted_of (in_array set port.fifos bytes))) (array-of (in_array set port.fifos bytes) (array-short set port.fifos bytes s) (array-bytes set port.fifos bytes b))
+  array-part : (is : Bool) (bytes : List ℕ) → IsShort (is_some port.fifos) bytes → AreBytes bytes → AreOf (cond is (replicate ARRAY_CELLS U8) []) (cond is (array_cells (counted_of (in_array set port.fifos bytes))) [])
+  array-part is bytes s b = of_where is (replicate ARRAY_CELLS U8) (array_cells (counted_of (in_array set port.fifos bytes))) (array-of (in_array set port.fifos bytes) (array-short set port.fifos bytes s) (array-bytes set port.fifos bytes b))
 
-  ring-part : (is : Bool) (bytes : List ℕ) → IsShort (is_some port.fifos) bytes → AreBytes bytes → AreOf (cond is (replicate 18 U8) []) (cond is (ring_cells (ring_of (in_ring set port.fifos bytes))) [])
-  ring-part is bytes s b = of_where is (replicate 18 U8) (ring_cells (ring_of (in_ring set port.fifos bytes))) (ring-of (in_ring set port.fifos bytes) (ring-short set port.fifos bytes s) (ring-bytes set port.fifos bytes b))
+  ring-part : (is : Bool) (bytes : List ℕ) → IsShort (is_some port.fifos) bytes → AreBytes bytes → AreOf (cond is (replicate RING_CELLS U8) []) (cond is (ring_cells (ring_of (in_ring set port.fifos bytes))) [])
+  ring-part is bytes s b = of_where is (replicate RING_CELLS U8) (ring_cells (ring_of (in_ring set port.fifos bytes))) (ring-of (in_ring set port.fifos bytes) (ring-short set port.fifos bytes s) (ring-bytes set port.fifos bytes b))
 
   -- what a set saves, as the cells of that set or of another
   pub of-kinds : (other : ℕ) → AreOf (kinds other) (cells_of other (saved set now port))

@@ -10,6 +10,7 @@ use Rattle.dev_serial.specs.declared.levels.TheConstants.{FIFOS_SINCE, TIMEOUT_S
 use Rattle.dev_serial.specs.declared.numbers.PortNumbers.{PortNumbers}
 use Rattle.dev_serial.specs.declared.stored.Counted.{Counted}
 use Rattle.dev_serial.specs.declared.stored.Ring.{Ring}
+use Rattle.dev_serial.specs.declared.stored.TheConstants.{ARRAY_CELLS, RING_CELLS}
 use Rattle.dev_serial.specs.declared.place.TheConstants.{DIVISOR, IER, IIR, LCR, MCR, LSR, SCR, RBR, THR, TSR, TX_DUE, FCR, THR_IPENDING, RX_COUNT, TX_COUNT, TIMEOUT_AT, RX_RING, TX_RING}
 use Rattle.dev_serial.specs.declared.numbers.TheConstants.{NEVER}
 
@@ -41,9 +42,9 @@ field_kinds = U16 ∷ replicate 9 U8 ++ Timer ∷ []
 abbrev pub kinds : ℕ → List Kind
 kinds set =
     field_kinds ++ since FIFOS_SINCE set (U8 ∷ []) ++ I8 ∷ []
-    ++ since FIFOS_SINCE set (replicate 17 U8) ++ since FIFOS_SINCE set (replicate 17 U8)
+    ++ since FIFOS_SINCE set (replicate ARRAY_CELLS U8) ++ since FIFOS_SINCE set (replicate ARRAY_CELLS U8)
     ++ since TIMEOUT_SINCE set (Timer ∷ [])
-    ++ since RINGS_SINCE set (replicate 18 U8) ++ since RINGS_SINCE set (replicate 18 U8)
+    ++ since RINGS_SINCE set (replicate RING_CELLS U8) ++ since RINGS_SINCE set (replicate RING_CELLS U8)
 
 -- from which place of a set each cell of the newest one comes, or its default
 abbrev pub origins : ℕ → List Origin
