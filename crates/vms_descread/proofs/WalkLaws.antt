@@ -4,6 +4,7 @@ use Rattle.std.specs.Option.{option_map}
 use Rattle.serde_json.specs.Data.{Data, Items, no_items, item}
 use Rattle.serde_json.specs.Find.{get, as_array}
 use Rattle.vms_spec.specs.Sets.{Formula, Set}
+use Rattle.vms_descread.specs.declared.tests.TheConstants.{DEEPEST}
 use Rattle.vms_descread.specs.declared.cells.Form.{Form}
 use Rattle.vms_descread.specs.declared.cells.Form.TheVariants as forms
 use Rattle.vms_descread.specs.declared.cells.Leaf.{Leaf}
@@ -141,7 +142,7 @@ within_then zero scope d = never [] _
 within_then (suc depth) scope d = as_then _ (test_within depth scope) (test_within depth (blind scope)) scope (within_then depth scope) d
 
 test_then : (scope : Scope) → Thens (test_of scope) (test_of (blind scope))
-test_then scope = within_then 127 scope
+test_then scope = within_then DEEPEST scope
 
 -- ---- fields
 

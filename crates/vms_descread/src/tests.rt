@@ -16,7 +16,7 @@ use vms_json::{Fault, Node, Reads, Scope, U32, at};
 use vms_parts::Test;
 
 // No value that is read nests deeper.
-const DEEPEST: u8 = 127;
+pub(crate) const DEEPEST: u8 = 127;
 
 // A test of the description, or a needed test.
 #[derive(Clone, Copy)]
