@@ -8,14 +8,13 @@ use Rattle.vms_spec.specs.Heads.{FitsHeads}
 use Rattle.vms_spec.specs.Sets.{Desc, Sub, Device, Set, AtLeast}
 use Rattle.vms_spec.specs.Layout.{no_desc, desc_cells, struct_cells}
 use Rattle.vms_spec.specs.Images.{Image, own_cells}
-use Rattle.vms_spec.specs.WellFormed.{WellFormed, struct_items, items_in, subs_items, devices_items, device_rules, sub_rules}
+use Rattle.vms_spec.specs.WellFormed.{WellFormed, struct_items, items_in, subs_items, devices_items}
 use Rattle.vms_desc.specs.Described.{device_at}
 use Rattle.vms_desc.specs.Formed.{is_well_formed}
 use Rattle.vms_desc.specs.Parts.{sub_at}
 use Rattle.vms_desc.proofs.Bounds.{few_items}
-use Rattle.vms_desc.proofs.Clean.{few_subs}
+use Rattle.vms_desc.proofs.Clean.{few_subs, device_clean, sub_clean}
 use Rattle.vms_elements.specs.Parts.{elements_in}
-use Rattle.vms_selfdesc.proofs.Sound.{own_rules, device_whole, sub_whole}
 use Rattle.vms_analyze.specs.Told.{is_path, fits_four, is_good, is_kept, is_good_sub, is_good_device}
 use Rattle.vms_analyze.specs.Telling.{told_part, told_sub_of, told_subs, told_device_of, told_devices, told}
 use Rattle.vms_analyze.proofs.Letters.{IsNamed, named_path, named_within, name_named, sub_named}
@@ -105,11 +104,10 @@ module _ (set : Set) (well : WellFormed set) (heads : FitsHeads set) where
 
   device_good : (i : ℕ) → i < length set.devices → IsGoodDevice set (device_at set i)
   device_good i lt =
-      let k = length set.structs in
       let sizes = struct_items set.structs in
       let d = device_at set i in
       let here = slice_get-get_or set.devices i no_device lt in
-      let rules = own_rules k d.desc (parts.Device i) (device_rules set i d) (device_whole set formed i lt) in
+      let rules = (device_clean set formed i lt).own in
       let name = name_named 100 d.desc.name rules.0 in
       let few = few_items set formed in
       let items = device_few sizes set.devices i lt in
@@ -118,7 +116,7 @@ module _ (set : Set) (well : WellFormed set) (heads : FitsHeads set) where
         instance = lt-ltb _ _ (omega (arith, (heads.instance i d here).0));
         subs = all_subs set d.subs (λ j l.
             let s = sub_at d j in
-            let own = own_rules k s.desc (parts.Sub i j) (sub_rules d j s) (sub_whole set formed i j lt l) in
+            let own = (sub_clean set formed i j lt l).own in
             let inner = sub_few sizes d.subs j l in
             record {
               name = sub_named d.desc.name s.desc.name name own.0;

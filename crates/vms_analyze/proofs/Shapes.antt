@@ -1,5 +1,5 @@
 -- What the description of a well-formed set tells is of the shape: the elements of one part.
-use Rattle.std.proofs.Common.{◌≡◌, ℕ, zero, suc, ◌+◌, ◌*◌, ◌<◌, ◌≤◌, Bool, true, false, cond, ◌&&◌, ◌||◌, ◌==◌, nat_lt, nat_le, List, [], ◌∷◌, ◌++◌, length, length-append, append_assoc, get_or, map, ℤ, refl, sym, ap, ◌∙◌, subst, arith, codes}
+use Rattle.std.proofs.Common.{◌≡◌, ℕ, suc, ◌+◌, ◌*◌, ◌<◌, ◌≤◌, Bool, true, false, cond, ◌&&◌, ◌||◌, ◌==◌, nat_lt, nat_le, List, [], ◌∷◌, ◌++◌, length, length-append, get_or, map, ℤ, refl, sym, ap, subst, arith, codes}
 use Rattle.std.specs.List.{list_all}
 use Rattle.std.proofs.lemmas.Bool.{and_parts, ltb-true, ltb-false, and_from}
 use Rattle.std.proofs.Math.ListN.{get_or-eq_default}
@@ -23,12 +23,12 @@ use Rattle.vms_elements.specs.Elements.{What, Number, Constant, Filler, Rule, El
 use Rattle.vms_elements.specs.Parts.{elements_in}
 use Rattle.vms_elements.proofs.Members.{Each}
 use Rattle.vms_desc.specs.Parts.{HasPart, desc_at}
+use Rattle.vms_desc.proofs.Clean.{field_sound}
 use Rattle.vms_selfdesc.specs.Entries.{Entry, part_entries}
 use Rattle.vms_selfdesc.specs.Tree.{natural, entry_tree}
 use Rattle.vms_selfdesc.proofs.EntryLong.{member_long}
 use Rattle.vms_selfdesc.proofs.Fits.{AreLong, longer, entries_few, entries_long}
 use Rattle.vms_selfdesc.proofs.Lengths.{fit}
-use Rattle.vms_selfdesc.proofs.Sound.{field_sound}
 use Rattle.vms_selfdesc.proofs.Soundness.{part_sound, fields_flat}
 use Rattle.vms_analyze.specs.Told.{Told, Sent, Kept, Fixed, Skipped, told_entry, is_path_byte, is_path, is_good, is_kept}
 use Rattle.vms_analyze.specs.Telling.{told_what, tolds, told_part}

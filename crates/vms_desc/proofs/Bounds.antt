@@ -44,11 +44,16 @@ set_clean set h =
     let c = or_else_none (first_answer (device_fault set) 0 set.devices) (failing 1 (size_rules set) (here parts.Set)) b.1 in
     record { first = all_true 1 (set_rules set) (here parts.Set) a.0; last = all_true 1 (size_rules set) (here parts.Set) c.1 }
 
-pub few_machines : (set : Set) → is_well_formed set ≡ true → length set.machines ≤ 16
-few_machines set h =
+few_parts : (set : Set) → is_well_formed set ≡ true → (nat_le (length set.machines) 16 && nat_le (length set.structs) 64) ≡ true
+few_parts set h =
     let b = (set_clean set h).first.1.1.1.1.1.1.0 in
-    let p = and_parts (nat_le (length set.machines) 16 && nat_le (length set.structs) 64) (nat_le (length set.devices) 64) b in
-    leb-true (length set.machines) 16 (and_parts (nat_le (length set.machines) 16) (nat_le (length set.structs) 64) p.0).0
+    (and_parts (nat_le (length set.machines) 16 && nat_le (length set.structs) 64) (nat_le (length set.devices) 64) b).0
+
+pub few_machines : (set : Set) → is_well_formed set ≡ true → length set.machines ≤ 16
+few_machines set h = leb-true (length set.machines) 16 (and_parts (nat_le (length set.machines) 16) (nat_le (length set.structs) 64) (few_parts set h)).0
+
+pub few_structs : (set : Set) → is_well_formed set ≡ true → length set.structs ≤ 64
+few_structs set h = leb-true (length set.structs) 64 (and_parts (nat_le (length set.machines) 16) (nat_le (length set.structs) 64) (few_parts set h)).1
 
 pub few_devices : (set : Set) → is_well_formed set ≡ true → length set.devices ≤ 64
 few_devices set h =

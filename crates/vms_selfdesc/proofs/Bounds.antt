@@ -8,20 +8,18 @@ use Rattle.vms_spec.specs.Sets.{Sub, Device, Set, AtLeast}
 use Rattle.vms_spec.specs.Shipped.{set_0, set_1, set_2, set_3, set_4}
 use Rattle.vms_spec.specs.Streams.{longest_text}
 use Rattle.vms_spec.specs.Layout.{first, no_desc}
-use Rattle.vms_spec.specs.WellFormed.{device_rules, sub_rules}
 use Rattle.vms_spec.proofs.ShippedSets.{shipped_stands}
 use Rattle.vms_desc.specs.Described.{device_at}
 use Rattle.vms_desc.specs.Formed.{is_well_formed, shipped_set, clock_set}
 use Rattle.vms_desc.specs.Parts.{sub_at}
 use Rattle.vms_desc.proofs.Bounds.{few_items, few_devices}
-use Rattle.vms_desc.proofs.Clean.{few_subs}
+use Rattle.vms_desc.proofs.Clean.{few_subs, device_clean, sub_clean}
 use Rattle.vms_desc.proofs.ClockHeads.{clock_heads}
 use Rattle.vms_desc.proofs.Formed.{clock_formed}
 use Rattle.vms_selfdesc.specs.Laws.{ShortLaw, ShippedLaw, ClockLaw}
 use Rattle.vms_selfdesc.specs.Tree.{described_text}
 use Rattle.vms_selfdesc.proofs.Lengths.{IsShortDesc, AreShortSubs, AreShortDevices, subs_of, set_room, text_long, room_less}
 use Rattle.vms_selfdesc.proofs.Plain.{name_short, sub_name_short}
-use Rattle.vms_selfdesc.proofs.Sound.{own_rules, device_whole, sub_whole}
 use Rattle.vms_selfdesc.proofs.Soundness.{part_sound}
 
 abbrev no_device : Device
@@ -56,17 +54,16 @@ few_of (d ∷ devices) h =
 module _ (set : Set) (well : is_well_formed set ≡ true) (heads : FitsHeads set) where
   short_device : (i : ℕ) → i < length set.devices → IsShortDevice (device_at set i)
   short_device i lt =
-      let k = length set.structs in
       let d = device_at set i in
       let here = slice_get-get_or set.devices i no_device lt in
-      let rules = own_rules k d.desc (parts.Device i) (device_rules set i d) (device_whole set well i lt) in
+      let rules = (device_clean set well i lt).own in
       let name = name_short 100 d.desc.name rules.0 in
       record {
         desc = record { sound = part_sound set well (parts.Device i) lt; name = name; version = omega (arith, (heads.instance i d here).1) };
         instance = omega (arith, (heads.instance i d here).0);
         subs = all_subs d.subs (λ j l.
             let s = sub_at d j in
-            let own = own_rules k s.desc (parts.Sub i j) (sub_rules d j s) (sub_whole set well i j lt l) in
+            let own = (sub_clean set well i j lt l).own in
             record {
               sound = part_sound set well (parts.Sub i j) (lt, l);
               name = sub_name_short d.desc.name s.desc.name name own.0;

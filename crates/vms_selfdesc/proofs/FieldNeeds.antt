@@ -16,13 +16,12 @@ use Rattle.vms_parts.specs.Sizes.{in_u32}
 use Rattle.vms_desc.specs.Asks.{field_at, own_numbers}
 use Rattle.vms_desc.specs.Formed.{is_well_formed}
 use Rattle.vms_desc.specs.Parts.{desc_at}
-use Rattle.vms_desc.proofs.Clean.{reach, field_clean, struct_clean}
+use Rattle.vms_desc.proofs.Clean.{reach, field_clean, struct_clean, field_sound}
 use Rattle.vms_elements.specs.Elements.{Element, no_shape, shapes}
 use Rattle.vms_selfdesc.specs.Entries.{Entry, entries_of}
 use Rattle.vms_selfdesc.specs.Listing.{is_field_sent, array_entries, element_entries, item_entries, item_list, field_list, part_list}
 use Rattle.vms_selfdesc.specs.Needs.{HasPlace, HasElements}
 use Rattle.vms_desc.proofs.Ranks.{item_rank, part_rank, reach_whole, uses_more, rank_below}
-use Rattle.vms_selfdesc.proofs.Sound.{field_sound}
 use Rattle.vms_selfdesc.proofs.OfElements.{of_dotted, of_field}
 use Rattle.vms_selfdesc.proofs.Structures.{cells_are, struct_cells_are, struct_elements_are}
 use Rattle.vms_spec.proofs.Prefixes.{FieldsBelow, all_below}

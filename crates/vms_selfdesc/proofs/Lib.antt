@@ -16,7 +16,6 @@ pub mod ReadBack
 pub mod ReadyDevices
 mod Rows
 pub mod Shapes
-pub mod Sound
 pub mod Soundness
 pub mod Structures
 pub mod Tails

@@ -6,14 +6,13 @@ use Rattle.vms_spec.specs.declared.Part.{Part}
 use Rattle.vms_spec.specs.declared.Part.TheVariants as parts
 use Rattle.vms_spec.specs.Names.{is_name}
 use Rattle.vms_spec.specs.Sets.{Set}
-use Rattle.vms_spec.specs.WellFormed.{device_rules, sub_rules}
 use Rattle.vms_desc.specs.Asks.{field_at}
 use Rattle.vms_desc.specs.Described.{device_at}
 use Rattle.vms_desc.specs.Formed.{is_well_formed}
 use Rattle.vms_desc.specs.Parts.{HasPart, desc_at, sub_at}
+use Rattle.vms_desc.proofs.Clean.{device_clean, sub_clean, field_sound}
 use Rattle.vms_selfdesc.specs.Drafts.{IsPlain}
 use Rattle.vms_selfdesc.proofs.Plain.{name_short, sub_name_short}
-use Rattle.vms_selfdesc.proofs.Sound.{own_rules, device_whole, sub_whole, field_sound}
 
 module _ (set : Set) (well : is_well_formed set ≡ true) where
   pub field_plain : (part : Part) (k : ℕ) → HasPart set part → k < length (desc_at set part).fields → IsPlain (field_at set part k).name
@@ -25,14 +24,13 @@ module _ (set : Set) (well : is_well_formed set ≡ true) where
   pub device_plain : (i : ℕ) → i < length set.devices → IsPlain (device_at set i).desc.name
   device_plain i lt =
       let d = device_at set i in
-      let rules = own_rules (length set.structs) d.desc (parts.Device i) (device_rules set i d) (device_whole set well i lt) in
+      let rules = (device_clean set well i lt).own in
       (name_short 100 d.desc.name rules.0).plain
 
   pub sub_plain : (i j : ℕ) → i < length set.devices → j < length (device_at set i).subs → IsPlain (sub_at (device_at set i) j).desc.name
   sub_plain i j lt l =
-      let k = length set.structs in
       let d = device_at set i in
       let s = sub_at d j in
-      let rules = own_rules k d.desc (parts.Device i) (device_rules set i d) (device_whole set well i lt) in
-      let own = own_rules k s.desc (parts.Sub i j) (sub_rules d j s) (sub_whole set well i j lt l) in
+      let rules = (device_clean set well i lt).own in
+      let own = (sub_clean set well i j lt l).own in
       (sub_name_short d.desc.name s.desc.name (name_short 100 d.desc.name rules.0) own.0).plain

@@ -1,5 +1,5 @@
 -- What well-formed sets say of names, sizes and depths.
-use Rattle.std.proofs.Common.{◌≡◌, ℕ, suc, ◌+◌, ◌<◌, ◌≤◌, ◌^◌, List, [], ◌∷◌, length, get_or, ℤ, pos, negsuc, Bool, true, false, ◌&&◌, nat_lt, nat_le, refl, arith, None}
+use Rattle.std.proofs.Common.{◌≡◌, ℕ, suc, ◌+◌, ◌<◌, ◌≤◌, ◌^◌, List, [], ◌∷◌, length, get_or, ℤ, pos, negsuc, Bool, true, false, ◌&&◌, nat_lt, nat_le, refl, arith}
 use Rattle.std.specs.List.{list_all}
 use Rattle.std.proofs.lemmas.Bool.{and_parts, leb-true, ltb-true, ltb-false}
 use Rattle.std.proofs.lemmas.Fmt.{length-decimal-le}
@@ -13,21 +13,19 @@ use Rattle.vms_kinds.specs.declared.Item.TheVariants.{Num, Equal, Unused, Struct
 use Rattle.vms_kinds.specs.Codes.{lowest, highest}
 use Rattle.vms_spec.specs.declared.Part.{Part}
 use Rattle.vms_spec.specs.declared.Part.TheVariants as parts
-use Rattle.vms_spec.specs.Lists.{first_answer}
 use Rattle.vms_spec.specs.Sets.{Field, Desc, Set}
-use Rattle.vms_spec.specs.Layout.{no_desc, counted}
+use Rattle.vms_spec.specs.Layout.{no_desc, counted, no_field}
 use Rattle.vms_spec.specs.Names.{is_name}
 use Rattle.vms_spec.specs.Rules.{int_le, in_range, defaults_well, counts_well, is_small_item, is_small_optional, field_rules}
-use Rattle.vms_spec.specs.WellFormed.{failing, in_field, struct_depths, struct_rules, has_few, deepest}
+use Rattle.vms_spec.specs.WellFormed.{struct_depths, has_few, deepest}
 use Rattle.vms_spec.proofs.Tables.{first_long}
 use Rattle.vms_rules.proofs.StructLaws.{deepest_small}
 use Rattle.vms_desc.specs.Formed.{is_well_formed}
 use Rattle.vms_desc.specs.Parts.{HasPart, desc_at}
-use Rattle.vms_spec.proofs.Faultless.{AllTrue, all_true, or_else_none}
-use Rattle.vms_desc.proofs.Clean.{reach}
+use Rattle.vms_spec.proofs.Faultless.{AllTrue}
+use Rattle.vms_desc.proofs.Clean.{reach, field_sound, struct_clean}
 use Rattle.vms_selfdesc.proofs.Fits.{IsSmall, IsSoundField, AreSound}
 use Rattle.vms_selfdesc.proofs.Plain.{name_short}
-use Rattle.vms_selfdesc.proofs.Sound.{no_field_fault, own_rules, struct_whole}
 
 -- ---- a number of 64 bits has at most 20 bytes
 
@@ -73,15 +71,13 @@ sound_field k d i f rules =
     let limits = and_parts (nat_le (length f.former) 8 && is_small_optional f.test) (is_small_item f.item) rules.1.1.1.1.1.1.0 in
     record { name = name_short 32 f.name names.0; small = small_item f.item f.default defaults.0 limits.1 }
 
-are_sound : (k : ℕ) (d : Desc) (part : Part) (i : ℕ) (fs : List Field) → first_answer (λ i f. failing 1 (field_rules k d i f) (in_field part i)) i fs ≡ None → AreSound fs
-are_sound k d part i [] e = tt
-are_sound k d part i (f ∷ fs) e =
-    let p = or_else_none (failing 1 (field_rules k d i f) (in_field part i)) (first_answer (λ i f. failing 1 (field_rules k d i f) (in_field part i)) (suc i) fs) e in
-    (sound_field k d i f (all_true 1 (field_rules k d i f) (in_field part i) p.0), are_sound k d part (suc i) fs p.1)
+are_sound : (fs : List Field) → ((i : ℕ) → i < length fs → IsSoundField (get_or fs i no_field)) → AreSound fs
+are_sound [] h = tt
+are_sound (f ∷ fs) h = (h 0 (omega arith), are_sound fs (λ i lt. h (suc i) (omega arith)))
 
 module _ (set : Set) (well : is_well_formed set ≡ true) where
   pub part_sound : (part : Part) → HasPart set part → AreSound (desc_at set part).fields
-  part_sound part h = are_sound (reach set part) (desc_at set part) part 0 (desc_at set part).fields (no_field_fault set well part h)
+  part_sound part h = are_sound (desc_at set part).fields (λ i lt. sound_field (reach set part) (desc_at set part) i _ (field_sound set well part h i lt))
 
   -- structures nest at most four deep
   struct_flat : (j : ℕ) → get_or (struct_depths set.structs) j 0 ≤ 4
@@ -91,7 +87,7 @@ module _ (set : Set) (well : is_well_formed set ≡ true) where
       by_place true e =
           let lt = ltb-true j (length set.structs) e in
           let d = get_or set.structs j no_desc in
-          let rules = own_rules j d (parts.Struct j) (struct_rules set.structs j d) (struct_whole set well j lt) in
+          let rules = (struct_clean set well j lt).own in
           leb-true (get_or (struct_depths set.structs) j 0) 4 (and_parts (has_few d) (nat_le (get_or (struct_depths set.structs) j 0) 4) rules.1.1.1.1.1.1.0).1
       by_place false e =
           let le = ltb-false j (length set.structs) e in

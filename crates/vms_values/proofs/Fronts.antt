@@ -11,7 +11,8 @@ use Rattle.vms_spec.specs.declared.Part.TheVariants as parts
 use Rattle.vms_desc.specs.Asks.{field_at}
 use Rattle.vms_desc.specs.Formed.{is_well_formed}
 use Rattle.vms_desc.specs.Parts.{HasPart, desc_at}
-use Rattle.vms_desc.proofs.Clean.{reach, field_clean, few_structs}
+use Rattle.vms_desc.proofs.Bounds.{few_structs}
+use Rattle.vms_desc.proofs.Clean.{reach, field_clean}
 use Rattle.vms_desc.proofs.Ranks.{reach_whole}
 use Rattle.vms_values.specs.declared.line.TheConstants.{LONGEST, PART_ROOM}
 use Rattle.vms_values.specs.Printing.{below, below_part, Stays}
