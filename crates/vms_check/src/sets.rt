@@ -3,7 +3,7 @@ ghost use Rattle.std.specs.List.{list_all};
 ghost use Rattle.std.specs.Prelude.{◌≡◌, ◌<◌, ◌≤◌, length, map, Some, None};
 ghost use Rattle.vms_desc.specs.Described.{described, device_at};
 ghost use Rattle.vms_desc.specs.Parts.{HasPart, sub_at};
-ghost use Rattle.vms_parts.specs.Views.{desc_of, sub_of, device_of};
+ghost use Rattle.vms_parts.specs.Views.{desc_of, device_of};
 ghost use Rattle.vms_spec.specs.declared.Part.TheVariants as parts;
 ghost use Rattle.vms_spec.specs.Lookup.{find_sub};
 ghost use Rattle.vms_spec.specs.Lists.{first_answer, position};
@@ -16,7 +16,7 @@ ghost use Rattle.vms_check.specs.Wholes.{device_mismatch, is_missing, lost_misma
 use crate::descs::compare_descs;
 use crate::side::{Side, at_own_version, desc_of, here};
 use crate::{Mismatch, Verdict};
-use vms_desc::{Desc, DescSet, Device, Part, Sub, Text, is_one_of};
+use vms_desc::{Desc, DescSet, Device, Part, Sub, Text, find_sub, is_one_of};
 
 /// Whether the newer set reads what the older one writes, or else the first rule that fails with its place on each side.
 pub fn check(old: &DescSet, new: &DescSet) -> Verdict
@@ -225,17 +225,4 @@ fn compare_sub(
             in_new: here(Part::Device(in_new)),
         }),
     }
-}
-
-/// The number of the first subsection of this name.
-pub fn find_sub(subs: &[Sub], name: &[u8]) -> Option<u32>
-    requires { length subs.now ≤ 32 }
-    ensures { result ≡ find_sub 0 (map sub_of subs.now) name.now }
-{
-    for (number, sub) in subs.iter().enumerate() {
-        if sub.desc.name.as_bytes() == name {
-            return Some(number as u32);
-        }
-    }
-    None
 }

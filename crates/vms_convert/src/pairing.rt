@@ -13,8 +13,8 @@ ghost use Rattle.vms_convert.specs.Partnering.{arrays_on, elements_left, element
 ghost use Rattle.vms_check.specs.Sides.{IsSide, desc_on};
 
 use std::alloc::{AllocError, Global};
-use vms_check::{Side, at_own_version, fields_of, find_sub, is_present, same_kind};
-use vms_desc::{DescSet, Part};
+use vms_check::{Side, at_own_version, fields_of, is_present, same_kind};
+use vms_desc::{DescSet, Part, find_sub};
 use vms_io::NoMemory;
 use vms_kinds::{Item, Kind};
 use vms_parts::capacity;

@@ -15,7 +15,7 @@ mod spots;
 mod table;
 
 pub use eval::{Cells, Numbers};
-pub use names::{find_name, is_one_of};
+pub use names::{find_name, find_sub, is_one_of};
 pub use set::DescSet;
 pub use vms_parts::{
     CellForm, Count, Desc, Device, Field, Listed, Part, Parts, Place, Rel, Sub, Test, Text, Whose,

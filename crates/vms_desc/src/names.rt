@@ -1,9 +1,11 @@
 // Names among others.
-ghost use Rattle.std.specs.Prelude.{◌≡◌, ◌<◌, ◌^◌, length};
+ghost use Rattle.std.specs.Prelude.{◌≡◌, ◌<◌, ◌^◌, length, map};
+ghost use Rattle.vms_spec.specs.Lookup.{find_sub};
 ghost use Rattle.vms_spec.specs.Streams.{is_one_of};
+ghost use Rattle.vms_parts.specs.Views.{sub_of};
 ghost use Rattle.vms_desc.specs.Names.{IsNameAt};
 
-use crate::Text;
+use crate::{Sub, Text};
 
 /// Whether a name is one of these, byte by byte.
 pub fn is_one_of(names: &[Text], name: &[u8]) -> bool
@@ -24,6 +26,19 @@ pub fn find_name(names: &[Text], name: &[u8]) -> Option<u32>
 {
     for (number, known) in names.iter().enumerate() {
         if known.as_bytes() == name {
+            return Some(number as u32);
+        }
+    }
+    None
+}
+
+/// The number, from 0, of the first of these subsections that has this name; `None` if none has.
+pub fn find_sub(subs: &[Sub], name: &[u8]) -> Option<u32>
+    requires { length subs.now < 2 ^ 32 }
+    ensures { result ≡ find_sub 0 (map sub_of subs.now) name.now }
+{
+    for (number, sub) in subs.iter().enumerate() {
+        if sub.desc.name.as_bytes() == name {
             return Some(number as u32);
         }
     }

@@ -1,6 +1,6 @@
 // What the heads of sections and subsections open.
 ghost use Rattle.std.specs.List.{slice_get};
-ghost use Rattle.std.specs.Prelude.{◌≡◌, ◌<◌, ◌≤◌, ◌==◌, ◌^◌, length, map, false, Some, IfOk, IfErr};
+ghost use Rattle.std.specs.Prelude.{◌≡◌, ◌<◌, ◌≤◌, ◌^◌, length, false, Some, IfOk, IfErr};
 ghost use Rattle.vms_spec.specs.Lookup.{find_sub};
 ghost use Rattle.vms_desc.specs.Described.{described};
 ghost use Rattle.vms_parts.specs.Views.{desc_of, device_of, sub_of};
@@ -9,7 +9,7 @@ ghost use Rattle.vms_load.specs.Heads.{section_opened, sub_opened, opened_at, re
 
 use crate::LoadFault;
 use crate::fault::refused;
-use vms_desc::{Desc, DescSet, Device, Sub};
+use vms_desc::{Desc, DescSet, Device, Sub, find_sub};
 use vms_image::Image;
 use vms_marks::{Head, Name};
 use vms_spec::Reason;
@@ -101,17 +101,4 @@ fn against_sub(sub: &Sub, came: Option<u32>, version: u32) -> Option<Reason>
         None if came.is_some() => Some(Reason::RepeatedSubsection),
         reason => reason,
     }
-}
-
-// The number of the subsection of this full name.
-fn find_sub(subs: &[Sub], name: &[u8]) -> Option<u32>
-    requires { length subs.now < 2 ^ 32 }
-    ensures { result ≡ find_sub 0 (map sub_of subs.now) name.now }
-{
-    for (i, sub) in subs.iter().enumerate() {
-        if sub.desc.name.as_bytes() == name {
-            return Some(i as u32);
-        }
-    }
-    None
 }
