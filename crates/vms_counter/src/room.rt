@@ -98,7 +98,8 @@ impl TakesRoom for Device {
     fn bytes(&self, structs: &[u32]) -> u32 {
         let own = all_bytes(structs, self.desc.fields.as_slice());
         let subs = all_bytes(structs, self.subs.as_slice());
-        own.saturating_add(subs).saturating_add(274)
+        own.saturating_add(subs)
+            .saturating_add(LONGEST_HEAD as u32 + 5)
     }
 }
 

@@ -20,6 +20,7 @@ use Rattle.vms_load.specs.Staging.{section_bytes, sections_due, subs_bytes, devi
 use Rattle.vms_load.proofs.SetFacts.{well_of, few_subs}
 use Rattle.std.proofs.lemmas.Option.{slice_get_within, get_or_from_slice_get}
 use Rattle.vms_load.proofs.SmallItems.{AreSmall, struct_small, part_small}
+use Rattle.vms_marks.specs.declared.head.TheConstants.{LONGEST_HEAD}
 use Rattle.vms_marks.specs.declared.sub_head.TheConstants.{LONGEST_SUB_HEAD}
 
 -- ---- no item has more than 4,096 bytes
@@ -107,7 +108,7 @@ subs_all : (set : Set) (subs : List Sub) → subs_due set subs (map (λ s. None)
 subs_all set [] = refl
 subs_all set (s ∷ subs) = omega (arith, subs_all set subs)
 
-section_is : (set : Set) (d : Device) → section_bytes set d ≡ 274 + LONGEST_SUB_HEAD * length d.subs + (bytes_of set d.desc + subs_bytes set d.subs)
+section_is : (set : Set) (d : Device) → section_bytes set d ≡ LONGEST_HEAD + 5 + LONGEST_SUB_HEAD * length d.subs + (bytes_of set d.desc + subs_bytes set d.subs)
 section_is set d = omega (arith, subs_all set d.subs)
 
 pub all_due : (set : Set) (devices : List Device) → sections_due set devices (map (λ d. false) devices) ≡ devices_most set devices

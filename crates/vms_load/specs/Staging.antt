@@ -130,7 +130,7 @@ subs_bytes set (s ∷ subs) = bytes_of set s.desc + subs_bytes set subs
 
 abbrev pub devices_most : Set → List Device → ℕ
 devices_most set [] = 0
-devices_most set (d ∷ devices) = (274 + LONGEST_SUB_HEAD * length d.subs + (bytes_of set d.desc + subs_bytes set d.subs)) + devices_most set devices
+devices_most set (d ∷ devices) = (LONGEST_HEAD + 5 + LONGEST_SUB_HEAD * length d.subs + (bytes_of set d.desc + subs_bytes set d.subs)) + devices_most set devices
 
 -- so many bytes are given to a load at most
 abbrev pub most_given : Set → ℕ
