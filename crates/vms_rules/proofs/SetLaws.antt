@@ -1,21 +1,18 @@
 -- The machines of a set, and the whole walk.
-use Rattle.std.proofs.Common.{sym, ◌≡◌, ℕ, ◌≤◌, List, ◌∷◌, length, Bool, true, false, Option, None, refl, ap, ◌∙◌, []}
-use Rattle.std.specs.Prelude.{◌&&◌, not, nat_le, ◌||◌}
+use Rattle.std.proofs.Common.{sym, ◌≡◌, ℕ, List, ◌∷◌, Bool, true, false, Option, None, refl, ap, ◌∙◌, []}
+use Rattle.std.specs.Prelude.{◌&&◌, not, ◌||◌}
 use Rattle.std.specs.BTreeMap.{is_at}
 use Rattle.std.specs.BTreeSet.{BTreeSet}
 use Rattle.std.specs.Cmp.Lexicographic.{nat_list_eq_equiv}
 use Rattle.std.specs.List.{list_any}
 use denote.Ref.{Bor}
 use Rattle.std.specs.Str.{bytes_eq}
-use Rattle.std.proofs.lemmas.Bool.{and_parts, leb-true}
 use Rattle.std.proofs.Math.Bool.{and_assoc}
 use Rattle.vms_spec.specs.declared.Part.TheVariants as parts
-use Rattle.vms_spec.specs.declared.Place.{Place}
 use Rattle.vms_spec.specs.Lists.{or_else}
 use Rattle.vms_spec.specs.Sets as sets
 use Rattle.vms_spec.specs.Streams.{is_one_of}
 use Rattle.vms_spec.specs.WellFormed.{SetFault, failing, here, are_distinct, set_rules, size_rules, first_fault}
-use Rattle.vms_spec.proofs.Faultless.{all_true}
 use Rattle.vms_spec.proofs.ListLaws.{and_swap}
 use Rattle.vms_rules.specs.declared.fault.DescFault.{DescFault}
 use Rattle.vms_rules.specs.Judged.{IsFirst}
@@ -62,15 +59,6 @@ distinct_is had names empty = new_and_distinct had names ∙ ap (λ (b : Bool). 
 
 pub empty_has_none : (names : BTreeSet (ℕ × Bor (List ℕ))) → names.keys ≡ [] → (n : List ℕ) → has_name names n ≡ false
 empty_has_none names e n = ap (λ (keys : List (ℕ × Bor (List ℕ))). list_any (is_at (λ k. by_ending (ending n, n) (k.0, k.1.now))) keys) e
-
--- ---- the number of parts
-
-pub few_parts : (set : sets.Set) (p : Place) → failing 1 (set_rules set) p ≡ None → (length set.structs ≤ 64) × (length set.devices ≤ 64)
-few_parts set p e =
-    let b = (all_true 1 (set_rules set) p e).1.1.1.1.1.1.0 in
-    let h = and_parts (nat_le (length set.machines) 16 && nat_le (length set.structs) 64) (nat_le (length set.devices) 64) b in
-    let g = and_parts (nat_le (length set.machines) 16) (nat_le (length set.structs) 64) h.0 in
-    (leb-true (length set.structs) 64 g.1, leb-true (length set.devices) 64 h.1)
 
 -- ---- the walk
 

@@ -1,5 +1,5 @@
 -- A set without a fault: nothing that is asked in order answers, and each rule holds.
-use Rattle.std.proofs.Common.{◌≡◌, ℕ, zero, suc, ◌+◌, ◌<◌, ◌≤◌, List, [], ◌∷◌, length, get_or, Option, Some, None, refl, sym, ap, ◌∙◌, arith, Bool, true, false, ◌&&◌, ◌||◌, nat_le}
+use Rattle.std.proofs.Common.{◌≡◌, ℕ, zero, suc, ◌+◌, ◌≤◌, List, [], ◌∷◌, length, Option, Some, None, refl, sym, ap, ◌∙◌, arith, Bool, true, false, ◌&&◌, ◌||◌, nat_le}
 use Rattle.std.specs.List.{slice_get, list_all}
 use Rattle.std.specs.Str.{bytes_eq}
 use Rattle.std.proofs.lemmas.Slice.Eq.{bytes_eq-Decides}
@@ -28,16 +28,6 @@ answers_none f i (y ∷ xs) e (suc j) x h =
     let p = or_else_none (f i y) (first_answer f (suc i) xs) e in
     let plus : i + suc j ≡ suc i + j = omega arith in
     ap (λ (k : ℕ). f k x) plus ∙ answers_none f (suc i) xs p.1 j x h
-
-pub no_answer : {X Y : Type 0} (f : ℕ → X → Option Y) (i : ℕ) (xs : List X) → first_answer f i xs ≡ None → (j : ℕ) (d : X) → j < length xs → f (i + j) (get_or xs j d) ≡ None
-no_answer f i [] e j d lt = absurd (omega arith)
-no_answer f i (x ∷ xs) e zero d lt =
-    let plus : i + 0 ≡ i = omega arith in
-    ap (λ (k : ℕ). f k x) plus ∙ (or_else_none (f i x) (first_answer f (suc i) xs) e).0
-no_answer f i (x ∷ xs) e (suc j) d lt =
-    let plus : i + suc j ≡ suc i + j = omega arith in
-    let lt' : j < length xs = omega arith in
-    ap (λ (k : ℕ). f k (get_or xs j d)) plus ∙ no_answer f (suc i) xs (or_else_none (f i x) (first_answer f (suc i) xs) e).1 j d lt'
 
 -- ---- rules
 
