@@ -14,13 +14,14 @@ use Rattle.vms_session.specs.Playing.{Goes}
 use Rattle.vms_session.specs.declared.line.PlayFault.{PlayFault}
 use Rattle.vms_session.specs.declared.line.PlayFault.TheVariants as plays
 use Rattle.vms_commands.proofs.CourseLemmas.{asked, draws_none, looked_so, same_so, unshelved_so, writes_serve, wrong}
+use Rattle.vms_commands.proofs.StepLemmas.{mapped_by}
 use Rattle.vms_commands.specs.Courses.{Course, Draws, EndsSo, Risen, is_among, of_shelf, text_course}
 use Rattle.vms_commands.specs.Endings.{SetCause, WritesAs, status_of}
 use Rattle.vms_commands.specs.declared.ending.Ending.{Ending}
 use Rattle.vms_commands.specs.declared.ending.Ending.TheVariants.{Done, Refused, BadText, ReadFault, WriteFault, ShelfFault, NotThere, TooLarge, NoMemory}
 use Rattle.vms_board_commands.specs.Causes.{drill_course, load_course, play_course, save_course, stream_course}
 use Rattle.vms_board_commands.specs.Play.{ending_by}
-use Rattle.vms_board_commands.specs.Save.{ending_by as ending_of}
+use Rattle.vms_board_commands.specs.Save.{ending_by as save_ending}
 
 -- ---- lists of statuses
 
@@ -76,7 +77,7 @@ module _ (course : Course) (asks : Bool) (may : MayAsk course asks) (i : Intake)
 -- ---- a text is written
 
 module _ (i : Intake) (s : Stock) (o o' : Outlet) where
-  pub saved_so : (bytes : List ℕ) (r : Result Unit SaveFault) → Saves bytes o o' r → EndsSo i i o o' s s save_course (ending_of r)
+  pub saved_so : (bytes : List ℕ) (r : Result Unit SaveFault) → Saves bytes o o' r → EndsSo i i o o' s s save_course (mapped_by save_ending r)
   saved_so bytes (Ok u) h =
       unshelved_so s save_course Done refl tt (λ f. absurd (wrong f)) (λ f. refl) (draws_none i) (record { later = h.later; promise = h.promise })
   saved_so bytes (Err saves.WriteFault) h =
@@ -126,10 +127,8 @@ module _ (i : Intake) {o o' : Outlet} {s s' : Stock} where
     reaches = g.reaches;
   }
 
-  pub done_so : Goes o o' s s' (Ok tt) → EndsSo i i o o' s s' play_course Done
-  done_so g = played Done refl tt refl g
-
-  pub stopped_so : (fault : PlayFault) → Goes o o' s s' (Err fault) → EndsSo i i o o' s s' play_course (ending_by fault)
-  stopped_so plays.WriteFault g = played WriteFault refl g.cause refl g
-  stopped_so plays.ShelfFault g = played ShelfFault refl g.cause refl g
-  stopped_so plays.NoMemory g = played NoMemory refl tt refl g
+  pub played_so : (r : Result Unit PlayFault) → Goes o o' s s' r → EndsSo i i o o' s s' play_course (mapped_by ending_by r)
+  played_so (Ok u) g = played Done refl tt refl g
+  played_so (Err plays.WriteFault) g = played WriteFault refl g.cause refl g
+  played_so (Err plays.ShelfFault) g = played ShelfFault refl g.cause refl g
+  played_so (Err plays.NoMemory) g = played NoMemory refl tt refl g

@@ -5,6 +5,7 @@ use Rattle.dev_board.specs.State.{State, power_on}
 use Rattle.vms_io.specs.Shelves.{Held}
 use Rattle.vms_io.specs.Told.{Intake, Outlet, Stock}
 use Rattle.vms_commands.proofs.EndLemmas.{takes_nothing}
+use Rattle.vms_commands.proofs.StepLemmas.{mapped_by}
 use Rattle.vms_commands.specs.Endings.{DoneAs, EndsAs}
 use Rattle.vms_commands.specs.Outcomes.{Outcome, Part, ComesTo, FailsToStore, HoldsBut, stored_next, held_after}
 use Rattle.vms_session.specs.Parts.{Plays}
@@ -27,7 +28,7 @@ module _ (level : ℕ) (lines : List ScriptLine) (i : Intake) (o o' : Outlet) (s
   at-power-on : (result : Result Unit PlayFault) → Content lines board board' o o' s s' result → Content lines (power_on level) board' o o' s s' result
   at-power-on result content = subst (λ (b : State). Content lines b board' o o' s s' result) on content
 
-  pub all_played : i.given < 2 ^ 64 → Content lines board board' o o' s s' (Ok tt) → IsSomeAnd s.held (λ map. PlaysAll level lines map x) → DoneAs i i o o' s s' x
+  all_played : i.given < 2 ^ 64 → Content lines board board' o o' s s' (Ok tt) → IsSomeAnd s.held (λ map. PlaysAll level lines map x) → DoneAs i i o o' s s' x
   all_played few content has = by s.held refl has
     where
       by : (held : Option Held) → s.held ≡ held → IsSomeAnd held (λ map. PlaysAll level lines map x) → DoneAs i i o o' s s' x
@@ -49,7 +50,7 @@ module _ (level : ℕ) (lines : List ScriptLine) (i : Intake) (o o' : Outlet) (s
   as_ending faults.ShelfFault parts new h = h
   as_ending faults.NoMemory parts new h = h
 
-  pub stopped_by : (fault : PlayFault) → Content lines board board' o o' s s' (Err fault) → IsSomeAnd s.held (λ map. PlaysAll level lines map x) → EndsAs i i o o' s s' (ending_by fault) x
+  stopped_by : (fault : PlayFault) → Content lines board board' o o' s s' (Err fault) → IsSomeAnd s.held (λ map. PlaysAll level lines map x) → EndsAs i i o o' s s' (ending_by fault) x
   stopped_by fault content has = by s.held refl has
     where
       by : (held : Option Held) → s.held ≡ held → IsSomeAnd held (λ map. PlaysAll level lines map x) → EndsAs i i o o' s s' (ending_by fault) x
@@ -57,6 +58,11 @@ module _ (level : ℕ) (lines : List ScriptLine) (i : Intake) (o o' : Outlet) (s
       by (Some map) e h =
           subst (EndsAs i i o o' s s' (ending_by fault)) (sym h.outcome)
           (as_ending fault h.parts h.new (at-power-on (Err fault) content map h.parts h.new e h.plays))
+
+  -- however it ends
+  pub played_by : (r : Result Unit PlayFault) → i.given < 2 ^ 64 → Content lines board board' o o' s s' r → IsSomeAnd s.held (λ map. PlaysAll level lines map x) → EndsAs i i o o' s s' (mapped_by ending_by r) x
+  played_by (Ok u) few content has = all_played few content has
+  played_by (Err fault) few content has = stopped_by fault content has
 
 -- ---- from before the script was fetched
 

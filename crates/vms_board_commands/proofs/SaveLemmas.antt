@@ -8,11 +8,12 @@ use Rattle.vms_board.specs.declared.save.SaveFault.TheVariants.{WriteFault, NoMe
 use Rattle.vms_io.specs.Causes.{AppendsPrefix}
 use Rattle.vms_io.specs.Told.{Outlet}
 use Rattle.vms_io.proofs.WritingLemmas.{stops_prefix}
+use Rattle.vms_commands.proofs.StepLemmas.{mapped_by}
 use Rattle.vms_commands.specs.StepEndings.{TextEnds}
 use Rattle.vms_commands.specs.Steps.{Gives}
 use Rattle.vms_board_commands.specs.Save.{ending_by}
 
-pub saved_ends : (bytes text : List ℕ) (o o' : Outlet) (r : Result Unit SaveFault) → bytes ≡ text → Saves bytes o o' r → TextEnds (Gives text) o o' (ending_by r)
+pub saved_ends : (bytes text : List ℕ) (o o' : Outlet) (r : Result Unit SaveFault) → bytes ≡ text → Saves bytes o o' r → TextEnds (Gives text) o o' (mapped_by ending_by r)
 saved_ends bytes text o o' (Ok u) e h = subst (Appends o.written o'.written) e h.told
 saved_ends bytes text o o' (Err WriteFault) e h = subst (AppendsPrefix o.written o'.written) e (stops_prefix h)
 saved_ends bytes text o o' (Err NoMemory) e h = tt

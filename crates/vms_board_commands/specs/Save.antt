@@ -1,5 +1,5 @@
 -- The command `save`: the stream that it writes.
-use Rattle.std.specs.Prelude.{ℕ, List, Option, None, Result, Ok, Err}
+use Rattle.std.specs.Prelude.{ℕ, List, Option, None}
 use Rattle.vms_board.specs.Family.{Family}
 use Rattle.vms_board.specs.Saving.{saved_stream}
 use Rattle.vms_board.specs.declared.save.SaveFault.{SaveFault}
@@ -17,8 +17,7 @@ abbrev pub saved_after : {S : Type 0} → Family S → (number set : ℕ) → Op
 saved_after f number set held name =
     next (scripted None held name) (λ lines. Gives (saved_stream f set (after_events f (events_of lines) (f.power_on number))))
 
--- how a save of a board ends
-abbrev pub ending_by : Result Unit SaveFault → Ending
-ending_by (Ok u) = endings.Done
-ending_by (Err faults.WriteFault) = endings.WriteFault
-ending_by (Err faults.NoMemory) = endings.NoMemory
+-- how a save of a board that failed ends
+abbrev pub ending_by : SaveFault → Ending
+ending_by faults.WriteFault = endings.WriteFault
+ending_by faults.NoMemory = endings.NoMemory

@@ -3,7 +3,7 @@ ghost use Rattle.std.specs.Prelude.{◌≡◌, ◌^◌, ◌<◌, IfOk, string_by
 ghost use Rattle.dev_base.specs.Levels.{IsLevel};
 ghost use Rattle.vms_drill.specs.Views.{summary_view};
 ghost use Rattle.vms_io.specs.Told.{Intake, Stock, outlet};
-ghost use Rattle.vms_commands.specs.Endings.{EndsAs, WritesAs};
+ghost use Rattle.vms_commands.specs.Endings.{EndsAs, ending_of};
 ghost use Rattle.vms_commands.specs.Outcomes.{Outcome, done};
 ghost use Rattle.vms_commands.specs.Courses.{EndsSo};
 ghost use Rattle.vms_board_commands.specs.Causes.{drill_course};
@@ -11,33 +11,29 @@ ghost use Rattle.vms_board_commands.specs.Drill.{drill_line, drill_text, events_
 
 use std::alloc::Global;
 use vms_board::machine_name;
-use vms_commands::Ending;
+use vms_commands::{Ending, write_text};
 use vms_drill::{Summary, drill};
-use vms_io::{NoMemory, Sink, write_all_of};
+use vms_io::{NoMemory, Sink};
 
 /// Writes what so many events that a seed chooses come to, on a board of a level at power on that is saved and
 /// restored after every thousand of them.
-pub fn drill_board<O: Sink>(alloc: Global, level: u8, seed: u64, count: u32, out: &mut O) -> Ending
+pub fn drill_board<O: Sink>(
+    alloc: Global,
+    level: u8,
+    seed: u64,
+    count: u32,
+    out: &mut O,
+) -> Result<(), Ending>
     requires { IsLevel level }
     ensures content { (input : Intake) (shelf : Stock) (o : Outcome) → input.given < 2 ^ 64
         → o ≡ done (drill_line level seed count) shelf.held 0
-        → EndsAs input input (outlet O.Sink out.old) (outlet O.Sink out.new) shelf shelf result o }
+        → EndsAs input input (outlet O.Sink out.old) (outlet O.Sink out.new) shelf shelf
+        (ending_of result) o }
     ensures so { (input : Intake) (shelf : Stock) → EndsSo input input (outlet O.Sink out.old)
-        (outlet O.Sink out.new) shelf shelf drill_course result }
+        (outlet O.Sink out.new) shelf shelf drill_course (ending_of result) }
 {
-    match drilled_line(alloc, level, seed, count) {
-        Ok(line) => write_text(line.as_bytes(), out),
-        Err(_) => Ending::NoMemory,
-    }
-}
-
-fn write_text<O: Sink>(text: &[u8], out: &mut O) -> Ending
-    ensures { WritesAs text.now (outlet O.Sink out.old) (outlet O.Sink out.new) result }
-{
-    match write_all_of(out, text) {
-        Ok(()) => Ending::Done,
-        Err(_) => Ending::WriteFault,
-    }
+    let line = drilled_line(alloc, level, seed, count)?;
+    write_text(line.as_bytes(), out)
 }
 
 // What a drill comes to, as a line.

@@ -4,7 +4,7 @@ ghost use Rattle.dev_board.specs.Laws.{AreEvents};
 ghost use Rattle.vms_board.specs.Family.{IsNumber};
 ghost use Rattle.vms_io.specs.Told.{Stock, intake, outlet, stock};
 ghost use Rattle.vms_load.specs.Staging.{most_given};
-ghost use Rattle.vms_commands.specs.Endings.{EndsAs, WritesAs};
+ghost use Rattle.vms_commands.specs.Endings.{EndsAs, WritesAs, ending_of};
 ghost use Rattle.vms_commands.specs.Outcomes.{Outcome};
 ghost use Rattle.vms_session.specs.Events.{trace_from};
 ghost use Rattle.vms_script.specs.Views.{event_lines};
@@ -32,17 +32,18 @@ pub fn load_board<M: Machine, I: Source, O: Sink, H: Shelf>(
     input: &mut I,
     out: &mut O,
     shelf: &mut H,
-) -> Ending
+) -> Result<(), Ending>
     requires { IsNumber M.family asked.number }
     ensures content { (o : Outcome) → LoadsBy M.family asked.entry.number
         (scripted None (H.held shelf.old) asked.entry.script.now)
         (I.left input.old) (H.held shelf.old) o
         → EndsAs (intake I.Source input.old) (intake I.Source input.new)
         (outlet O.Sink out.old) (outlet O.Sink out.new)
-        (stock H.Shelf shelf.old) (stock H.Shelf shelf.new) result o }
+        (stock H.Shelf shelf.old) (stock H.Shelf shelf.new) (ending_of result) o }
     ensures so { EndsSo (intake I.Source input.old) (intake I.Source input.new)
         (outlet O.Sink out.old) (outlet O.Sink out.new)
-        (stock H.Shelf shelf.old) (stock H.Shelf shelf.new) load_course result }
+        (stock H.Shelf shelf.old) (stock H.Shelf shelf.new) load_course
+        (ending_of result) }
     ensures given { LoadGives M.family (scripted None (H.held shelf.old) asked.entry.script.now)
         (intake I.Source input.old) (intake I.Source input.new) }
     ensures seen { let held = H.held shelf.old in
@@ -50,12 +51,10 @@ pub fn load_board<M: Machine, I: Source, O: Sink, H: Shelf>(
         SeenAs (LoadsWith M.family asked.entry.number lines held)
         (intake I.Source input.old) (intake I.Source input.new)
         (outlet O.Sink out.old) (outlet O.Sink out.new)
-        (stock H.Shelf shelf.old) (stock H.Shelf shelf.new) result }
+        (stock H.Shelf shelf.old) (stock H.Shelf shelf.new) (ending_of result) }
 {
-    match events_of(alloc, asked.script, shelf) {
-        Ok(events) => load_events::<M, I, O>(alloc, asked.number, &events, input, out),
-        Err(ending) => ending,
-    }
+    let events = events_of(alloc, asked.script, shelf)?;
+    load_events::<M, I, O>(alloc, asked.number, &events, input, out)
 }
 
 // Once the script is there.
@@ -65,26 +64,25 @@ fn load_events<M: Machine, I: Source, O: Sink>(
     events: &[Event],
     input: &mut I,
     out: &mut O,
-) -> Ending
+) -> Result<(), Ending>
     requires board { IsNumber M.family number }
     requires events { AreEvents events.now }
     ensures content { (shelf shelf' : Stock) (o : Outcome) → shelf'.held ≡ shelf.held
         → IsSomeAnd (I.left input.old)
         (λ bytes. Loads M.family number (event_lines events.now) bytes shelf.held o)
         → EndsAs (intake I.Source input.old) (intake I.Source input.new)
-        (outlet O.Sink out.old) (outlet O.Sink out.new) shelf shelf' result o }
+        (outlet O.Sink out.old) (outlet O.Sink out.new) shelf shelf' (ending_of result) o }
     ensures so { (shelf : Stock) → EndsSo (intake I.Source input.old) (intake I.Source input.new)
-        (outlet O.Sink out.old) (outlet O.Sink out.new) shelf shelf load_course result }
+        (outlet O.Sink out.old) (outlet O.Sink out.new) shelf shelf load_course
+        (ending_of result) }
     ensures given { let most = most_given (M.family.set M.family.newest) in
         I.given input.new ≤ I.given input.old + most }
     ensures seen { (shelf shelf' : Stock) → shelf'.held ≡ shelf.held
         → SeenAs (λ bytes o. Loads M.family number (event_lines events.now) bytes shelf.held o)
         (intake I.Source input.old) (intake I.Source input.new)
-        (outlet O.Sink out.old) (outlet O.Sink out.new) shelf shelf' result }
+        (outlet O.Sink out.old) (outlet O.Sink out.new) shelf shelf' (ending_of result) }
 {
-    let Ok(mut board) = MachineBoard::<M>::new(alloc, number) else {
-        return Ending::NoMemory;
-    };
+    let mut board = MachineBoard::<M>::new(alloc, number)?;
     load_on(&mut board, events, input, out)
 }
 
@@ -94,39 +92,43 @@ fn load_on<M: Machine, I: Source, O: Sink>(
     events: &[Event],
     input: &mut I,
     out: &mut O,
-) -> Ending
+) -> Result<(), Ending>
     requires { AreEvents events.now }
     ensures content { (shelf shelf' : Stock) (o : Outcome) → shelf'.held ≡ shelf.held
         → IsSomeAnd (I.left input.old)
         (λ bytes. let number = M.family.number board.old.state in
         Loads M.family number (event_lines events.now) bytes shelf.held o)
         → EndsAs (intake I.Source input.old) (intake I.Source input.new)
-        (outlet O.Sink out.old) (outlet O.Sink out.new) shelf shelf' result o }
+        (outlet O.Sink out.old) (outlet O.Sink out.new) shelf shelf' (ending_of result) o }
     ensures so { (shelf : Stock) → EndsSo (intake I.Source input.old) (intake I.Source input.new)
-        (outlet O.Sink out.old) (outlet O.Sink out.new) shelf shelf load_course result }
+        (outlet O.Sink out.old) (outlet O.Sink out.new) shelf shelf load_course
+        (ending_of result) }
     ensures given { let most = most_given (M.family.set M.family.newest) in
         I.given input.new ≤ I.given input.old + most }
     ensures seen { (shelf shelf' : Stock) → shelf'.held ≡ shelf.held
         → let number = M.family.number board.old.state in
         SeenAs (λ bytes o. Loads M.family number (event_lines events.now) bytes shelf.held o)
         (intake I.Source input.old) (intake I.Source input.new)
-        (outlet O.Sink out.old) (outlet O.Sink out.new) shelf shelf' result }
+        (outlet O.Sink out.old) (outlet O.Sink out.new) shelf shelf' (ending_of result) }
 {
     match board.restore(input) {
         Ok(()) => go_on(board, events, out),
-        Err(RestoreFault::Refused(refusal)) => Ending::Refused(refused_line(board.set(), &refusal)),
-        Err(RestoreFault::ReadFault) => Ending::ReadFault,
+        Err(RestoreFault::Refused(refusal)) => {
+            Err(Ending::Refused(refused_line(board.set(), &refusal)))
+        }
+        Err(RestoreFault::ReadFault) => Err(Ending::ReadFault),
     }
 }
 
 // Once the board is restored.
-fn go_on<M: Machine, O: Sink>(board: &mut MachineBoard<M>, events: &[Event], out: &mut O) -> Ending
+fn go_on<M: Machine, O: Sink>(
+    board: &mut MachineBoard<M>,
+    events: &[Event],
+    out: &mut O,
+) -> Result<(), Ending>
     requires { AreEvents events.now }
     ensures { let text = trace_from M.family events.now board.old.state in
-        WritesAs text (outlet O.Sink out.old) (outlet O.Sink out.new) result }
+        WritesAs text (outlet O.Sink out.old) (outlet O.Sink out.new) (ending_of result) }
 {
-    match trace(board, events, out) {
-        Ok(()) => Ending::Done,
-        Err(_) => Ending::WriteFault,
-    }
+    Ok(trace(board, events, out)?)
 }

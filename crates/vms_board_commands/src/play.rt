@@ -2,7 +2,7 @@
 ghost use Rattle.std.specs.Prelude.{◌≡◌, ◌^◌, ◌<◌, IsSomeAnd, Some};
 ghost use Rattle.dev_base.specs.Levels.{IsLevel};
 ghost use Rattle.vms_io.specs.Told.{Intake, outlet, stock};
-ghost use Rattle.vms_commands.specs.Endings.{EndsAs};
+ghost use Rattle.vms_commands.specs.Endings.{EndsAs, ending_of};
 ghost use Rattle.vms_commands.specs.Outcomes.{Outcome};
 ghost use Rattle.vms_script.specs.Grammar.{AreLines};
 ghost use Rattle.vms_script.specs.Views.{lines_view};
@@ -26,22 +26,21 @@ pub fn play_board<O: Sink, H: Shelf>(
     asked: OnBoard,
     out: &mut O,
     shelf: &mut H,
-) -> Ending
+) -> Result<(), Ending>
     requires { IsLevel asked.number }
     ensures content { (input : Intake) (o : Outcome) → input.given < 2 ^ 64
         → PlaysBy asked.entry.number
         (scripted (Some asked.entry.number) (H.held shelf.old) asked.entry.script.now)
         (H.held shelf.old) o
         → EndsAs input input (outlet O.Sink out.old) (outlet O.Sink out.new)
-        (stock H.Shelf shelf.old) (stock H.Shelf shelf.new) result o }
+        (stock H.Shelf shelf.old) (stock H.Shelf shelf.new) (ending_of result) o }
     ensures so { (input : Intake) → EndsSo input input
         (outlet O.Sink out.old) (outlet O.Sink out.new)
-        (stock H.Shelf shelf.old) (stock H.Shelf shelf.new) play_course result }
+        (stock H.Shelf shelf.old) (stock H.Shelf shelf.new) play_course
+        (ending_of result) }
 {
-    match session_of(alloc, asked.script, asked.number, shelf) {
-        Ok(lines) => play_lines(alloc, asked.number, &lines, out, shelf),
-        Err(ending) => ending,
-    }
+    let lines = session_of(alloc, asked.script, asked.number, shelf)?;
+    play_lines(alloc, asked.number, &lines, out, shelf)
 }
 
 // Once the script is there.
@@ -51,28 +50,24 @@ fn play_lines<O: Sink, H: Shelf>(
     lines: &[Line],
     out: &mut O,
     shelf: &mut H,
-) -> Ending
+) -> Result<(), Ending>
     requires level { IsLevel level }
     requires lines { AreLines (Some level) (lines_view lines.now) }
     ensures content { (input : Intake) (o : Outcome) → input.given < 2 ^ 64
         → IsSomeAnd (H.held shelf.old) (λ map. PlaysAll level (lines_view lines.now) map o)
         → EndsAs input input (outlet O.Sink out.old) (outlet O.Sink out.new)
-        (stock H.Shelf shelf.old) (stock H.Shelf shelf.new) result o }
+        (stock H.Shelf shelf.old) (stock H.Shelf shelf.new) (ending_of result) o }
     ensures so { (input : Intake) → EndsSo input input
         (outlet O.Sink out.old) (outlet O.Sink out.new)
-        (stock H.Shelf shelf.old) (stock H.Shelf shelf.new) play_course result }
+        (stock H.Shelf shelf.old) (stock H.Shelf shelf.new) play_course
+        (ending_of result) }
 {
-    let Ok(mut board) = Board::new(alloc, level) else {
-        return Ending::NoMemory;
-    };
-    match play(alloc, lines, &mut board, out, shelf) {
-        Ok(()) => Ending::Done,
-        Err(fault) => ending_of(fault),
-    }
+    let mut board = Board::new(alloc, level)?;
+    play(alloc, lines, &mut board, out, shelf).map_err(fault_ending)
 }
 
 // How a session that stopped ends.
-fn ending_of(fault: PlayFault) -> Ending
+fn fault_ending(fault: PlayFault) -> Ending
     ensures { result ≡ ending_by fault }
 {
     match fault {

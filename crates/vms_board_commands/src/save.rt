@@ -6,6 +6,7 @@ ghost use Rattle.vms_board.specs.Family.{IsNumber};
 ghost use Rattle.vms_board.specs.Saving.{saved_stream};
 ghost use Rattle.vms_board_streams.specs.Streams.{after_events};
 ghost use Rattle.vms_io.specs.Told.{Intake, Stock, outlet, stock};
+ghost use Rattle.vms_commands.specs.Endings.{ending_of};
 ghost use Rattle.vms_commands.specs.StepEndings.{TextEnds};
 ghost use Rattle.vms_commands.specs.Steps.{Gives};
 ghost use Rattle.vms_commands.specs.Texts.{TextContent};
@@ -29,21 +30,20 @@ pub fn save_board<M: Machine, O: Sink, H: Shelf>(
     asked: Saving,
     out: &mut O,
     shelf: &mut H,
-) -> Ending
+) -> Result<(), Ending>
     requires board { IsNumber M.family asked.number }
     requires may { ReachesSet M.family.newest asked.number asked.set }
     ensures content { let said = asked.entry in TextContent
         (saved_after M.family said.number said.set (H.held shelf.old) said.script.now)
         (outlet O.Sink out.old) (outlet O.Sink out.new)
-        (stock H.Shelf shelf.old) (stock H.Shelf shelf.new) result }
+        (stock H.Shelf shelf.old) (stock H.Shelf shelf.new) (ending_of result) }
     ensures so { (input : Intake) → EndsSo input input
         (outlet O.Sink out.old) (outlet O.Sink out.new)
-        (stock H.Shelf shelf.old) (stock H.Shelf shelf.new) save_course result }
+        (stock H.Shelf shelf.old) (stock H.Shelf shelf.new) save_course
+        (ending_of result) }
 {
-    match events_of(alloc, asked.script, shelf) {
-        Ok(events) => save_after::<M, O>(alloc, asked.number, asked.set, &events, out),
-        Err(ending) => ending,
-    }
+    let events = events_of(alloc, asked.script, shelf)?;
+    save_after::<M, O>(alloc, asked.number, asked.set, &events, out)
 }
 
 // Once the script is there.
@@ -53,30 +53,27 @@ fn save_after<M: Machine, O: Sink>(
     set: u8,
     events: &[Event],
     out: &mut O,
-) -> Ending
+) -> Result<(), Ending>
     requires board { IsNumber M.family number }
     requires may { ReachesSet M.family.newest number set }
     requires events { AreEvents events.now }
     ensures ends { let board = after_events M.family events.now (M.family.power_on number) in
         TextEnds (Gives (saved_stream M.family set board)) (outlet O.Sink out.old)
-        (outlet O.Sink out.new) result }
+        (outlet O.Sink out.new) (ending_of result) }
     ensures so { (input : Intake) (shelf : Stock) → EndsSo input input (outlet O.Sink out.old)
-        (outlet O.Sink out.new) shelf shelf save_course result }
+        (outlet O.Sink out.new) shelf shelf save_course (ending_of result) }
 {
-    let Ok(mut board) = MachineBoard::<M>::new(alloc, number) else {
-        return Ending::NoMemory;
-    };
+    let mut board = MachineBoard::<M>::new(alloc, number)?;
     run_events(&mut board, events);
-    ending_of(board.save(alloc, set, out))
+    board.save(alloc, set, out).map_err(fault_ending)
 }
 
-// How a save ends.
-fn ending_of(saved: Result<(), SaveFault>) -> Ending
-    ensures { result ≡ ending_by saved }
+// How a save that failed ends.
+fn fault_ending(fault: SaveFault) -> Ending
+    ensures { result ≡ ending_by fault }
 {
-    match saved {
-        Ok(()) => Ending::Done,
-        Err(SaveFault::WriteFault) => Ending::WriteFault,
-        Err(SaveFault::NoMemory) => Ending::NoMemory,
+    match fault {
+        SaveFault::WriteFault => Ending::WriteFault,
+        SaveFault::NoMemory => Ending::NoMemory,
     }
 }

@@ -58,10 +58,9 @@ fn had<T: Drop>(alloc: Global, read: Result<T, ScriptFault>) -> Result<T, Ending
 {
     match read {
         Ok(lines) => Ok(lines),
-        Err(ScriptFault::Bad { line, reason }) => match script_line(alloc, line, reason) {
-            Ok(line) => Err(Ending::BadText(line)),
-            Err(_) => Err(Ending::NoMemory),
-        },
+        Err(ScriptFault::Bad { line, reason }) => {
+            Err(Ending::BadText(script_line(alloc, line, reason)?))
+        }
         Err(ScriptFault::NoMemory) => Err(Ending::NoMemory),
     }
 }

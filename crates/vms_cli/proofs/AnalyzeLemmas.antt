@@ -1,7 +1,8 @@
 -- From what the listing of an input says to how `analyze` ends.
-use Rattle.std.proofs.Common.{◌≡◌, ℕ, ◌+◌, ◌≤◌, true, false, List, ◌++◌, length, length-append, Option, Some, Result, Ok, Err, IfSome, IsSomeAnd, refl, sym, ap, ◌∙◌, arith}
+use Rattle.std.proofs.Common.{◌≡◌, ℕ, ◌+◌, ◌≤◌, true, false, List, ◌++◌, length, length-append, Option, Some, Result, Ok, Err, IfSome, IsSomeAnd, IsErrAnd, refl, sym, subst, ap, ◌∙◌, arith}
 use Rattle.std.proofs.lemmas.List.{drop_at}
 use Rattle.std.specs.Io.KnownBytes.{Keeps}
+use Rattle.std.specs.Result.{MatchResult}
 use Rattle.vms_io.proofs.ShelvingLemmas.{reaches_none}
 use Rattle.vms_io.specs.Reading.{Takes, Reads, Course, Last, MayFollow}
 use Rattle.vms_io.specs.Shelves.{Held}
@@ -22,13 +23,21 @@ use Rattle.vms_commands.specs.declared.ending.Ending.{Ending}
 use Rattle.vms_commands.specs.declared.ending.Ending.TheVariants as endings
 use Rattle.vms_commands.proofs.CourseLemmas.{wrong}
 use Rattle.vms_commands.specs.Courses.{EndsSo, Risen, is_among}
-use Rattle.vms_commands.specs.Endings.{EndsAs, WritesAs, status_of}
+use Rattle.vms_commands.specs.Endings.{EndsAs, WritesAs, ending_of, status_of}
 use Rattle.vms_commands.specs.Outcomes.{Outcome, done, ended}
 use Rattle.vms_commands.proofs.EndLemmas.{comes_to_nothing, same_keeps}
 use Rattle.vms_board_commands.specs.Seen.{Seen, SeenAs, Sees}
 use Rattle.vms_board_commands.proofs.SeenLemmas.{TakesSo, content_seen, other_seen, reads_all, seen_refused, seen_written}
 use Rattle.vms_cli.specs.Statuses.{analyze_course}
 use Rattle.vms_cli.specs.Analyze.{EndsLike, IsDone, IsRefused, FailsReading, FailsWriting, LacksMemory, GivesListed, IsListing, bytes_taken, listing_outcome, unlisted_line}
+
+-- ---- how it ends by what the call answered
+
+pub listed_like : (listed : Result (Unit {0}) AnalyzeFault) (work : Result (Unit {0}) Ending)
+    → MatchResult listed (λ u. work ≡ Ok u) (λ fault. IsErrAnd work (λ e. EndsLike (Err fault) e)) → EndsLike listed (ending_of work)
+listed_like (Ok u) work is = subst (λ (w : Result (Unit {0}) Ending). EndsLike (Ok u) (ending_of w)) (sym is) (IsDone u)
+listed_like (Err fault) (Ok u) is = absurd is
+listed_like (Err fault) (Err e) is = is
 
 -- ---- an input has one outcome
 

@@ -8,10 +8,10 @@ use Rattle.vms_io.specs.Writing.{Serves}
 use Rattle.vms_board_commands.specs.Causes.{save_course}
 use Rattle.vms_commands.specs.declared.ending.Ending.{Ending}
 use Rattle.vms_commands.specs.declared.ending.Ending.TheVariants.{Done, BadText, NotCompatible, ReadFault, WriteFault, ShelfFault, NoMemory}
-use Rattle.vms_commands.specs.Endings.{Caused, Quiet, status_of}
+use Rattle.vms_commands.specs.Endings.{Caused, Quiet, WritesAs, status_of}
 use Rattle.vms_commands.specs.StepEndings.{AsksIf, HadCause}
 use Rattle.vms_commands.specs.Courses.{EndsSo, Risen, is_among, of_shelf, text_course}
-use Rattle.vms_commands.proofs.CourseLemmas.{draws_none, so_since, wrong}
+use Rattle.vms_commands.proofs.CourseLemmas.{draws_none, so_since, writes_serve, wrong}
 use Rattle.vms_board_commands.proofs.CourseLemmas.{among_left, shelf_has, text_asks, unset_so}
 use Rattle.vms_cli.specs.Causes.{WriteCause, WritesBy}
 use Rattle.vms_cli.specs.Commands.{Asked}
@@ -30,6 +30,12 @@ write_quiet asks compares o o' (NotCompatible line) c = c.1
 write_quiet asks compares o o' WriteFault c = tt
 write_quiet asks compares o o' NoMemory c = c
 write_quiet asks compares o o' e c = absurd c
+
+-- a text was written
+pub written_by : (asks compares : Bool) (text : List ℕ) (o o' : Outlet) (e : Ending) → WritesAs text o o' e → WritesBy asks compares o o' e
+written_by asks compares text o o' Done w = record { cause = tt; serves = writes_serve text o o' Done w }
+written_by asks compares text o o' WriteFault w = record { cause = w.rose; serves = writes_serve text o o' WriteFault w }
+written_by asks compares text o o' e w = absurd w
 
 -- ---- a set that a word names
 

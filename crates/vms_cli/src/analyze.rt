@@ -2,7 +2,7 @@
 ghost use Rattle.std.specs.Prelude.{◌≡◌, IsSomeAnd, Err};
 ghost use Rattle.vms_io.specs.Told.{Stock, intake, outlet};
 ghost use Rattle.vms_commands.specs.Courses.{EndsSo};
-ghost use Rattle.vms_commands.specs.Endings.{EndsAs};
+ghost use Rattle.vms_commands.specs.Endings.{EndsAs, ending_of};
 ghost use Rattle.vms_commands.specs.Outcomes.{Outcome};
 ghost use Rattle.vms_board_commands.specs.Seen.{SeenAs};
 ghost use Rattle.vms_cli.specs.Analyze.{EndsLike, GivesListed, IsListing, analyze_reason_name, unlisted_line};
@@ -15,31 +15,27 @@ use vms_commands::{Ending, NoteLine, append_number};
 use vms_io::{Sink, Source};
 use vms_words::append;
 
-pub(crate) fn analyze_input<I: Source, O: Sink>(alloc: Global, input: &mut I, out: &mut O) -> Ending
+pub(crate) fn analyze_input<I: Source, O: Sink>(
+    alloc: Global,
+    input: &mut I,
+    out: &mut O,
+) -> Result<(), Ending>
     ensures content { (shelf : Stock) (o : Outcome)
         → IsSomeAnd (I.left input.old) (λ bytes. IsListing shelf.held bytes o)
         → EndsAs (intake I.Source input.old) (intake I.Source input.new)
-        (outlet O.Sink out.old) (outlet O.Sink out.new) shelf shelf result o }
+        (outlet O.Sink out.old) (outlet O.Sink out.new) shelf shelf (ending_of result) o }
     ensures so { (shelf : Stock) → EndsSo (intake I.Source input.old) (intake I.Source input.new)
-        (outlet O.Sink out.old) (outlet O.Sink out.new) shelf shelf analyze_course result }
+        (outlet O.Sink out.old) (outlet O.Sink out.new) shelf shelf analyze_course
+        (ending_of result) }
     ensures given { GivesListed (I.given input.old) (I.given input.new) }
     ensures seen { (shelf : Stock) → SeenAs (IsListing shelf.held)
         (intake I.Source input.old) (intake I.Source input.new)
-        (outlet O.Sink out.old) (outlet O.Sink out.new) shelf shelf result }
+        (outlet O.Sink out.old) (outlet O.Sink out.new) shelf shelf (ending_of result) }
 {
-    ending_of(analyze(alloc, input, out))
+    analyze(alloc, input, out).map_err(fault_ending)
 }
 
-// How the command ends by what the call answered.
-fn ending_of(listed: Result<(), AnalyzeFault>) -> Ending
-    ensures { EndsLike listed result }
-{
-    match listed {
-        Ok(()) => Ending::Done,
-        Err(fault) => fault_ending(fault),
-    }
-}
-
+// How the command ends by a fault.
 fn fault_ending(fault: AnalyzeFault) -> Ending
     ensures { EndsLike (Err fault) result }
 {

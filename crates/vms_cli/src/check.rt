@@ -4,6 +4,7 @@ ghost use Rattle.vms_io.specs.Told.{Intake, outlet, stock};
 ghost use Rattle.vms_desc.specs.Described.{described};
 ghost use Rattle.vms_check.specs.Comparing.{first_mismatch};
 ghost use Rattle.vms_commands.specs.Asks.{set_asked};
+ghost use Rattle.vms_commands.specs.Endings.{ending_of};
 ghost use Rattle.vms_cli.specs.Check.{asks_shelf, checked, verdict};
 ghost use Rattle.vms_cli.specs.Causes.{WritesBy};
 ghost use Rattle.vms_cli.specs.Statuses.{check_course};
@@ -14,9 +15,9 @@ ghost use Rattle.vms_commands.specs.Texts.{TextContent};
 use crate::two_sets::two_sets;
 use std::alloc::Global;
 use vms_check::Verdict;
-use vms_commands::{Ending, SetWord, mismatch_line};
+use vms_commands::{Ending, SetWord, mismatch_line, write_text};
 use vms_desc::DescSet;
-use vms_io::{Shelf, Sink, write_all_of};
+use vms_io::{Shelf, Sink};
 
 pub(crate) fn check<O: Sink, H: Shelf>(
     alloc: Global,
@@ -24,35 +25,28 @@ pub(crate) fn check<O: Sink, H: Shelf>(
     new: SetWord,
     out: &mut O,
     shelf: &mut H,
-) -> Ending
+) -> Result<(), Ending>
     ensures content { TextContent
         (checked (H.held shelf.old) (set_asked old.entry) (set_asked new.entry))
         (outlet O.Sink out.old) (outlet O.Sink out.new)
-        (stock H.Shelf shelf.old) (stock H.Shelf shelf.new) result }
+        (stock H.Shelf shelf.old) (stock H.Shelf shelf.new) (ending_of result) }
     ensures so { (input : Intake) → EndsSo input input (outlet O.Sink out.old)
         (outlet O.Sink out.new) (stock H.Shelf shelf.old) (stock H.Shelf shelf.new)
-        (check_course (asks_shelf (set_asked old.entry) (set_asked new.entry))) result }
+        (check_course (asks_shelf (set_asked old.entry) (set_asked new.entry)))
+        (ending_of result) }
 {
-    match two_sets(alloc, old, new, shelf) {
-        Ok(sets) => compare(alloc, &sets.old, &sets.new, out),
-        Err(ending) => ending,
-    }
+    let sets = two_sets(alloc, old, new, shelf)?;
+    compare(alloc, &sets.old, &sets.new, out)
 }
 
-fn compare<O: Sink>(alloc: Global, old: &DescSet, new: &DescSet, out: &mut O) -> Ending
+fn compare<O: Sink>(alloc: Global, old: &DescSet, new: &DescSet, out: &mut O) -> Result<(), Ending>
     ensures ends { TextEnds (verdict (first_mismatch (described old.now) (described new.now)))
-        (outlet O.Sink out.old) (outlet O.Sink out.new) result }
-    ensures so { WritesBy false true
-        (outlet O.Sink out.old) (outlet O.Sink out.new) result }
+        (outlet O.Sink out.old) (outlet O.Sink out.new) (ending_of result) }
+    ensures so { WritesBy false true (outlet O.Sink out.old) (outlet O.Sink out.new)
+        (ending_of result) }
 {
     match vms_check::check(old, new) {
-        Verdict::Accepted => match write_all_of(out, b"compatible\n") {
-            Ok(()) => Ending::Done,
-            Err(_) => Ending::WriteFault,
-        },
-        Verdict::Refused(mismatch) => match mismatch_line(alloc, mismatch) {
-            Ok(line) => Ending::NotCompatible(line),
-            Err(_) => Ending::NoMemory,
-        },
+        Verdict::Accepted => write_text(b"compatible\n", out),
+        Verdict::Refused(mismatch) => Err(Ending::NotCompatible(mismatch_line(alloc, mismatch)?)),
     }
 }

@@ -1,24 +1,24 @@
 // The command `convert`: the stream of the same state under another set, or what would be lost.
-ghost use Rattle.std.specs.Prelude.{◌≡◌, ◌<◌, Bool, length, IfOk, MatchResult, Err};
+ghost use Rattle.std.specs.Prelude.{◌≡◌, ◌<◌, Bool, length, IfOk};
 ghost use Rattle.vms_io.specs.Supplies.{store};
 ghost use Rattle.vms_io.specs.Told.{Stock, intake, outlet, stock};
 ghost use Rattle.vms_spec.specs.Layout.{device_cells};
 ghost use Rattle.vms_desc.specs.Described.{described, device_at};
 ghost use Rattle.vms_elements.specs.Parts.{cell_name};
 ghost use Rattle.vms_commands.specs.Asks.{set_asked};
-ghost use Rattle.vms_commands.specs.Endings.{EndsAs};
+ghost use Rattle.vms_commands.specs.Endings.{EndsAs, ending_of};
 ghost use Rattle.vms_commands.specs.Fetching.{is_on_shelf};
 ghost use Rattle.vms_commands.specs.Outcomes.{Outcome};
 ghost use Rattle.vms_commands.specs.Courses.{EndsSo};
 ghost use Rattle.vms_board_commands.specs.Seen.{SeenAs};
 ghost use Rattle.vms_cli.specs.Statuses.{convert_course};
-ghost use Rattle.vms_cli.specs.Convert.{ConvertGives, ConvertsBy, ConvertsWith, EndsLike, MayLackMemory, IsInNewest, NamesCell, agrees, line_of, lost_line, newest, target};
+ghost use Rattle.vms_cli.specs.Convert.{ConvertGives, ConvertsBy, ConvertsWith, EndsLike, IsInNewest, NamesCell, agrees, line_of, lost_line, newest, target};
 
 use arrayvec::ArrayVec;
 use dev_base::NEWEST;
 use std::alloc::Global;
 use vms_commands::{
-    Ending, NoteLine, SetWord, append_section, fetch_set, mismatch_line, read_fetched, refused_line,
+    Ending, NoteLine, SetWord, append_section, mismatch_line, refused_line, set_of,
 };
 use vms_convert::ConvertFault;
 use vms_desc::DescSet;
@@ -35,89 +35,73 @@ pub(crate) fn convert<I: Source, O: Sink, H: Shelf>(
     input: &mut I,
     out: &mut O,
     shelf: &mut H,
-) -> Ending
+) -> Result<(), Ending>
     ensures content { (o : Outcome) → ConvertsBy (target (H.held shelf.old) (set_asked set.entry))
         (I.left input.old) (H.held shelf.old) o
         → EndsAs (intake I.Source input.old) (intake I.Source input.new)
         (outlet O.Sink out.old) (outlet O.Sink out.new)
-        (stock H.Shelf shelf.old) (stock H.Shelf shelf.new) result o }
+        (stock H.Shelf shelf.old) (stock H.Shelf shelf.new) (ending_of result) o }
     ensures so { EndsSo (intake I.Source input.old) (intake I.Source input.new)
         (outlet O.Sink out.old) (outlet O.Sink out.new)
         (stock H.Shelf shelf.old) (stock H.Shelf shelf.new)
-        (convert_course (is_on_shelf (set_asked set.entry))) result }
+        (convert_course (is_on_shelf (set_asked set.entry))) (ending_of result) }
     ensures given { ConvertGives (target (H.held shelf.old) (set_asked set.entry))
         (intake I.Source input.old) (intake I.Source input.new) }
     ensures seen { let held = H.held shelf.old in
         SeenAs (ConvertsWith (target held (set_asked set.entry)) held)
         (intake I.Source input.old) (intake I.Source input.new)
         (outlet O.Sink out.old) (outlet O.Sink out.new)
-        (stock H.Shelf shelf.old) (stock H.Shelf shelf.new) result }
+        (stock H.Shelf shelf.old) (stock H.Shelf shelf.new) (ending_of result) }
 {
-    let text = match fetch_set(alloc, set, shelf) {
-        Ok(text) => text,
-        Err(ending) => return ending,
-    };
-    match read_fetched(alloc, &text) {
-        Ok(set) => convert_to(alloc, &set, input, out),
-        Err(ending) => ending,
-    }
+    let to = set_of(alloc, set, shelf)?;
+    convert_to(alloc, &to, input, out)
 }
 
 // Once the set is there.
-fn convert_to<I: Source, O: Sink>(alloc: Global, to: &DescSet, input: &mut I, out: &mut O) -> Ending
+fn convert_to<I: Source, O: Sink>(
+    alloc: Global,
+    to: &DescSet,
+    input: &mut I,
+    out: &mut O,
+) -> Result<(), Ending>
     ensures content { (shelf shelf' : Stock) (o : Outcome) → shelf'.held ≡ shelf.held
         → ConvertsBy (agrees (described to.now)) (I.left input.old) shelf.held o
         → EndsAs (intake I.Source input.old) (intake I.Source input.new)
-        (outlet O.Sink out.old) (outlet O.Sink out.new) shelf shelf' result o }
+        (outlet O.Sink out.old) (outlet O.Sink out.new) shelf shelf' (ending_of result) o }
     ensures so { (shelf : Stock) (asks : Bool)
         → EndsSo (intake I.Source input.old) (intake I.Source input.new)
-        (outlet O.Sink out.old) (outlet O.Sink out.new) shelf shelf (convert_course asks) result }
+        (outlet O.Sink out.old) (outlet O.Sink out.new) shelf shelf (convert_course asks)
+        (ending_of result) }
     ensures given { ConvertGives (agrees (described to.now))
         (intake I.Source input.old) (intake I.Source input.new) }
     ensures seen { (shelf shelf' : Stock) → shelf'.held ≡ shelf.held
         → SeenAs (ConvertsWith (agrees (described to.now)) shelf.held)
         (intake I.Source input.old) (intake I.Source input.new)
-        (outlet O.Sink out.old) (outlet O.Sink out.new) shelf shelf' result }
+        (outlet O.Sink out.old) (outlet O.Sink out.new) shelf shelf' (ending_of result) }
 {
-    ending_of(alloc, vms_convert::convert(alloc, input, to, out))
+    with_line(alloc, vms_convert::convert(alloc, input, to, out))
 }
 
-// How the command ends by what the call answered.
-fn ending_of(alloc: Global, converted: Result<(), ConvertFault>) -> Ending
+// What the call answered, with the line of its fault.
+fn with_line(alloc: Global, converted: Result<(), ConvertFault>) -> Result<(), Ending>
     requires { NamesCell converted }
-    ensures { EndsLike converted result }
+    ensures { EndsLike converted (ending_of result) }
 {
     match converted {
-        Ok(()) => Ending::Done,
-        Err(fault) => match fault_ending(alloc, fault) {
-            Ok(ending) => ending,
-            Err(_) => Ending::NoMemory,
-        },
-    }
-}
-
-// How it ends by a fault, with the line of it.
-fn fault_ending(alloc: Global, fault: ConvertFault) -> Result<Ending, NoMemory>
-    requires { NamesCell (Err fault) }
-    ensures { MatchResult result (λ ending. EndsLike (Err fault) ending)
-        (λ _. MayLackMemory fault) }
-{
-    match fault {
-        ConvertFault::NotCompatible(mismatch) => {
-            let line = mismatch_line(alloc, mismatch)?;
-            Ok(Ending::NotCompatible(line))
+        Ok(()) => Ok(()),
+        Err(ConvertFault::NotCompatible(mismatch)) => {
+            Err(Ending::NotCompatible(mismatch_line(alloc, mismatch)?))
         }
-        ConvertFault::Refused(refusal) => {
+        Err(ConvertFault::Refused(refusal)) => {
             let newest = DescSet::shipped(alloc, NEWEST)?;
-            Ok(Ending::Refused(refused_line(&newest, &refusal)))
+            Err(Ending::Refused(refused_line(&newest, &refusal)))
         }
-        ConvertFault::WouldLose { section, cell } => {
-            let line = lost_line(alloc, section, cell)?;
-            Ok(Ending::WouldLose(line))
+        Err(ConvertFault::WouldLose { section, cell }) => {
+            Err(Ending::WouldLose(lost_line(alloc, section, cell)?))
         }
-        ConvertFault::ReadFault => Ok(Ending::ReadFault),
-        ConvertFault::WriteFault => Ok(Ending::WriteFault),
-        ConvertFault::NoMemory => Err(NoMemory),
+        Err(ConvertFault::ReadFault) => Err(Ending::ReadFault),
+        Err(ConvertFault::WriteFault) => Err(Ending::WriteFault),
+        Err(ConvertFault::NoMemory) => Err(Ending::NoMemory),
     }
 }
 

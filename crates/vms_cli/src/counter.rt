@@ -9,7 +9,7 @@ ghost use Rattle.vms_image.specs.Typed.{state_of, AreImagesOf};
 ghost use Rattle.vms_counter_laws.specs.Computed.{computed};
 ghost use Rattle.vms_counter.specs.Found.{answer_of, IsFindingOf};
 ghost use Rattle.vms_commands.specs.Asks.{set_asked};
-ghost use Rattle.vms_commands.specs.Endings.{EndsAs};
+ghost use Rattle.vms_commands.specs.Endings.{EndsAs, ending_of};
 ghost use Rattle.vms_commands.specs.Fetching.{named_sets};
 ghost use Rattle.vms_commands.specs.Lines.{refused_line};
 ghost use Rattle.vms_commands.specs.Outcomes.{Outcome};
@@ -25,7 +25,7 @@ ghost use Rattle.vms_cli.specs.Counter.{CountersBy, counter_text, no_state};
 use crate::two_sets::{TwoSets, two_sets};
 use std::alloc::Global;
 use vms_check::Mismatch;
-use vms_commands::{Ending, SetWord, mismatch_line, refused_line};
+use vms_commands::{Ending, SetWord, mismatch_line, refused_line, write_text};
 use vms_counter::Finding;
 use vms_desc::DescSet;
 use vms_image::Image;
@@ -39,35 +39,31 @@ pub(crate) fn counter<O: Sink, H: Shelf>(
     new: SetWord,
     out: &mut O,
     shelf: &mut H,
-) -> Ending
+) -> Result<(), Ending>
     ensures content { (input : Intake) (o : Outcome) → input.given < 2 ^ 64
         → CountersBy (named_sets (H.held shelf.old) (set_asked old.entry) (set_asked new.entry))
         (H.held shelf.old) o
         → EndsAs input input (outlet O.Sink out.old) (outlet O.Sink out.new)
-        (stock H.Shelf shelf.old) (stock H.Shelf shelf.new) result o }
+        (stock H.Shelf shelf.old) (stock H.Shelf shelf.new) (ending_of result) o }
     ensures so { (input : Intake) → EndsSo input input (outlet O.Sink out.old)
         (outlet O.Sink out.new) (stock H.Shelf shelf.old) (stock H.Shelf shelf.new)
-        (counter_course (asks_shelf (set_asked old.entry) (set_asked new.entry))) result }
+        (counter_course (asks_shelf (set_asked old.entry) (set_asked new.entry)))
+        (ending_of result) }
 {
-    match two_sets(alloc, old, new, shelf) {
-        Ok(sets) => find(alloc, sets, out),
-        Err(ending) => ending,
-    }
+    let sets = two_sets(alloc, old, new, shelf)?;
+    find(alloc, sets, out)
 }
 
-fn find<O: Sink>(alloc: Global, sets: TwoSets, out: &mut O) -> Ending
+fn find<O: Sink>(alloc: Global, sets: TwoSets, out: &mut O) -> Result<(), Ending>
     ensures ends { let two = sets_of sets in WrittenAs
         (counter_text two.old two.new (computed two.old two.new))
-        (outlet O.Sink out.old) (outlet O.Sink out.new) result }
-    ensures so { WritesBy false false (outlet O.Sink out.old) (outlet O.Sink out.new) result }
+        (outlet O.Sink out.old) (outlet O.Sink out.new) (ending_of result) }
+    ensures so { WritesBy false false (outlet O.Sink out.old) (outlet O.Sink out.new)
+        (ending_of result) }
 {
-    let Ok(mut loader) = Loader::new(alloc, sets.new) else {
-        return Ending::NoMemory;
-    };
-    match vms_counter::counter(alloc, &sets.old, &mut loader) {
-        Ok(finding) => write_finding(alloc, &sets.old, loader.set(), &finding, out),
-        Err(_) => Ending::NoMemory,
-    }
+    let mut loader = Loader::new(alloc, sets.new)?;
+    let finding = vms_counter::counter(alloc, &sets.old, &mut loader)?;
+    write_finding(alloc, &sets.old, loader.set(), &finding, out)
 }
 
 fn write_finding<O: Sink>(
@@ -76,41 +72,29 @@ fn write_finding<O: Sink>(
     new: &DescSet,
     finding: &Finding,
     out: &mut O,
-) -> Ending
+) -> Result<(), Ending>
     requires { IsFindingOf (described old.now) finding.now }
     ensures ends { WrittenAs (counter_text (described old.now) (described new.now)
         (answer_of (described old.now) finding.now))
-        (outlet O.Sink out.old) (outlet O.Sink out.new) result }
-    ensures so { WritesBy false false (outlet O.Sink out.old) (outlet O.Sink out.new) result }
+        (outlet O.Sink out.old) (outlet O.Sink out.new) (ending_of result) }
+    ensures so { WritesBy false false (outlet O.Sink out.old) (outlet O.Sink out.new)
+        (ending_of result) }
 {
     match finding {
         Finding::Compatible => write_text(b"compatible\n", out),
-        Finding::NoState(mismatch) => match no_state_text(alloc, *mismatch) {
-            Ok(text) => write_text(text.as_bytes(), out),
-            Err(_) => Ending::NoMemory,
-        },
+        Finding::NoState(mismatch) => {
+            let text = no_state_text(alloc, *mismatch)?;
+            write_text(text.as_bytes(), out)
+        }
         Finding::State {
             mismatch,
             machine,
             images,
             refusal,
-        } => match head_of(alloc, new, *mismatch, refusal) {
-            Ok(head) => match write_state(&head, old, *machine, images, out) {
-                Ok(()) => Ending::Done,
-                Err(_) => Ending::WriteFault,
-            },
-            Err(_) => Ending::NoMemory,
-        },
-    }
-}
-
-fn write_text<O: Sink>(text: &[u8], out: &mut O) -> Ending
-    ensures ends { WrittenAs text.now (outlet O.Sink out.old) (outlet O.Sink out.new) result }
-    ensures so { WritesBy false false (outlet O.Sink out.old) (outlet O.Sink out.new) result }
-{
-    match write_all_of(out, text) {
-        Ok(()) => Ending::Done,
-        Err(_) => Ending::WriteFault,
+        } => {
+            let head = head_of(alloc, new, *mismatch, refusal)?;
+            Ok(write_state(&head, old, *machine, images, out)?)
+        }
     }
 }
 

@@ -6,6 +6,7 @@ ghost use Rattle.vms_spec.specs.Streams.{AreReady};
 ghost use Rattle.vms_desc.specs.Described.{described};
 ghost use Rattle.vms_image.specs.Typed.{AreImagesOf, state_of};
 ghost use Rattle.vms_commands.specs.Asks.{set_asked};
+ghost use Rattle.vms_commands.specs.Endings.{ending_of};
 ghost use Rattle.vms_commands.specs.Fetching.{longest_file};
 ghost use Rattle.vms_commands.specs.StepEndings.{AsksIf, HadCause, StepAs, TextEnds, WrittenAs};
 ghost use Rattle.vms_commands.specs.Texts.{TextContent};
@@ -29,18 +30,16 @@ pub(crate) fn pack<O: Sink, H: Shelf>(
     values: &str,
     out: &mut O,
     shelf: &mut H,
-) -> Ending
+) -> Result<(), Ending>
     ensures content { TextContent (packs (H.held shelf.old) (set_asked set.entry) values.now)
         (outlet O.Sink out.old) (outlet O.Sink out.new)
-        (stock H.Shelf shelf.old) (stock H.Shelf shelf.new) result }
+        (stock H.Shelf shelf.old) (stock H.Shelf shelf.new) (ending_of result) }
     ensures so { (input : Intake) → EndsSo input input (outlet O.Sink out.old)
         (outlet O.Sink out.new) (stock H.Shelf shelf.old) (stock H.Shelf shelf.new) save_course
-        result }
+        (ending_of result) }
 {
-    match pack_parts(alloc, set, values, shelf) {
-        Ok(parts) => pack_text(alloc, &parts.set, &parts.values, out),
-        Err(ending) => ending,
-    }
+    let parts = pack_parts(alloc, set, values, shelf)?;
+    pack_text(alloc, &parts.set, &parts.values, out)
 }
 
 // A set, and a values text.
@@ -70,44 +69,41 @@ fn pack_parts<H: Shelf>(
 }
 
 // Once the set is read.
-fn pack_text<O: Sink>(alloc: Global, set: &DescSet, text: &[u8], out: &mut O) -> Ending
+fn pack_text<O: Sink>(alloc: Global, set: &DescSet, text: &[u8], out: &mut O) -> Result<(), Ending>
     requires { length text.now ≤ longest_file }
     ensures ends { TextEnds (packed (described set.now) text.now) (outlet O.Sink out.old)
-        (outlet O.Sink out.new) result }
-    ensures so { WritesBy true false (outlet O.Sink out.old) (outlet O.Sink out.new) result }
+        (outlet O.Sink out.new) (ending_of result) }
+    ensures so { WritesBy true false (outlet O.Sink out.old) (outlet O.Sink out.new)
+        (ending_of result) }
 {
     match read_values(alloc, set, text) {
         Ok(values) => write(alloc, set, &values, out),
-        Err(ValuesFault::Bad { line, reason }) => match values_line(alloc, line, reason) {
-            Ok(line) => Ending::BadText(line),
-            Err(_) => Ending::NoMemory,
-        },
-        Err(ValuesFault::NoMemory) => Ending::NoMemory,
+        Err(ValuesFault::Bad { line, reason }) => {
+            Err(Ending::BadText(values_line(alloc, line, reason)?))
+        }
+        Err(ValuesFault::NoMemory) => Err(Ending::NoMemory),
     }
 }
 
 // The description is made before the first byte is written.
-fn write<O: Sink>(alloc: Global, set: &DescSet, values: &Values, out: &mut O) -> Ending
+fn write<O: Sink>(alloc: Global, set: &DescSet, values: &Values, out: &mut O) -> Result<(), Ending>
     requires machine { IfSome values.now.machine (λ m. m < length (described set.now).machines) }
     requires of { AreImagesOf (described set.now) values.now.images.items }
     requires ready { AreReady (described set.now) (map state_of values.now.images.items) }
     ensures written { let set = described set.now in
         let machine = at_option set.machines values.now.machine in
         WrittenAs (described_stream set machine (map state_of values.now.images.items))
-        (outlet O.Sink out.old) (outlet O.Sink out.new) result }
-    ensures so { WritesBy true false (outlet O.Sink out.old) (outlet O.Sink out.new) result }
+        (outlet O.Sink out.old) (outlet O.Sink out.new) (ending_of result) }
+    ensures so { WritesBy true false (outlet O.Sink out.old) (outlet O.Sink out.new)
+        (ending_of result) }
 {
-    let Ok(text) = describe(alloc, set, &values.images) else {
-        return Ending::NoMemory;
-    };
-    match write_stream(
+    let text = describe(alloc, set, &values.images)?;
+    write_stream(
         set,
         values.machine,
         &values.images,
         Some(text.as_str()),
         out,
-    ) {
-        Ok(()) => Ending::Done,
-        Err(_) => Ending::WriteFault,
-    }
+    )?;
+    Ok(())
 }

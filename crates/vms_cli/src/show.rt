@@ -6,7 +6,7 @@ ghost use Rattle.vms_load.specs.Kept.{loads, kept};
 ghost use Rattle.vms_load.specs.Staging.{most_given};
 ghost use Rattle.vms_values.specs.Printing.{machine_of};
 ghost use Rattle.vms_commands.specs.Asks.{set_asked};
-ghost use Rattle.vms_commands.specs.Endings.{EndsAs, WritesAs};
+ghost use Rattle.vms_commands.specs.Endings.{EndsAs, WritesAs, ending_of};
 ghost use Rattle.vms_commands.specs.Courses.{EndsSo};
 ghost use Rattle.vms_cli.specs.Statuses.{show_course};
 ghost use Rattle.vms_commands.specs.Fetching.{is_on_shelf, word_set};
@@ -26,60 +26,62 @@ pub(crate) fn show<I: Source, O: Sink, H: Shelf>(
     input: &mut I,
     out: &mut O,
     shelf: &mut H,
-) -> Ending
+) -> Result<(), Ending>
     ensures content { (o : Outcome) → ShowsBy (word_set (H.held shelf.old) (set_asked set.entry))
         (I.left input.old) (H.held shelf.old) o
         → EndsAs (intake I.Source input.old) (intake I.Source input.new)
         (outlet O.Sink out.old) (outlet O.Sink out.new)
-        (stock H.Shelf shelf.old) (stock H.Shelf shelf.new) result o }
+        (stock H.Shelf shelf.old) (stock H.Shelf shelf.new) (ending_of result) o }
     ensures so { EndsSo (intake I.Source input.old) (intake I.Source input.new)
         (outlet O.Sink out.old) (outlet O.Sink out.new)
         (stock H.Shelf shelf.old) (stock H.Shelf shelf.new)
-        (show_course (is_on_shelf (set_asked set.entry))) result }
+        (show_course (is_on_shelf (set_asked set.entry))) (ending_of result) }
     ensures given { GivesWithin (word_set (H.held shelf.old) (set_asked set.entry))
         (intake I.Source input.old) (intake I.Source input.new) }
     ensures seen { let held = H.held shelf.old in
         SeenAs (ShowsWith (word_set held (set_asked set.entry)) held)
         (intake I.Source input.old) (intake I.Source input.new)
         (outlet O.Sink out.old) (outlet O.Sink out.new)
-        (stock H.Shelf shelf.old) (stock H.Shelf shelf.new) result }
+        (stock H.Shelf shelf.old) (stock H.Shelf shelf.new) (ending_of result) }
 {
-    match loader_of(alloc, set, shelf) {
-        Ok(mut loader) => show_stream(&mut loader, input, out),
-        Err(ending) => ending,
-    }
+    let mut loader = loader_of(alloc, set, shelf)?;
+    show_stream(&mut loader, input, out)
 }
 
 // Once the set is there.
-fn show_stream<I: Source, O: Sink>(loader: &mut Loader, input: &mut I, out: &mut O) -> Ending
+fn show_stream<I: Source, O: Sink>(
+    loader: &mut Loader,
+    input: &mut I,
+    out: &mut O,
+) -> Result<(), Ending>
     ensures content { (shelf shelf' : Stock) (o : Outcome) → shelf'.held ≡ shelf.held
         → IsSomeAnd (I.left input.old) (λ bytes. Shows (loads loader.old) bytes shelf.held o)
         → EndsAs (intake I.Source input.old) (intake I.Source input.new)
-        (outlet O.Sink out.old) (outlet O.Sink out.new) shelf shelf' result o }
+        (outlet O.Sink out.old) (outlet O.Sink out.new) shelf shelf' (ending_of result) o }
     ensures so { (shelf : Stock) (asks : Bool)
         → EndsSo (intake I.Source input.old) (intake I.Source input.new)
-        (outlet O.Sink out.old) (outlet O.Sink out.new) shelf shelf (show_course asks) result }
+        (outlet O.Sink out.old) (outlet O.Sink out.new) shelf shelf (show_course asks)
+        (ending_of result) }
     ensures given { I.given input.new ≤ I.given input.old + most_given (loads loader.old) }
     ensures seen { (shelf shelf' : Stock) → shelf'.held ≡ shelf.held
         → SeenAs (ShowsWell shelf.held (loads loader.old))
         (intake I.Source input.old) (intake I.Source input.new)
-        (outlet O.Sink out.old) (outlet O.Sink out.new) shelf shelf' result }
+        (outlet O.Sink out.old) (outlet O.Sink out.new) shelf shelf' (ending_of result) }
 {
     match loader.load(input, None) {
         Ok(machine) => write_values(loader, machine, out),
-        Err(LoadFault::Refused(refusal)) => Ending::Refused(refused_line(loader.set(), &refusal)),
-        Err(LoadFault::ReadFault) => Ending::ReadFault,
+        Err(LoadFault::Refused(refusal)) => {
+            Err(Ending::Refused(refused_line(loader.set(), &refusal)))
+        }
+        Err(LoadFault::ReadFault) => Err(Ending::ReadFault),
     }
 }
 
-fn write_values<O: Sink>(loader: &Loader, machine: Option<u32>, out: &mut O) -> Ending
+fn write_values<O: Sink>(loader: &Loader, machine: Option<u32>, out: &mut O) -> Result<(), Ending>
     requires { IfSome machine (λ m. m < length (loads loader.now).machines) }
     ensures { let set = loads loader.now in
         WritesAs (values_text set (machine_of set machine) (kept loader.now))
-        (outlet O.Sink out.old) (outlet O.Sink out.new) result }
+        (outlet O.Sink out.old) (outlet O.Sink out.new) (ending_of result) }
 {
-    match print_values(loader.set(), machine, loader.images(), out) {
-        Ok(()) => Ending::Done,
-        Err(_) => Ending::WriteFault,
-    }
+    Ok(print_values(loader.set(), machine, loader.images(), out)?)
 }

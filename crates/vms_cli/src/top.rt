@@ -4,7 +4,7 @@ ghost use Rattle.vms_io.specs.Told.{intake, outlet, stock};
 ghost use Rattle.vms_io.specs.Writing.{Serves};
 ghost use Rattle.vms_cli.specs.Answers.{HasOutcome, Answers};
 ghost use Rattle.vms_cli.specs.Commands.{asked_of};
-ghost use Rattle.vms_commands.specs.Endings.{EndsAs, Tells};
+ghost use Rattle.vms_commands.specs.Endings.{EndsAs, Tells, ending_of};
 ghost use Rattle.vms_commands.specs.Courses.{EndsSo};
 ghost use Rattle.vms_board_commands.specs.Seen.{SeenAs};
 ghost use Rattle.vms_cli.specs.Rows.{Gives, OutcomeWith};
@@ -67,7 +67,7 @@ pub fn vmstate<I: Source, O: Sink, N: Sink, H: Shelf>(
           shelf = stock H.Shelf shelf.new;
         }) }
 {
-    let ending = run(alloc, words, input, out, shelf);
+    let ending = Ending::of(run(alloc, words, input, out, shelf));
     tell(notes, &ending)
 }
 
@@ -93,23 +93,23 @@ fn run<I: Source, O: Sink, H: Shelf>(
     input: &mut I,
     out: &mut O,
     shelf: &mut H,
-) -> Ending
+) -> Result<(), Ending>
     ensures content { (o : Outcome)
         → HasOutcome (asked_of words.now) (I.left input.old) (H.held shelf.old) o
         → EndsAs (intake I.Source input.old) (intake I.Source input.new)
         (outlet O.Sink out.old) (outlet O.Sink out.new)
-        (stock H.Shelf shelf.old) (stock H.Shelf shelf.new) result o }
+        (stock H.Shelf shelf.old) (stock H.Shelf shelf.new) (ending_of result) o }
     ensures so { EndsSo (intake I.Source input.old) (intake I.Source input.new)
         (outlet O.Sink out.old) (outlet O.Sink out.new)
         (stock H.Shelf shelf.old) (stock H.Shelf shelf.new)
-        (course_of (asked_of words.now)) result }
+        (course_of (asked_of words.now)) (ending_of result) }
     ensures given { Gives (asked_of words.now) (H.held shelf.old)
         (intake I.Source input.old) (intake I.Source input.new) }
     ensures seen { reads (asked_of words.now) ≡ true
         → SeenAs (OutcomeWith (asked_of words.now) (H.held shelf.old))
         (intake I.Source input.old) (intake I.Source input.new)
         (outlet O.Sink out.old) (outlet O.Sink out.new)
-        (stock H.Shelf shelf.old) (stock H.Shelf shelf.new) result }
+        (stock H.Shelf shelf.old) (stock H.Shelf shelf.new) (ending_of result) }
     ensures unnamed { asked_of words.now ≡ None → outlet O.Sink out.new ≡ outlet O.Sink out.old }
 {
     match words.command() {
@@ -137,6 +137,6 @@ fn run<I: Source, O: Sink, H: Shelf>(
             count,
             out,
         ),
-        None => Ending::BadWords,
+        None => Err(Ending::BadWords),
     }
 }

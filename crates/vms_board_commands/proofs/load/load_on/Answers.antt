@@ -14,26 +14,27 @@ use Rattle.vms_board_commands.proofs.LoadLemmas.{refusal_seen, trace_seen, writt
 use Rattle.vms_board_commands.proofs.LoadOutcome.{loads_same}
 use Rattle.vms_board_commands.proofs.SeenLemmas.{content_seen, other_seen}
 use Rattle.vms_board_commands.proofs.load.load_on.Goals as goal
+use Rattle.vms_commands.specs.Endings.{ending_of}
 
 -- the board came back, and its trace was written
 pub returns-in-Ok-clause-seen : goal.returns-in-Ok-clause-seen
 returns-in-Ok-clause-seen g c = λ shelf shelf' held among.
-    trace_seen g.M.Machine.family (g.M.Machine.family.number c.args.board.now.state) (event_lines c.args.events.now) c.restore.new.self c.go_on.result held c.in-Ok.ensures.reads
-    (written_events g.M.Machine.family c.args.events.now c.restore.new.self.state (outlet g.O.Sink c.args.out.now) (outlet g.O.Sink c.go_on.new.out) c.go_on.result c.go_on.ensures)
+    trace_seen g.M.Machine.family (g.M.Machine.family.number c.args.board.now.state) (event_lines c.args.events.now) c.restore.new.self (ending_of c.go_on.result) held c.in-Ok.ensures.reads
+    (written_events g.M.Machine.family c.args.events.now c.restore.new.self.state (outlet g.O.Sink c.args.out.now) (outlet g.O.Sink c.go_on.new.out) (ending_of c.go_on.result) c.go_on.ensures)
 
 pub returns-in-Ok-clause-content : goal.returns-in-Ok-clause-content
 returns-in-Ok-clause-content g c = λ shelf shelf' o held loads.
     let kind = g.M.Machine.family in
     let number = kind.number c.args.board.now.state in
     let lines = event_lines c.args.events.now in
-    content_seen {s = shelf} {s' = shelf'} {P = λ bytes x. Loads kind number lines bytes shelf.held x} c.go_on.result o
+    content_seen {s = shelf} {s' = shelf'} {P = λ bytes x. Loads kind number lines bytes shelf.held x} (ending_of c.go_on.result) o
     (λ bytes y ok p q. loads_same kind g.met.M.Machine.stands.well g.met.M.Machine.stands.heads number lines bytes shelf.held ok o y p q) (g.met.I.Source.octets c.args.input.now)
-    (trace_seen kind number lines c.restore.new.self c.go_on.result held c.in-Ok.ensures.reads
-    (written_events kind c.args.events.now c.restore.new.self.state (outlet g.O.Sink c.args.out.now) (outlet g.O.Sink c.go_on.new.out) c.go_on.result c.go_on.ensures)) loads
+    (trace_seen kind number lines c.restore.new.self (ending_of c.go_on.result) held c.in-Ok.ensures.reads
+    (written_events kind c.args.events.now c.restore.new.self.state (outlet g.O.Sink c.args.out.now) (outlet g.O.Sink c.go_on.new.out) (ending_of c.go_on.result) c.go_on.ensures)) loads
 
 pub returns-in-Ok-clause-so : goal.returns-in-Ok-clause-so
 returns-in-Ok-clause-so g c = λ shelf.
-    traced_so shelf (draws_took c.in-Ok.ensures.reads.takes) _ (outlet g.O.Sink c.args.out.now) (outlet g.O.Sink c.go_on.new.out) c.go_on.result c.go_on.ensures
+    traced_so shelf (draws_took c.in-Ok.ensures.reads.takes) _ (outlet g.O.Sink c.args.out.now) (outlet g.O.Sink c.go_on.new.out) (ending_of c.go_on.result) c.go_on.ensures
 
 pub returns-in-Err-Refused-clause-so : goal.returns-in-Err-Refused-clause-so
 returns-in-Err-Refused-clause-so g c = λ shelf. refused_so shelf (draws_took c.in-Err-Refused.ensures.reads.takes) (outlet g.O.Sink c.args.out.now) c.refused_line.result

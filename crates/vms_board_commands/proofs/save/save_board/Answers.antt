@@ -7,7 +7,7 @@ use Rattle.vms_board.specs.Saving.{saved_stream}
 use Rattle.vms_board_streams.specs.Streams.{after_events}
 use Rattle.vms_io.specs.Told.{outlet, stock}
 use Rattle.vms_commands.proofs.EndLemmas.{quiet_same}
-use Rattle.vms_commands.proofs.StepLemmas.{err_text, text_ends, then_text}
+use Rattle.vms_commands.proofs.StepLemmas.{ending_passed, err_text, text_ends, then_text}
 use Rattle.vms_commands.specs.StepEndings.{TextEnds}
 use Rattle.vms_commands.specs.Steps.{Gives}
 use Rattle.vms_session.proofs.RunLemmas.{events_back}
@@ -20,39 +20,40 @@ use Rattle.vms_board_commands.specs.Causes.{save_course}
 use Rattle.vms_board_commands.specs.Save.{saved_after}
 use Rattle.vms_board_commands.specs.Scripts.{scripted}
 use Rattle.vms_board_commands.proofs.save.save_board.Goals as goal
+use Rattle.vms_commands.specs.Endings.{ending_of}
 
 abbrev view : Vec Event Global → List ScriptLine
 view v = event_lines v.items
 
-pub returns-in-Ok-clause-content : goal.returns-in-Ok-clause-content
-returns-in-Ok-clause-content g c = λ input o few has.
+pub returns-clause-content : goal.returns-clause-content
+returns-clause-content g c = λ input o few has.
     let held = g.H.Shelf.held c.args.shelf.now in
     let name = c.args.asked.script.now in
     let out = outlet g.O.Sink c.args.out.now in
     let out' = outlet g.O.Sink c.save_after.new.out in
     text_ends (saved_after g.M.Machine.family c.args.asked.number c.args.asked.set held name) input out out' (stock g.H.Shelf c.args.shelf.now) (stock g.H.Shelf c.events_of.new.shelf)
-    c.save_after.result o few c.in-Ok.ensures.asks.looks.held (so_quiet c.save_after.result (c.save_after.ensures.so input (stock g.H.Shelf c.events_of.new.shelf)))
+    (ending_of c.save_after.result) o few c.in_ok-events.ensures.asks.looks.held (so_quiet (ending_of c.save_after.result) (c.save_after.ensures.so input (stock g.H.Shelf c.events_of.new.shelf)))
     (then_text view
     (λ (lines : List ScriptLine). Gives (saved_stream g.M.Machine.family c.args.asked.set (after_events g.M.Machine.family (events_of lines) (g.M.Machine.family.power_on c.args.asked.number))))
-    out out' c.save_after.result (scripted None held name) c.in-Ok.events c.in-Ok.ensures.read
-    (subst (λ (events : List Event). TextEnds (Gives (saved_stream g.M.Machine.family c.args.asked.set (after_events g.M.Machine.family events (g.M.Machine.family.power_on c.args.asked.number)))) out out' c.save_after.result)
-    (c.deref.ensures.value ∙ sym (events_back c.in-Ok.events.items)) c.save_after.ensures.ends)) has
+    out out' (ending_of c.save_after.result) (scripted None held name) c.in_ok-events.events c.in_ok-events.ensures.read
+    (subst (λ (events : List Event). TextEnds (Gives (saved_stream g.M.Machine.family c.args.asked.set (after_events g.M.Machine.family events (g.M.Machine.family.power_on c.args.asked.number)))) out out' (ending_of c.save_after.result))
+    (c.deref.ensures.value ∙ sym (events_back c.in_ok-events.events.items)) c.save_after.ensures.ends)) has
 
-pub returns-in-Ok-clause-so : goal.returns-in-Ok-clause-so
-returns-in-Ok-clause-so g c = λ input.
-    so_since c.save_after.result refl c.in-Ok.ensures.asks.looks (c.save_after.ensures.so input (stock g.H.Shelf c.events_of.new.shelf))
+pub returns-clause-so : goal.returns-clause-so
+returns-clause-so g c = λ input.
+    so_since (ending_of c.save_after.result) refl c.in_ok-events.ensures.asks.looks (c.save_after.ensures.so input (stock g.H.Shelf c.events_of.new.shelf))
 
-pub returns-in-Err-clause-content : goal.returns-in-Err-clause-content
-returns-in-Err-clause-content g c = λ input o few has.
+pub returns-in_err-events-clause-content : goal.returns-in_err-events-clause-content
+returns-in_err-events-clause-content g c = rw (ending_passed c.from_residual.result c.from_residual.ensures.1) (λ input o few has.
     let held = g.H.Shelf.held c.args.shelf.now in
     let name = c.args.asked.script.now in
     let out = outlet g.O.Sink c.args.out.now in
     text_ends (saved_after g.M.Machine.family c.args.asked.number c.args.asked.set held name) input out out (stock g.H.Shelf c.args.shelf.now) (stock g.H.Shelf c.events_of.new.shelf)
-    c.in-Err.ending o few c.in-Err.ensures.asks.looks.held (quiet_same out c.in-Err.ending)
+    c.in_err-events.field-0.0 o few c.in_err-events.ensures.asks.looks.held (quiet_same out c.in_err-events.field-0.0)
     (err_text view
     (λ (lines : List ScriptLine). Gives (saved_stream g.M.Machine.family c.args.asked.set (after_events g.M.Machine.family (events_of lines) (g.M.Machine.family.power_on c.args.asked.number))))
-    out out c.in-Err.ending (scripted None held name) c.in-Err.ensures.read) has
+    out out c.in_err-events.field-0.0 (scripted None held name) c.in_err-events.ensures.read) has)
 
-pub returns-in-Err-clause-so : goal.returns-in-Err-clause-so
-returns-in-Err-clause-so g c = λ input.
-    unset_so save_course true save_asks input (outlet g.O.Sink c.args.out.now) c.in-Err.ensures.asks.looks (λ f. absurd (wrong f)) c.in-Err.ending c.in-Err.ensures.asks.cause
+pub returns-in_err-events-clause-so : goal.returns-in_err-events-clause-so
+returns-in_err-events-clause-so g c = rw (ending_passed c.from_residual.result c.from_residual.ensures.1) (λ input.
+    unset_so save_course true save_asks input (outlet g.O.Sink c.args.out.now) c.in_err-events.ensures.asks.looks (λ f. absurd (wrong f)) c.in_err-events.field-0.0 c.in_err-events.ensures.asks.cause)

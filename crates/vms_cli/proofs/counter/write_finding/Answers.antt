@@ -3,36 +3,41 @@ use Rattle.std.specs.Io.KnownBytes.{Appends}
 use Rattle.vms_io.specs.Causes.{AppendsPrefix}
 use Rattle.vms_io.specs.Told.{outlet}
 use Rattle.vms_desc.specs.Described.{described}
+use Rattle.vms_commands.proofs.CourseLemmas.{writes_end}
+use Rattle.vms_commands.proofs.StepLemmas.{ending_passed}
+use Rattle.vms_commands.specs.Endings.{ending_of}
 use Rattle.vms_commands.specs.StepEndings.{WrittenAs}
 use Rattle.vms_cli.proofs.CounterLemmas.{no_state_is, state_is}
 use Rattle.vms_cli.proofs.counter.write_finding.Goals as goal
 
-pub returns-in-Ok-clause-ends : goal.returns-in-Ok-clause-ends
-returns-in-Ok-clause-ends g c =
+pub returns-in_ok-text-in-NoState-clause-ends : goal.returns-in_ok-text-in-NoState-clause-ends
+returns-in_ok-text-in-NoState-clause-ends g c =
     let out = outlet g.O.Sink c.args.out.now in
-    let out' = outlet g.O.Sink c.write_text-in-Ok.new.out in
-    subst (λ (l : List ℕ). WrittenAs l out out' c.write_text-in-Ok.result)
+    let out' = outlet g.O.Sink c.write_text-in-NoState.new.out in
+    let r = ending_of c.write_text-in-NoState.result in
+    subst (λ (l : List ℕ). WrittenAs l out out' r)
     (no_state_is (described c.args.old.now) (described c.args.new.now) c.args.finding.now c.in-NoState.mismatch c.as_bytes.result.now c.in-NoState.is
-    (c.as_bytes.ensures.value ∙ c.in-Ok.ensures))
-    c.write_text-in-Ok.ensures.ends
+    (c.as_bytes.ensures.value ∙ c.in_ok-text-in-NoState.ensures))
+    (writes_end c.as_bytes.result.now out out' r c.write_text-in-NoState.ensures)
 
-pub returns-in-Ok-write_state-clause-ends : goal.returns-in-Ok-write_state-clause-ends
-returns-in-Ok-write_state-clause-ends g c =
+pub returns-in_ok-write_state-in-State-clause-ends : goal.returns-in_ok-write_state-in-State-clause-ends
+returns-in_ok-write_state-in-State-clause-ends g c =
     let out = outlet g.O.Sink c.args.out.now in
     let out' = outlet g.O.Sink c.write_state.new.out in
     subst (λ (l : List ℕ). Appends out.written out'.written l)
     (state_is (described c.args.old.now) (described c.args.new.now) c.args.finding.now c.in-State.mismatch c.in-State.machine c.in-State.images c.in-State.refusal
-    c.deref.result.now c.deref-in-Ok-head_of.result.now c.in-State.is
-    (c.deref.ensures.value ∙ c.in-Ok-head_of.ensures) c.deref-in-Ok-head_of.ensures.value)
-    c.in-Ok-write_state.ensures.told
+    c.deref.result.now c.deref-in-State.result.now c.in-State.is
+    (c.deref.ensures.value ∙ c.in_ok-head-in-State.ensures) c.deref-in-State.ensures.value)
+    c.in_ok-write_state-in-State.ensures.told
 
-pub returns-in-Ok-head_of-clause-ends : goal.returns-in-Ok-head_of-clause-ends
-returns-in-Ok-head_of-clause-ends g c =
+pub returns-in_err-write_state-in-State-clause-ends : goal.returns-in_err-write_state-in-State-clause-ends
+returns-in_err-write_state-in-State-clause-ends g c =
     let out = outlet g.O.Sink c.args.out.now in
     let out' = outlet g.O.Sink c.write_state.new.out in
-    let stops = c.in-Err-write_state.ensures in
-    subst (λ (l : List ℕ). AppendsPrefix out.written out'.written l)
+    let stops = c.in_err-write_state-in-State.ensures in
+    rw (ending_passed c.from_residual-in_err-write_state-in-State.result c.from_residual-in_err-write_state-in-State.ensures.1)
+    (subst (λ (l : List ℕ). AppendsPrefix out.written out'.written l)
     (state_is (described c.args.old.now) (described c.args.new.now) c.args.finding.now c.in-State.mismatch c.in-State.machine c.in-State.images c.in-State.refusal
-    c.deref.result.now c.deref-in-Ok-head_of.result.now c.in-State.is
-    (c.deref.ensures.value ∙ c.in-Ok-head_of.ensures) c.deref-in-Ok-head_of.ensures.value)
-    (stops.n, stops.within, stops.puts.told)
+    c.deref.result.now c.deref-in-State.result.now c.in-State.is
+    (c.deref.ensures.value ∙ c.in_ok-head-in-State.ensures) c.deref-in-State.ensures.value)
+    (stops.n, stops.within, stops.puts.told))

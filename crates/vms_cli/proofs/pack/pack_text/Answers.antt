@@ -3,6 +3,7 @@ use Rattle.vms_desc.specs.Described.{described}
 use Rattle.vms_cli.proofs.PackLemmas.{packs_read, read_ready}
 use Rattle.vms_cli.proofs.pack.pack_text.Goals as goal
 use Rattle.vms_desc.proofs.Bounds.{fit_of}
+use Rattle.vms_commands.specs.Endings.{ending_of}
 
 pub write-requires-clause-ready : goal.write-requires-clause-ready
 write-requires-clause-ready g c =
@@ -12,4 +13,4 @@ write-requires-clause-ready g c =
 pub returns-in-Ok-clause-ends : goal.returns-in-Ok-clause-ends
 returns-in-Ok-clause-ends g c =
     packs_read (described c.args.set.now) c.args.text.now (outlet g.O.Sink c.args.out.now) (outlet g.O.Sink c.write.new.out)
-    c.in-Ok.values c.write.result c.in-Ok.ensures.read c.write.ensures.written
+    c.in-Ok.values (ending_of c.write.result) c.in-Ok.ensures.read c.write.ensures.written

@@ -7,7 +7,7 @@ use Rattle.vms_values.specs.Printing.{machine_of}
 use Rattle.vms_load.proofs.Loaded.{within}
 use Rattle.vms_load.specs.Kept.{loads, kept, taken_by}
 use Rattle.vms_load.specs.Staging.{accepted_of}
-use Rattle.vms_commands.specs.Endings.{WritesAs}
+use Rattle.vms_commands.specs.Endings.{ending_of, WritesAs}
 use Rattle.vms_commands.specs.Lines.{refused_line}
 use Rattle.vms_commands.proofs.CourseLemmas.{draws_took}
 use Rattle.vms_commands.proofs.EndLemmas.{comes_to_nothing}
@@ -25,9 +25,9 @@ returns-in-Ok-clause-content g c = λ shelf shelf' o held shows.
     let fit = fit_of set c.args.loader.now.set.well_formed c.args.loader.now.set.heads in
     let out = outlet g.O.Sink c.args.out.now in
     let out' = outlet g.O.Sink c.write_values.new.out in
-    content_seen {s = shelf} {s' = shelf'} {P = λ bytes x. Shows set bytes shelf.held x} c.write_values.result o (λ bytes y ok p q. shows_same set fit bytes shelf.held o y ok p q) (g.met.I.Source.octets c.args.input.now)
-    (text_seen set (kept c.load.new.self) (taken_by c.load.new.self) c.in-Ok.machine c.write_values.result held c.in-Ok.ensures.reads
-    (subst (λ (s : Set). WritesAs (values_text s (machine_of s c.in-Ok.machine) (kept c.load.new.self)) out out' c.write_values.result) c.in-Ok.ensures.set c.write_values.ensures)) shows
+    content_seen {s = shelf} {s' = shelf'} {P = λ bytes x. Shows set bytes shelf.held x} (ending_of c.write_values.result) o (λ bytes y ok p q. shows_same set fit bytes shelf.held o y ok p q) (g.met.I.Source.octets c.args.input.now)
+    (text_seen set (kept c.load.new.self) (taken_by c.load.new.self) c.in-Ok.machine (ending_of c.write_values.result) held c.in-Ok.ensures.reads
+    (subst (λ (s : Set). WritesAs (values_text s (machine_of s c.in-Ok.machine) (kept c.load.new.self)) out out' (ending_of c.write_values.result)) c.in-Ok.ensures.set c.write_values.ensures)) shows
 
 pub returns-in-Err-Refused-clause-content : goal.returns-in-Err-Refused-clause-content
 returns-in-Err-Refused-clause-content g c = λ shelf shelf' o held shows.
@@ -46,7 +46,7 @@ returns-in-Err-ReadFault-clause-content g c = λ shelf shelf' o held shows.
 
 pub returns-in-Ok-clause-so : goal.returns-in-Ok-clause-so
 returns-in-Ok-clause-so g c = λ shelf asks.
-    traced_so shelf (draws_took c.in-Ok.ensures.reads.takes) _ (outlet g.O.Sink c.args.out.now) (outlet g.O.Sink c.write_values.new.out) c.write_values.result c.write_values.ensures
+    traced_so shelf (draws_took c.in-Ok.ensures.reads.takes) _ (outlet g.O.Sink c.args.out.now) (outlet g.O.Sink c.write_values.new.out) (ending_of c.write_values.result) c.write_values.ensures
 
 pub returns-in-Err-Refused-clause-so : goal.returns-in-Err-Refused-clause-so
 returns-in-Err-Refused-clause-so g c = λ shelf asks. refused_so shelf (draws_took c.in-Err-Refused.ensures.reads.takes) (outlet g.O.Sink c.args.out.now) c.refused_line.result
@@ -81,8 +81,8 @@ returns-in-Ok-clause-seen g c = λ shelf shelf' held among.
     let fit = fit_of set c.args.loader.now.set.well_formed c.args.loader.now.set.heads in
     let out = outlet g.O.Sink c.args.out.now in
     let out' = outlet g.O.Sink c.write_values.new.out in
-    well_seen set fit (text_seen set (kept c.load.new.self) (taken_by c.load.new.self) c.in-Ok.machine c.write_values.result held c.in-Ok.ensures.reads
-    (subst (λ (s : Set). WritesAs (values_text s (machine_of s c.in-Ok.machine) (kept c.load.new.self)) out out' c.write_values.result) c.in-Ok.ensures.set c.write_values.ensures))
+    well_seen set fit (text_seen set (kept c.load.new.self) (taken_by c.load.new.self) c.in-Ok.machine (ending_of c.write_values.result) held c.in-Ok.ensures.reads
+    (subst (λ (s : Set). WritesAs (values_text s (machine_of s c.in-Ok.machine) (kept c.load.new.self)) out out' (ending_of c.write_values.result)) c.in-Ok.ensures.set c.write_values.ensures))
 
 pub returns-in-Err-Refused-clause-seen : goal.returns-in-Err-Refused-clause-seen
 returns-in-Err-Refused-clause-seen g c = λ shelf shelf' held among.
