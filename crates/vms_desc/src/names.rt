@@ -19,7 +19,7 @@ pub fn is_one_of(names: &[Text], name: &[u8]) -> bool
     false
 }
 
-/// The number, from 0, of one of these names that is this one; `None` if none is.
+/// The number, from 0, of the first of these names that is this one; `None` if none is.
 pub fn find_name(names: &[Text], name: &[u8]) -> Option<u32>
     requires { length names.now < 2 ^ 32 }
     ensures first { result ≡ first_named names.now name.now }
