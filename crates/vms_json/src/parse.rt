@@ -1,11 +1,12 @@
 // Reads JSON texts as trees.
-ghost use Rattle.std.specs.Prelude.{◌≡◌, ◌<◌, ◌++◌, ◌∷◌, [], length, Some, None, Err, IfOk, IfErr, OnOk};
+ghost use Rattle.std.specs.Prelude.{◌≡◌, ◌<◌, ◌∷◌, length, Some, None, Err, IfOk, OnOk};
 ghost use Rattle.json.specs.Json.{value, items, members};
+ghost use Rattle.json.specs.Token.{key};
 ghost use Rattle.serde_json.specs.Data.{no_members};
 ghost use Rattle.serde_json.specs.Read.{of_json, of_items, of_members, converted, read};
-ghost use Rattle.vms_json.specs.Nodes.{view, items_view, members_view};
+ghost use Rattle.vms_json.specs.Nodes.{tree_view};
 
-use crate::Node;
+use crate::node::{Row, Tree};
 use crate::number::number_of;
 use json::{Invalid, Reader, Scratch, Token};
 use std::alloc::{AllocError, AllocFailed, Global};
@@ -57,110 +58,133 @@ pub fn read_node<'a>(
     alloc: Global,
     text: &'a str,
     scratch: &'a mut Scratch,
-) -> Result<Node<'a>, NoNode>
-    ensures ok { IfOk result (λ v. read text.now ≡ Some (view v)) }
+) -> Result<Tree<'a>, NoNode>
+    ensures ok { IfOk result (λ v. read text.now ≡ Some (tree_view v)) }
     ensures err { result ≡ Err NoNode.Syntax → read text.now ≡ None }
 {
+    // The reader is a value of this one function, and is lent to none that isn't laid into it.
     let mut reader = Reader::new(text, scratch)?;
-    let node = read(alloc, &mut reader, DEEPEST)?;
+    let mut laid = Laid {
+        rows: Vec::new(alloc),
+        open: Vec::new(alloc),
+        in_list: false,
+    };
+    let mut is_done = false;
+    while !is_done {
+        let token = reader.next().ok_or(NoNode::Syntax)?;
+        let is_value = match token {
+            Token::BeginObject => {
+                if laid.open.len() >= DEEPEST {
+                    return Err(NoNode::Syntax);
+                }
+                match reader.next_key()? {
+                    None => {
+                        laid.rows.push(Row::Object(1))?;
+                        true
+                    }
+                    Some(name) => {
+                        laid.begin(Row::Object(0))?;
+                        laid.in_list = false;
+                        laid.rows.push(Row::Key(name))?;
+                        false
+                    }
+                }
+            }
+            Token::EndArray => {
+                if !laid.in_list {
+                    return Err(NoNode::Syntax);
+                }
+                laid.end();
+                true
+            }
+            Token::BeginArray => {
+                if laid.open.len() >= DEEPEST {
+                    return Err(NoNode::Syntax);
+                }
+                laid.begin(Row::List(0))?;
+                laid.in_list = true;
+                false
+            }
+            _ => {
+                laid.rows.push(row_of(token)?)?;
+                true
+            }
+        };
+        if is_value {
+            is_done = go_on(&mut reader, &mut laid)?;
+        }
+    }
     if reader.next().is_some() {
         return Err(NoNode::Syntax);
     }
-    Ok(node)
+    Ok(Tree { rows: laid.rows })
 }
 
-// One value. It is laid into the two loops below, so that a text or a number among members or items takes no call.
-#[cycle(read)]
+// After a value: the next key of an object, or the ends of objects. Whether the value is the whole.
 #[inline(always)]
-fn read<'a>(alloc: Global, reader: &mut Reader<'a>, depth: usize) -> Result<Node<'a>, NoNode>
-    ensures ok { IfOk result
-        (λ v. converted of_json (value depth reader.old) ≡ Some (view v, reader.new)) }
-    ensures shorter { OnOk result (length reader.new < length reader.old) }
-    ensures err { result ≡ Err NoNode.Syntax → converted of_json (value depth reader.old) ≡ None }
-{
-    let token = reader.next().ok_or(NoNode::Syntax)?;
+fn go_on<'a>(reader: &mut Reader<'a>, laid: &mut Laid<'a>) -> Result<bool, NoNode> {
+    while !laid.in_list {
+        if laid.open.is_empty() {
+            return Ok(true);
+        }
+        match reader.next_key()? {
+            Some(name) => {
+                laid.rows.push(Row::Key(name))?;
+                return Ok(false);
+            }
+            None => laid.end(),
+        }
+    }
+    Ok(false)
+}
+
+// The row of a token that is a value.
+#[inline(always)]
+fn row_of(token: Token) -> Result<Row, NoNode> {
     match token {
-        Token::String(text) => Ok(Node::Text(text)),
+        Token::String(text) => Ok(Row::Text(text)),
         Token::Number(text) => match number_of(text) {
-            Some(number) => Ok(Node::Number(number)),
+            Some(number) => Ok(Row::Number(number)),
             None => Err(NoNode::Syntax),
         },
-        Token::Bool(b) => Ok(Node::Bool(b)),
-        Token::Null => Ok(Node::Null),
-        Token::EndObject | Token::EndArray | Token::Key(_) | Token::Bad => Err(NoNode::Syntax),
-        Token::BeginArray => {
-            if depth == 0 {
-                return Err(NoNode::Syntax);
-            }
-            Ok(Node::List(read_items(alloc, reader, depth - 1)?))
-        }
-        Token::BeginObject => {
-            if depth == 0 {
-                return Err(NoNode::Syntax);
-            }
-            Ok(Node::Object(read_members(alloc, reader, depth - 1)?))
-        }
+        Token::Bool(b) => Ok(Row::Bool(b)),
+        Token::Null => Ok(Row::Null),
+        _ => Err(NoNode::Syntax),
     }
 }
 
-#[cycle(read)]
-#[inline(never)]
-fn read_items<'a>(
-    alloc: Global,
-    reader: &mut Reader<'a>,
-    depth: usize,
-) -> Result<Vec<Node<'a>>, NoNode>
-    ensures ok { IfOk result
-        (λ v. converted of_items (items (value depth) (length reader.old) reader.old)
-        ≡ Some (items_view v.items, reader.new)) }
-    ensures shorter { OnOk result (length reader.new < length reader.old) }
-    ensures err { result ≡ Err NoNode.Syntax
-        → converted of_items (items (value depth) (length reader.old) reader.old) ≡ None }
-{
-    let mut found = Vec::new(alloc);
-    'items: while !reader.take_end_array() {
-        let item = read(alloc, reader, depth)?;
-        found.push(item)?;
-    }
-    Ok(found)
+// The rows so far, where lists and objects that are open begin, and whether the innermost is a list.
+#[derive(Drop)]
+struct Laid<'a> {
+    rows: Vec<Row<'a>>,
+    open: Vec<usize>,
+    in_list: bool,
 }
 
-#[cycle(read)]
-#[inline(never)]
-fn read_members<'a>(
-    alloc: Global,
-    reader: &mut Reader<'a>,
-    depth: usize,
-) -> Result<Vec<(&'a str, Node<'a>)>, NoNode>
-    ensures ok { IfOk result
-        (λ m. converted (λ ms. of_members ms no_members)
-        (members (value depth) (length reader.old) reader.old)
-        ≡ Some (members_view m.items, reader.new)) }
-    ensures shorter { OnOk result (length reader.new < length reader.old) }
-    ensures err { result ≡ Err NoNode.Syntax
-        → converted (λ ms. of_members ms no_members)
-        (members (value depth) (length reader.old) reader.old) ≡ None }
-{
-    let mut found = Vec::new(alloc);
-    'members: while let Some(name) = reader.next_key()? {
-        let member = read(alloc, reader, depth)?;
-        put_member(alloc, &mut found, (name, member))?;
+impl<'a> Laid<'a> {
+    // Begins a list or an object.
+    #[inline(always)]
+    fn begin(&mut self, row: Row<'a>) -> Result<(), NoNode> {
+        self.open.push(self.rows.len())?;
+        self.rows.push(row)?;
+        Ok(())
     }
-    Ok(found)
-}
 
-// Appends a member. The first takes room for two: most objects have a field's name and its kind.
-fn put_member<'a>(
-    alloc: Global,
-    members: &mut Vec<(&'a str, Node<'a>)>,
-    member: (&'a str, Node<'a>),
-) -> Result<(), NoNode>
-    ensures put { OnOk result (members.new.items ≡ members.old.items ++ member.entry ∷ []) }
-    ensures wanting { IfErr result (λ fault. fault ≡ NoNode.NoMemory) }
-{
-    if members.is_empty() {
-        *members = Vec::with_capacity(alloc, 2)?;
+    // Ends the innermost.
+    #[inline(always)]
+    fn end(&mut self) {
+        let Some(at) = self.open.pop() else {
+            return;
+        };
+        let count = self.rows.len() - at;
+        self.rows[at] = if self.in_list {
+            Row::List(count)
+        } else {
+            Row::Object(count)
+        };
+        self.in_list = match self.open.last() {
+            Some(around) => matches!(self.rows[*around], Row::List(_)),
+            None => false,
+        };
     }
-    members.push(member)?;
-    Ok(())
 }
