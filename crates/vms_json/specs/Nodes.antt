@@ -1,7 +1,7 @@
 -- The value of the rows of a tree. Each value stands in a run of rows: a list and an object have the count of theirs, and what is in
 -- them comes after; a member's key stands before the rows of its value. The members of an object go in one after another, so that the
 -- last value of a key stays.
-use Rattle.std.specs.Prelude.{ℕ, zero, suc, List, [], ◌∷◌, length, take, drop, min}
+use Rattle.std.specs.Prelude.{ℕ, zero, suc, ◌+◌, ◌*◌, List, [], ◌∷◌, length, take, drop, min, max}
 use Rattle.serde_json.specs.Data.{Data, null, boolean, number, string, array, object, Members, no_members, put, Items, no_items, item}
 use Rattle.serde_json.specs.View.{number_view}
 use Rattle.vms_json.specs.declared.node.Row.{Row}
@@ -24,11 +24,11 @@ count_at (rows.Object n) = n
 -- how many rows the first value has
 abbrev pub front : List Row → ℕ
 front [] = 0
-front (r ∷ rs) = min (count_at r) (length (r ∷ rs))
+front (r ∷ rs) = min (max (count_at r) 1) (length (r ∷ rs))
 
--- the number bounds how deep and how far is looked; the count of the rows is always enough
-mutual
-  unfoldable pub data_in : ℕ → List Row → Data
+-- the number bounds how deep and how far is looked; twice the count of the rows, and one more, is always enough
+unfoldable mutual
+  pub data_in : ℕ → List Row → Data
   data_in zero rs = null
   data_in (suc n) [] = null
   data_in (suc n) (rows.Null ∷ rs) = null
@@ -39,13 +39,13 @@ mutual
   data_in (suc n) (rows.List k ∷ rs) = array (items_in n rs)
   data_in (suc n) (rows.Object k ∷ rs) = object (members_in n rs no_members)
 
-  unfoldable pub items_in : ℕ → List Row → Items
+  pub items_in : ℕ → List Row → Items
   items_in zero rs = no_items
   items_in (suc n) [] = no_items
   items_in (suc n) (r ∷ rs) = item (data_in n (take (front (r ∷ rs)) (r ∷ rs))) (items_in n (drop (front (r ∷ rs)) (r ∷ rs)))
 
   -- those that were found before, with these after them; no member begins with anything but a key
-  unfoldable pub members_in : ℕ → List Row → Members → Members
+  pub members_in : ℕ → List Row → Members → Members
   members_in zero rs found = found
   members_in (suc n) [] found = found
   members_in (suc n) (rows.Null ∷ rs) found = found
@@ -57,7 +57,7 @@ mutual
   members_in (suc n) (rows.Object k ∷ rs) found = found
 
 abbrev pub rows_view : List Row → Data
-rows_view rs = data_in (length rs) rs
+rows_view rs = data_in (2 * length rs) rs
 
 abbrev pub tree_view : Tree → Data
 tree_view t = rows_view t.rows.items
@@ -66,7 +66,11 @@ abbrev pub view : Node → Data
 view v = rows_view v.rows.now
 
 abbrev pub items_left : ItemsLeft → Items
-items_left l = items_in (length l.rows.now) l.rows.now
+items_left l = items_in (2 * length l.rows.now + 1) l.rows.now
+
+-- the members with those that are left after them
+abbrev pub members_on : MembersLeft → Members → Members
+members_on l found = members_in (2 * length l.rows.now + 1) l.rows.now found
 
 abbrev pub members_left : MembersLeft → Members
-members_left l = members_in (length l.rows.now) l.rows.now no_members
+members_left l = members_on l no_members

@@ -1,9 +1,11 @@
 // JSON values as rows over their text.
-ghost use Rattle.std.specs.Prelude.{◌≡◌, IfSome, IfNone, MatchOption, no, option_map, option_and_then};
+ghost use Rattle.std.specs.Prelude.{◌≡◌, ◌<◌, ◌≤◌, length, take, drop, MatchOption, OnSome, option_map, option_and_then};
+ghost use Rattle.serde_json.specs.Data as Data;
+ghost use Rattle.serde_json.specs.Data.{no_items, item, put};
 ghost use Rattle.std.specs.Str.{bytes_eq};
-ghost use Rattle.serde_json.specs.Find.{as_number, as_str, as_array, as_object, as_bool, as_u64, get};
+ghost use Rattle.serde_json.specs.Find.{as_number, as_str, as_array, as_object, as_bool, as_u64, get, get_member};
 ghost use Rattle.serde_json.specs.View.{number_view};
-ghost use Rattle.vms_json.specs.Nodes.{view, tree_view, items_left, members_left};
+ghost use Rattle.vms_json.specs.Nodes.{count_at, front, view, tree_view, items_left, members_left, members_on};
 
 use serde_json::Number;
 
@@ -18,6 +20,20 @@ pub enum Row<'a> {
     Key(&'a str),
     List(usize),
     Object(usize),
+}
+
+impl<'a> Row<'a> {
+    // How many rows begin with it.
+    #[inline(always)]
+    fn count(&self) -> usize
+        ensures { result ≡ count_at self.now }
+    {
+        match self {
+            Row::List(count) => *count,
+            Row::Object(count) => *count,
+            _ => 1,
+        }
+    }
 }
 
 /// The value of a JSON text, whose texts stand in the text that was read.
@@ -47,18 +63,17 @@ pub struct Node<'t, 'a> {
 impl<'t, 'a> Node<'t, 'a> {
     /// Its number.
     pub fn as_number(self) -> Option<&'t Number>
-        ensures { option_map (λ n. number_view n.now) result ≡ as_number (view self) }
+        ensures { option_map (λ n. number_view n.now) result ≡ as_number (view self.entry) }
     {
-        if let [Row::Number(number), ..] = self.rows {
-            Some(number)
-        } else {
-            None
+        match self.rows.first() {
+            Some(Row::Number(number)) => Some(number),
+            _ => None,
         }
     }
 
     /// Its number, where that is a whole one from 0 on, of 64 bits.
     pub fn as_u64(self) -> Option<u64>
-        ensures { result ≡ option_and_then as_u64 (as_number (view self)) }
+        ensures { result ≡ option_and_then as_u64 (as_number (view self.entry)) }
     {
         match self.as_number() {
             Some(number) => number.as_u64(),
@@ -68,52 +83,48 @@ impl<'t, 'a> Node<'t, 'a> {
 
     /// Its text.
     pub fn as_str(self) -> Option<&'a str>
-        ensures { option_map (λ s. s.now) result ≡ as_str (view self) }
+        ensures { option_map (λ s. s.now) result ≡ as_str (view self.entry) }
     {
-        if let [Row::Text(text), ..] = self.rows {
-            Some(*text)
-        } else {
-            None
+        match self.rows.first() {
+            Some(Row::Text(text)) => Some(*text),
+            _ => None,
         }
     }
 
     /// Its flag.
     pub fn as_bool(self) -> Option<bool>
-        ensures { result ≡ as_bool (view self) }
+        ensures { result ≡ as_bool (view self.entry) }
     {
-        if let [Row::Bool(flag), ..] = self.rows {
-            Some(*flag)
-        } else {
-            None
+        match self.rows.first() {
+            Some(Row::Bool(flag)) => Some(*flag),
+            _ => None,
         }
     }
 
     /// Its items.
     pub fn as_list(self) -> Option<Items<'t, 'a>>
-        ensures { option_map items_left result ≡ as_array (view self) }
+        ensures { option_map items_left result ≡ as_array (view self.entry) }
     {
-        if let [Row::List(_), rows @ ..] = self.rows {
-            Some(Items { rows })
-        } else {
-            None
+        match self.rows.split_first() {
+            Some((Row::List(_), rows)) => Some(Items { rows }),
+            _ => None,
         }
     }
 
     /// Its members, in the order of the text.
     pub fn as_members(self) -> Option<Members<'t, 'a>>
-        ensures { option_map members_left result ≡ as_object (view self) }
+        ensures { option_map members_left result ≡ as_object (view self.entry) }
     {
-        if let [Row::Object(_), rows @ ..] = self.rows {
-            Some(Members { rows })
-        } else {
-            None
+        match self.rows.split_first() {
+            Some((Row::Object(_), rows)) => Some(Members { rows }),
+            _ => None,
         }
     }
 
     /// The member of this key, where this is an object that has one.
     #[inline(always)]
     pub fn get(self, key: &str) -> Option<Node<'t, 'a>>
-        ensures { option_map view result ≡ get key.now (view self) }
+        ensures { option_map view result ≡ get key.now (view self.entry) }
     {
         match self.as_members() {
             Some(members) => find(members, key),
@@ -129,6 +140,14 @@ pub struct Items<'t, 'a> {
 }
 
 impl<'t, 'a> Items<'t, 'a> {
+    // Goes on after the first value.
+    #[inline(always)]
+    fn pass(&mut self, parted: Parted<'t, 'a>)
+        ensures { self.new.rows.now ≡ parted.entry.rest.now }
+    {
+        self.rows = parted.rest;
+    }
+
     /// How many there are.
     pub fn count(self) -> usize {
         let mut left = self;
@@ -141,13 +160,17 @@ impl<'t, 'a> Items<'t, 'a> {
 
     /// The next.
     #[inline(always)]
-    pub fn next(&mut self) -> Option<Node<'t, 'a>> {
+    pub fn next(&mut self) -> Option<Node<'t, 'a>>
+        ensures value { MatchOption result (items_left self.old ≡ no_items)
+            (λ v. items_left self.old ≡ item (view v) (items_left self.new)) }
+        ensures fewer { OnSome result (length self.new.rows.now < length self.old.rows.now) }
+    {
         if self.rows.is_empty() {
             return None;
         }
-        let (first, rest) = self.rows.split_at(front(self.rows));
-        self.rows = rest;
-        Some(Node { rows: first })
+        let parted = cut(self.rows);
+        self.pass(parted);
+        Some(Node { rows: parted.first })
     }
 }
 
@@ -158,31 +181,64 @@ pub struct Members<'t, 'a> {
 }
 
 impl<'t, 'a> Members<'t, 'a> {
+    // Goes on after the first value.
+    #[inline(always)]
+    fn pass(&mut self, parted: Parted<'t, 'a>)
+        ensures { self.new.rows.now ≡ parted.entry.rest.now }
+    {
+        self.rows = parted.rest;
+    }
+
     /// The next, with its key.
     #[inline(always)]
-    pub fn next(&mut self) -> Option<(&'a str, Node<'t, 'a>)> {
-        let [Row::Key(key), rows @ ..] = self.rows else {
+    pub fn next(&mut self) -> Option<(&'a str, Node<'t, 'a>)>
+        ensures value { (found : Data.Members) → MatchOption result (members_on self.old found ≡ found)
+            (λ m. members_on self.old found
+            ≡ members_on self.new (put m.0.now (view m.1) found)) }
+        ensures fewer { OnSome result (length self.new.rows.now < length self.old.rows.now) }
+    {
+        let Some((Row::Key(key), rows)) = self.rows.split_first() else {
             return None;
         };
-        let (first, rest) = rows.split_at(front(rows));
-        self.rows = rest;
-        Some((*key, Node { rows: first }))
+        let parted = cut(rows);
+        self.pass(parted);
+        Some((*key, Node { rows: parted.first }))
     }
+}
+
+// The rows of the first value, and those after them.
+#[derive(Clone, Copy, Drop)]
+struct Parted<'t, 'a> {
+    first: &'t [Row<'a>],
+    rest: &'t [Row<'a>],
+}
+
+#[inline(always)]
+fn cut<'t, 'a>(rows: &'t [Row<'a>]) -> Parted<'t, 'a>
+    ensures first { result.first.now ≡ take (front rows.now) rows.now }
+    ensures rest { result.rest.now ≡ drop (front rows.now) rows.now }
+    ensures fewer { 0 < length rows.now → length result.rest.now < length rows.now }
+{
+    let (first, rest) = rows.split_at(front(rows));
+    Parted { first, rest }
 }
 
 // How many rows the first value has.
 #[inline(always)]
-fn front(rows: &[Row]) -> usize {
-    let count = match rows {
-        [Row::List(count), ..] => *count,
-        [Row::Object(count), ..] => *count,
-        [_, ..] => 1,
-        [] => 0,
-    };
-    count.min(rows.len())
+fn front(rows: &[Row]) -> usize
+    ensures value { result ≡ front rows.now }
+    ensures within { result ≤ length rows.now }
+    ensures some { 0 < length rows.now → 0 < result }
+{
+    match rows.first() {
+        Some(row) => row.count().max(1).min(rows.len()),
+        None => 0,
+    }
 }
 
-fn find<'t, 'a>(mut members: Members<'t, 'a>, key: &str) -> Option<Node<'t, 'a>> {
+fn find<'t, 'a>(mut members: Members<'t, 'a>, key: &str) -> Option<Node<'t, 'a>>
+    ensures { option_map view result ≡ get_member key.now (members_left members.entry) }
+{
     let mut found = None;
     while let Some((name, value)) = members.next() {
         if is_key(name, key) {

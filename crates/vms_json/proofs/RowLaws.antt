@@ -1,0 +1,74 @@
+-- Rows, looked at as far as is enough.
+use Rattle.std.proofs.Common.{◌≡◌, ℕ, zero, suc, ◌+◌, ◌*◌, ◌<◌, ◌≤◌, List, [], ◌∷◌, length, take, drop, min, max, refl, sym, ap, ap₂, ◌∙◌, arith, length-take, length-drop}
+use Rattle.serde_json.specs.Data.{array, object, Members, no_members, put, no_items, item}
+use Rattle.vms_json.specs.declared.node.Row.{Row}
+use Rattle.vms_json.specs.declared.node.Row.TheVariants as rows
+use Rattle.vms_json.specs.Nodes.{count_at, front, data_in, items_in, members_in, rows_view}
+
+pub front_some : (r : Row) (rs : List Row) → 0 < front (r ∷ rs)
+front_some r rs = omega arith
+
+pub taken_few : (rs : List Row) → length (take (front rs) rs) ≤ length rs
+taken_few rs = omega (arith, length-take (front rs) rs)
+
+pub dropped_fewer : (r : Row) (rs : List Row) → length (drop (front (r ∷ rs)) (r ∷ rs)) < length (r ∷ rs)
+dropped_fewer r rs = omega (arith, length-drop (front (r ∷ rs)) (r ∷ rs), front_some r rs)
+
+pub dropped_few : (rs : List Row) → length (drop (front rs) rs) ≤ length rs
+dropped_few rs = omega (arith, length-drop (front rs) rs)
+
+mutual
+  unfolding data_in items_in members_in
+  pub data_enough : (n m : ℕ) (rs : List Row) → 2 * length rs ≤ n → 2 * length rs ≤ m → data_in n rs ≡ data_in m rs
+  data_enough zero zero rs a b = refl
+  data_enough zero (suc m) [] a b = refl
+  data_enough zero (suc m) (r ∷ rs) a b = let never : ⊥ = omega arith in absurd never
+  data_enough (suc n) zero [] a b = refl
+  data_enough (suc n) zero (r ∷ rs) a b = let never : ⊥ = omega arith in absurd never
+  data_enough (suc n) (suc m) [] a b = refl
+  data_enough (suc n) (suc m) (rows.Null ∷ rs) a b = refl
+  data_enough (suc n) (suc m) (rows.Bool x ∷ rs) a b = refl
+  data_enough (suc n) (suc m) (rows.Number x ∷ rs) a b = refl
+  data_enough (suc n) (suc m) (rows.Text x ∷ rs) a b = refl
+  data_enough (suc n) (suc m) (rows.Key x ∷ rs) a b = refl
+  data_enough (suc n) (suc m) (rows.List x ∷ rs) a b = ap array (items_enough n m rs (omega arith) (omega arith))
+  data_enough (suc n) (suc m) (rows.Object x ∷ rs) a b = ap object (members_enough n m rs no_members (omega arith) (omega arith))
+
+  pub items_enough : (n m : ℕ) (rs : List Row) → 2 * length rs + 1 ≤ n → 2 * length rs + 1 ≤ m → items_in n rs ≡ items_in m rs
+  items_enough zero m rs a b = let never : ⊥ = omega arith in absurd never
+  items_enough (suc n) zero rs a b = let never : ⊥ = omega arith in absurd never
+  items_enough (suc n) (suc m) [] a b = refl
+  items_enough (suc n) (suc m) (r ∷ rs) a b =
+      ap₂ item (data_enough n m _ (omega (arith, taken_few (r ∷ rs))) (omega (arith, taken_few (r ∷ rs))))
+      (items_enough n m _ (omega (arith, dropped_fewer r rs)) (omega (arith, dropped_fewer r rs)))
+
+  pub members_enough : (n m : ℕ) (rs : List Row) (found : Members) → 2 * length rs + 1 ≤ n → 2 * length rs + 1 ≤ m → members_in n rs found ≡ members_in m rs found
+  members_enough zero m rs found a b = let never : ⊥ = omega arith in absurd never
+  members_enough (suc n) zero rs found a b = let never : ⊥ = omega arith in absurd never
+  members_enough (suc n) (suc m) [] found a b = refl
+  members_enough (suc n) (suc m) (rows.Null ∷ rs) found a b = refl
+  members_enough (suc n) (suc m) (rows.Bool x ∷ rs) found a b = refl
+  members_enough (suc n) (suc m) (rows.Number x ∷ rs) found a b = refl
+  members_enough (suc n) (suc m) (rows.Text x ∷ rs) found a b = refl
+  members_enough (suc n) (suc m) (rows.List x ∷ rs) found a b = refl
+  members_enough (suc n) (suc m) (rows.Object x ∷ rs) found a b = refl
+  members_enough (suc n) (suc m) (rows.Key x ∷ rs) found a b =
+      ap (λ d. members_in n (drop (front rs) rs) (put x.now d found)) (data_enough n m _ (omega (arith, taken_few rs)) (omega (arith, taken_few rs)))
+      ∙ members_enough n m _ _ (omega (arith, dropped_few rs)) (omega (arith, dropped_few rs))
+
+pub no_items_left : (rs : List Row) → length rs ≡ 0 → items_in (2 * length rs + 1) rs ≡ no_items
+unfolding items_in
+no_items_left [] none = refl
+no_items_left (r ∷ rs) none = let never : ⊥ = omega arith in absurd never
+
+pub an_item_left : (rs first rest : List Row) → 0 < length rs → first ≡ take (front rs) rs → rest ≡ drop (front rs) rs
+    → items_in (2 * length rs + 1) rs ≡ item (rows_view first) (items_in (2 * length rest + 1) rest)
+unfolding items_in
+an_item_left [] first rest some a b = let never : ⊥ = omega arith in absurd never
+an_item_left (r ∷ rs) first rest some a b =
+    let n = 2 * length (r ∷ rs) in
+    let one : n + 1 ≡ suc n = omega arith in
+    let xs = r ∷ rs in
+    ap (λ k. items_in k xs) one
+    ∙ ap₂ item (data_enough n (2 * length first) (take (front xs) xs) (omega (arith, taken_few xs)) (omega (arith, ap length a)) ∙ ap (data_in (2 * length first)) (sym a))
+    (items_enough n (2 * length rest + 1) (drop (front xs) xs) (omega (arith, dropped_fewer r rs)) (omega (arith, ap length b)) ∙ ap (items_in (2 * length rest + 1)) (sym b))
