@@ -17,7 +17,10 @@ use vms_words::kind_named;
 const LONGEST_PATH: usize = 300;
 
 /// The elements of a device or a subsection.
-pub(crate) fn elements_in<'a>(alloc: Global, value: &Node<'_, 'a>) -> Result<Vec<Element<'a>>, Unread>
+pub(crate) fn elements_in<'a>(
+    alloc: Global,
+    value: &Node<'_, 'a>,
+) -> Result<Vec<Element<'a>>, Unread>
     ensures { ReadsAs (λ v. map told_of v.items) (elements_in (view value.now)) result }
 {
     each(alloc, list_at(value, "fields")?)

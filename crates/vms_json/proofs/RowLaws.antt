@@ -1,5 +1,6 @@
 -- Rows, looked at as far as is enough.
 use Rattle.std.proofs.Common.{◌≡◌, ℕ, zero, suc, ◌+◌, ◌*◌, ◌<◌, ◌≤◌, List, [], ◌∷◌, length, take, drop, min, max, refl, sym, ap, ap₂, ◌∙◌, arith, length-take, length-drop}
+use Rattle.std.specs.Borrow.{Bor}
 use Rattle.serde_json.specs.Data.{array, object, Members, no_members, put, no_items, item}
 use Rattle.vms_json.specs.declared.node.Row.{Row}
 use Rattle.vms_json.specs.declared.node.Row.TheVariants as rows
@@ -19,6 +20,7 @@ dropped_few rs = omega (arith, length-drop (front rs) rs)
 
 mutual
   unfolding data_in items_in members_in
+
   pub data_enough : (n m : ℕ) (rs : List Row) → 2 * length rs ≤ n → 2 * length rs ≤ m → data_in n rs ≡ data_in m rs
   data_enough zero zero rs a b = refl
   data_enough zero (suc m) [] a b = refl
@@ -72,3 +74,15 @@ an_item_left (r ∷ rs) first rest some a b =
     ap (λ k. items_in k xs) one
     ∙ ap₂ item (data_enough n (2 * length first) (take (front xs) xs) (omega (arith, taken_few xs)) (omega (arith, ap length a)) ∙ ap (data_in (2 * length first)) (sym a))
     (items_enough n (2 * length rest + 1) (drop (front xs) xs) (omega (arith, dropped_fewer r rs)) (omega (arith, ap length b)) ∙ ap (items_in (2 * length rest + 1)) (sym b))
+
+pub a_member_left : (rs inside first rest : List Row) (k : Bor (List ℕ)) (found : Members) → rs ≡ rows.Key k ∷ inside → first ≡ take (front inside) inside → rest ≡ drop (front inside) inside
+    → members_in (2 * length rs + 1) rs found ≡ members_in (2 * length rest + 1) rest (put k.now (rows_view first) found)
+unfolding members_in
+a_member_left rs inside first rest k found is a b =
+    let n = 2 * length (rows.Key k ∷ inside) in
+    let one : n + 1 ≡ suc n = omega arith in
+    ap (λ l. members_in (2 * length l + 1) l found) is
+    ∙ ap (λ m. members_in m (rows.Key k ∷ inside) found) one
+    ∙ ap (λ d. members_in n (drop (front inside) inside) (put k.now d found)) (data_enough n (2 * length first) (take (front inside) inside) (omega (arith, taken_few inside)) (omega (arith, ap length a)) ∙ ap (data_in (2 * length first)) (sym a))
+    ∙ members_enough n (2 * length rest + 1) (drop (front inside) inside) _ (omega (arith, dropped_few inside)) (omega (arith, ap length b))
+    ∙ ap (λ l. members_in (2 * length rest + 1) l (put k.now (rows_view first) found)) (sym b)

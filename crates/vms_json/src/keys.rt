@@ -52,7 +52,6 @@ fn is_one_of(keys: &[&str], key: &str) -> bool
     is_among(keys, key)
 }
 
-
 // Whether the members have no other keys than these.
 fn has_no_others(mut members: Members, needed: &[&str], allowed: &[&str]) -> bool
     ensures { result

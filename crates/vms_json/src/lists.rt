@@ -4,9 +4,9 @@ ghost use Rattle.vms_json.specs.Nodes.{items_left};
 ghost use Rattle.vms_json.specs.Answers.{Answers, list_of, each_from};
 ghost use Rattle.vms_json.specs.declared.fault.Fault.TheVariants as faults;
 
-use crate::{Items, Node};
 use crate::fault::Fault;
 use crate::words::Reads;
+use crate::{Items, Node};
 use std::alloc::Global;
 use vms_parts::Listed;
 
