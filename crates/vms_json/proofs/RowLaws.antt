@@ -1,10 +1,10 @@
 -- Rows, looked at as far as is enough.
-use Rattle.std.proofs.Common.{◌≡◌, ℕ, zero, suc, ◌+◌, ◌*◌, ◌<◌, ◌≤◌, List, [], ◌∷◌, length, take, drop, min, max, refl, sym, ap, ap₂, ◌∙◌, arith, length-take, length-drop}
+use Rattle.std.proofs.Common.{◌≡◌, Option, Some, None, ℕ, zero, suc, ◌+◌, ◌*◌, ◌<◌, ◌≤◌, List, [], ◌∷◌, length, take, drop, min, max, refl, sym, ap, ap₂, ◌∙◌, arith, length-take, length-drop}
 use Rattle.std.specs.Borrow.{Bor}
 use Rattle.serde_json.specs.Data.{array, object, Members, no_members, put, no_items, item}
 use Rattle.vms_json.specs.declared.node.Row.{Row}
 use Rattle.vms_json.specs.declared.node.Row.TheVariants as rows
-use Rattle.vms_json.specs.Nodes.{count_at, front, data_in, items_in, members_in, rows_view}
+use Rattle.vms_json.specs.Nodes.{count_at, key_at, front, data_in, items_in, members_in, rows_view}
 
 pub front_some : (r : Row) (rs : List Row) → 0 < front (r ∷ rs)
 front_some r rs = omega arith
@@ -86,3 +86,37 @@ a_member_left rs inside first rest k found is a b =
     ∙ ap (λ d. members_in n (drop (front inside) inside) (put k.now d found)) (data_enough n (2 * length first) (take (front inside) inside) (omega (arith, taken_few inside)) (omega (arith, ap length a)) ∙ ap (data_in (2 * length first)) (sym a))
     ∙ members_enough n (2 * length rest + 1) (drop (front inside) inside) _ (omega (arith, dropped_few inside)) (omega (arith, ap length b))
     ∙ ap (λ l. members_in (2 * length rest + 1) l (put k.now (rows_view first) found)) (sym b)
+
+-- what isn't a member ends them
+pub no_member_at : (rs inside : List Row) (r : Row) (found : Members) → rs ≡ r ∷ inside → key_at r ≡ None → members_in (2 * length rs + 1) rs found ≡ found
+unfolding members_in
+no_member_at rs inside r found is none =
+    let one : 2 * length (r ∷ inside) + 1 ≡ suc (2 * length (r ∷ inside)) = omega arith in
+    ap (λ l. members_in (2 * length l + 1) l found) is ∙ ap (λ n. members_in n (r ∷ inside) found) one ∙ at r none
+  where
+    at : (r : Row) → key_at r ≡ None → members_in (suc (2 * length (r ∷ inside))) (r ∷ inside) found ≡ found
+    at rows.Null none = refl
+    at (rows.Bool x) none = refl
+    at (rows.Number x) none = refl
+    at (rows.Text x) none = refl
+    at (rows.Key x) none = absurd (cc)
+    at (rows.List x) none = refl
+    at (rows.Object x) none = refl
+
+pub no_member_left : (rs : List Row) (found : Members) → length rs ≡ 0 → members_in (2 * length rs + 1) rs found ≡ found
+unfolding members_in
+no_member_left [] found none = refl
+no_member_left (r ∷ rs) found none = let never : ⊥ = omega arith in absurd never
+
+abbrev or_this : {A : Type 0} → A → Option A → A
+or_this a None = a
+or_this a (Some b) = b
+
+pub key_is : (r : Row) (k : Bor (List ℕ)) → key_at r ≡ Some k → r ≡ rows.Key k
+key_is rows.Null k is = absurd (cc)
+key_is (rows.Bool x) k is = absurd (cc)
+key_is (rows.Number x) k is = absurd (cc)
+key_is (rows.Text x) k is = absurd (cc)
+key_is (rows.Key x) k is = ap rows.Key (ap (or_this k) is)
+key_is (rows.List x) k is = absurd (cc)
+key_is (rows.Object x) k is = absurd (cc)

@@ -1,7 +1,8 @@
 -- The value of the rows of a tree. Each value stands in a run of rows: a list and an object have the count of theirs, and what is in
 -- them comes after; a member's key stands before the rows of its value. The members of an object go in one after another, so that the
 -- last value of a key stays.
-use Rattle.std.specs.Prelude.{ℕ, zero, suc, ◌+◌, ◌*◌, List, [], ◌∷◌, length, take, drop, min, max}
+use Rattle.std.specs.Prelude.{ℕ, zero, suc, ◌+◌, ◌*◌, List, [], ◌∷◌, length, take, drop, min, max, Option, Some, None}
+use Rattle.std.specs.Borrow.{Bor}
 use Rattle.serde_json.specs.Data.{Data, null, boolean, number, string, array, object, Members, no_members, put, Items, no_items, item}
 use Rattle.serde_json.specs.View.{number_view}
 use Rattle.vms_json.specs.declared.node.Row.{Row}
@@ -20,6 +21,15 @@ count_at (rows.Text s) = 1
 count_at (rows.Key s) = 1
 count_at (rows.List n) = n
 count_at (rows.Object n) = n
+
+abbrev pub key_at : Row → Option (Bor (List ℕ))
+key_at rows.Null = None
+key_at (rows.Bool b) = None
+key_at (rows.Number n) = None
+key_at (rows.Text s) = None
+key_at (rows.Key s) = Some s
+key_at (rows.List n) = None
+key_at (rows.Object n) = None
 
 -- how many rows the first value has
 abbrev pub front : List Row → ℕ

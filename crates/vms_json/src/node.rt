@@ -5,7 +5,7 @@ ghost use Rattle.serde_json.specs.Data.{no_items, item, put};
 ghost use Rattle.std.specs.Str.{bytes_eq};
 ghost use Rattle.serde_json.specs.Find.{as_number, as_str, as_array, as_object, as_bool, as_u64, get, get_member};
 ghost use Rattle.serde_json.specs.View.{number_view};
-ghost use Rattle.vms_json.specs.Nodes.{count_at, front, view, tree_view, items_left, members_left, members_on};
+ghost use Rattle.vms_json.specs.Nodes.{count_at, key_at, front, view, tree_view, items_left, members_left, members_on};
 
 use serde_json::Number;
 
@@ -32,6 +32,17 @@ impl<'a> Row<'a> {
             Row::List(count) => *count,
             Row::Object(count) => *count,
             _ => 1,
+        }
+    }
+
+    // The key that it is.
+    #[inline(always)]
+    fn key(&self) -> Option<&'a str>
+        ensures { result ≡ key_at self.now }
+    {
+        match self {
+            Row::Key(key) => Some(*key),
+            _ => None,
         }
     }
 }
@@ -197,12 +208,15 @@ impl<'t, 'a> Members<'t, 'a> {
             ≡ members_on self.new (put m.0.now (view m.1) found)) }
         ensures fewer { OnSome result (length self.new.rows.now < length self.old.rows.now) }
     {
-        let Some((Row::Key(key), rows)) = self.rows.split_first() else {
+        let Some((row, rows)) = self.rows.split_first() else {
+            return None;
+        };
+        let Some(key) = row.key() else {
             return None;
         };
         let parted = cut(rows);
         self.pass(parted);
-        Some((*key, Node { rows: parted.first }))
+        Some((key, Node { rows: parted.first }))
     }
 }
 

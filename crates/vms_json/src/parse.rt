@@ -110,7 +110,7 @@ pub fn read_node<'a>(
                 true
             }
         };
-        if is_value {
+        if is_value && !laid.in_list {
             is_done = go_on(&mut reader, &mut laid)?;
         }
     }
