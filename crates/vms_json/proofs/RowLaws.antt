@@ -1,10 +1,11 @@
 -- Rows, looked at as far as is enough.
-use Rattle.std.proofs.Common.{◌≡◌, Option, Some, None, ℕ, zero, suc, ◌+◌, ◌*◌, ◌<◌, ◌≤◌, List, [], ◌∷◌, length, take, drop, min, max, refl, sym, ap, ap₂, ◌∙◌, arith, length-take, length-drop}
+use Rattle.std.proofs.Common.{◌≡◌, if◌then◌else◌, Option, Some, None, ℕ, zero, suc, ◌+◌, ◌*◌, ◌<◌, ◌≤◌, List, [], ◌∷◌, length, take, drop, min, max, refl, sym, ap, ap₂, ◌∙◌, arith, length-take, length-drop}
 use Rattle.std.specs.Borrow.{Bor}
-use Rattle.serde_json.specs.Data.{array, object, Members, no_members, put, no_items, item}
+use Rattle.serde_json.specs.Data.{Data, null, array, object, Members, no_members, put, no_items, item}
+use Rattle.serde_json.specs.Find.{as_number, as_str, as_bool, as_array, as_object}
 use Rattle.vms_json.specs.declared.node.Row.{Row}
 use Rattle.vms_json.specs.declared.node.Row.TheVariants as rows
-use Rattle.vms_json.specs.Nodes.{count_at, key_at, front, data_in, items_in, members_in, rows_view}
+use Rattle.vms_json.specs.Nodes.{count_at, flag_at, is_list, is_object, key_at, number_at, text_at, front, data_in, items_in, members_in, rows_view}
 
 pub front_some : (r : Row) (rs : List Row) → 0 < front (r ∷ rs)
 front_some r rs = omega arith
@@ -120,3 +121,76 @@ key_is (rows.Text x) k is = absurd (cc)
 key_is (rows.Key x) k is = ap rows.Key (ap (or_this k) is)
 key_is (rows.List x) k is = absurd (cc)
 key_is (rows.Object x) k is = absurd (cc)
+
+two_more : (r : Row) (rs : List Row) → 2 * length (r ∷ rs) ≡ suc (2 * length rs + 1)
+two_more r rs = omega arith
+
+pub none_in : {A : Type 0} (f : Data → Option A) (rs : List Row) → length rs ≡ 0 → f null ≡ None → f (rows_view rs) ≡ None
+unfolding data_in
+none_in f [] none is = is
+none_in f (r ∷ rs) none is = let never : ⊥ = omega arith in absurd never
+
+pub as_number-at : (r : Row) (rs : List Row) → as_number (rows_view (r ∷ rs)) ≡ number_at r
+unfolding data_in
+as_number-at r rs = ap (λ n. as_number (data_in n (r ∷ rs))) (two_more r rs) ∙ at r
+  where
+    at : (r : Row) → as_number (data_in (suc (2 * length rs + 1)) (r ∷ rs)) ≡ number_at r
+    at rows.Null = refl
+    at (rows.Bool x) = refl
+    at (rows.Number x) = refl
+    at (rows.Text x) = refl
+    at (rows.Key x) = refl
+    at (rows.List x) = refl
+    at (rows.Object x) = refl
+
+pub as_str-at : (r : Row) (rs : List Row) → as_str (rows_view (r ∷ rs)) ≡ text_at r
+unfolding data_in
+as_str-at r rs = ap (λ n. as_str (data_in n (r ∷ rs))) (two_more r rs) ∙ at r
+  where
+    at : (r : Row) → as_str (data_in (suc (2 * length rs + 1)) (r ∷ rs)) ≡ text_at r
+    at rows.Null = refl
+    at (rows.Bool x) = refl
+    at (rows.Number x) = refl
+    at (rows.Text x) = refl
+    at (rows.Key x) = refl
+    at (rows.List x) = refl
+    at (rows.Object x) = refl
+
+pub as_bool-at : (r : Row) (rs : List Row) → as_bool (rows_view (r ∷ rs)) ≡ flag_at r
+unfolding data_in
+as_bool-at r rs = ap (λ n. as_bool (data_in n (r ∷ rs))) (two_more r rs) ∙ at r
+  where
+    at : (r : Row) → as_bool (data_in (suc (2 * length rs + 1)) (r ∷ rs)) ≡ flag_at r
+    at rows.Null = refl
+    at (rows.Bool x) = refl
+    at (rows.Number x) = refl
+    at (rows.Text x) = refl
+    at (rows.Key x) = refl
+    at (rows.List x) = refl
+    at (rows.Object x) = refl
+
+pub as_array-at : (r : Row) (rs : List Row) → as_array (rows_view (r ∷ rs)) ≡ (if is_list r then Some (items_in (2 * length rs + 1) rs) else None)
+unfolding data_in
+as_array-at r rs = ap (λ n. as_array (data_in n (r ∷ rs))) (two_more r rs) ∙ at r
+  where
+    at : (r : Row) → as_array (data_in (suc (2 * length rs + 1)) (r ∷ rs)) ≡ (if is_list r then Some (items_in (2 * length rs + 1) rs) else None)
+    at rows.Null = refl
+    at (rows.Bool x) = refl
+    at (rows.Number x) = refl
+    at (rows.Text x) = refl
+    at (rows.Key x) = refl
+    at (rows.List x) = refl
+    at (rows.Object x) = refl
+
+pub as_object-at : (r : Row) (rs : List Row) → as_object (rows_view (r ∷ rs)) ≡ (if is_object r then Some (members_in (2 * length rs + 1) rs no_members) else None)
+unfolding data_in
+as_object-at r rs = ap (λ n. as_object (data_in n (r ∷ rs))) (two_more r rs) ∙ at r
+  where
+    at : (r : Row) → as_object (data_in (suc (2 * length rs + 1)) (r ∷ rs)) ≡ (if is_object r then Some (members_in (2 * length rs + 1) rs no_members) else None)
+    at rows.Null = refl
+    at (rows.Bool x) = refl
+    at (rows.Number x) = refl
+    at (rows.Text x) = refl
+    at (rows.Key x) = refl
+    at (rows.List x) = refl
+    at (rows.Object x) = refl

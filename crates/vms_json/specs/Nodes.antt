@@ -1,9 +1,9 @@
 -- The value of the rows of a tree. Each value stands in a run of rows: a list and an object have the count of theirs, and what is in
 -- them comes after; a member's key stands before the rows of its value. The members of an object go in one after another, so that the
 -- last value of a key stays.
-use Rattle.std.specs.Prelude.{ℕ, zero, suc, ◌+◌, ◌*◌, List, [], ◌∷◌, length, take, drop, min, max, Option, Some, None}
+use Rattle.std.specs.Prelude.{ℕ, zero, suc, ◌+◌, ◌*◌, List, [], ◌∷◌, length, take, drop, min, max, Option, Some, None, Bool, true, false}
 use Rattle.std.specs.Borrow.{Bor}
-use Rattle.serde_json.specs.Data.{Data, null, boolean, number, string, array, object, Members, no_members, put, Items, no_items, item}
+use Rattle.serde_json.specs.Data.{Data, Num, null, boolean, number, string, array, object, Members, no_members, put, Items, no_items, item}
 use Rattle.serde_json.specs.View.{number_view}
 use Rattle.vms_json.specs.declared.node.Row.{Row}
 use Rattle.vms_json.specs.declared.node.Row.TheVariants as rows
@@ -21,6 +21,51 @@ count_at (rows.Text s) = 1
 count_at (rows.Key s) = 1
 count_at (rows.List n) = n
 count_at (rows.Object n) = n
+
+abbrev pub number_at : Row → Option Num
+number_at rows.Null = None
+number_at (rows.Bool b) = None
+number_at (rows.Number n) = Some (number_view n)
+number_at (rows.Text s) = None
+number_at (rows.Key s) = None
+number_at (rows.List n) = None
+number_at (rows.Object n) = None
+
+abbrev pub text_at : Row → Option (List ℕ)
+text_at rows.Null = None
+text_at (rows.Bool b) = None
+text_at (rows.Number n) = None
+text_at (rows.Text s) = Some s.now
+text_at (rows.Key s) = None
+text_at (rows.List n) = None
+text_at (rows.Object n) = None
+
+abbrev pub flag_at : Row → Option Bool
+flag_at rows.Null = None
+flag_at (rows.Bool b) = Some b
+flag_at (rows.Number n) = None
+flag_at (rows.Text s) = None
+flag_at (rows.Key s) = None
+flag_at (rows.List n) = None
+flag_at (rows.Object n) = None
+
+abbrev pub is_list : Row → Bool
+is_list rows.Null = false
+is_list (rows.Bool b) = false
+is_list (rows.Number n) = false
+is_list (rows.Text s) = false
+is_list (rows.Key s) = false
+is_list (rows.List n) = true
+is_list (rows.Object n) = false
+
+abbrev pub is_object : Row → Bool
+is_object rows.Null = false
+is_object (rows.Bool b) = false
+is_object (rows.Number n) = false
+is_object (rows.Text s) = false
+is_object (rows.Key s) = false
+is_object (rows.List n) = false
+is_object (rows.Object n) = true
 
 abbrev pub key_at : Row → Option (Bor (List ℕ))
 key_at rows.Null = None

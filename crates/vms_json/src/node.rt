@@ -5,7 +5,7 @@ ghost use Rattle.serde_json.specs.Data.{no_items, item, put};
 ghost use Rattle.std.specs.Str.{bytes_eq};
 ghost use Rattle.serde_json.specs.Find.{as_number, as_str, as_array, as_object, as_bool, as_u64, get, get_member};
 ghost use Rattle.serde_json.specs.View.{number_view};
-ghost use Rattle.vms_json.specs.Nodes.{count_at, key_at, front, view, tree_view, items_left, members_left, members_on};
+ghost use Rattle.vms_json.specs.Nodes.{count_at, flag_at, is_list, is_object, key_at, number_at, text_at, front, view, tree_view, items_left, members_left, members_on};
 
 use serde_json::Number;
 
@@ -33,6 +33,45 @@ impl<'a> Row<'a> {
             Row::Object(count) => *count,
             _ => 1,
         }
+    }
+
+    fn number(&self) -> Option<&Number>
+        ensures { option_map (λ n. number_view n.now) result ≡ number_at self.now }
+    {
+        match self {
+            Row::Number(number) => Some(number),
+            _ => None,
+        }
+    }
+
+    fn text(&self) -> Option<&'a str>
+        ensures { option_map (λ s. s.now) result ≡ text_at self.now }
+    {
+        match self {
+            Row::Text(text) => Some(*text),
+            _ => None,
+        }
+    }
+
+    fn flag(&self) -> Option<bool>
+        ensures { result ≡ flag_at self.now }
+    {
+        match self {
+            Row::Bool(flag) => Some(*flag),
+            _ => None,
+        }
+    }
+
+    fn is_list(&self) -> bool
+        ensures { result ≡ is_list self.now }
+    {
+        matches!(self, Row::List(_))
+    }
+
+    fn is_object(&self) -> bool
+        ensures { result ≡ is_object self.now }
+    {
+        matches!(self, Row::Object(_))
     }
 
     // The key that it is.
@@ -76,9 +115,9 @@ impl<'t, 'a> Node<'t, 'a> {
     pub fn as_number(self) -> Option<&'t Number>
         ensures { option_map (λ n. number_view n.now) result ≡ as_number (view self.entry) }
     {
-        match self.rows.first() {
-            Some(Row::Number(number)) => Some(number),
-            _ => None,
+        match self.rows.split_first() {
+            Some((row, _inside)) => row.number(),
+            None => None,
         }
     }
 
@@ -96,9 +135,9 @@ impl<'t, 'a> Node<'t, 'a> {
     pub fn as_str(self) -> Option<&'a str>
         ensures { option_map (λ s. s.now) result ≡ as_str (view self.entry) }
     {
-        match self.rows.first() {
-            Some(Row::Text(text)) => Some(*text),
-            _ => None,
+        match self.rows.split_first() {
+            Some((row, _inside)) => row.text(),
+            None => None,
         }
     }
 
@@ -106,9 +145,9 @@ impl<'t, 'a> Node<'t, 'a> {
     pub fn as_bool(self) -> Option<bool>
         ensures { result ≡ as_bool (view self.entry) }
     {
-        match self.rows.first() {
-            Some(Row::Bool(flag)) => Some(*flag),
-            _ => None,
+        match self.rows.split_first() {
+            Some((row, _inside)) => row.flag(),
+            None => None,
         }
     }
 
@@ -117,7 +156,7 @@ impl<'t, 'a> Node<'t, 'a> {
         ensures { option_map items_left result ≡ as_array (view self.entry) }
     {
         match self.rows.split_first() {
-            Some((Row::List(_), rows)) => Some(Items { rows }),
+            Some((row, rows)) if row.is_list() => Some(Items { rows }),
             _ => None,
         }
     }
@@ -127,7 +166,7 @@ impl<'t, 'a> Node<'t, 'a> {
         ensures { option_map members_left result ≡ as_object (view self.entry) }
     {
         match self.rows.split_first() {
-            Some((Row::Object(_), rows)) => Some(Members { rows }),
+            Some((row, rows)) if row.is_object() => Some(Members { rows }),
             _ => None,
         }
     }
