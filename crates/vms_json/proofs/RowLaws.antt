@@ -1,8 +1,12 @@
 -- Rows, looked at as far as is enough.
-use Rattle.std.proofs.Common.{◌≡◌, if◌then◌else◌, Option, Some, None, ℕ, zero, suc, ◌+◌, ◌*◌, ◌<◌, ◌≤◌, List, [], ◌∷◌, length, take, drop, min, max, refl, sym, ap, ap₂, ◌∙◌, arith, length-take, length-drop}
+use Rattle.std.proofs.Common.{◌≡◌, Bool, true, false, cond, if◌then◌else◌, Option, Some, None, ℕ, zero, suc, ◌+◌, ◌*◌, ◌<◌, ◌≤◌, List, [], ◌∷◌, length, take, drop, min, max, refl, sym, ap, ap₂, ◌∙◌, arith, length-take, length-drop}
 use Rattle.std.specs.Borrow.{Bor}
 use Rattle.serde_json.specs.Data.{Data, null, array, object, Members, no_members, put, no_items, item}
-use Rattle.serde_json.specs.Find.{as_number, as_str, as_bool, as_array, as_object}
+use Rattle.std.specs.Str.{bytes_eq}
+use Rattle.std.proofs.lemmas.Bool.{false≢true}
+use Rattle.std.proofs.lemmas.Slice.Eq.{bytes_eq-Decides}
+use Rattle.serde_json.proofs.Views.{get_member-put, get_member-put_other}
+use Rattle.serde_json.specs.Find.{get_member, as_number, as_str, as_bool, as_array, as_object}
 use Rattle.vms_json.specs.declared.node.Row.{Row}
 use Rattle.vms_json.specs.declared.node.Row.TheVariants as rows
 use Rattle.vms_json.specs.Nodes.{count_at, flag_at, is_list, is_object, key_at, number_at, text_at, front, data_in, items_in, members_in, rows_view}
@@ -194,3 +198,11 @@ as_object-at r rs = ap (λ n. as_object (data_in n (r ∷ rs))) (two_more r rs) 
     at (rows.Key x) = refl
     at (rows.List x) = refl
     at (rows.Object x) = refl
+
+-- ---- what stands under a key
+
+pub put_found : (b : Bool) (q k : List ℕ) (d : Data) (ms : Members) → bytes_eq k q ≡ b → get_member q (put k d ms) ≡ cond b (Some d) (get_member q ms)
+put_found true q k d ms e =
+    let same : k ≡ q = (bytes_eq-Decides k q).0 e in
+    ap (λ n. get_member n (put k d ms)) (sym same) ∙ get_member-put k d ms
+put_found false q k d ms e = get_member-put_other q k d ms (λ same. false≢true (sym e ∙ (bytes_eq-Decides k q).1 (sym same)))

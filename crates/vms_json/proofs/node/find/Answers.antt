@@ -1,0 +1,23 @@
+use Rattle.std.proofs.Common.{◌≡◌, true, false, refl, sym, ◌∙◌}
+use Rattle.std.specs.Str.{bytes_eq}
+use Rattle.serde_json.specs.Data.{no_members, put}
+use Rattle.vms_json.specs.Nodes.{view}
+use Rattle.vms_json.proofs.RowLaws.{put_found}
+use Rattle.vms_json.proofs.node.find.Goals as goal
+
+pub loop-name-init : goal.loop-name-init
+loop-name-init c = (no_members, refl, refl)
+
+pub loop-name-preserved-then-is_key : goal.loop-name-preserved-then-is_key
+loop-name-preserved-then-is_key c =
+    let l = c.loop-name.invariant in
+    let k = c.in-Some.name.now in
+    let d = view c.in-Some.value in
+    (put k d l.0, l.1 ∙ c.in-Some.ensures.value l.0, put_found true c.args.key.now k d l.0 (sym c.is_key.ensures ∙ c.if-is_key.true))
+
+pub loop-name-preserved : goal.loop-name-preserved
+loop-name-preserved c =
+    let l = c.loop-name.invariant in
+    let k = c.in-Some.name.now in
+    let d = view c.in-Some.value in
+    (put k d l.0, l.1 ∙ c.in-Some.ensures.value l.0, put_found false c.args.key.now k d l.0 (sym c.is_key.ensures ∙ c.if-is_key.false) ∙ l.2)
