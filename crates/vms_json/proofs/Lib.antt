@@ -1,4 +1,3 @@
-pub mod AskingLaws
 pub mod KeyLaws
 pub mod ListLaws
 pub mod NameLaws
