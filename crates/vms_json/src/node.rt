@@ -4,6 +4,7 @@ ghost use Rattle.serde_json.specs.Data as Data;
 ghost use Rattle.serde_json.specs.Data.{no_items, item, put};
 ghost use Rattle.std.specs.Str.{bytes_eq};
 ghost use Rattle.serde_json.specs.Find.{as_number, as_str, as_array, as_object, as_bool, as_u64, get, get_member};
+ghost use Rattle.serde_json.specs.Events.{items_len};
 ghost use Rattle.serde_json.specs.View.{number_view};
 ghost use Rattle.vms_json.specs.Nodes.{count_at, flag_at, is_list, is_object, key_at, number_at, text_at, front, view, tree_view, items_left, members_left, members_on};
 
@@ -199,7 +200,9 @@ impl<'t, 'a> Items<'t, 'a> {
     }
 
     /// How many there are.
-    pub fn count(self) -> usize {
+    pub fn count(self) -> usize
+        ensures { result ≡ items_len (items_left self.entry) }
+    {
         let mut left = self;
         let mut count: usize = 0;
         while let Some(_item) = left.next() {
