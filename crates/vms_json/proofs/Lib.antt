@@ -1,4 +1,6 @@
+pub mod FrameLaws
 pub mod KeyLaws
+pub mod LaidLaws
 pub mod ListLaws
 pub mod NameLaws
 pub mod ReadingLaws
