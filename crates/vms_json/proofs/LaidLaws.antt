@@ -5,6 +5,9 @@ use Rattle.std.proofs.Math.ListN.{set}
 use Rattle.std.proofs.Math.Seq.{take-append_seam, drop-append_seam, set-append_seam}
 use Rattle.std.specs.Borrow.{Bor}
 use Rattle.json.specs.Token.{Token}
+use Rattle.json.specs.Reads.{token_of}
+use Rattle.json.specs.declared.token.Token.{Token as TokenRead}
+use Rattle.json.specs.declared.token.Token.TheVariants as reads
 use Rattle.json.specs.Json.{value}
 use Rattle.json.proofs.Grammar.{value_is}
 use Rattle.serde_json.specs.View.{number_view}
@@ -180,3 +183,17 @@ object_closed fs found rs starts l = run_laid fs l.below (rows.Object (length l.
 -- the count is put where a list or an object began
 pub ended : (below own : List Row) (r s : Row) → set (below ++ r ∷ own) (length below) s ≡ below ++ s ∷ own
 ended below own r s = set-append_seam below r own s
+
+-- any other token is no value where nothing may nest
+pub no_row : (k : TokenRead) → ((s : Bor (List ℕ)) → k ≡ reads.String s → ⊥) → ((s : Bor (List ℕ)) → k ≡ reads.Number s → ⊥) → ((b : Bool) → k ≡ reads.Bool b → ⊥) → (k ≡ reads.Null → ⊥)
+    → (ts : List Token) → converted of_json (value 0 (token_of k ∷ ts)) ≡ None
+no_row reads.BeginObject s n b u ts = ap (converted of_json) (value_is 0 (token_of reads.BeginObject ∷ ts))
+no_row reads.EndObject s n b u ts = ap (converted of_json) (value_is 0 (token_of reads.EndObject ∷ ts))
+no_row reads.BeginArray s n b u ts = ap (converted of_json) (value_is 0 (token_of reads.BeginArray ∷ ts))
+no_row reads.EndArray s n b u ts = ap (converted of_json) (value_is 0 (token_of reads.EndArray ∷ ts))
+no_row (reads.Key k) s n b u ts = ap (converted of_json) (value_is 0 (token_of (reads.Key k) ∷ ts))
+no_row (reads.String k) s n b u ts = absurd (s k refl)
+no_row (reads.Number k) s n b u ts = absurd (n k refl)
+no_row (reads.Bool k) s n b u ts = absurd (b k refl)
+no_row reads.Null s n b u ts = absurd (u refl)
+no_row reads.Bad s n b u ts = ap (converted of_json) (value_is 0 (token_of reads.Bad ∷ ts))

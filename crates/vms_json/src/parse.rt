@@ -1,9 +1,10 @@
 // Reads JSON texts as trees.
-ghost use Rattle.std.specs.Prelude.{◌≡◌, ◌<◌, ◌∷◌, length, Some, None, Err, IfOk, OnOk};
-ghost use Rattle.json.specs.Json.{value, items, members};
-ghost use Rattle.json.specs.Token.{key};
-ghost use Rattle.serde_json.specs.Data.{no_members};
-ghost use Rattle.serde_json.specs.Read.{of_json, of_items, of_members, converted, read};
+ghost use Rattle.std.specs.Prelude.{◌≡◌, ◌++◌, ◌∷◌, [], List, length, Some, None, Err, IfOk, IfErr, OnOk};
+ghost use Rattle.json.specs.Json.{value};
+ghost use Rattle.json.specs.Reads.{token_of};
+ghost use Rattle.json.specs.Token.{Token as TokenRead};
+ghost use Rattle.serde_json.specs.Read.{of_json, converted, read};
+ghost use Rattle.vms_json.specs.Laying.{IsRowOf};
 ghost use Rattle.vms_json.specs.Nodes.{tree_view};
 
 use crate::node::{Row, Tree};
@@ -140,7 +141,11 @@ fn go_on<'a>(reader: &mut Reader<'a>, laid: &mut Laid<'a>) -> Result<bool, NoNod
 
 // The row of a token that is a value.
 #[inline(always)]
-fn row_of(token: Token) -> Result<Row, NoNode> {
+fn row_of<'a>(token: Token<'a>) -> Result<Row<'a>, NoNode>
+    ensures ok { IfOk result (λ r. IsRowOf (token_of token.entry) r) }
+    ensures err { result ≡ Err NoNode.Syntax → (ts : List TokenRead)
+        → converted of_json (value 0 (token_of token.entry ∷ ts)) ≡ None }
+{
     match token {
         Token::String(text) => Ok(Row::Text(text)),
         Token::Number(text) => match number_of(text) {
@@ -164,7 +169,12 @@ struct Laid<'a> {
 impl<'a> Laid<'a> {
     // Begins a list or an object.
     #[inline(always)]
-    fn begin(&mut self, row: Row<'a>) -> Result<(), NoNode> {
+    fn begin(&mut self, row: Row<'a>) -> Result<(), NoNode>
+        ensures rows { OnOk result (self.new.rows.items ≡ self.old.rows.items ++ row.entry ∷ []) }
+        ensures open { OnOk result (self.new.open.items
+            ≡ self.old.open.items ++ length self.old.rows.items ∷ []) }
+        ensures err { IfErr result (λ why. why ≡ NoNode.NoMemory) }
+    {
         self.open.push(self.rows.len())?;
         self.rows.push(row)?;
         Ok(())
