@@ -160,17 +160,17 @@ row_laid t r is = record {
 -- ---- a list or an object that begins, a key, and an end
 
 pub list_begun : (fs : List Frame) (rs : List Row) (starts : List ℕ) (n : ℕ) → IsLaid fs rs starts → InList (IsLaid fs) [] (rs ++ rows.List n ∷ []) (starts ++ length rs ∷ [])
-list_begun fs rs starts n laid = record { below = rs; own = []; places = starts; count = n; are = refl; begins = refl; items = no_items_laid; laid = laid; }
+list_begun fs rs starts n laid = record { below = rs; own = []; places = starts; count = n; are = refl; begins = refl; items = no_items_laid; laid = laid }
 
 pub object_begun : (fs : List Frame) (rs : List Row) (starts : List ℕ) (n : ℕ) → IsLaid fs rs starts → InObject (IsLaid fs) no_members (rs ++ rows.Object n ∷ []) (starts ++ length rs ∷ [])
-object_begun fs rs starts n laid = record { below = rs; own = []; places = starts; count = n; are = refl; begins = refl; members = no_members_laid; laid = laid; }
+object_begun fs rs starts n laid = record { below = rs; own = []; places = starts; count = n; are = refl; begins = refl; members = no_members_laid; laid = laid }
 
 pub key_laid : (n : ℕ) (found : Members) (fs : List Frame) (rs : List Row) (starts : List ℕ) (k : Bor (List ℕ)) → InObject (IsLaid fs) found rs starts
     → IsLaid (in_object n found k.now ∷ fs) (rs ++ rows.Key k ∷ []) starts
-key_laid n found fs rs starts k laid = record { first = rs; key = k; are = refl; name = refl; laid = laid; }
+key_laid n found fs rs starts k laid = record { first = rs; key = k; are = refl; name = refl; laid = laid }
 
 pub run_laid : (fs : List Frame) (rs run : List Row) (starts : List ℕ) (d : Data) → IsLaid fs rs starts → IsRun run d → HasValue fs (rs ++ run) starts d
-run_laid fs rs run starts d laid is = record { below = rs; run = run; are = refl; value = is; laid = laid; }
+run_laid fs rs run starts d laid is = record { below = rs; run = run; are = refl; value = is; laid = laid }
 
 pub list_closed : (fs : List Frame) (done : List Data) (rs : List Row) (starts : List ℕ) (l : InList (IsLaid fs) done rs starts)
     → HasValue fs (l.below ++ rows.List (length l.own + 1) ∷ l.own) l.places (array (before done no_items))

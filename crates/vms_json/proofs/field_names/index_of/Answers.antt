@@ -15,12 +15,15 @@ pub loop-field-preserved : goal.loop-field-preserved
 loop-field-preserved c =
     let l = c.loop-field.invariant in
     let i = c.loop-field.i in
-    let name = c.name_of.result.now in
-    (l.0 ++ name ∷ [], record {
-      first = λ q. c.in_ok-put_first.ensures q ∙ ap (λ o. or_else o (at_name name i q)) (l.1.first q) ∙ sym (one_named l.0 name q i l.3);
-    },
-    names_on l.0 (names_of (items_left c.args.fields)) name (items_left c.loop-field.fields) (items_left c.next.new.self) (view c.in-Some.field) l.2 c.in-Some.ensures.value c.name_of.ensures,
-    omega (arith, length-append l.0 (name ∷ []), l.3), omega (arith, l.4, c.in-Some.ensures.fewer))
+    let name = c.name_of.result.now in (
+      l.0 ++ name ∷ [],
+      record {
+        first = λ q. c.in_ok-put_first.ensures q ∙ ap (λ o. or_else o (at_name name i q)) (l.1.first q) ∙ sym (one_named l.0 name q i l.3);
+      },
+      names_on l.0 (names_of (items_left c.args.fields)) name (items_left c.loop-field.fields) (items_left c.next.new.self) (view c.in-Some.field) l.2 c.in-Some.ensures.value c.name_of.ensures,
+      omega (arith, length-append l.0 (name ∷ []), l.3),
+      omega (arith, l.4, c.in-Some.ensures.fewer),
+    )
 
 pub returns : goal.returns
 returns c =

@@ -31,8 +31,8 @@ loop-key-preserved c =
     let one = sym c.is_one_of.ensures in
     let kept : has_no_others (needed ++ allowed) (put k d l.0) ≡ true =
     elim c.else-not-is_one_of.branch [
-      else-not-is_one_of-via-then-not-is_one_of+else-not-is_one_of-2 w ↦
-        one_allowed needed allowed k d l.0 (one ∙ w.if-not-is_one_of.true) (sym w.is_one_of-then-not-is_one_of.ensures ∙ w.if-not-is_one_of-2.false) l.2
-    | else-not-is_one_of-via-else-not-is_one_of w ↦ one_needed needed allowed k d l.0 (one ∙ w.if-not-is_one_of.false) l.2
+      | else-not-is_one_of-via-then-not-is_one_of+else-not-is_one_of-2 w ↦
+          one_allowed needed allowed k d l.0 (one ∙ w.if-not-is_one_of.true) (sym w.is_one_of-then-not-is_one_of.ensures ∙ w.if-not-is_one_of-2.false) l.2
+      | else-not-is_one_of-via-else-not-is_one_of w ↦ one_needed needed allowed k d l.0 (one ∙ w.if-not-is_one_of.false) l.2
     ] in
     (put k d l.0, l.1 ∙ c.in-Some.ensures.value l.0, kept)

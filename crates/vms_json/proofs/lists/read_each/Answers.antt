@@ -19,10 +19,12 @@ returns-in-Err g c =
 pub loop-item-preserved : goal.loop-item-preserved
 loop-item-preserved g c =
     let says = g.R.Reads.says c.args.reader.now in
-    let l = c.loop-item in
-    (goes_on g.R.Reads.means says l.i (items_left l.items) (items_left c.next.new.self) (view c.in-Some.item) (each_from says 0 (items_left c.args.items)) l.list.items c.in-Ok.out
-    l.invariant.0 c.in-Some.ensures.value c.in-Ok.ensures
-    ∙ ap (λ v. before (map g.R.Reads.means v) (each_from says (l.i + 1) (items_left c.next.new.self))) (sym c.in_ok-put-in-Ok.ensures.put), omega (arith, l.invariant.1, c.in-Some.ensures.fewer))
+    let l = c.loop-item in (
+      goes_on g.R.Reads.means says l.i (items_left l.items) (items_left c.next.new.self) (view c.in-Some.item) (each_from says 0 (items_left c.args.items)) l.list.items c.in-Ok.out
+          l.invariant.0 c.in-Some.ensures.value c.in-Ok.ensures
+          ∙ ap (λ v. before (map g.R.Reads.means v) (each_from says (l.i + 1) (items_left c.next.new.self))) (sym c.in_ok-put-in-Ok.ensures.put),
+      omega (arith, l.invariant.1, c.in-Some.ensures.fewer),
+    )
 
 pub returns : goal.returns
 returns g c =
