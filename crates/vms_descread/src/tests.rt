@@ -104,7 +104,7 @@ fn two_items<'t, 'a>(
 }
 
 fn two_of<'t, 'a>(alloc: Global, list: Node<'t, 'a>) -> Result<(Node<'t, 'a>, Node<'t, 'a>), Fault>
-    ensures { Answers pair_seen (two_of (view list)) result }
+    ensures { Answers pair_seen (two_of (view list.entry)) result }
 {
     match list.as_list() {
         Some(items) => two_in(alloc, items),
