@@ -244,9 +244,11 @@ fn plain_in<'a>(value: &Node<'_, 'a>) -> Option<Plain<'a>>
     if members.next().is_some() {
         return None;
     }
-    if first.0 == "kind" && second.0 == "name" {
+    let one = first.0;
+    let two = second.0;
+    if one == "kind" && two == "name" {
         plain_by(&first.1, &second.1)
-    } else if first.0 == "name" && second.0 == "kind" {
+    } else if one == "name" && two == "kind" {
         plain_by(&second.1, &first.1)
     } else {
         None
