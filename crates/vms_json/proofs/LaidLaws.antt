@@ -19,7 +19,7 @@ use Rattle.vms_json.specs.declared.node.Row.TheVariants as rows
 use Rattle.vms_json.specs.Nodes.{count_at, front, data_in, items_in, members_in, rows_view}
 use Rattle.vms_json.proofs.RowLaws.{an_item_left, a_member_left, no_items_left, no_member_left}
 use Rattle.vms_json.specs.Frames.{Frame, in_list, in_object, before}
-use Rattle.vms_json.specs.Laying.{IsRowOf, items_of, members_of, IsRun, AreItems, AreMembers, InList, InObject, AtKey, IsLaid, HasValue}
+use Rattle.vms_json.specs.Laying.{AreBelow, IsRowOf, items_of, members_of, IsRun, AreItems, AreMembers, InList, InObject, AtKey, IsLaid, HasValue}
 use Rattle.vms_json.proofs.FrameLaws.{before_one}
 
 pub no_items_laid : AreItems [] []
@@ -197,3 +197,28 @@ no_row (reads.Number k) s n b u ts = absurd (n k refl)
 no_row (reads.Bool k) s n b u ts = absurd (b k refl)
 no_row reads.Null s n b u ts = absurd (u refl)
 no_row reads.Bad s n b u ts = ap (converted of_json) (value_is 0 (token_of reads.Bad ∷ ts))
+
+-- ---- what is open began at a row that is there
+
+below_more : (ss : List ℕ) (m n : ℕ) → m ≤ n → AreBelow ss m → AreBelow ss n
+below_more [] m n le are = tt
+below_more (s ∷ ss) m n le are = (omega (arith, le, are.0), below_more ss m n le are.1)
+
+below_push : (ss : List ℕ) (s m : ℕ) → AreBelow ss m → s < m → AreBelow (ss ++ s ∷ []) m
+below_push [] s m are lt = (lt, tt)
+below_push (r ∷ ss) s m are lt = (are.0, below_push ss s m are.1 lt)
+
+one_below : (below own rs : List Row) (r : Row) (places starts : List ℕ) → rs ≡ below ++ r ∷ own → starts ≡ places ++ length below ∷ [] → AreBelow places (length below) → AreBelow starts (length rs)
+one_below below own rs r places starts are begins lower =
+    let long : length rs ≡ length below + length (r ∷ own) = ap length are ∙ length-append below (r ∷ own) in
+    subst (λ s. AreBelow s (length rs)) (sym begins)
+    (below_push places (length below) (length rs) (below_more places (length below) (length rs) (omega (arith, long)) lower) (omega (arith, long)))
+
+pub starts_below : (fs : List Frame) (rs : List Row) (starts : List ℕ) → IsLaid fs rs starts → AreBelow starts (length rs)
+starts_below [] rs starts laid = subst (λ s. AreBelow s (length rs)) (sym laid.1) tt
+starts_below (in_list n done ∷ fs) rs starts laid =
+    one_below laid.below laid.own rs (rows.List laid.count) laid.places starts laid.are laid.begins (starts_below fs laid.below laid.places laid.laid)
+starts_below (in_object n found k ∷ fs) rs starts laid =
+    let l = laid.laid in
+    below_more starts (length laid.first) (length rs) (omega (arith, ap length laid.are, length-append laid.first (rows.Key laid.key ∷ [])))
+    (one_below l.below l.own laid.first (rows.Object l.count) l.places starts l.are l.begins (starts_below fs l.below l.places l.laid))

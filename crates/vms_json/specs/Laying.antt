@@ -88,3 +88,8 @@ AreEnough (in_object n found k ∷ fs) m = (m ≤ n) × AreEnough fs m
 pub record IsRowOf (t : Token) (r : Row) : Type 0 where
   pub says : (n : ℕ) (ts : List Token) → converted of_json (value n (t ∷ ts)) ≡ Some (rows_view (r ∷ []), ts)
   pub one : count_at r ≡ 1
+
+-- each is below m
+abbrev pub AreBelow : List ℕ → ℕ → Type 0
+AreBelow [] m = Unit {0}
+AreBelow (s ∷ ss) m = (s < m) × AreBelow ss m
