@@ -41,3 +41,9 @@ items_due n done fs ts = option_and_then (λ p. after fs (array (before done p.0
 -- where more members of an object are, after these
 abbrev pub members_due : ℕ → Members → List Frame → List Token → Option (Data × List Token)
 members_due n found fs ts = option_and_then (λ p. after fs (object p.0) p.1) (converted (λ ms. of_members ms found) (members (inside fs) n ts))
+
+-- where the next of the text is due: in a list more of its items, else a value
+abbrev pub due : List Frame → List Token → Option (Data × List Token)
+due [] ts = value_due [] ts
+due (in_list n done ∷ fs) ts = items_due n done fs ts
+due (in_object n found k ∷ fs) ts = value_due (in_object n found k ∷ fs) ts

@@ -1,5 +1,5 @@
 -- Rows that are laid while a text is read: of a value, of items, of members, and of all lists and objects that are open.
-use Rattle.std.specs.Prelude.{◌≡◌, ℕ, ◌+◌, ◌*◌, ◌<◌, ◌≤◌, List, [], ◌∷◌, ◌++◌, length, Bool, true, false, Some}
+use Rattle.std.specs.Prelude.{◌≡◌, ℕ, ◌+◌, ◌*◌, ◌<◌, ◌≤◌, List, [], ◌∷◌, ◌++◌, length, Bool, true, false, Option, Some}
 use Rattle.json.specs.Token.{Token}
 use Rattle.json.specs.Json.{value}
 use Rattle.serde_json.specs.Read.{of_json, converted}
@@ -8,7 +8,8 @@ use Rattle.serde_json.specs.Data.{Data, Items, Members, no_members}
 use Rattle.vms_json.specs.declared.node.Row.{Row}
 use Rattle.vms_json.specs.declared.node.Row.TheVariants as rows
 use Rattle.vms_json.specs.Nodes.{count_at, front, items_in, members_in, rows_view}
-use Rattle.vms_json.specs.Frames.{Frame, in_list, in_object, before}
+use Rattle.vms_json.specs.declared.parse.Laid.{Laid}
+use Rattle.vms_json.specs.Frames.{Frame, in_list, in_object, before, after, due}
 
 abbrev pub items_of : List Row → Items
 items_of rs = items_in (2 * length rs + 1) rs
@@ -93,3 +94,28 @@ pub record IsRowOf (t : Token) (r : Row) : Type 0 where
 abbrev pub AreBelow : List ℕ → ℕ → Type 0
 AreBelow [] m = Unit {0}
 AreBelow (s ∷ ss) m = (s < m) × AreBelow ss m
+
+-- ---- while a text is read, of which the whole says this
+
+-- the next is due within these frames
+pub record IsUnder (said : Option (Data × List Token)) (laid : Laid) (ts : List Token) : Type 0 where
+  pub frames : List Frame
+  pub says : said ≡ due frames ts
+  pub rows : IsLaid frames laid.rows.items laid.open.items
+  pub inner : laid.in_list ≡ is_in_list frames
+  pub enough : AreEnough frames (length ts)
+
+-- a value ended within these frames
+pub record HasEnded (said : Option (Data × List Token)) (laid : Laid) (ts : List Token) : Type 0 where
+  pub frames : List Frame
+  pub value : Data
+  pub says : said ≡ after frames value ts
+  pub rows : HasValue frames laid.rows.items laid.open.items value
+  pub inner : laid.in_list ≡ is_in_list frames
+  pub enough : AreEnough frames (length ts)
+
+-- the rows are those of the whole, before these tokens
+pub record IsWhole (said : Option (Data × List Token)) (laid : Laid) (ts : List Token) : Type 0 where
+  pub value : Data
+  pub says : said ≡ Some (value, ts)
+  pub run : IsRun laid.rows.items value

@@ -1,10 +1,12 @@
 // Reads JSON texts as trees.
-ghost use Rattle.std.specs.Prelude.{◌≡◌, ◌++◌, ◌∷◌, [], List, length, Some, None, Err, IfOk, IfErr, OnOk};
+ghost use Rattle.std.specs.Prelude.{◌≡◌, ◌≤◌, ◌++◌, ◌∷◌, [], List, length, true, false, Option, Some, None, Err, IfOk, IfErr, OnOk, MatchBool};
 ghost use Rattle.json.specs.Json.{value};
 ghost use Rattle.json.specs.Reads.{token_of};
 ghost use Rattle.json.specs.Token.{Token as TokenRead};
+ghost use Rattle.serde_json.specs.Data.{Data, array, object, no_items, Members};
 ghost use Rattle.serde_json.specs.Read.{of_json, converted, read};
-ghost use Rattle.vms_json.specs.Laying.{IsRowOf};
+ghost use Rattle.vms_json.specs.Frames.{Frame, before};
+ghost use Rattle.vms_json.specs.Laying.{AreBelow, InList, InObject, IsLaid, HasValue, IsRowOf, is_in_list, IsUnder, HasEnded, IsWhole};
 ghost use Rattle.vms_json.specs.Nodes.{tree_view};
 
 use crate::node::{Row, Tree};
@@ -73,44 +75,7 @@ pub fn read_node<'a>(
     let mut is_done = false;
     while !is_done {
         let token = reader.next().ok_or(NoNode::Syntax)?;
-        let is_value = match token {
-            Token::BeginObject => {
-                if laid.open.len() >= DEEPEST {
-                    return Err(NoNode::Syntax);
-                }
-                match reader.next_key()? {
-                    None => {
-                        laid.rows.push(Row::Object(1))?;
-                        true
-                    }
-                    Some(name) => {
-                        laid.begin(Row::Object(0))?;
-                        laid.in_list = false;
-                        laid.rows.push(Row::Key(name))?;
-                        false
-                    }
-                }
-            }
-            Token::EndArray => {
-                if !laid.in_list {
-                    return Err(NoNode::Syntax);
-                }
-                laid.end();
-                true
-            }
-            Token::BeginArray => {
-                if laid.open.len() >= DEEPEST {
-                    return Err(NoNode::Syntax);
-                }
-                laid.begin(Row::List(0))?;
-                laid.in_list = true;
-                false
-            }
-            _ => {
-                laid.rows.push(row_of(token)?)?;
-                true
-            }
-        };
+        let is_value = lay(token, &mut reader, &mut laid)?;
         if is_value && !laid.in_list {
             is_done = go_on(&mut reader, &mut laid)?;
         }
@@ -121,9 +86,83 @@ pub fn read_node<'a>(
     Ok(Tree { rows: laid.rows })
 }
 
+// Lays what a token is where the next is due. Whether a value ends with it.
+#[inline(always)]
+fn lay<'a>(token: Token<'a>, reader: &mut Reader<'a>, laid: &mut Laid<'a>) -> Result<bool, NoNode>
+    requires { AreBelow laid.old.open.items (length laid.old.rows.items) }
+    ensures ok { (said : Option (Data × List TokenRead))
+        → IsUnder said laid.old (token_of token.entry ∷ reader.old)
+        → IfOk result (λ is_value. MatchBool is_value
+        (HasEnded said laid.new reader.new) (IsUnder said laid.new reader.new)) }
+    ensures fewer { OnOk result (length reader.new ≤ length reader.old) }
+    ensures err { (said : Option (Data × List TokenRead))
+        → IsUnder said laid.old (token_of token.entry ∷ reader.old)
+        → result ≡ Err NoNode.Syntax → said ≡ None }
+{
+    match token {
+        Token::BeginObject => begin_object(reader, laid),
+        Token::EndArray => {
+            if !laid.in_list {
+                return Err(NoNode::Syntax);
+            }
+            laid.end();
+            Ok(true)
+        }
+        Token::BeginArray => {
+            if laid.open.len() >= DEEPEST {
+                return Err(NoNode::Syntax);
+            }
+            laid.begin(Row::List(0))?;
+            laid.in_list = true;
+            Ok(false)
+        }
+        _ => {
+            laid.rows.push(row_of(token)?)?;
+            Ok(true)
+        }
+    }
+}
+
+// After the brace that opens an object: its first key, or its end. Whether it ends.
+#[inline(always)]
+fn begin_object<'a>(reader: &mut Reader<'a>, laid: &mut Laid<'a>) -> Result<bool, NoNode>
+    ensures ok { (said : Option (Data × List TokenRead))
+        → IsUnder said laid.old (TokenRead.begin_object ∷ reader.old)
+        → IfOk result (λ is_value. MatchBool is_value
+        (HasEnded said laid.new reader.new) (IsUnder said laid.new reader.new)) }
+    ensures fewer { OnOk result (length reader.new ≤ length reader.old) }
+    ensures err { (said : Option (Data × List TokenRead))
+        → IsUnder said laid.old (TokenRead.begin_object ∷ reader.old)
+        → result ≡ Err NoNode.Syntax → said ≡ None }
+{
+    if laid.open.len() >= DEEPEST {
+        return Err(NoNode::Syntax);
+    }
+    match reader.next_key()? {
+        None => {
+            laid.rows.push(Row::Object(1))?;
+            Ok(true)
+        }
+        Some(name) => {
+            laid.begin(Row::Object(0))?;
+            laid.in_list = false;
+            laid.rows.push(Row::Key(name))?;
+            Ok(false)
+        }
+    }
+}
+
 // After a value: the next key of an object, or the ends of objects. Whether the value is the whole.
 #[inline(always)]
-fn go_on<'a>(reader: &mut Reader<'a>, laid: &mut Laid<'a>) -> Result<bool, NoNode> {
+fn go_on<'a>(reader: &mut Reader<'a>, laid: &mut Laid<'a>) -> Result<bool, NoNode>
+    requires { AreBelow laid.old.open.items (length laid.old.rows.items) }
+    ensures ok { (said : Option (Data × List TokenRead)) → HasEnded said laid.old reader.old
+        → IfOk result (λ is_whole. MatchBool is_whole
+        (IsWhole said laid.new reader.new) (IsUnder said laid.new reader.new)) }
+    ensures fewer { OnOk result (length reader.new ≤ length reader.old) }
+    ensures err { (said : Option (Data × List TokenRead)) → HasEnded said laid.old reader.old
+        → result ≡ Err NoNode.Syntax → said ≡ None }
+{
     while !laid.in_list {
         if laid.open.is_empty() {
             return Ok(true);
@@ -182,7 +221,20 @@ impl<'a> Laid<'a> {
 
     // Ends the innermost.
     #[inline(always)]
-    fn end(&mut self) {
+    fn end(&mut self)
+        requires { AreBelow self.old.open.items (length self.old.rows.items) }
+        ensures list { (fs : List Frame) (done : List Data)
+            → InList (IsLaid fs) done self.old.rows.items self.old.open.items
+            → self.old.in_list ≡ true
+            → HasValue fs self.new.rows.items self.new.open.items (array (before done no_items))
+            × (self.new.in_list ≡ is_in_list fs) }
+        ensures object { (fs : List Frame) (found : Members)
+            → InObject (IsLaid fs) found self.old.rows.items self.old.open.items
+            → self.old.in_list ≡ false
+            → HasValue fs self.new.rows.items self.new.open.items (object found)
+            × (self.new.in_list ≡ is_in_list fs) }
+        ensures within { AreBelow self.new.open.items (length self.new.rows.items) }
+    {
         let Some(at) = self.open.pop() else {
             return;
         };
