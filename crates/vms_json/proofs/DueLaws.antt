@@ -4,6 +4,9 @@ use Rattle.std.proofs.lemmas.List.{length-append}
 use Rattle.std.specs.Borrow.{Bor}
 use Rattle.json.specs.Token.{Token}
 use Rattle.json.specs.Json.{after_end_array, read_key, value}
+use Rattle.json.specs.Reads.{token_of}
+use Rattle.json.specs.declared.token.Token.{Token as TokenRead}
+use Rattle.json.specs.declared.token.Token.TheVariants as reads
 use Rattle.json.proofs.Grammar.{value_is, read_key-shorter}
 use Rattle.serde_json.specs.Data.{Data, array, object, no_items, Members, no_members}
 use Rattle.serde_json.specs.Read.{of_json, converted, max_depth}
@@ -118,6 +121,31 @@ pub token_refused : (said : Option (Data × List Token)) (laid : Laid) (t : Toke
 token_refused said laid t ts going is none =
     let b = begins said laid t ts going is in
     b.says ∙ value_refused b.frames (t ∷ ts) (none (room b.frames))
+
+pub no_end : (k : TokenRead) → (k ≡ reads.EndArray → ⊥) → (ts : List Token) → after_end_array (token_of k ∷ ts) ≡ None
+no_end reads.BeginObject not ts = refl
+no_end reads.EndObject not ts = refl
+no_end reads.BeginArray not ts = refl
+no_end reads.EndArray not ts = absurd (not refl)
+no_end (reads.Key k) not ts = refl
+no_end (reads.String k) not ts = refl
+no_end (reads.Number k) not ts = refl
+no_end (reads.Bool b) not ts = refl
+no_end reads.Null not ts = refl
+no_end reads.Bad not ts = refl
+
+-- how deep a value may nest plays no part where none begins
+pub at_any_depth : (k : TokenRead) → (k ≡ reads.BeginObject → ⊥) → (k ≡ reads.BeginArray → ⊥) → (ts : List Token) (n : ℕ) → value n (token_of k ∷ ts) ≡ value 0 (token_of k ∷ ts)
+at_any_depth reads.BeginObject o a ts n = absurd (o refl)
+at_any_depth reads.EndObject o a ts n = value_is n (token_of reads.EndObject ∷ ts) ∙ sym (value_is 0 (token_of reads.EndObject ∷ ts))
+at_any_depth reads.BeginArray o a ts n = absurd (a refl)
+at_any_depth reads.EndArray o a ts n = value_is n (token_of reads.EndArray ∷ ts) ∙ sym (value_is 0 (token_of reads.EndArray ∷ ts))
+at_any_depth (reads.Key k) o a ts n = value_is n (token_of (reads.Key k) ∷ ts) ∙ sym (value_is 0 (token_of (reads.Key k) ∷ ts))
+at_any_depth (reads.String k) o a ts n = value_is n (token_of (reads.String k) ∷ ts) ∙ sym (value_is 0 (token_of (reads.String k) ∷ ts))
+at_any_depth (reads.Number k) o a ts n = value_is n (token_of (reads.Number k) ∷ ts) ∙ sym (value_is 0 (token_of (reads.Number k) ∷ ts))
+at_any_depth (reads.Bool b) o a ts n = value_is n (token_of (reads.Bool b) ∷ ts) ∙ sym (value_is 0 (token_of (reads.Bool b) ∷ ts))
+at_any_depth reads.Null o a ts n = value_is n (token_of reads.Null ∷ ts) ∙ sym (value_is 0 (token_of reads.Null ∷ ts))
+at_any_depth reads.Bad o a ts n = value_is n (token_of reads.Bad ∷ ts) ∙ sym (value_is 0 (token_of reads.Bad ∷ ts))
 
 -- ---- a list
 
