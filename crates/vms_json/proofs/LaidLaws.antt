@@ -200,7 +200,7 @@ no_row reads.Bad s n b u ts = ap (converted of_json) (value_is 0 (token_of reads
 
 -- ---- what is open began at a row that is there
 
-below_more : (ss : List ℕ) (m n : ℕ) → m ≤ n → AreBelow ss m → AreBelow ss n
+pub below_more : (ss : List ℕ) (m n : ℕ) → m ≤ n → AreBelow ss m → AreBelow ss n
 below_more [] m n le are = tt
 below_more (s ∷ ss) m n le are = (omega (arith, le, are.0), below_more ss m n le are.1)
 

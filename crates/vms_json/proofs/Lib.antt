@@ -1,3 +1,4 @@
+pub mod DueLaws
 pub mod EndLaws
 pub mod FrameLaws
 pub mod KeyLaws
