@@ -1,5 +1,5 @@
 -- A list or an object that ends: the count is put in its row, and the innermost is the one around it.
-use Rattle.std.proofs.Common.{◌≡◌, ℕ, zero, suc, ◌+◌, ◌-◌, ◌<◌, ◌≤◌, List, [], ◌∷◌, ◌++◌, length, get_or, Bool, false, Option, Some, None, refl, sym, ap, subst, ◌∙◌, arith, append_assoc}
+use Rattle.std.proofs.Common.{◌≡◌, ℕ, zero, suc, ◌+◌, ◌-◌, ◌<◌, List, [], ◌∷◌, ◌++◌, length, get_or, Bool, false, Option, Some, None, refl, sym, ap, subst, ◌∙◌, arith, append_assoc}
 use Rattle.std.proofs.lemmas.List.{length-append, get_or_at, same_from_push}
 use Rattle.std.proofs.Math.ListN.{set}
 use Rattle.std.specs.Prelude.{slice_get}
@@ -8,7 +8,7 @@ use Rattle.vms_json.specs.declared.node.Row.{Row}
 use Rattle.vms_json.specs.declared.node.Row.TheVariants as rows
 use Rattle.vms_json.specs.Nodes.{is_list}
 use Rattle.vms_json.specs.Frames.{Frame, in_list, in_object, before}
-use Rattle.vms_json.specs.Laying.{AreBelow, IsRun, InList, InObject, IsLaid, HasValue, is_in_list}
+use Rattle.vms_json.specs.Laying.{AreBelow, InList, InObject, IsLaid, HasValue, is_in_list}
 use Rattle.vms_json.proofs.LaidLaws.{list_closed, object_closed, ended}
 
 -- ---- the places of those that are open

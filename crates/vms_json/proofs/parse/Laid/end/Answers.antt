@@ -1,4 +1,4 @@
-use Rattle.std.proofs.Common.{◌≡◌, ◌-◌, ◌++◌, ◌∷◌, [], length, slice_set, sym, ap, subst, ◌∙◌, arith}
+use Rattle.std.proofs.Common.{◌-◌, length, slice_set, sym, ap, subst, ◌∙◌, arith}
 use Rattle.std.proofs.lemmas.List.{length-set}
 use Rattle.vms_json.specs.declared.node.Row.TheVariants as rows
 use Rattle.vms_json.specs.Laying.{AreBelow}
