@@ -1,5 +1,7 @@
 pub mod DueLaws
+pub mod EndLaws
 pub mod FrameLaws
+pub mod GoLaws
 pub mod KeyLaws
 pub mod LaidLaws
 pub mod ListLaws

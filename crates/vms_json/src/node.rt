@@ -63,7 +63,8 @@ impl<'a> Row<'a> {
         }
     }
 
-    fn is_list(&self) -> bool
+    #[inline(always)]
+    pub(crate) fn is_list(&self) -> bool
         ensures { result ≡ is_list self.now }
     {
         matches!(self, Row::List(_))

@@ -1,5 +1,5 @@
 // Reads JSON texts as trees.
-ghost use Rattle.std.specs.Prelude.{◌≡◌, ◌≤◌, ◌++◌, ◌∷◌, [], List, length, true, false, Option, Some, None, Err, IfOk, IfErr, OnOk, MatchBool};
+ghost use Rattle.std.specs.Prelude.{◌≡◌, ◌≤◌, ◌++◌, ◌∷◌, [], ℕ, List, length, get_or, true, false, Option, Some, None, Err, IfOk, IfErr, OnOk, MatchBool};
 ghost use Rattle.json.specs.Json.{value};
 ghost use Rattle.json.specs.Reads.{token_of};
 ghost use Rattle.json.specs.Token.{Token as TokenRead};
@@ -7,7 +7,8 @@ ghost use Rattle.serde_json.specs.Data.{Data, array, object, no_items, Members};
 ghost use Rattle.serde_json.specs.Read.{of_json, converted, read};
 ghost use Rattle.vms_json.specs.Frames.{Frame, before};
 ghost use Rattle.vms_json.specs.Laying.{AreBelow, InList, InObject, IsLaid, HasValue, IsRowOf, is_in_list, IsUnder, HasEnded, IsWhole};
-ghost use Rattle.vms_json.specs.Nodes.{tree_view};
+ghost use Rattle.vms_json.specs.Nodes.{is_list, tree_view};
+ghost use Rattle.vms_json.specs.declared.node.Row.{Row as RowRead};
 
 use crate::node::{Row, Tree};
 use crate::number::number_of;
@@ -239,14 +240,27 @@ impl<'a> Laid<'a> {
             return;
         };
         let count = self.rows.len() - at;
-        self.rows[at] = if self.in_list {
+        let row = if self.in_list {
             Row::List(count)
         } else {
             Row::Object(count)
         };
-        self.in_list = match self.open.last() {
-            Some(around) => matches!(self.rows[*around], Row::List(_)),
+        self.rows[at] = row;
+        self.in_list = self.is_in_list();
+    }
+
+    // Whether the innermost is a list, by its row.
+    #[inline(always)]
+    fn is_in_list(&self) -> bool
+        requires { AreBelow self.now.open.items (length self.now.rows.items) }
+        ensures none { self.now.open.items ≡ [] → result ≡ false }
+        ensures some { (places : List ℕ) (at : ℕ) (none : RowRead)
+            → self.now.open.items ≡ places ++ at ∷ []
+            → result ≡ is_list (get_or self.now.rows.items at none) }
+    {
+        match self.open.last() {
+            Some(at) => self.rows[*at].is_list(),
             None => false,
-        };
+        }
     }
 }
