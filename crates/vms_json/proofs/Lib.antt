@@ -9,3 +9,4 @@ pub mod NameLaws
 pub mod ReadingLaws
 pub mod RowLaws
 pub mod TextLaws
+pub mod WholeLaws
