@@ -8,6 +8,7 @@ use Rattle.serde_json.specs.View.{items_of}
 use Rattle.serde_json.specs.Written.{compact_text}
 use Rattle.vms_spec.proofs.NameBytes.{name_byte_low}
 use Rattle.vms_selfdesc.proofs.JsonBytes.{HasLetters, ItemsHave, Allows, IsSpelled, AreSpelled, text_good, word, kind_letters, sub_letters, device_letters, devices_letters}
+use Rattle.vms_analyze.specs.declared.elements.TheConstants.{LONGEST_PATH}
 use Rattle.vms_analyze.specs.Told.{Told, Sent, Kept, Fixed, Skipped, told_entry, ToldSub, told_sub, ToldDevice, told_device, told_tree, is_path_byte, is_path, fits_four, is_good, is_kept, is_good_sub, is_good_device}
 
 abbrev Ascii : ℕ → Type 0
@@ -50,10 +51,10 @@ path_ascii most path e = bytes_ascii path (and_parts (nat_le 1 (length path) && 
 -- ---- what is told
 
 element_ascii : (t : Told) → is_good t ≡ true → IsSpelled Ascii (told_entry t)
-element_ascii (Sent path kind) e = record { path = path_ascii 300 path e; type = kind_letters allows kind }
-element_ascii (Kept path kind z) e = record { path = path_ascii 300 path (and_parts (is_path 300 path) _ e).0; type = kind_letters allows kind }
-element_ascii (Fixed path n) e = record { path = path_ascii 300 path (and_parts (is_path 300 path) _ e).0; type = word allows (codes "equal") refl }
-element_ascii (Skipped path n) e = record { path = path_ascii 300 path (and_parts (is_path 300 path) _ e).0; type = word allows (codes "unused") refl }
+element_ascii (Sent path kind) e = record { path = path_ascii LONGEST_PATH path e; type = kind_letters allows kind }
+element_ascii (Kept path kind z) e = record { path = path_ascii LONGEST_PATH path (and_parts (is_path LONGEST_PATH path) _ e).0; type = kind_letters allows kind }
+element_ascii (Fixed path n) e = record { path = path_ascii LONGEST_PATH path (and_parts (is_path LONGEST_PATH path) _ e).0; type = word allows (codes "equal") refl }
+element_ascii (Skipped path n) e = record { path = path_ascii LONGEST_PATH path (and_parts (is_path LONGEST_PATH path) _ e).0; type = word allows (codes "unused") refl }
 
 elements_ascii : (ts : List Told) → list_all is_good ts ≡ true → AreSpelled Ascii (map told_entry ts)
 elements_ascii [] e = tt

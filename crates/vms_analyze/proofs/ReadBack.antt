@@ -6,12 +6,14 @@ use Rattle.serde_json.specs.Data.{Data, number}
 use Rattle.serde_json.specs.Find.{of_integer}
 use Rattle.vms_kinds.specs.declared.Kind.{Kind}
 use Rattle.vms_kinds.specs.Codes.{width, lowest, highest}
+use Rattle.vms_spec.specs.declared.TheConstants.{MOST_UNUSED}
 use Rattle.vms_spec.specs.Rules.{in_range}
 use Rattle.vms_selfdesc.specs.Drafts.{IsSound, AreSound}
 use Rattle.vms_selfdesc.specs.Tree.{entry_tree, list_tree}
 use Rattle.vms_spec.proofs.KindLaws.{width_small}
 use Rattle.vms_selfdesc.proofs.Soundness.{natural_fits, negative_fits}
 use Rattle.vms_selfdesc.proofs.ReadBack.{natural_sound, negative_sound, array_sound, sent_sound, absent_sound, sub_sound, device_sound, whole_sound}
+use Rattle.vms_analyze.specs.declared.elements.TheConstants.{LONGEST_PATH}
 use Rattle.vms_analyze.specs.Told.{Told, Sent, Kept, Fixed, Skipped, told_entry, ToldSub, told_sub, ToldDevice, told_device, told_tree, is_path, fits_four, is_good, is_kept, is_good_sub, is_good_device}
 
 value_sound : (kind : Kind) (z : ℤ) → in_range kind z ≡ true → IsSound (number (of_integer z))
@@ -33,11 +35,11 @@ fixed_small n e = go (n == 1) (n == 2) (n == 4) (n == 8) (λ h. eqb-true n 1 h) 
 
 element_sound : (t : Told) → is_good t ≡ true → IsSound (entry_tree (told_entry t))
 element_sound (Sent path kind) e = let h = width_small kind in sent_sound path (width kind) _ (natural_sound (width kind) (omega arith))
-element_sound (Kept path kind z) e = absent_sound path _ z (value_sound kind z (and_parts (is_path 300 path) (in_range kind z) e).1)
-element_sound (Fixed path n) e = sent_sound path n _ (natural_sound n (fixed_small n (and_parts (is_path 300 path) (n == 1 || n == 2 || n == 4 || n == 8) e).1))
+element_sound (Kept path kind z) e = absent_sound path _ z (value_sound kind z (and_parts (is_path LONGEST_PATH path) (in_range kind z) e).1)
+element_sound (Fixed path n) e = sent_sound path n _ (natural_sound n (fixed_small n (and_parts (is_path LONGEST_PATH path) (n == 1 || n == 2 || n == 4 || n == 8) e).1))
 element_sound (Skipped path n) e =
-    let p = and_parts (is_path 300 path) (nat_le 1 n && nat_le n 4096) e in
-    let le = leb-true n 4096 (and_parts (nat_le 1 n) (nat_le n 4096) p.1).1 in
+    let p = and_parts (is_path LONGEST_PATH path) (nat_le 1 n && nat_le n MOST_UNUSED) e in
+    let le = leb-true n MOST_UNUSED (and_parts (nat_le 1 n) (nat_le n MOST_UNUSED) p.1).1 in
     sent_sound path n _ (natural_sound n (omega arith))
 
 elements_sound : (ts : List Told) → list_all is_good ts ≡ true → AreSound (map (λ t. entry_tree (told_entry t)) ts)

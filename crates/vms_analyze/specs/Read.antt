@@ -7,6 +7,7 @@ use Rattle.serde_json.specs.Find.{get, as_bool, as_number, as_str, as_array, as_
 use Rattle.vms_kinds.specs.declared.Kind.{Kind}
 use Rattle.vms_kinds.specs.Codes.{width}
 use Rattle.vms_json.specs.Keys.{fits}
+use Rattle.vms_spec.specs.declared.TheConstants.{MOST_UNUSED}
 use Rattle.vms_spec.specs.Rules.{in_range}
 use Rattle.vms_words.specs.Words.{kind_named}
 use Rattle.vms_analyze.specs.Told.{Told, Sent, Kept, Fixed, Skipped, ToldSub, ToldDevice, is_path, fits_four, is_kept}
@@ -73,7 +74,7 @@ kept_keys = codes "name" ∷ codes "size" ∷ codes "type" ∷ codes "value" ∷
 abbrev pub unprinted : List ℕ → ℕ → List ℕ → Option Told
 unprinted path size word =
     if bytes_eq word (codes "equal") then only (size == 1 || size == 2 || size == 4 || size == 8) (Fixed path size)
-    else if bytes_eq word (codes "unused") then only (nat_le 1 size && nat_le size 4096) (Skipped path size)
+    else if bytes_eq word (codes "unused") then only (nat_le 1 size && nat_le size MOST_UNUSED) (Skipped path size)
     else None
 
 abbrev pub sent_as : List ℕ → ℕ → List ℕ → Option Kind → Option Told

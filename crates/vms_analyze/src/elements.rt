@@ -11,6 +11,7 @@ use crate::members::{Unread, list_at, natural_at, path_at, text_at, whole_at};
 use crate::told::Element;
 use std::alloc::Global;
 use vms_json::{Node, fits};
+use vms_spec::MOST_UNUSED;
 use vms_words::kind_named;
 
 /// A path has at most so many bytes.
@@ -70,7 +71,7 @@ fn unprinted<'a>(path: &'a str, size: u64, word: &str) -> Result<Element<'a>, Un
                 bytes: size as usize,
             });
         }
-    } else if word == "unused" && 1 <= size && size <= 4096 {
+    } else if word == "unused" && 1 <= size && size <= u64::from(MOST_UNUSED) {
         return Ok(Element::Skipped {
             path,
             bytes: size as usize,

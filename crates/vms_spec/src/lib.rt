@@ -9,6 +9,9 @@
 /// as often as it may stand there.
 pub const MOST_ITEMS: u32 = 16_384;
 
+/// How many unused bytes stand in one place of a well-formed set at most, as `VMSTATE_UNUSED` has them.
+pub const MOST_UNUSED: u16 = 4096;
+
 /// How a masked number is compared with a value in a test.
 #[derive(Clone, Copy, Debug, PartialEq, Eq)]
 pub enum Rel {
