@@ -1,5 +1,5 @@
 -- Rows that are laid one after the other: of a value, of the items of a list, of the members of an object.
-use Rattle.std.proofs.Common.{◌≡◌, ℕ, zero, suc, ◌+◌, ◌*◌, ◌<◌, ◌≤◌, List, [], ◌∷◌, ◌++◌, length, take, drop, min, max, Bool, Option, Some, None, option_map, refl, sym, ap, subst, ◌∙◌, arith, append_assoc}
+use Rattle.std.proofs.Common.{◌≡◌, ℕ, suc, ◌+◌, ◌*◌, ◌<◌, ◌≤◌, List, [], ◌∷◌, ◌++◌, length, take, drop, Bool, Some, None, option_map, refl, sym, ap, subst, ◌∙◌, arith, append_assoc}
 use Rattle.std.proofs.lemmas.List.{append-nil, length-append}
 use Rattle.std.proofs.Math.ListN.{set}
 use Rattle.std.proofs.Math.Seq.{take-append_seam, drop-append_seam, set-append_seam}
@@ -13,13 +13,13 @@ use Rattle.json.proofs.Grammar.{value_is}
 use Rattle.serde_json.specs.View.{number_view}
 use Rattle.serde_json.specs.declared.number.Number.{Number}
 use Rattle.serde_json.specs.Read.{number_of, of_json, converted}
-use Rattle.serde_json.specs.Data.{Data, number, array, object, Items, no_items, item, Members, no_members, put}
+use Rattle.serde_json.specs.Data.{Data, number, array, object, no_items, item, Members, no_members, put}
 use Rattle.vms_json.specs.declared.node.Row.{Row}
 use Rattle.vms_json.specs.declared.node.Row.TheVariants as rows
-use Rattle.vms_json.specs.Nodes.{count_at, front, data_in, items_in, members_in, rows_view}
+use Rattle.vms_json.specs.Nodes.{count_at, front, data_in, rows_view}
 use Rattle.vms_json.proofs.RowLaws.{an_item_left, a_member_left, no_items_left, no_member_left}
 use Rattle.vms_json.specs.Frames.{Frame, in_list, in_object, before}
-use Rattle.vms_json.specs.Laying.{AreBelow, IsRowOf, items_of, members_of, IsRun, AreItems, AreMembers, InList, InObject, AtKey, IsLaid, HasValue}
+use Rattle.vms_json.specs.Laying.{AreBelow, IsRowOf, items_of, members_of, IsRun, AreItems, AreMembers, InList, InObject, IsLaid, HasValue}
 use Rattle.vms_json.proofs.FrameLaws.{before_one}
 
 pub no_items_laid : AreItems [] []

@@ -1,5 +1,5 @@
 -- The number of the first field of each name.
-use Rattle.std.proofs.Common.{◌≡◌, ℕ, suc, ◌+◌, ◌<◌, ◌≤◌, List, [], ◌∷◌, ◌++◌, Bool, true, false, cond, eqb, ltb, if◌then◌else◌, Option, Some, None, is_some, option_and_then, length, append_assoc, refl, ap, sym, ◌∙◌, codes, arith, ⊎_elim}
+use Rattle.std.proofs.Common.{◌≡◌, ℕ, ◌+◌, ◌<◌, ◌≤◌, List, [], ◌∷◌, ◌++◌, Bool, true, false, cond, eqb, ltb, if◌then◌else◌, Option, Some, None, is_some, option_and_then, length, append_assoc, refl, ap, sym, ◌∙◌, codes, arith, ⊎_elim}
 use Rattle.std.specs.List.{position, position_or_len}
 use Rattle.std.specs.Str.{bytes_eq}
 use Rattle.std.proofs.lemmas.Bool.{cases_lt, lt-ltb, le-ltb, eq-eqb, ne_eqb, false≢true}
@@ -76,16 +76,6 @@ pub put_one : (name q : List ℕ) (number : ℕ) (old : List ℕ → Option ℕ)
     → new ≡ or_else (old q) (if bytes_eq name q then Some number else None)
 put_one name q number old new none is =
     is ∙ by_name (bytes_eq name q) number (old q) (λ same. ap old (sym ((bytes_eq-Decides name q).0 same)) ∙ none)
-
-there_already : (same : Bool) (old : Option ℕ) (number : ℕ) → (same ≡ true → is_some old ≡ true) → old ≡ or_else old (if same then Some number else None)
-there_already same (Some k) number there = refl
-there_already true None number there = absurd (false≢true (there refl))
-there_already false None number there = refl
-
--- a name that was there
-pub keep_one : (name q : List ℕ) (number : ℕ) (old : List ℕ → Option ℕ) → is_some (old name) ≡ true → old q ≡ or_else (old q) (if bytes_eq name q then Some number else None)
-keep_one name q number old there =
-    there_already (bytes_eq name q) (old q) number (λ same. ap (λ n. is_some (old n)) (sym ((bytes_eq-Decides name q).0 same)) ∙ there)
 
 pub is_none_of : (o : Option ℕ) → is_some o ≡ false → o ≡ None
 is_none_of None e = refl

@@ -1,5 +1,5 @@
 -- Rows, looked at as far as is enough.
-use Rattle.std.proofs.Common.{◌≡◌, Bool, true, false, cond, if◌then◌else◌, Option, Some, None, ℕ, zero, suc, ◌+◌, ◌*◌, ◌<◌, ◌≤◌, List, [], ◌∷◌, length, take, drop, min, max, refl, sym, ap, ap₂, ◌∙◌, arith, length-take, length-drop}
+use Rattle.std.proofs.Common.{◌≡◌, Bool, true, false, cond, if◌then◌else◌, Option, Some, None, ℕ, zero, suc, ◌+◌, ◌*◌, ◌<◌, ◌≤◌, List, [], ◌∷◌, length, take, drop, refl, sym, ap, ap₂, ◌∙◌, arith, length-take, length-drop}
 use Rattle.std.specs.Borrow.{Bor}
 use Rattle.serde_json.specs.Data.{Data, null, array, object, Members, no_members, put, no_items, item}
 use Rattle.std.specs.Str.{bytes_eq}
@@ -9,7 +9,7 @@ use Rattle.serde_json.proofs.Views.{get_member-put, get_member-put_other}
 use Rattle.serde_json.specs.Find.{get_member, as_number, as_str, as_bool, as_array, as_object}
 use Rattle.vms_json.specs.declared.node.Row.{Row}
 use Rattle.vms_json.specs.declared.node.Row.TheVariants as rows
-use Rattle.vms_json.specs.Nodes.{count_at, flag_at, is_list, is_object, key_at, number_at, text_at, front, data_in, items_in, members_in, rows_view}
+use Rattle.vms_json.specs.Nodes.{flag_at, is_list, is_object, key_at, number_at, text_at, front, data_in, items_in, members_in, rows_view}
 
 pub front_some : (r : Row) (rs : List Row) → 0 < front (r ∷ rs)
 front_some r rs = omega arith
