@@ -1,5 +1,4 @@
-use Rattle.std.proofs.Common.{◌≡◌, ◌∷◌, List, Err, refl, sym, ap, subst, ◌∙◌, arith, rules}
-use Rattle.json.specs.Token.{Token}
+use Rattle.std.proofs.Common.{◌≡◌, ◌∷◌, Err, refl, ap, subst, ◌∙◌, arith, rules}
 use Rattle.json.specs.Reads.{token_of}
 use Rattle.serde_json.specs.Read.{of_json, converted}
 use Rattle.vms_json.specs.Laying.{IsUnder}

@@ -1,6 +1,5 @@
 use Rattle.std.proofs.Common.{◌-◌, length, slice_set, sym, ap, subst, ◌∙◌, arith}
 use Rattle.std.proofs.lemmas.List.{length-set}
-use Rattle.vms_json.specs.declared.node.Row.TheVariants as rows
 use Rattle.vms_json.specs.Laying.{AreBelow}
 use Rattle.vms_json.proofs.EndLaws.{below_front, list_ended, object_ended}
 use Rattle.vms_json.proofs.parse.Laid.end.Goals as goal
