@@ -1,6 +1,6 @@
 // A well-formed description set.
 ghost use Rattle.vms_spec.specs.declared.TheConstants.{MOST_ITEMS};
-ghost use Rattle.std.specs.Prelude.{true, [], get_or, ◌≤◌, ◌<◌, ◌+◌, ◌==◌, ◌&&◌, ◌≡◌, ℕ, length, IfOk, map};
+ghost use Rattle.std.specs.Prelude.{true, ◌≤◌, ◌<◌, ◌+◌, ◌==◌, ◌&&◌, ◌≡◌, length, IfOk, map};
 ghost use Rattle.std.specs.Str.{bytes_eq};
 ghost use Rattle.vms_spec.specs.Layout.{device_cells, struct_cells, numbers_of};
 ghost use Rattle.vms_spec.specs.Places.{own_cell_count};
@@ -14,7 +14,7 @@ ghost use Rattle.vms_desc.specs.Scopes.{IsParent};
 ghost use Rattle.vms_desc.specs.Spots.{form_numbers, defaults_at};
 ghost use Rattle.vms_desc.specs.Tables.{IsTable, AreTables, AreDeviceTables, device_fields};
 ghost use Rattle.vms_parts.specs.Sizes.{in_u32};
-ghost use Rattle.vms_parts.specs.Views.{set_of, formula, desc_of, device_of, form_of, layout_of};
+ghost use Rattle.vms_parts.specs.Views.{set_of, formula, desc_of, device_of, layout_of};
 
 use crate::defaults::device_defaults;
 use crate::eval::{Scope, holds};
