@@ -1,4 +1,4 @@
-use Rattle.std.proofs.Common.{◌≡◌, ℕ, length}
+use Rattle.std.proofs.Common.{◌≡◌, length}
 use Rattle.vms_json.specs.Asked.{some_ask}
 use Rattle.vms_json.specs.Nodes.{items_left}
 use Rattle.vms_json.proofs.asked.any_asks.Given as goal

@@ -1,4 +1,4 @@
-use Rattle.std.proofs.Common.{◌≡◌, ◌++◌, ℕ, true, length, map}
+use Rattle.std.proofs.Common.{◌≡◌, ◌++◌, true, length, map}
 use Rattle.serde_json.specs.Data.{Members}
 use Rattle.vms_json.specs.Keys.{has_no_others}
 use Rattle.vms_json.specs.Nodes.{members_left, members_on}

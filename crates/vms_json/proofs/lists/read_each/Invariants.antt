@@ -1,4 +1,4 @@
-use Rattle.std.proofs.Common.{◌≡◌, ℕ, ◌+◌, ◌≤◌, length, map}
+use Rattle.std.proofs.Common.{◌≡◌, ◌+◌, ◌≤◌, length, map}
 use Rattle.vms_json.specs.Answers.{each_from}
 use Rattle.vms_json.specs.Nodes.{items_left}
 use Rattle.vms_json.proofs.ListLaws.{before}

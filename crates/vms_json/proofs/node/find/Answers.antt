@@ -1,5 +1,4 @@
-use Rattle.std.proofs.Common.{◌≡◌, true, false, refl, sym, ◌∙◌}
-use Rattle.std.specs.Str.{bytes_eq}
+use Rattle.std.proofs.Common.{true, false, refl, sym, ◌∙◌}
 use Rattle.serde_json.specs.Data.{no_members, put}
 use Rattle.vms_json.specs.Nodes.{view}
 use Rattle.vms_json.proofs.RowLaws.{put_found}

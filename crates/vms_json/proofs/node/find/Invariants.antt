@@ -1,4 +1,4 @@
-use Rattle.std.proofs.Common.{◌≡◌, ℕ, length, option_map}
+use Rattle.std.proofs.Common.{◌≡◌, length, option_map}
 use Rattle.serde_json.specs.Data.{Members}
 use Rattle.serde_json.specs.Find.{get_member}
 use Rattle.vms_json.specs.Nodes.{view, members_left, members_on}

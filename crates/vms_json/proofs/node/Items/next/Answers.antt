@@ -1,5 +1,4 @@
-use Rattle.std.proofs.Common.{◌≡◌, ◌+◌, ◌*◌, ◌<◌, [], ◌∷◌, length, ap, ◌∙◌, arith, rules}
-use Rattle.vms_json.specs.Nodes.{items_in}
+use Rattle.std.proofs.Common.{◌∙◌, arith}
 use Rattle.vms_json.proofs.RowLaws.{no_items_left, an_item_left}
 use Rattle.vms_json.proofs.node.Items.next.Goals as goal
 

@@ -1,6 +1,6 @@
-use Rattle.std.proofs.Common.{◌≡◌, if◌then◌else◌, true, false, ◌∷◌, Some, None, refl, sym, ap, ◌∙◌, arith, rules, length}
+use Rattle.std.proofs.Common.{◌≡◌, true, false, ◌∷◌, refl, sym, ap, ◌∙◌, arith}
 use Rattle.serde_json.specs.Find.{as_object}
-use Rattle.vms_json.specs.Nodes.{rows_view, is_list, is_object}
+use Rattle.vms_json.specs.Nodes.{rows_view, is_object}
 use Rattle.vms_json.proofs.RowLaws.{none_in, as_object-at}
 use Rattle.vms_json.proofs.node.Node.as_members.Goals as goal
 use Rattle.vms_json.proofs.node.Node.as_members.Goals.{in_default-via-in-Some+else-is_object, in_default-via-in_default}

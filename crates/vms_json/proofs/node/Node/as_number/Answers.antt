@@ -1,6 +1,6 @@
-use Rattle.std.proofs.Common.{◌≡◌, if◌then◌else◌, true, false, ◌∷◌, Some, None, refl, sym, ap, ◌∙◌, arith, rules, length}
+use Rattle.std.proofs.Common.{◌≡◌, ◌∷◌, refl, sym, ap, ◌∙◌, arith}
 use Rattle.serde_json.specs.Find.{as_number}
-use Rattle.vms_json.specs.Nodes.{rows_view, is_list, is_object}
+use Rattle.vms_json.specs.Nodes.{rows_view}
 use Rattle.vms_json.proofs.RowLaws.{none_in, as_number-at}
 use Rattle.vms_json.proofs.node.Node.as_number.Goals as goal
 
