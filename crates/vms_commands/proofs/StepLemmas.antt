@@ -2,6 +2,7 @@
 use Rattle.std.proofs.Common.{append-nil, ◌≡◌, ℕ, ◌<◌, ◌^◌, Bool, true, false, if◌then◌else◌, nat_le, ◌≤◌, List, length, Option, Some, None, Result, Ok, Err, refl, sym, ap, ◌∙◌, subst, arith, inl}
 use Rattle.std.proofs.lemmas.Bool.{leb-false}
 use Rattle.std.specs.Prelude.{string_bytes}
+use Rattle.std.specs.Result.{IsErrAnd, MatchResult}
 use Rattle.std.specs.Io.KnownBytes.{Appends}
 use Rattle.std.proofs.lemmas.Option.{none-some}
 use Rattle.vms_io.specs.Shelves.{Held}
@@ -9,7 +10,7 @@ use Rattle.vms_io.specs.Told.{Intake, Outlet, Stock}
 use Rattle.vms_descfile.specs.Files.{Said, Parts, Syntax, Shape, IllFormed, file_said}
 use Rattle.vms_commands.specs.declared.ending.Ending.{Ending}
 use Rattle.vms_commands.specs.declared.ending.Ending.TheVariants.{Done, BadText, NotCompatible, WriteFault, ShelfFault, NotThere, TooLarge, NoMemory}
-use Rattle.vms_commands.specs.Endings.{EndsAs, Quiet}
+use Rattle.vms_commands.specs.Endings.{EndsAs, Quiet, ending_of}
 use Rattle.vms_commands.specs.Fetching.{longest_file, text_under, fetched, SetText, Number, Text, fetched_set, said_set, set_in, sets_in, named_sets, word_set}
 use Rattle.vms_commands.specs.Lines.{too_large_line}
 use Rattle.vms_commands.specs.Outcomes.{Outcome, done, ended}
@@ -17,6 +18,23 @@ use Rattle.vms_commands.specs.SetWords.{SetWord, Shipped, OnShelf}
 use Rattle.vms_commands.specs.StepEndings.{IsFree, EndedAs, StepAs, WrittenAs, TextEnds}
 use Rattle.vms_commands.specs.Steps.{Step, Untold, Gives, Ends, next, both, HasBy, HasText}
 use Rattle.vms_commands.proofs.EndLemmas.{comes_to_nothing, ends_with, takes_nothing}
+
+-- ---- how a command ends, by what its work comes to
+
+-- at the exit of a `?`
+pub ending_passed : {T : Type 0} (work : Result T Ending) {e : Ending} → IsErrAnd work (λ x. x ≡ e) → ending_of work ≡ e
+ending_passed (Ok t) is = absurd is
+ending_passed (Err x) is = is
+
+-- of a call whose fault has an ending
+abbrev pub mapped_by : {T F : Type 0} → (F → Ending) → Result T F → Ending
+mapped_by m (Ok t) = Done
+mapped_by m (Err fault) = m fault
+
+pub ending_mapped : {T F : Type 0} (m : F → Ending) (call : Result T F) (work : Result T Ending)
+    → MatchResult call (λ t. work ≡ Ok t) (λ fault. IsErrAnd work (λ x. x ≡ m fault)) → ending_of work ≡ mapped_by m call
+ending_mapped {T} m (Ok t) work is = ap (λ (w : Result T Ending). ending_of w) is
+ending_mapped m (Err fault) work is = ending_passed work is
 
 -- ---- one step after another
 

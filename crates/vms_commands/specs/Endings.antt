@@ -1,5 +1,5 @@
 -- How a command ends, before it is told on notes.
-use Rattle.std.specs.Prelude.{◌≡◌, ◌⊎◌, ℕ, Bool, true, List, [], string_bytes}
+use Rattle.std.specs.Prelude.{◌≡◌, ◌⊎◌, ℕ, Bool, true, List, [], Result, Ok, Err, string_bytes}
 use Rattle.std.specs.Io.KnownBytes.{Appends, Keeps}
 use Rattle.vms_io.specs.Causes.{Rose, AppendsPrefix}
 use Rattle.vms_io.specs.Told.{Intake, Outlet, Stock}
@@ -8,6 +8,11 @@ use Rattle.vms_commands.specs.declared.ending.Ending.{Ending}
 use Rattle.vms_commands.specs.declared.ending.Ending.TheVariants.{Done, Refused, BadWords, BadText, NotCompatible, ReadFault, WriteFault, ShelfFault, NotThere, TooLarge, NoMemory, WouldLose}
 use Rattle.vms_commands.specs.Lines.{bad_words, read_fault, write_fault, shelf_fault, out_of_memory}
 use Rattle.vms_commands.specs.Outcomes.{Outcome, text_of, held_after, TakesBytes, ComesTo, ComesToFault}
+
+-- how a command ends whose work comes to this
+abbrev pub ending_of : {T : Type 0} → Result T Ending → Ending
+ending_of (Ok t) = Done
+ending_of (Err ending) = ending
 
 -- the status of each ending, and its line
 abbrev pub status_of : Ending → ℕ

@@ -3,7 +3,7 @@ ghost use Rattle.std.specs.Prelude.{◌≡◌};
 ghost use Rattle.vms_commands.specs.declared.ending.Ending.TheVariants as endings;
 
 use crate::refused::NoteLine;
-use vms_io::NoMemory;
+use vms_io::{NoMemory, WriteFault};
 
 /// How a command ends; each but `Done` has a status and a line of notes, which some bring with them.
 #[derive(Drop)]
@@ -42,8 +42,26 @@ impl From<NoMemory> for Ending {
     }
 }
 
+impl From<WriteFault> for Ending {
+    ghost from_gives = { λ _ ending. ending ≡ endings.WriteFault };
+
+    fn from(_: WriteFault) -> Self {
+        Ending::WriteFault
+    }
+}
+
 impl Ending {
-    ghost use Rattle.vms_commands.specs.Endings.{status_of, line_of};
+    ghost use Rattle.vms_commands.specs.Endings.{ending_of, line_of, status_of};
+
+    /// How a command ends whose work comes to this.
+    pub fn of(work: Result<(), Ending>) -> Self
+        ensures { result ≡ ending_of work }
+    {
+        match work {
+            Ok(()) => Ending::Done,
+            Err(ending) => ending,
+        }
+    }
 
     /// The status that the program answers.
     pub fn status(&self) -> u8

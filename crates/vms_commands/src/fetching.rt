@@ -96,14 +96,23 @@ fn make_shipped(alloc: Global, set: ShippedSet) -> Result<DescSet, NoMemory>
     }
 }
 
+/// The set that a word names, or how the command ends where it can't be had.
+pub fn set_of<H: Shelf>(alloc: Global, word: SetWord, shelf: &mut H) -> Result<DescSet, Ending>
+    ensures had { StepAs described (word_set (H.held shelf.old) (set_asked word.entry)) result }
+    ensures asks { AsksIf HadCause (is_on_shelf (set_asked word.entry))
+        (stock H.Shelf shelf.old) (stock H.Shelf shelf.new) result }
+{
+    let text = fetch_set(alloc, word, shelf)?;
+    read_fetched(alloc, &text)
+}
+
 /// A loader of the set that a word names, or how the command ends where it can't be had.
 pub fn loader_of<H: Shelf>(alloc: Global, word: SetWord, shelf: &mut H) -> Result<Loader, Ending>
     ensures had { StepAs loads (word_set (H.held shelf.old) (set_asked word.entry)) result }
     ensures asks { AsksIf HadCause (is_on_shelf (set_asked word.entry))
         (stock H.Shelf shelf.old) (stock H.Shelf shelf.new) result }
 {
-    let text = fetch_set(alloc, word, shelf)?;
-    let set = read_fetched(alloc, &text)?;
+    let set = set_of(alloc, word, shelf)?;
     Ok(Loader::new(alloc, set)?)
 }
 

@@ -11,13 +11,15 @@ mod notes;
 mod refused;
 mod set_notes;
 mod set_words;
+mod texts;
 mod words;
 
 pub use ending::Ending;
-pub use fetching::{LONGEST_FILE, SetText, fetch, fetch_set, loader_of, read_fetched};
+pub use fetching::{LONGEST_FILE, SetText, fetch, fetch_set, loader_of, read_fetched, set_of};
 pub use line_parts::append_number;
 pub use notes::{not_there_line, too_large_line};
 pub use refused::{NoteLine, append_section, refusal_line, refused_line};
 pub use set_notes::{mismatch_line, rule_line, shape_line, syntax_line};
 pub use set_words::{IsaSet, SetWord, ShippedSet};
+pub use texts::write_text;
 pub use words::{set_word, shipped_set};
