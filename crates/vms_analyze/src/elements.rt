@@ -18,7 +18,10 @@ use vms_words::kind_named;
 const LONGEST_PATH: usize = 300;
 
 /// The elements of a device or a subsection.
-pub(crate) fn elements_in<'a>(alloc: Global, value: &Node<'a>) -> Result<Vec<Element<'a>>, Unread>
+pub(crate) fn elements_in<'a>(
+    alloc: Global,
+    value: &Node<'_, 'a>,
+) -> Result<Vec<Element<'a>>, Unread>
     ensures { ReadsAs (λ v. map told_of v.items) (elements_in (view value.now)) result }
 {
     each(alloc, list_at(value, "fields")?)
@@ -32,7 +35,7 @@ impl<'a> Reads<'a> for Element<'a> {
     ghost says = { element_in };
 
     // By its keys.
-    fn read(_: Global, value: &Node<'a>) -> Result<Self, Unread> {
+    fn read(_: Global, value: &Node<'_, 'a>) -> Result<Self, Unread> {
         if fits(value, &["name", "size", "type"], &[]) {
             sent_in(value)
         } else if fits(value, &["name", "size", "type", "value"], &[]) {
@@ -44,7 +47,7 @@ impl<'a> Reads<'a> for Element<'a> {
 }
 
 // What stands in the stream.
-fn sent_in<'a>(value: &Node<'a>) -> Result<Element<'a>, Unread>
+fn sent_in<'a>(value: &Node<'_, 'a>) -> Result<Element<'a>, Unread>
     ensures { ReadsAs told_of (sent_in (view value.now)) result }
 {
     let path = path_at(value, "name", LONGEST_PATH)?;
@@ -78,7 +81,7 @@ fn unprinted<'a>(path: &'a str, size: u64, word: &str) -> Result<Element<'a>, Un
 }
 
 // A number that doesn't stand there.
-fn kept_in<'a>(value: &Node<'a>) -> Result<Element<'a>, Unread>
+fn kept_in<'a>(value: &Node<'_, 'a>) -> Result<Element<'a>, Unread>
     ensures { ReadsAs told_of (kept_in (view value.now)) result }
 {
     let path = path_at(value, "name", LONGEST_PATH)?;

@@ -60,7 +60,7 @@ fn described<'a>(
     ensures { ReadsAs (λ v. map device_of v.items) (next (value_in text.now) devices_in) result }
 {
     match read_bytes(alloc, text, scratch) {
-        Ok(value) => devices_in(alloc, &value),
+        Ok(value) => devices_in(alloc, &value.root()),
         Err(NoNode::Syntax) => Err(Unread::Shape),
         Err(NoNode::NoMemory) => Err(Unread::NoMemory),
     }

@@ -4,7 +4,7 @@
 //! two's complement with the highest byte first.
 #![tactic(auto)]
 
-ghost use Rattle.std.specs.Prelude.{◌++◌, drop, ◌≡◌, ◌<◌, ◌≤◌, ◌↔◌, ◌^◌, length, IsTrue, IfSome, IsNone};
+ghost use Rattle.std.specs.Prelude.{◌++◌, drop, ◌≡◌, ◌<◌, ◌≤◌, ◌↔◌, length, IsTrue, IfSome, IsNone};
 ghost use Rattle.vms_kinds.specs.Codes.{width, lowest, highest, InRange, code, value_of, IsBadBool};
 
 use arrayvec::ArrayVec;
