@@ -1,7 +1,6 @@
 // One unit each, from its first byte.
 ghost use Rattle.std.specs.Prelude.{◌≡◌, true, false, ◌∷◌, [], ◌≤◌, length, IfOk};
 ghost use Rattle.vms_kinds.specs.Codes.{InRange};
-ghost use Rattle.vms_spec.specs.declared.TheConstants.{LONGEST_NAME};
 ghost use Rattle.vms_frames.specs.Calls.{IsNext, is_configuration, tail_of};
 ghost use Rattle.vms_io.specs.Told.{intake};
 ghost use Rattle.vms_frames.specs.Reads.{ReadsMagic, ReadsVersion, ReadsCode, ReadsStep, ReadsNext, ReadsBehind, ReadsSub, ReadsFoot, ReadsText, ReadsTrailer, IsBegun, held_bytes, head_seen, start_seen, configuration_seen, start_reason as start_reason_of, sub_reason as sub_reason_of};

@@ -33,8 +33,8 @@ returns-in_err-grow-2 g c =
           (λ rest lt. text_cut (IsBetween true false) nothing_known 0x07 LONGEST_NAME AUnit unit rest (omega (arith, c.requires, one.long)) (omega (arith, same, low)) (omega (arith, lt, same, c.requires, one.long))));
     })
 
-pub returns-then-length-gt255 : goal.returns-then-length-gt255
-returns-then-length-gt255 g c =
+pub returns-then-length-gt-LONGEST_NAME : goal.returns-then-length-gt-LONGEST_NAME
+returns-then-length-gt-LONGEST_NAME g c =
     let one = c.in_ok-grow.ensures.grown in
     let unit = c.grow.new.unit.items in
     let long : length unit ≡ 5 = omega (arith, c.requires, one.long) in
