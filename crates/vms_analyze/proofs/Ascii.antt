@@ -6,6 +6,7 @@ use Rattle.std.proofs.lemmas.Str.{IsUtf8-from_ascii, is_utf8-from_IsUtf8}
 use Rattle.std.specs.Str.{is_utf8}
 use Rattle.serde_json.specs.View.{items_of}
 use Rattle.serde_json.specs.Written.{compact_text}
+use Rattle.vms_spec.specs.declared.TheConstants.{LONGEST_NAME}
 use Rattle.vms_spec.proofs.NameBytes.{name_byte_low}
 use Rattle.vms_selfdesc.proofs.JsonBytes.{HasLetters, ItemsHave, Allows, IsSpelled, AreSpelled, text_good, word, kind_letters, sub_letters, device_letters, devices_letters}
 use Rattle.vms_analyze.specs.declared.elements.TheConstants.{LONGEST_PATH}
@@ -62,10 +63,10 @@ elements_ascii (t ∷ ts) e = let p = and_parts (is_good t) (list_all is_good ts
 
 sub_ascii : (s : ToldSub) → is_good_sub s ≡ true → HasLetters Ascii (told_sub s)
 sub_ascii s e =
-    let a = and_parts (is_path 255 s.name && fits_four s.version && list_all is_good s.elements) (s.sent || list_all is_kept s.elements) e in
-    let b = and_parts (is_path 255 s.name && fits_four s.version) (list_all is_good s.elements) a.0 in
-    let c = and_parts (is_path 255 s.name) (fits_four s.version) b.0 in
-    sub_letters allows (map told_entry s.elements) s.name s.sent s.version (elements_ascii s.elements b.1) (path_ascii 255 s.name c.0)
+    let a = and_parts (is_path LONGEST_NAME s.name && fits_four s.version && list_all is_good s.elements) (s.sent || list_all is_kept s.elements) e in
+    let b = and_parts (is_path LONGEST_NAME s.name && fits_four s.version) (list_all is_good s.elements) a.0 in
+    let c = and_parts (is_path LONGEST_NAME s.name) (fits_four s.version) b.0 in
+    sub_letters allows (map told_entry s.elements) s.name s.sent s.version (elements_ascii s.elements b.1) (path_ascii LONGEST_NAME s.name c.0)
 
 subs_ascii : (subs : List ToldSub) → list_all is_good_sub subs ≡ true → ItemsHave Ascii (items_of (map told_sub subs))
 subs_ascii [] e = tt
@@ -73,11 +74,11 @@ subs_ascii (s ∷ subs) e = let p = and_parts (is_good_sub s) (list_all is_good_
 
 device_ascii : (d : ToldDevice) → is_good_device d ≡ true → HasLetters Ascii (told_device d)
 device_ascii d e =
-    let a = and_parts (is_path 255 d.name && fits_four d.instance && fits_four d.version && list_all is_good d.elements) (list_all is_good_sub d.subs) e in
-    let b = and_parts (is_path 255 d.name && fits_four d.instance && fits_four d.version) (list_all is_good d.elements) a.0 in
-    let c = and_parts (is_path 255 d.name && fits_four d.instance) (fits_four d.version) b.0 in
-    let name = (and_parts (is_path 255 d.name) (fits_four d.instance) c.0).0 in
-    device_letters allows (map told_entry d.elements) d.instance d.name (map told_sub d.subs) d.version (elements_ascii d.elements b.1) (path_ascii 255 d.name name) (subs_ascii d.subs a.1)
+    let a = and_parts (is_path LONGEST_NAME d.name && fits_four d.instance && fits_four d.version && list_all is_good d.elements) (list_all is_good_sub d.subs) e in
+    let b = and_parts (is_path LONGEST_NAME d.name && fits_four d.instance && fits_four d.version) (list_all is_good d.elements) a.0 in
+    let c = and_parts (is_path LONGEST_NAME d.name && fits_four d.instance) (fits_four d.version) b.0 in
+    let name = (and_parts (is_path LONGEST_NAME d.name) (fits_four d.instance) c.0).0 in
+    device_letters allows (map told_entry d.elements) d.instance d.name (map told_sub d.subs) d.version (elements_ascii d.elements b.1) (path_ascii LONGEST_NAME d.name name) (subs_ascii d.subs a.1)
 
 devices_ascii : (ds : List ToldDevice) → list_all is_good_device ds ≡ true → ItemsHave Ascii (items_of (map told_device ds))
 devices_ascii [] e = tt

@@ -3,7 +3,7 @@ use Rattle.std.proofs.Common.{◌≡◌, ℕ, ◌+◌, ◌*◌, ◌≤◌, Bool,
 use Rattle.std.proofs.lemmas.Bool.{and_parts, leb-true, eqb-true}
 use Rattle.std.specs.List.{flat_map, list_all}
 use Rattle.vms_kinds.specs.Codes.{width}
-use Rattle.vms_spec.specs.declared.TheConstants.{MOST_UNUSED}
+use Rattle.vms_spec.specs.declared.TheConstants.{LONGEST_NAME, MOST_UNUSED}
 use Rattle.vms_spec.specs.Lookup.{number_at, bytes_at}
 use Rattle.vms_spec.specs.Names.{is_name_byte}
 use Rattle.vms_spec.specs.Sets.{Sub, Device, Set}
@@ -51,7 +51,7 @@ only_so false t u e = cc
 machine_long : (id : ℕ) (rest name : List ℕ) (u : Took) → take_machine id rest name ≡ Some u → u.long ≤ 260
 machine_long id rest name u e =
     let p = and_parts (begins_with (configuration name) rest) (is_machine name) (only_so _ _ u e) in
-    let few = leb-true (length name) 255 (and_parts (nat_le (length name) 255) (list_all is_name_byte name) p.1).0 in
+    let few = leb-true (length name) LONGEST_NAME (and_parts (nat_le (length name) LONGEST_NAME) (list_all is_name_byte name) p.1).0 in
     omega (arith, only_long _ _ u e, few)
 
 taken_long : (w : Want) (id : ℕ) (rest : List ℕ) (u : Took) → taken w id rest ≡ Some u → u.long ≤ most_of w

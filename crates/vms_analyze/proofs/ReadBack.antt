@@ -6,7 +6,7 @@ use Rattle.serde_json.specs.Data.{Data, number}
 use Rattle.serde_json.specs.Find.{of_integer}
 use Rattle.vms_kinds.specs.declared.Kind.{Kind}
 use Rattle.vms_kinds.specs.Codes.{width, lowest, highest}
-use Rattle.vms_spec.specs.declared.TheConstants.{MOST_UNUSED}
+use Rattle.vms_spec.specs.declared.TheConstants.{LONGEST_NAME, MOST_UNUSED}
 use Rattle.vms_spec.specs.Rules.{in_range}
 use Rattle.vms_selfdesc.specs.Drafts.{IsSound, AreSound}
 use Rattle.vms_selfdesc.specs.Tree.{entry_tree, list_tree}
@@ -60,9 +60,9 @@ four_sound n e = let h = ltb-true n 4294967296 e in omega arith
 
 sub_is_sound : (s : ToldSub) → is_good_sub s ≡ true → IsSound (told_sub s)
 sub_is_sound s e =
-    let a = and_parts (is_path 255 s.name && fits_four s.version && list_all is_good s.elements) (s.sent || list_all is_kept s.elements) e in
-    let b = and_parts (is_path 255 s.name && fits_four s.version) (list_all is_good s.elements) a.0 in
-    let c = and_parts (is_path 255 s.name) (fits_four s.version) b.0 in
+    let a = and_parts (is_path LONGEST_NAME s.name && fits_four s.version && list_all is_good s.elements) (s.sent || list_all is_kept s.elements) e in
+    let b = and_parts (is_path LONGEST_NAME s.name && fits_four s.version) (list_all is_good s.elements) a.0 in
+    let c = and_parts (is_path LONGEST_NAME s.name) (fits_four s.version) b.0 in
     sub_sound (map told_entry s.elements) s.name s.sent s.version (list_sound s.elements b.1) (natural_sound s.version (four_sound s.version c.1))
 
 subs_sound : (subs : List ToldSub) → list_all is_good_sub subs ≡ true → AreSound (map told_sub subs)
@@ -71,10 +71,10 @@ subs_sound (s ∷ subs) e = let p = and_parts (is_good_sub s) (list_all is_good_
 
 device_is_sound : (d : ToldDevice) → is_good_device d ≡ true → IsSound (told_device d)
 device_is_sound d e =
-    let a = and_parts (is_path 255 d.name && fits_four d.instance && fits_four d.version && list_all is_good d.elements) (list_all is_good_sub d.subs) e in
-    let b = and_parts (is_path 255 d.name && fits_four d.instance && fits_four d.version) (list_all is_good d.elements) a.0 in
-    let c = and_parts (is_path 255 d.name && fits_four d.instance) (fits_four d.version) b.0 in
-    let f = and_parts (is_path 255 d.name) (fits_four d.instance) c.0 in
+    let a = and_parts (is_path LONGEST_NAME d.name && fits_four d.instance && fits_four d.version && list_all is_good d.elements) (list_all is_good_sub d.subs) e in
+    let b = and_parts (is_path LONGEST_NAME d.name && fits_four d.instance && fits_four d.version) (list_all is_good d.elements) a.0 in
+    let c = and_parts (is_path LONGEST_NAME d.name && fits_four d.instance) (fits_four d.version) b.0 in
+    let f = and_parts (is_path LONGEST_NAME d.name) (fits_four d.instance) c.0 in
     device_sound (map told_entry d.elements) d.instance d.name (map told_sub d.subs) d.version (list_sound d.elements b.1) (natural_sound d.instance (four_sound d.instance f.1))
     (array_sound (map told_sub d.subs) (subs_sound d.subs a.1)) (natural_sound d.version (four_sound d.version c.1))
 

@@ -4,7 +4,7 @@ use Rattle.std.specs.List.{list_all}
 use Rattle.serde_json.specs.Data.{Data, object, no_members, put}
 use Rattle.vms_kinds.specs.declared.Kind.{Kind}
 use Rattle.vms_kinds.specs.Codes.{width}
-use Rattle.vms_spec.specs.declared.TheConstants.{MOST_UNUSED}
+use Rattle.vms_spec.specs.declared.TheConstants.{LONGEST_NAME, MOST_UNUSED}
 use Rattle.vms_spec.specs.Names.{is_name_byte}
 use Rattle.vms_spec.specs.Rules.{in_range}
 use Rattle.vms_words.specs.Words.{kind_word}
@@ -77,7 +77,7 @@ is_kept (Skipped path n) = false
 
 -- of a subsection that isn't sent no element stands in the stream
 abbrev pub is_good_sub : ToldSub → Bool
-is_good_sub s = is_path 255 s.name && fits_four s.version && list_all is_good s.elements && (s.sent || list_all is_kept s.elements)
+is_good_sub s = is_path LONGEST_NAME s.name && fits_four s.version && list_all is_good s.elements && (s.sent || list_all is_kept s.elements)
 
 abbrev pub is_good_device : ToldDevice → Bool
-is_good_device d = is_path 255 d.name && fits_four d.instance && fits_four d.version && list_all is_good d.elements && list_all is_good_sub d.subs
+is_good_device d = is_path LONGEST_NAME d.name && fits_four d.instance && fits_four d.version && list_all is_good d.elements && list_all is_good_sub d.subs

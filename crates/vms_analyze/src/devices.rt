@@ -11,9 +11,7 @@ use crate::members::{Unread, flag_at, four_at, list_at, path_at};
 use crate::told::{Device, Sub};
 use std::alloc::Global;
 use vms_json::{Node, fits};
-
-/// A name has at most so many bytes.
-const LONGEST_NAME: usize = 255;
+use vms_spec::LONGEST_NAME;
 
 /// The devices of a description.
 pub(crate) fn devices_in<'a>(alloc: Global, value: &Node<'_, 'a>) -> Result<Vec<Device<'a>>, Unread>

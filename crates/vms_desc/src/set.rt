@@ -1,4 +1,5 @@
 // A well-formed description set.
+ghost use Rattle.vms_kinds.specs.declared.TheConstants.{NEWEST_CLOCK_SET, NEWEST_SET};
 ghost use Rattle.vms_spec.specs.declared.TheConstants.{MOST_ITEMS};
 ghost use Rattle.std.specs.Prelude.{true, ◌≤◌, ◌<◌, ◌+◌, ◌==◌, ◌&&◌, ◌≡◌, length, IfOk, map};
 ghost use Rattle.std.specs.Str.{bytes_eq};
@@ -53,7 +54,7 @@ impl DescSet {
 
     /// The shipped set of this number, 0 to 4. Fails only where memory is wanting.
     pub fn shipped(alloc: Global, s: u8) -> Result<DescSet, NoMemory>
-        requires { s ≤ 4 }
+        requires { s ≤ NEWEST_SET }
         ensures { IfOk result (λ set. described set ≡ shipped_set s) }
     {
         Ok(Self::assemble(alloc, shipped_parts(alloc, s)?)?)
@@ -61,7 +62,7 @@ impl DescSet {
 
     /// The clock set of this number, 1 or 2; number 0 stands for the first too. Fails only where memory is wanting.
     pub fn clock(alloc: Global, c: u8) -> Result<DescSet, NoMemory>
-        requires { c ≤ 2 }
+        requires { c ≤ NEWEST_CLOCK_SET }
         ensures { IfOk result (λ set. described set ≡ clock_set c) }
     {
         Ok(Self::assemble(alloc, clock_parts(alloc, c)?)?)

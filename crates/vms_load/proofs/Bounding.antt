@@ -21,6 +21,7 @@ use Rattle.vms_load.specs.Staging.{section_bytes, sections_due, subs_bytes, devi
 use Rattle.vms_load.proofs.SetFacts.{well_of, few_subs}
 use Rattle.std.proofs.lemmas.Option.{slice_get_within, get_or_from_slice_get}
 use Rattle.vms_load.proofs.SmallItems.{AreSmall, struct_small, part_small}
+use Rattle.vms_marks.specs.declared.foot.TheConstants.{FOOT_LENGTH}
 use Rattle.vms_marks.specs.declared.head.TheConstants.{LONGEST_HEAD}
 use Rattle.vms_marks.specs.declared.sub_head.TheConstants.{LONGEST_SUB_HEAD}
 
@@ -82,7 +83,7 @@ module _ (set : Set) (well : is_well_formed set ≡ true) where
   subs_small (s ∷ subs) h = omega (arith, desc_small s.desc (h 0 s refl), subs_small subs (λ j t e. h (suc j) t e))
 
   devices_small : (devices : List Device) → ((k : ℕ) (d : Device) → slice_get devices k ≡ Some d → AreSmall d.desc.fields × (length d.subs ≤ 32) × ((j : ℕ) (s : Sub) → slice_get d.subs j ≡ Some s → AreSmall s.desc.fields))
-      → devices_most set devices ≤ 8626 * length devices + MOST_UNUSED * devices_items (struct_items set.structs) devices
+      → devices_most set devices ≤ (LONGEST_HEAD + FOOT_LENGTH + LONGEST_SUB_HEAD * 32) * length devices + MOST_UNUSED * devices_items (struct_items set.structs) devices
   devices_small [] h = omega arith
   devices_small (d ∷ devices) h =
       let here = h 0 d refl in
@@ -109,7 +110,7 @@ subs_all : (set : Set) (subs : List Sub) → subs_due set subs (map (λ s. None)
 subs_all set [] = refl
 subs_all set (s ∷ subs) = omega (arith, subs_all set subs)
 
-section_is : (set : Set) (d : Device) → section_bytes set d ≡ LONGEST_HEAD + 5 + LONGEST_SUB_HEAD * length d.subs + (bytes_of set d.desc + subs_bytes set d.subs)
+section_is : (set : Set) (d : Device) → section_bytes set d ≡ LONGEST_HEAD + FOOT_LENGTH + LONGEST_SUB_HEAD * length d.subs + (bytes_of set d.desc + subs_bytes set d.subs)
 section_is set d = omega (arith, subs_all set d.subs)
 
 pub all_due : (set : Set) (devices : List Device) → sections_due set devices (map (λ d. false) devices) ≡ devices_most set devices

@@ -3,6 +3,7 @@ use Rattle.std.proofs.Common.{◌≡◌, ℕ, zero, suc, ◌+◌, ◌<◌, List,
 use Rattle.std.specs.List.{slice_get}
 use Rattle.vms_kinds.specs.declared.Kind.{Kind}
 use Rattle.vms_kinds.specs.Codes.{width, value_of}
+use Rattle.vms_spec.specs.declared.TheConstants.{LONGEST_NAME}
 use Rattle.vms_spec.specs.declared.Reason.{Reason}
 use Rattle.vms_spec.specs.declared.Reason.TheVariants as reasons
 use Rattle.vms_spec.specs.Numbers.{is_truth, is_above, exceeds, same_number}
@@ -245,7 +246,7 @@ module _ (set : Set) (names : List (List ℕ)) (state : State) (d : Device) (ima
     between_outer first m rest =
         pick (m == 0x00) _ _ (pick (nat_lt (length rest) 1) Cut _ tt tt) (pick (m == 0x01) _ _ (pick (nat_lt (length rest) (6 + get_or rest 5 0)) Cut _ tt tt)
         (pick (m == 0x04) _ _ (pick (nat_lt (length rest) (14 + get_or rest 5 0)) Cut _ tt tt) (pick (m == 0x07 && first) _ _
-        (pick (nat_lt 255 (number_at 4 1 rest)) _ _ (pick (nat_lt (length rest) 5) Cut _ tt tt) (pick (nat_lt (length rest) (5 + number_at 4 1 rest)) Cut _ tt tt)) (pick (nat_lt (length rest) 1) Cut _ tt tt))))
+        (pick (nat_lt LONGEST_NAME (number_at 4 1 rest)) _ _ (pick (nat_lt (length rest) 5) Cut _ tt tt) (pick (nat_lt (length rest) (5 + number_at 4 1 rest)) Cut _ tt tt)) (pick (nat_lt (length rest) 1) Cut _ tt tt))))
 
     behind_outer : (t : Tail) (m : ℕ) (rest : List ℕ) → Outer (behind_at t m rest)
     unfolding behind_at
