@@ -1,5 +1,5 @@
 -- A chip is sound at power on, and time and every call keep it so.
-use Rattle.std.proofs.Common.{◌≡◌, ℕ, ◌-◌, ◌<◌, ◌≤◌, ◌==◌, Bool, ◌&&◌, ◌∷◌, length, slice_index_or, refl, subst, ◌∙◌, arith, ⊎_elim, []}
+use Rattle.std.proofs.Common.{◌≡◌, ℕ, ◌-◌, ◌<◌, ◌≤◌, ◌==◌, Bool, ◌&&◌, ◌∷◌, slice_index_or, refl, subst, ◌∙◌, arith, ⊎_elim, []}
 use Rattle.std.proofs.lemmas.Bool.Decides.{nat_tests}
 use Rattle.std.specs.Prelude.{nat_le}
 use Rattle.std.proofs.lemmas.Bool.{cases_Bool}
