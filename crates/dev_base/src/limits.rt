@@ -2,8 +2,10 @@
 ghost use Rattle.std.specs.Prelude.{◌↔◌, IsTrue};
 ghost use Rattle.dev_base.specs.Levels.{IsLevel};
 
+use vms_kinds::NEWEST_SET;
+
 /// The highest level of a board, which is also the number of the newest shipped set; the lowest is 1.
-pub const NEWEST: u8 = 4;
+pub const NEWEST: u8 = NEWEST_SET;
 
 /// The last moment of a board, in nanoseconds after power on.
 pub const LAST_MOMENT: u64 = 4_000_000_000_000_000_000;

@@ -23,9 +23,9 @@ use Rattle.dev_pit.proofs.Chips.{at_counter}
 use Rattle.dev_pit.proofs.CounterSteps.{same, goes-on, latched-goes_on, read_back-goes_on, read-goes_on}
 use Rattle.dev_pit.proofs.Edges.{ticks-mono}
 
-asked-go_on : (count status chosen : Bool) (j k now : ℕ) (before : Counter) (pit : Pit) → GoesOn before (counter_of k pit) → GoesOn before (counter_of k (asked_back count status chosen j now pit))
+asked-go_on : (count status : Bool) (j k now : ℕ) (before : Counter) (pit : Pit) → GoesOn before (counter_of k pit) → GoesOn before (counter_of k (asked_back count status j now pit))
 unfolding asked_back
-asked-go_on count status chosen j k now before pit g =
+asked-go_on count status j k now before pit g =
     at_counter (GoesOn before) k j _ pit
     (λ here. goes-on before (counter_of j pit) _ (subst (λ (i : ℕ). GoesOn before (counter_of i pit)) here g) (read_back-goes_on _ _ now (counter_of j pit))) g
 
@@ -40,7 +40,7 @@ control-goes_on (SetMode j access mode bcd) k now pit e =
     at_counter (GoesOn (counter_of k pit)) k j _ pit (λ here. absurd (grind (arith, nat_tests))) (same (counter_of k pit))
 control-goes_on (ReadBack count status first second third) k now pit e =
     either (λ (p : Pit). GoesOn (counter_of k pit) (counter_of k p)) (nat_le READ_BACK_LEVEL pit.level) _ pit
-    (asked-go_on count status third 2 k now _ _ (asked-go_on count status second 1 k now _ _ (asked-go_on count status first 0 k now _ pit (same (counter_of k pit)))))
+    (asked-go_on _ _ 2 k now _ _ (asked-go_on _ _ 1 k now _ _ (asked-go_on _ _ 0 k now _ pit (same (counter_of k pit)))))
     (same (counter_of k pit))
 
 -- a byte that doesn't complete a count leaves the counter counting

@@ -72,9 +72,9 @@ unfolding read_of
 read-holds held now counter e h = read_by-holds counter.status held now counter e h
 
 -- the whole chip
-asked-holds : (count status chosen : Bool) (j k held now : ℕ) (pit : Pit) → Holds held (counter_of k pit) → Holds held (counter_of k (asked_back count status chosen j now pit))
+asked-holds : (count status : Bool) (j k held now : ℕ) (pit : Pit) → Holds held (counter_of k pit) → Holds held (counter_of k (asked_back count status j now pit))
 unfolding asked_back
-asked-holds count status chosen j k held now pit h =
+asked-holds count status j k held now pit h =
     at_counter (Holds held) k j _ pit
     (λ here. read_back-holds _ _ held now (counter_of j pit) (subst (λ (i : ℕ). Holds held (counter_of i pit)) here h)) h
 
@@ -87,7 +87,7 @@ control-holds (SetMode j access mode bcd) k held now pit e h =
     at_counter (Holds held) k j _ pit (λ here. absurd (grind (arith, nat_tests))) h
 control-holds (ReadBack count status first second third) k held now pit e h =
     either (λ (p : Pit). Holds held (counter_of k p)) (nat_le READ_BACK_LEVEL pit.level) _ pit
-    (asked-holds count status third 2 k held now _ (asked-holds count status second 1 k held now _ (asked-holds count status first 0 k held now pit h))) h
+    (asked-holds _ _ 2 k held now _ (asked-holds _ _ 1 k held now _ (asked-holds _ _ 0 k held now pit h))) h
 
 write-holds : (k held now port value : ℕ) (pit : Pit) → k < 3 → (0x40 ≤ port) × (port ≤ 0x43) × (value < 256) → ((port == 0x43) && sets_mode_of k (control_word value)) ≡ false → Holds held (counter_of k pit) → Holds held (counter_of k (pit_written port value now pit))
 unfolding pit_written

@@ -1,5 +1,5 @@
 -- A counter that was loaded by a moment was loaded by each later one.
-use Rattle.std.proofs.Common.{◌≡◌, ℕ, ◌<◌, ◌≤◌, Bool, ◌&&◌, Option, Some, None, length, slice_index_or, subst, sym, ap, ◌∙◌, arith}
+use Rattle.std.proofs.Common.{◌≡◌, ℕ, ◌<◌, ◌≤◌, Bool, Option, Some, None, length, slice_index_or, subst, sym, ap, ◌∙◌, arith}
 use Rattle.std.specs.Prelude.{nat_le}
 use Rattle.std.proofs.lemmas.List.{get_or_default}
 use Rattle.dev_pit.specs.Counter.{LoadedBy, loaded, written, written_by, written_low_first, programmed, powered_on, read_of, read_back, latched}
@@ -61,10 +61,10 @@ step-loaded now j step pit keeps h k within =
     (record { by = h k within })).by
 
 -- the whole chip
-asked_loaded : (count status chosen : Bool) (k now : ℕ) (pit : Pit) → IsLoadedBy now pit → IsLoadedBy now (asked_back count status chosen k now pit)
+asked_loaded : (count status : Bool) (k now : ℕ) (pit : Pit) → IsLoadedBy now pit → IsLoadedBy now (asked_back count status k now pit)
 unfolding asked_back
-asked_loaded count status chosen k now pit h =
-    step-loaded now k (read_back (count && chosen) (status && chosen) now) pit (λ c l. goes_on-loaded now c _ (read_back-goes_on _ _ now c) l) h
+asked_loaded count status k now pit h =
+    step-loaded now k (read_back count status now) pit (λ c l. goes_on-loaded now c _ (read_back-goes_on _ _ now c) l) h
 
 controlled-loaded : (word : ControlWord) (now : ℕ) (pit : Pit) → IsLoadedBy now pit → IsLoadedBy now (controlled word now pit)
 unfolding controlled
@@ -74,7 +74,7 @@ controlled-loaded (SetMode k access mode bcd) now pit h =
     with-loaded now k _ pit h (programmed-loaded access mode bcd now (counter_of k pit))
 controlled-loaded (ReadBack count status first second third) now pit h =
     either (IsLoadedBy now) (nat_le READ_BACK_LEVEL pit.level) _ _
-    (asked_loaded count status third 2 now _ (asked_loaded count status second 1 now _ (asked_loaded count status first 0 now pit h))) h
+    (asked_loaded _ _ 2 now _ (asked_loaded _ _ 1 now _ (asked_loaded _ _ 0 now pit h))) h
 
 pub pit-later : (now later : ℕ) (pit : Pit) → IsLoadedBy now pit → now ≤ later → IsLoadedBy later pit
 pit-later now later pit h l k within = loaded_by-later (counter_of k pit).loaded_at now later (h k within) l

@@ -1,5 +1,5 @@
 -- A chip is sound at power on, and time and every call keep it so.
-use Rattle.std.proofs.Common.{◌≡◌, ℕ, ◌-◌, ◌<◌, ◌≤◌, ◌==◌, Bool, ◌&&◌, ◌∷◌, length, slice_index_or, refl, subst, ◌∙◌, arith, ⊎_elim, []}
+use Rattle.std.proofs.Common.{◌≡◌, ℕ, ◌-◌, ◌<◌, ◌≤◌, ◌==◌, Bool, ◌&&◌, ◌∷◌, slice_index_or, refl, subst, ◌∙◌, arith, ⊎_elim, []}
 use Rattle.std.proofs.lemmas.Bool.Decides.{nat_tests}
 use Rattle.std.specs.Prelude.{nat_le}
 use Rattle.std.proofs.lemmas.Bool.{cases_Bool}
@@ -58,19 +58,15 @@ pit_read-sound : (k now : ℕ) (pit : Pit) → IsSoundPit now pit → IsSoundPit
 unfolding pit_read
 pit_read-sound k now pit s = step-sound k now (λ c. (read_of now c).1) pit (λ c p. read-sound pit.level now c p) s
 
-asked-sound : (count status chosen : Bool) (k now : ℕ) (pit : Pit) → READ_BACK_LEVEL ≤ pit.level → IsSoundPit now pit → IsSoundPit now (asked_back count status chosen k now pit)
+asked-sound : (count status : Bool) (k now : ℕ) (pit : Pit) → READ_BACK_LEVEL ≤ pit.level → IsSoundPit now pit → IsSoundPit now (asked_back count status k now pit)
 unfolding asked_back
-asked-sound count status chosen k now pit h s =
-    step-sound k now (read_back (count && chosen) (status && chosen) now) pit (λ c p. read_back-sound _ _ pit.level now c h p) s
+asked-sound count status k now pit h s =
+    step-sound k now (read_back count status now) pit (λ c p. read_back-sound _ _ pit.level now c h p) s
 
-asked-level : (count status chosen : Bool) (k now : ℕ) (pit : Pit) → (asked_back count status chosen k now pit).level ≡ pit.level
-unfolding asked_back
-asked-level count status chosen k now pit = refl
-
-all-asked : (count status first second third : Bool) (now : ℕ) (pit : Pit) → READ_BACK_LEVEL ≤ pit.level → IsSoundPit now pit → IsSoundPit now (asked_back count status third 2 now (asked_back count status second 1 now (asked_back count status first 0 now pit)))
+all-asked : (count status first second third : Bool) (now : ℕ) (pit : Pit) → READ_BACK_LEVEL ≤ pit.level → IsSoundPit now pit → IsSoundPit now (asked_back (count && third) (status && third) 2 now (asked_back (count && second) (status && second) 1 now (asked_back (count && first) (status && first) 0 now pit)))
 unfolding asked_back
 all-asked count status first second third now pit h s =
-    asked-sound count status third 2 now _ h (asked-sound count status second 1 now _ h (asked-sound count status first 0 now pit h s))
+    asked-sound _ _ 2 now _ h (asked-sound _ _ 1 now _ h (asked-sound _ _ 0 now pit h s))
 
 controlled-sound : (word : ControlWord) (now : ℕ) (pit : Pit) → IsSoundPit now pit → IsSoundPit now (controlled word now pit)
 unfolding controlled

@@ -1,13 +1,10 @@
 -- The status byte tells its four parts.
-use Rattle.std.proofs.Common.{◌≡◌, ℕ, ◌+◌, ◌*◌, ◌/◌, ◌%◌, ◌≤◌, ◌==◌, Bool, true, false, refl, ap, ◌∙◌, arith}
+use Rattle.std.proofs.Common.{◌≡◌, ℕ, ◌+◌, ◌*◌, ◌/◌, ◌%◌, ◌≤◌, ◌==◌, ap, ◌∙◌, arith}
 use Rattle.dev_base.specs.Cells.{flag_number}
 use Rattle.dev_pit.specs.Counter.{out_of, status_of}
 use Rattle.dev_pit.specs.Laws.{TellsStatus, StatusTells}
 use Rattle.dev_pit.specs.Mode.{mode_number, access_number}
 use Rattle.dev_pit.specs.declared.counter.Counter.{Counter}
-use Rattle.dev_pit.specs.declared.mode.Mode.{Mode}
-use Rattle.dev_pit.specs.declared.mode.Mode.TheVariants.{TerminalCount, OneShot, RateGenerator, SquareWave, SoftwareStrobe, HardwareStrobe}
-use Rattle.dev_pit.specs.declared.mode.Access.{Access}
 use Rattle.dev_base.proofs.CellLaws.{flag-back}
 use Rattle.dev_pit.proofs.SoundSteps.{flag-small}
 use Rattle.dev_pit.proofs.PlainSound.{mode-small, access-small}

@@ -31,17 +31,18 @@ new_pit level = record { level = level; counters = powered_on ∷ powered_on ∷
 unfoldable pub pit_read : ℕ → ℕ → Pit → ℕ × Pit
 pit_read k now pit = let answer = read_of now (counter_of k pit) in (answer.0, with_counter k answer.1 pit)
 
--- the read-back command at one counter, which may be chosen
-unfoldable pub asked_back : Bool → Bool → Bool → ℕ → ℕ → Pit → Pit
-asked_back count status chosen k now pit =
-    with_counter k (read_back (count && chosen) (status && chosen) now (counter_of k pit)) pit
+-- one counter is asked for its count, its status or both
+unfoldable pub asked_back : Bool → Bool → ℕ → ℕ → Pit → Pit
+asked_back count status k now pit = with_counter k (read_back count status now (counter_of k pit)) pit
 
 -- what a control word does; an 8253 has no read-back
 unfoldable pub controlled : ControlWord → ℕ → Pit → Pit
 controlled (LatchCount k) now pit = with_counter k (latched now (counter_of k pit)) pit
 controlled (SetMode k access mode bcd) now pit = with_counter k (programmed access mode bcd (counter_of k pit)) pit
 controlled (ReadBack count status first second third) now pit =
-    if nat_le READ_BACK_LEVEL pit.level then asked_back count status third 2 now (asked_back count status second 1 now (asked_back count status first 0 now pit)) else pit
+    if nat_le READ_BACK_LEVEL pit.level
+    then asked_back (count && third) (status && third) 2 now (asked_back (count && second) (status && second) 1 now (asked_back (count && first) (status && first) 0 now pit))
+    else pit
 
 -- a byte is written to a counter's port, or to the control port
 unfoldable pub pit_written : ℕ → ℕ → ℕ → Pit → Pit

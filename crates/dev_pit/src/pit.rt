@@ -111,16 +111,16 @@ impl Pit {
         self.counters[counter as usize].edge(from, to)
     }
 
-    // The read-back command at one counter, which may be chosen.
+    // Asks one counter for its count, its status or both.
     #[tactic(auto, unfolding(crate::specs::Pit::asked_back))]
-    fn ask_back(&mut self, count: bool, status: bool, chosen: bool, k: usize, now: u64)
+    fn ask_back(&mut self, count: bool, status: bool, k: usize, now: u64)
         requires counter { k < 3 }
         requires moment { now ≤ LAST_MOMENT }
         requires loaded { IsLoadedBy now self.old }
-        ensures step { self.new ≡ asked_back count status chosen k now self.old }
+        ensures step { self.new ≡ asked_back count status k now self.old }
         ensures keeps { IsLoadedBy now self.new }
     {
-        self.counters[k].read_back(count && chosen, status && chosen, now);
+        self.counters[k].read_back(count, status, now);
     }
 
     // Does what a control word asks for.
@@ -147,9 +147,9 @@ impl Pit {
                 counter2,
             } => {
                 if self.level >= READ_BACK_LEVEL {
-                    self.ask_back(count, status, counter0, 0, now);
-                    self.ask_back(count, status, counter1, 1, now);
-                    self.ask_back(count, status, counter2, 2, now);
+                    self.ask_back(count && counter0, status && counter0, 0, now);
+                    self.ask_back(count && counter1, status && counter1, 1, now);
+                    self.ask_back(count && counter2, status && counter2, 2, now);
                 }
             }
         }

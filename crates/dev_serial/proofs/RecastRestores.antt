@@ -1,5 +1,5 @@
 -- Recast cells are restored as the cells are.
-use Rattle.std.proofs.Common.{◌≡◌, ℕ, ◌+◌, ◌≤◌, ◌==◌, Bool, true, false, ◌&&◌, ◌||◌, not, nat_le, nat_lt, if◌then◌else◌, List, [], ◌∷◌, length, Result, refl, sym, ap, ◌∙◌, arith, ℤ}
+use Rattle.std.proofs.Common.{◌≡◌, ℕ, ◌+◌, ◌≤◌, ◌==◌, Bool, true, false, ◌&&◌, ◌||◌, not, nat_le, nat_lt, if◌then◌else◌, List, [], ◌∷◌, length, refl, sym, ap, ◌∙◌, arith, ℤ}
 use Rattle.std.proofs.lemmas.Bool.{ne_eqb, or_right}
 use Rattle.vms_hooks.specs.Numbers.{Numbers}
 use Rattle.dev_base.specs.Bits.{has, same}
@@ -7,7 +7,7 @@ use Rattle.dev_base.specs.Rules.{judged}
 use Rattle.dev_serial.specs.Access.{is_empty}
 use Rattle.dev_serial.specs.Cells.{numbers_of}
 use Rattle.dev_serial.specs.Port.{Port, interrupt, id_number}
-use Rattle.dev_serial.specs.PortNumbers.{bytes_held, fifos_of, latch_of, moment_of, port_of, port_with, shift_of, stored_bytes}
+use Rattle.dev_serial.specs.PortNumbers.{port_of, port_with, stored_bytes}
 use Rattle.dev_serial.specs.Recast.{is_in_ring, array_for, ring_left, recast_port, recast_cells}
 use Rattle.dev_serial.specs.Rules.{fcr_holds, id_holds, is_stored_once, is_unused, latch_holds, longest_timeout, once_holds, registers_hold, restored, rings_hold, rules, shift_holds, status_holds, timeout_holds, unused_hold}
 use Rattle.dev_serial.specs.Saved.{restored_cells}

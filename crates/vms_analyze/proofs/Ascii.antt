@@ -6,8 +6,10 @@ use Rattle.std.proofs.lemmas.Str.{IsUtf8-from_ascii, is_utf8-from_IsUtf8}
 use Rattle.std.specs.Str.{is_utf8}
 use Rattle.serde_json.specs.View.{items_of}
 use Rattle.serde_json.specs.Written.{compact_text}
+use Rattle.vms_spec.specs.declared.TheConstants.{LONGEST_NAME}
 use Rattle.vms_spec.proofs.NameBytes.{name_byte_low}
 use Rattle.vms_selfdesc.proofs.JsonBytes.{HasLetters, ItemsHave, Allows, IsSpelled, AreSpelled, text_good, word, kind_letters, sub_letters, device_letters, devices_letters}
+use Rattle.vms_analyze.specs.declared.elements.TheConstants.{LONGEST_PATH}
 use Rattle.vms_analyze.specs.Told.{Told, Sent, Kept, Fixed, Skipped, told_entry, ToldSub, told_sub, ToldDevice, told_device, told_tree, is_path_byte, is_path, fits_four, is_good, is_kept, is_good_sub, is_good_device}
 
 abbrev Ascii : ℕ → Type 0
@@ -50,10 +52,10 @@ path_ascii most path e = bytes_ascii path (and_parts (nat_le 1 (length path) && 
 -- ---- what is told
 
 element_ascii : (t : Told) → is_good t ≡ true → IsSpelled Ascii (told_entry t)
-element_ascii (Sent path kind) e = record { path = path_ascii 300 path e; type = kind_letters allows kind }
-element_ascii (Kept path kind z) e = record { path = path_ascii 300 path (and_parts (is_path 300 path) _ e).0; type = kind_letters allows kind }
-element_ascii (Fixed path n) e = record { path = path_ascii 300 path (and_parts (is_path 300 path) _ e).0; type = word allows (codes "equal") refl }
-element_ascii (Skipped path n) e = record { path = path_ascii 300 path (and_parts (is_path 300 path) _ e).0; type = word allows (codes "unused") refl }
+element_ascii (Sent path kind) e = record { path = path_ascii LONGEST_PATH path e; type = kind_letters allows kind }
+element_ascii (Kept path kind z) e = record { path = path_ascii LONGEST_PATH path (and_parts (is_path LONGEST_PATH path) _ e).0; type = kind_letters allows kind }
+element_ascii (Fixed path n) e = record { path = path_ascii LONGEST_PATH path (and_parts (is_path LONGEST_PATH path) _ e).0; type = word allows (codes "equal") refl }
+element_ascii (Skipped path n) e = record { path = path_ascii LONGEST_PATH path (and_parts (is_path LONGEST_PATH path) _ e).0; type = word allows (codes "unused") refl }
 
 elements_ascii : (ts : List Told) → list_all is_good ts ≡ true → AreSpelled Ascii (map told_entry ts)
 elements_ascii [] e = tt
@@ -61,10 +63,10 @@ elements_ascii (t ∷ ts) e = let p = and_parts (is_good t) (list_all is_good ts
 
 sub_ascii : (s : ToldSub) → is_good_sub s ≡ true → HasLetters Ascii (told_sub s)
 sub_ascii s e =
-    let a = and_parts (is_path 255 s.name && fits_four s.version && list_all is_good s.elements) (s.sent || list_all is_kept s.elements) e in
-    let b = and_parts (is_path 255 s.name && fits_four s.version) (list_all is_good s.elements) a.0 in
-    let c = and_parts (is_path 255 s.name) (fits_four s.version) b.0 in
-    sub_letters allows (map told_entry s.elements) s.name s.sent s.version (elements_ascii s.elements b.1) (path_ascii 255 s.name c.0)
+    let a = and_parts (is_path LONGEST_NAME s.name && fits_four s.version && list_all is_good s.elements) (s.sent || list_all is_kept s.elements) e in
+    let b = and_parts (is_path LONGEST_NAME s.name && fits_four s.version) (list_all is_good s.elements) a.0 in
+    let c = and_parts (is_path LONGEST_NAME s.name) (fits_four s.version) b.0 in
+    sub_letters allows (map told_entry s.elements) s.name s.sent s.version (elements_ascii s.elements b.1) (path_ascii LONGEST_NAME s.name c.0)
 
 subs_ascii : (subs : List ToldSub) → list_all is_good_sub subs ≡ true → ItemsHave Ascii (items_of (map told_sub subs))
 subs_ascii [] e = tt
@@ -72,11 +74,11 @@ subs_ascii (s ∷ subs) e = let p = and_parts (is_good_sub s) (list_all is_good_
 
 device_ascii : (d : ToldDevice) → is_good_device d ≡ true → HasLetters Ascii (told_device d)
 device_ascii d e =
-    let a = and_parts (is_path 255 d.name && fits_four d.instance && fits_four d.version && list_all is_good d.elements) (list_all is_good_sub d.subs) e in
-    let b = and_parts (is_path 255 d.name && fits_four d.instance && fits_four d.version) (list_all is_good d.elements) a.0 in
-    let c = and_parts (is_path 255 d.name && fits_four d.instance) (fits_four d.version) b.0 in
-    let name = (and_parts (is_path 255 d.name) (fits_four d.instance) c.0).0 in
-    device_letters allows (map told_entry d.elements) d.instance d.name (map told_sub d.subs) d.version (elements_ascii d.elements b.1) (path_ascii 255 d.name name) (subs_ascii d.subs a.1)
+    let a = and_parts (is_path LONGEST_NAME d.name && fits_four d.instance && fits_four d.version && list_all is_good d.elements) (list_all is_good_sub d.subs) e in
+    let b = and_parts (is_path LONGEST_NAME d.name && fits_four d.instance && fits_four d.version) (list_all is_good d.elements) a.0 in
+    let c = and_parts (is_path LONGEST_NAME d.name && fits_four d.instance) (fits_four d.version) b.0 in
+    let name = (and_parts (is_path LONGEST_NAME d.name) (fits_four d.instance) c.0).0 in
+    device_letters allows (map told_entry d.elements) d.instance d.name (map told_sub d.subs) d.version (elements_ascii d.elements b.1) (path_ascii LONGEST_NAME d.name name) (subs_ascii d.subs a.1)
 
 devices_ascii : (ds : List ToldDevice) → list_all is_good_device ds ≡ true → ItemsHave Ascii (items_of (map told_device ds))
 devices_ascii [] e = tt

@@ -7,6 +7,7 @@ use Rattle.std.proofs.lemmas.Bool.{and_parts, and_from}
 use Rattle.serde_json.specs.Data.{Data, array, object, Items, Members, no_members, member}
 use Rattle.serde_json.specs.Find.{get, get_member, as_array}
 use Rattle.serde_json.specs.View.{items_of}
+use Rattle.vms_spec.specs.declared.TheConstants.{LONGEST_NAME}
 use Rattle.vms_json.specs.Keys.{fits}
 use Rattle.vms_selfdesc.specs.Tree.{entry_tree, list_tree}
 use Rattle.vms_analyze.specs.Told.{Told, told_entry, ToldSub, told_sub, ToldDevice, told_device, told_tree, is_path, fits_four, is_good, is_kept, is_good_sub, is_good_device}
@@ -75,14 +76,14 @@ a_sub name sent version elements = record { name = name; sent = sent; version = 
 
 -- of an object with these keys, which has a name
 by_keys : {A : Type 0} (tree : A → Data) (good : A → Bool) (keys : List (List ℕ)) (rest : List ℕ → Option A) (d : Data) (a : A)
-    → (if fits keys [] d then next (path_at 255 (codes "name") d) rest else None) ≡ Some a
-    → (fits keys [] d ≡ true → (name : List ℕ) → IsPathAt 255 (codes "name") d name → rest name ≡ Some a → Says tree good d a) → Says tree good d a
+    → (if fits keys [] d then next (path_at LONGEST_NAME (codes "name") d) rest else None) ≡ Some a
+    → (fits keys [] d ≡ true → (name : List ℕ) → IsPathAt LONGEST_NAME (codes "name") d name → rest name ≡ Some a → Says tree good d a) → Says tree good d a
 by_keys tree good keys rest d a e says = go (fits keys [] d) refl e
   where
-    go : (b : Bool) → fits keys [] d ≡ b → (if b then next (path_at 255 (codes "name") d) rest else None) ≡ Some a → Says tree good d a
+    go : (b : Bool) → fits keys [] d ≡ b → (if b then next (path_at LONGEST_NAME (codes "name") d) rest else None) ≡ Some a → Says tree good d a
     go true f e =
-        let n = after (path_at 255 (codes "name") d) rest a e in
-        says f n.value (path_is 255 (codes "name") d n.value n.first) n.then
+        let n = after (path_at LONGEST_NAME (codes "name") d) rest a e in
+        says f n.value (path_is LONGEST_NAME (codes "name") d n.value n.first) n.then
     go false f e = cc
 
 pub sub_says : (d : Data) → IsSorted d → (s : ToldSub) → sub_in d ≡ Some s → Says told_sub is_good_sub d s
@@ -100,16 +101,16 @@ sub_says d sorted s e = by_keys told_sub is_good_sub sub_keys _ d s e (λ h name
           ∙ ap told_sub o.same;
       good_is =
           ap is_good_sub (sym o.same)
-          ∙ and_from (is_path 255 name && fits_four c.value && list_all is_good l.value) (b.value || list_all is_kept l.value)
-          (and_from (is_path 255 name && fits_four c.value) (list_all is_good l.value) (and_from (is_path 255 name) (fits_four c.value) named.good version.good) elements.fine) o.so;
+          ∙ and_from (is_path LONGEST_NAME name && fits_four c.value && list_all is_good l.value) (b.value || list_all is_kept l.value)
+          (and_from (is_path LONGEST_NAME name && fits_four c.value) (list_all is_good l.value) (and_from (is_path LONGEST_NAME name) (fits_four c.value) named.good version.good) elements.fine) o.so;
     })
 
 pub sub_back : (s : ToldSub) → is_good_sub s ≡ true → sub_in (told_sub s) ≡ Some s
 sub_back s e =
-    let p = and_parts (is_path 255 s.name && fits_four s.version && list_all is_good s.elements) (s.sent || list_all is_kept s.elements) e in
-    let q = and_parts (is_path 255 s.name && fits_four s.version) (list_all is_good s.elements) p.0 in
-    let r = and_parts (is_path 255 s.name) (fits_four s.version) q.0 in
-    first_then (path_at 255 (codes "name") (told_sub s)) _ s.name _ (only_so (is_path 255 s.name) s.name r.0)
+    let p = and_parts (is_path LONGEST_NAME s.name && fits_four s.version && list_all is_good s.elements) (s.sent || list_all is_kept s.elements) e in
+    let q = and_parts (is_path LONGEST_NAME s.name && fits_four s.version) (list_all is_good s.elements) p.0 in
+    let r = and_parts (is_path LONGEST_NAME s.name) (fits_four s.version) q.0 in
+    first_then (path_at LONGEST_NAME (codes "name") (told_sub s)) _ s.name _ (only_so (is_path LONGEST_NAME s.name) s.name r.0)
     (first_then (four_at (codes "version") (told_sub s)) _ s.version _ (only_so (fits_four s.version) s.version r.1)
     (first_then (elements_in (told_sub s)) _ s.elements _ (entries_back s.elements q.1) (only_so (s.sent || list_all is_kept s.elements) s p.1)))
 
@@ -147,18 +148,18 @@ device_says d sorted t e = by_keys told_device is_good_device device_keys _ d t 
           ∙ ap told_device same;
       good_is =
           ap is_good_device (sym same)
-          ∙ and_from (is_path 255 name && fits_four b.value && fits_four c.value && list_all is_good l.value) (list_all is_good_sub m.value)
-          (and_from (is_path 255 name && fits_four b.value && fits_four c.value) (list_all is_good l.value)
-          (and_from (is_path 255 name && fits_four b.value) (fits_four c.value) (and_from (is_path 255 name) (fits_four b.value) named.good instance.good) version.good) elements.fine) subs.fine;
+          ∙ and_from (is_path LONGEST_NAME name && fits_four b.value && fits_four c.value && list_all is_good l.value) (list_all is_good_sub m.value)
+          (and_from (is_path LONGEST_NAME name && fits_four b.value && fits_four c.value) (list_all is_good l.value)
+          (and_from (is_path LONGEST_NAME name && fits_four b.value) (fits_four c.value) (and_from (is_path LONGEST_NAME name) (fits_four b.value) named.good instance.good) version.good) elements.fine) subs.fine;
     })
 
 pub device_back : (t : ToldDevice) → is_good_device t ≡ true → device_in (told_device t) ≡ Some t
 device_back t e =
-    let p = and_parts (is_path 255 t.name && fits_four t.instance && fits_four t.version && list_all is_good t.elements) (list_all is_good_sub t.subs) e in
-    let q = and_parts (is_path 255 t.name && fits_four t.instance && fits_four t.version) (list_all is_good t.elements) p.0 in
-    let r = and_parts (is_path 255 t.name && fits_four t.instance) (fits_four t.version) q.0 in
-    let s = and_parts (is_path 255 t.name) (fits_four t.instance) r.0 in
-    first_then (path_at 255 (codes "name") (told_device t)) _ t.name _ (only_so (is_path 255 t.name) t.name s.0)
+    let p = and_parts (is_path LONGEST_NAME t.name && fits_four t.instance && fits_four t.version && list_all is_good t.elements) (list_all is_good_sub t.subs) e in
+    let q = and_parts (is_path LONGEST_NAME t.name && fits_four t.instance && fits_four t.version) (list_all is_good t.elements) p.0 in
+    let r = and_parts (is_path LONGEST_NAME t.name && fits_four t.instance) (fits_four t.version) q.0 in
+    let s = and_parts (is_path LONGEST_NAME t.name) (fits_four t.instance) r.0 in
+    first_then (path_at LONGEST_NAME (codes "name") (told_device t)) _ t.name _ (only_so (is_path LONGEST_NAME t.name) t.name s.0)
     (first_then (four_at (codes "instance_id") (told_device t)) _ t.instance _ (only_so (fits_four t.instance) t.instance s.1)
     (first_then (four_at (codes "version") (told_device t)) _ t.version _ (only_so (fits_four t.version) t.version r.1)
     (first_then (elements_in (told_device t)) _ t.elements _ (entries_back t.elements q.1)

@@ -8,10 +8,12 @@ use Rattle.serde_json.specs.Find.{of_integer}
 use Rattle.vms_json.specs.Keys.{fits}
 use Rattle.vms_kinds.specs.declared.Kind.{Kind}
 use Rattle.vms_kinds.specs.Codes.{width}
+use Rattle.vms_spec.specs.declared.TheConstants.{MOST_UNUSED}
 use Rattle.vms_spec.specs.Rules.{in_range}
 use Rattle.vms_words.specs.Words.{kind_word, kind_named}
 use Rattle.vms_words.proofs.WordLaws.{word_named, tells_kind}
 use Rattle.vms_selfdesc.specs.Tree.{natural, entry_tree}
+use Rattle.vms_analyze.specs.declared.elements.TheConstants.{LONGEST_PATH}
 use Rattle.vms_analyze.specs.Told.{Told, Sent, Kept, Fixed, Skipped, told_entry, is_path, is_good}
 use Rattle.vms_analyze.specs.Sorted.{IsSorted}
 use Rattle.vms_analyze.specs.Read.{only, text_at, path_at, natural_at, whole_at, sent_keys, kept_keys, unprinted, sent_as, sent_in, kept_as, kept_in, element_in}
@@ -42,7 +44,7 @@ word_of word kind e = (tells_kind word kind).0 e
 -- an element of a path is told, and its tree is this
 record IsToldBy (path : List ℕ) (tree_read : Data) (t : Told) : Type 0 where
   tree : tree_read ≡ element_tree t
-  good : is_path 300 path ≡ true → is_good t ≡ true
+  good : is_path LONGEST_PATH path ≡ true → is_good t ≡ true
 
 abbrev IsUnprinted : List ℕ → ℕ → List ℕ → Told → Type 0
 IsUnprinted path size word t = IsToldBy path (three (string path) (natural size) (string word)) t
@@ -51,7 +53,7 @@ abbrev is_fixed : ℕ → Bool
 is_fixed size = size == 1 || size == 2 || size == 4 || size == 8
 
 abbrev is_few : ℕ → Bool
-is_few size = nat_le 1 size && nat_le size 4096
+is_few size = nat_le 1 size && nat_le size MOST_UNUSED
 
 unprinted_is : (path : List ℕ) (size : ℕ) (word : List ℕ) (t : Told) → unprinted path size word ≡ Some t → IsUnprinted path size word t
 unprinted_is path size word t e = go (bytes_eq word (codes "equal")) (bytes_eq word (codes "unused")) refl refl e
@@ -63,10 +65,10 @@ unprinted_is path size word t e = go (bytes_eq word (codes "equal")) (bytes_eq w
         → (if a then only (is_fixed size) (Fixed path size) else if b then only (is_few size) (Skipped path size) else None) ≡ Some t → IsUnprinted path size word t
     go true b f g e =
         let o = only_is (is_fixed size) (Fixed path size) t e in
-        record { tree = same (codes "equal") f ∙ ap element_tree o.same; good = λ h. ap is_good (sym o.same) ∙ and_from (is_path 300 path) (is_fixed size) h o.so }
+        record { tree = same (codes "equal") f ∙ ap element_tree o.same; good = λ h. ap is_good (sym o.same) ∙ and_from (is_path LONGEST_PATH path) (is_fixed size) h o.so }
     go false true f g e =
         let o = only_is (is_few size) (Skipped path size) t e in
-        record { tree = same (codes "unused") g ∙ ap element_tree o.same; good = λ h. ap is_good (sym o.same) ∙ and_from (is_path 300 path) (is_few size) h o.so }
+        record { tree = same (codes "unused") g ∙ ap element_tree o.same; good = λ h. ap is_good (sym o.same) ∙ and_from (is_path LONGEST_PATH path) (is_few size) h o.so }
     go false false f g e = cc
 
 sent_is : (path : List ℕ) (size : ℕ) (word : List ℕ) (named : Option Kind) (t : Told) → kind_named word ≡ named → sent_as path size word named ≡ Some t → IsUnprinted path size word t
@@ -81,10 +83,10 @@ sent_is path size word (Some kind) t f e =
 
 sent_says : (d : Data) → IsSorted d → fits sent_keys [] d ≡ true → (t : Told) → sent_in d ≡ Some t → Says element_tree is_good d t
 sent_says d sorted h t e =
-    let a = after (path_at 300 (codes "name") d) _ t e in
+    let a = after (path_at LONGEST_PATH (codes "name") d) _ t e in
     let b = after (natural_at (codes "size") d) _ t a.then in
     let c = after (text_at (codes "type") d) _ t b.then in
-    let path = path_is 300 (codes "name") d a.value a.first in
+    let path = path_is LONGEST_PATH (codes "name") d a.value a.first in
     let s = sent_is a.value b.value c.value (kind_named c.value) t refl c.then in
     record {
       tree_is =
@@ -112,11 +114,11 @@ kept_is path size word value (Some kind) t f e =
 
 kept_says : (d : Data) → IsSorted d → fits kept_keys [] d ≡ true → (t : Told) → kept_in d ≡ Some t → Says element_tree is_good d t
 kept_says d sorted h t e =
-    let a = after (path_at 300 (codes "name") d) _ t e in
+    let a = after (path_at LONGEST_PATH (codes "name") d) _ t e in
     let b = after (natural_at (codes "size") d) _ t a.then in
     let c = after (text_at (codes "type") d) _ t b.then in
     let v = after (whole_at (codes "value") d) _ t c.then in
-    let path = path_is 300 (codes "name") d a.value a.first in
+    let path = path_is LONGEST_PATH (codes "name") d a.value a.first in
     let s = kept_is a.value b.value c.value v.value (kind_named c.value) t refl v.then in
     record {
       tree_is =
@@ -138,21 +140,21 @@ element_says d sorted t e = go (fits sent_keys [] d) (fits kept_keys [] d) refl 
 
 pub element_back : (t : Told) → is_good t ≡ true → element_in (element_tree t) ≡ Some t
 element_back (Sent path kind) e =
-    first_then (path_at 300 (codes "name") (element_tree (Sent path kind))) _ path _ (only_so (is_path 300 path) path e)
+    first_then (path_at LONGEST_PATH (codes "name") (element_tree (Sent path kind))) _ path _ (only_so (is_path LONGEST_PATH path) path e)
     (ap (sent_as path (width kind) (kind_word kind)) (word_named kind) ∙ only_so (width kind == width kind) (Sent path kind) (itself (width kind)))
   where
     itself : (n : ℕ) → (n == n) ≡ true
     itself n = Rattle.std.proofs.lemmas.Bool.eq-eqb n n refl
 element_back (Kept path kind value) e =
-    let p = and_parts (is_path 300 path) (in_range kind value) e in
-    first_then (path_at 300 (codes "name") (element_tree (Kept path kind value))) _ path _ (only_so (is_path 300 path) path p.0)
+    let p = and_parts (is_path LONGEST_PATH path) (in_range kind value) e in
+    first_then (path_at LONGEST_PATH (codes "name") (element_tree (Kept path kind value))) _ path _ (only_so (is_path LONGEST_PATH path) path p.0)
     (first_then (whole_at (codes "value") (element_tree (Kept path kind value))) _ value _ (whole_back value)
     (ap (kept_as path 0 value) (word_named kind) ∙ only_so (in_range kind value) (Kept path kind value) p.1))
 element_back (Fixed path n) e =
     let fixed = n == 1 || n == 2 || n == 4 || n == 8 in
-    let p = and_parts (is_path 300 path) fixed e in
-    first_then (path_at 300 (codes "name") (element_tree (Fixed path n))) _ path _ (only_so (is_path 300 path) path p.0) (only_so fixed (Fixed path n) p.1)
+    let p = and_parts (is_path LONGEST_PATH path) fixed e in
+    first_then (path_at LONGEST_PATH (codes "name") (element_tree (Fixed path n))) _ path _ (only_so (is_path LONGEST_PATH path) path p.0) (only_so fixed (Fixed path n) p.1)
 element_back (Skipped path n) e =
-    let few = nat_le 1 n && nat_le n 4096 in
-    let p = and_parts (is_path 300 path) few e in
-    first_then (path_at 300 (codes "name") (element_tree (Skipped path n))) _ path _ (only_so (is_path 300 path) path p.0) (only_so few (Skipped path n) p.1)
+    let few = nat_le 1 n && nat_le n MOST_UNUSED in
+    let p = and_parts (is_path LONGEST_PATH path) few e in
+    first_then (path_at LONGEST_PATH (codes "name") (element_tree (Skipped path n))) _ path _ (only_so (is_path LONGEST_PATH path) path p.0) (only_so few (Skipped path n) p.1)

@@ -3,6 +3,7 @@ use Rattle.std.proofs.Common.{◌≡◌, ℕ, zero, suc, ◌+◌, ◌<◌, ◌�
 use Rattle.std.specs.List.{list_all}
 use Rattle.std.proofs.lemmas.Bool.{lt-ltb, and_from}
 use Rattle.std.proofs.lemmas.Option.{slice_get-get_or}
+use Rattle.vms_spec.specs.declared.TheConstants.{LONGEST_NAME}
 use Rattle.vms_spec.specs.declared.Part.TheVariants as parts
 use Rattle.vms_spec.specs.Heads.{FitsHeads}
 use Rattle.vms_spec.specs.Sets.{Desc, Sub, Device, Set, AtLeast}
@@ -78,9 +79,9 @@ subs_good set n at (s ∷ subs) [] h = refl
 subs_good set n at (s ∷ subs) (c ∷ came) h =
     let t = told_sub_of set n at s c in
     and_from (is_good_sub t) _
-    (and_from (is_path 255 s.desc.name && fits_four s.desc.version && list_all is_good t.elements) _
-    (and_from (is_path 255 s.desc.name && fits_four s.desc.version) (list_all is_good t.elements)
-    (and_from (is_path 255 s.desc.name) (fits_four s.desc.version) (named_path 255 s.desc.name (named_within 165 255 s.desc.name (omega arith) h.0.name)) h.0.version) (h.0.elements (is_some c) n at))
+    (and_from (is_path LONGEST_NAME s.desc.name && fits_four s.desc.version && list_all is_good t.elements) _
+    (and_from (is_path LONGEST_NAME s.desc.name && fits_four s.desc.version) (list_all is_good t.elements)
+    (and_from (is_path LONGEST_NAME s.desc.name) (fits_four s.desc.version) (named_path LONGEST_NAME s.desc.name (named_within 165 LONGEST_NAME s.desc.name (omega arith) h.0.name)) h.0.version) (h.0.elements (is_some c) n at))
     (kept_or_sent set s.desc c n at))
     (subs_good set n (at + length (desc_cells (struct_cells set) s.desc)) subs came h.1)
 
@@ -90,10 +91,10 @@ devices_good set (d ∷ devices) [] h = refl
 devices_good set (d ∷ devices) (image ∷ images) h =
     let t = told_device_of set d image in
     and_from (is_good_device t) _
-    (and_from (is_path 255 d.desc.name && fits_four d.instance && fits_four d.desc.version && list_all is_good t.elements) (list_all is_good_sub t.subs)
-    (and_from (is_path 255 d.desc.name && fits_four d.instance && fits_four d.desc.version) (list_all is_good t.elements)
-    (and_from (is_path 255 d.desc.name && fits_four d.instance) (fits_four d.desc.version)
-    (and_from (is_path 255 d.desc.name) (fits_four d.instance) (named_path 255 d.desc.name (named_within 100 255 d.desc.name (omega arith) h.0.own.name)) h.0.instance) h.0.own.version)
+    (and_from (is_path LONGEST_NAME d.desc.name && fits_four d.instance && fits_four d.desc.version && list_all is_good t.elements) (list_all is_good_sub t.subs)
+    (and_from (is_path LONGEST_NAME d.desc.name && fits_four d.instance && fits_four d.desc.version) (list_all is_good t.elements)
+    (and_from (is_path LONGEST_NAME d.desc.name && fits_four d.instance) (fits_four d.desc.version)
+    (and_from (is_path LONGEST_NAME d.desc.name) (fits_four d.instance) (named_path LONGEST_NAME d.desc.name (named_within 100 LONGEST_NAME d.desc.name (omega arith) h.0.own.name)) h.0.instance) h.0.own.version)
     (h.0.own.elements true image.numbers 0))
     (subs_good set image.numbers (own_cells set d) d.subs image.came h.0.subs))
     (devices_good set devices images h.1)

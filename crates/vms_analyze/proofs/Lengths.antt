@@ -3,6 +3,7 @@ use Rattle.std.proofs.Common.{◌≡◌, ℕ, ◌+◌, ◌*◌, ◌≤◌, Bool,
 use Rattle.std.proofs.lemmas.Bool.{and_parts, leb-true, eqb-true}
 use Rattle.std.specs.List.{flat_map, list_all}
 use Rattle.vms_kinds.specs.Codes.{width}
+use Rattle.vms_spec.specs.declared.TheConstants.{LONGEST_NAME, MOST_UNUSED}
 use Rattle.vms_spec.specs.Lookup.{number_at, bytes_at}
 use Rattle.vms_spec.specs.Names.{is_name_byte}
 use Rattle.vms_spec.specs.Sets.{Sub, Device, Set}
@@ -12,6 +13,7 @@ use Rattle.vms_spec.specs.Spelling.{begins_with}
 use Rattle.vms_spec.specs.Streams.{be32, configuration}
 use Rattle.vms_spec.specs.WellFormed.{struct_items, items_in, subs_items, devices_items}
 use Rattle.vms_spec.proofs.KindLaws.{width_small}
+use Rattle.vms_analyze.specs.declared.elements.TheConstants.{LONGEST_PATH}
 use Rattle.vms_analyze.specs.Told.{Told, Sent, Kept, Fixed, Skipped, is_path, is_good}
 use Rattle.vms_analyze.specs.Wanted.{Want, Bytes, Any, Number, Machine, Head, Foot, Line, element_want, sub_wants, device_wants, Took, took, only_if, take_machine, is_machine, taken, Found, Lines, Differs, behind, found_after, found}
 use Rattle.vms_analyze.specs.Telling.{told_part, told_subs, told_devices}
@@ -49,7 +51,7 @@ only_so false t u e = cc
 machine_long : (id : ℕ) (rest name : List ℕ) (u : Took) → take_machine id rest name ≡ Some u → u.long ≤ 260
 machine_long id rest name u e =
     let p = and_parts (begins_with (configuration name) rest) (is_machine name) (only_so _ _ u e) in
-    let few = leb-true (length name) 255 (and_parts (nat_le (length name) 255) (list_all is_name_byte name) p.1).0 in
+    let few = leb-true (length name) LONGEST_NAME (and_parts (nat_le (length name) LONGEST_NAME) (list_all is_name_byte name) p.1).0 in
     omega (arith, only_long _ _ u e, few)
 
 taken_long : (w : Want) (id : ℕ) (rest : List ℕ) (u : Took) → taken w id rest ≡ Some u → u.long ≤ most_of w
@@ -92,23 +94,23 @@ pub total_append : (xs ys : List Want) → total (xs ++ ys) ≡ total xs + total
 total_append [] ys = omega arith
 total_append (x ∷ xs) ys = omega (arith, total_append xs ys)
 
-fixed_small : (n : ℕ) → (n == 1 || n == 2 || n == 4 || n == 8) ≡ true → n ≤ 4096
+fixed_small : (n : ℕ) → (n == 1 || n == 2 || n == 4 || n == 8) ≡ true → n ≤ MOST_UNUSED
 fixed_small n e = go (n == 1) (n == 2) (n == 4) (n == 8) (λ h. eqb-true n 1 h) (λ h. eqb-true n 2 h) (λ h. eqb-true n 4 h) (λ h. eqb-true n 8 h) e
   where
-    go : (a b c d : Bool) → (a ≡ true → n ≡ 1) → (b ≡ true → n ≡ 2) → (c ≡ true → n ≡ 4) → (d ≡ true → n ≡ 8) → (a || b || c || d) ≡ true → n ≤ 4096
+    go : (a b c d : Bool) → (a ≡ true → n ≡ 1) → (b ≡ true → n ≡ 2) → (c ≡ true → n ≡ 4) → (d ≡ true → n ≡ 8) → (a || b || c || d) ≡ true → n ≤ MOST_UNUSED
     go true b c d p q r s h = let i = p refl in omega (arith, i)
     go false true c d p q r s h = let i = q refl in omega (arith, i)
     go false false true d p q r s h = let i = r refl in omega (arith, i)
     go false false false true p q r s h = let i = s refl in omega (arith, i)
     go false false false false p q r s h = cc
 
-element_long : (t : Told) → is_good t ≡ true → most_of (element_want t) ≤ 4096
+element_long : (t : Told) → is_good t ≡ true → most_of (element_want t) ≤ MOST_UNUSED
 element_long (Sent path kind) e = width_small kind
 element_long (Kept path kind z) e = omega arith
-element_long (Fixed path n) e = fixed_small n (and_parts (is_path 300 path) (n == 1 || n == 2 || n == 4 || n == 8) e).1
-element_long (Skipped path n) e = leb-true n 4096 (and_parts (nat_le 1 n) (nat_le n 4096) (and_parts (is_path 300 path) (nat_le 1 n && nat_le n 4096) e).1).1
+element_long (Fixed path n) e = fixed_small n (and_parts (is_path LONGEST_PATH path) (n == 1 || n == 2 || n == 4 || n == 8) e).1
+element_long (Skipped path n) e = leb-true n MOST_UNUSED (and_parts (nat_le 1 n) (nat_le n MOST_UNUSED) (and_parts (is_path LONGEST_PATH path) (nat_le 1 n && nat_le n MOST_UNUSED) e).1).1
 
-elements_long : (ts : List Told) → list_all is_good ts ≡ true → total (map element_want ts) ≤ 4096 * length ts
+elements_long : (ts : List Told) → list_all is_good ts ≡ true → total (map element_want ts) ≤ MOST_UNUSED * length ts
 elements_long [] e = omega arith
 elements_long (t ∷ ts) e =
     let p = and_parts (is_good t) (list_all is_good ts) e in
@@ -120,18 +122,18 @@ module _ (set : Set) where
   abbrev sizes : List ℕ
   sizes = struct_items set.structs
 
-  part_long : (most : ℕ) (d : Rattle.vms_spec.specs.Sets.Desc) → IsGoodPart set most d → (sent : Bool) (n : List ℤ) (at : ℕ) → total (map element_want (told_part set d sent n at)) ≤ 4096 * items_in sizes d.fields
+  part_long : (most : ℕ) (d : Rattle.vms_spec.specs.Sets.Desc) → IsGoodPart set most d → (sent : Bool) (n : List ℤ) (at : ℕ) → total (map element_want (told_part set d sent n at)) ≤ MOST_UNUSED * items_in sizes d.fields
   part_long most d h sent n at =
       let long = elements_long (told_part set d sent n at) (h.elements sent n at) in
       let few = h.few sent n at in
       omega arith
 
   sub_long : (s : Sub) → IsGoodPart set 165 s.desc → (c : Option ℕ) (n : List ℤ) (at : ℕ)
-      → total (sub_wants (Rattle.vms_analyze.specs.Telling.told_sub_of set n at s c)) ≤ 4096 * items_in sizes s.desc.fields + 300
+      → total (sub_wants (Rattle.vms_analyze.specs.Telling.told_sub_of set n at s c)) ≤ MOST_UNUSED * items_in sizes s.desc.fields + 300
   sub_long s h None n at = let long = part_long 165 s.desc h false n at in omega arith
   sub_long s h (Some v) n at = let long = part_long 165 s.desc h true n at in let few = h.name.few in omega (arith, long, few, length-append s.desc.name (be32 s.desc.version))
 
-  subs_long : (n : List ℤ) (at : ℕ) (subs : List Sub) (came : List (Option ℕ)) → AreGoodSubs set subs → total (flat_map sub_wants (told_subs set n at subs came)) ≤ 4096 * subs_items sizes subs + 300 * length subs
+  subs_long : (n : List ℤ) (at : ℕ) (subs : List Sub) (came : List (Option ℕ)) → AreGoodSubs set subs → total (flat_map sub_wants (told_subs set n at subs came)) ≤ MOST_UNUSED * subs_items sizes subs + 300 * length subs
   subs_long n at [] came h = omega arith
   subs_long n at (s ∷ subs) [] h = omega arith
   subs_long n at (s ∷ subs) (c ∷ came) h =
@@ -141,7 +143,7 @@ module _ (set : Set) where
       omega (arith, here, later, total_append (sub_wants (Rattle.vms_analyze.specs.Telling.told_sub_of set n at s c)) (flat_map sub_wants (told_subs set n next subs came)))
 
   device_long : (d : Device) (image : Image) → IsGoodDevice set d
-      → total (device_wants (Rattle.vms_analyze.specs.Telling.told_device_of set d image)) ≤ 4096 * (items_in sizes d.desc.fields + subs_items sizes d.subs) + 10000
+      → total (device_wants (Rattle.vms_analyze.specs.Telling.told_device_of set d image)) ≤ MOST_UNUSED * (items_in sizes d.desc.fields + subs_items sizes d.subs) + 10000
   device_long d image h =
       let n = image.numbers in
       let own = map element_want (told_part set d.desc true n 0) in
@@ -153,7 +155,7 @@ module _ (set : Set) where
       omega (arith, here, later, name, few, total_append (own ++ subs) (Foot ∷ []), total_append own subs)
 
   pub devices_long : (devices : List Device) (images : List Image) → AreGoodDevices set devices
-      → total (flat_map device_wants (told_devices set devices images)) ≤ 4096 * devices_items sizes devices + 10000 * length devices
+      → total (flat_map device_wants (told_devices set devices images)) ≤ MOST_UNUSED * devices_items sizes devices + 10000 * length devices
   devices_long [] images h = omega arith
   devices_long (d ∷ devices) [] h = omega arith
   devices_long (d ∷ devices) (image ∷ images) h =

@@ -3,6 +3,7 @@ use Rattle.std.proofs.Common.{◌≡◌, ℕ, zero, suc, ◌+◌, ◌≤◌, Boo
 use Rattle.std.specs.List.{list_all}
 use Rattle.vms_kinds.specs.declared.Item.{Item}
 use Rattle.vms_kinds.specs.declared.Item.TheVariants.{Num, Equal, Unused, Struct}
+use Rattle.vms_spec.specs.declared.TheConstants.{MOST_UNUSED}
 use Rattle.vms_spec.specs.Names.{is_name}
 use Rattle.vms_spec.specs.Rules.{in_range, defaults_well, is_small_item}
 use Rattle.vms_spec.specs.Sets.{Field, Desc, Set}
@@ -19,7 +20,7 @@ use Rattle.vms_analyze.proofs.Letters.{name_named, every_both, index_bytes}
 abbrev pub IsGoodWhat : What → Type 0
 IsGoodWhat (Number cell) = in_range cell.kind cell.default ≡ true
 IsGoodWhat (Constant kind z) = Unit {0}
-IsGoodWhat (Filler n) = (nat_le 1 n && nat_le n 4096) ≡ true
+IsGoodWhat (Filler n) = (nat_le 1 n && nat_le n MOST_UNUSED) ≡ true
 IsGoodWhat (Rule holds) = Unit {0}
 
 -- an end has no path for itself

@@ -6,12 +6,14 @@ use Rattle.serde_json.specs.Data.{Data, number}
 use Rattle.serde_json.specs.Find.{of_integer}
 use Rattle.vms_kinds.specs.declared.Kind.{Kind}
 use Rattle.vms_kinds.specs.Codes.{width, lowest, highest}
+use Rattle.vms_spec.specs.declared.TheConstants.{LONGEST_NAME, MOST_UNUSED}
 use Rattle.vms_spec.specs.Rules.{in_range}
 use Rattle.vms_selfdesc.specs.Drafts.{IsSound, AreSound}
 use Rattle.vms_selfdesc.specs.Tree.{entry_tree, list_tree}
 use Rattle.vms_spec.proofs.KindLaws.{width_small}
 use Rattle.vms_selfdesc.proofs.Soundness.{natural_fits, negative_fits}
 use Rattle.vms_selfdesc.proofs.ReadBack.{natural_sound, negative_sound, array_sound, sent_sound, absent_sound, sub_sound, device_sound, whole_sound}
+use Rattle.vms_analyze.specs.declared.elements.TheConstants.{LONGEST_PATH}
 use Rattle.vms_analyze.specs.Told.{Told, Sent, Kept, Fixed, Skipped, told_entry, ToldSub, told_sub, ToldDevice, told_device, told_tree, is_path, fits_four, is_good, is_kept, is_good_sub, is_good_device}
 
 value_sound : (kind : Kind) (z : ℤ) → in_range kind z ≡ true → IsSound (number (of_integer z))
@@ -33,11 +35,11 @@ fixed_small n e = go (n == 1) (n == 2) (n == 4) (n == 8) (λ h. eqb-true n 1 h) 
 
 element_sound : (t : Told) → is_good t ≡ true → IsSound (entry_tree (told_entry t))
 element_sound (Sent path kind) e = let h = width_small kind in sent_sound path (width kind) _ (natural_sound (width kind) (omega arith))
-element_sound (Kept path kind z) e = absent_sound path _ z (value_sound kind z (and_parts (is_path 300 path) (in_range kind z) e).1)
-element_sound (Fixed path n) e = sent_sound path n _ (natural_sound n (fixed_small n (and_parts (is_path 300 path) (n == 1 || n == 2 || n == 4 || n == 8) e).1))
+element_sound (Kept path kind z) e = absent_sound path _ z (value_sound kind z (and_parts (is_path LONGEST_PATH path) (in_range kind z) e).1)
+element_sound (Fixed path n) e = sent_sound path n _ (natural_sound n (fixed_small n (and_parts (is_path LONGEST_PATH path) (n == 1 || n == 2 || n == 4 || n == 8) e).1))
 element_sound (Skipped path n) e =
-    let p = and_parts (is_path 300 path) (nat_le 1 n && nat_le n 4096) e in
-    let le = leb-true n 4096 (and_parts (nat_le 1 n) (nat_le n 4096) p.1).1 in
+    let p = and_parts (is_path LONGEST_PATH path) (nat_le 1 n && nat_le n MOST_UNUSED) e in
+    let le = leb-true n MOST_UNUSED (and_parts (nat_le 1 n) (nat_le n MOST_UNUSED) p.1).1 in
     sent_sound path n _ (natural_sound n (omega arith))
 
 elements_sound : (ts : List Told) → list_all is_good ts ≡ true → AreSound (map (λ t. entry_tree (told_entry t)) ts)
@@ -58,9 +60,9 @@ four_sound n e = let h = ltb-true n 4294967296 e in omega arith
 
 sub_is_sound : (s : ToldSub) → is_good_sub s ≡ true → IsSound (told_sub s)
 sub_is_sound s e =
-    let a = and_parts (is_path 255 s.name && fits_four s.version && list_all is_good s.elements) (s.sent || list_all is_kept s.elements) e in
-    let b = and_parts (is_path 255 s.name && fits_four s.version) (list_all is_good s.elements) a.0 in
-    let c = and_parts (is_path 255 s.name) (fits_four s.version) b.0 in
+    let a = and_parts (is_path LONGEST_NAME s.name && fits_four s.version && list_all is_good s.elements) (s.sent || list_all is_kept s.elements) e in
+    let b = and_parts (is_path LONGEST_NAME s.name && fits_four s.version) (list_all is_good s.elements) a.0 in
+    let c = and_parts (is_path LONGEST_NAME s.name) (fits_four s.version) b.0 in
     sub_sound (map told_entry s.elements) s.name s.sent s.version (list_sound s.elements b.1) (natural_sound s.version (four_sound s.version c.1))
 
 subs_sound : (subs : List ToldSub) → list_all is_good_sub subs ≡ true → AreSound (map told_sub subs)
@@ -69,10 +71,10 @@ subs_sound (s ∷ subs) e = let p = and_parts (is_good_sub s) (list_all is_good_
 
 device_is_sound : (d : ToldDevice) → is_good_device d ≡ true → IsSound (told_device d)
 device_is_sound d e =
-    let a = and_parts (is_path 255 d.name && fits_four d.instance && fits_four d.version && list_all is_good d.elements) (list_all is_good_sub d.subs) e in
-    let b = and_parts (is_path 255 d.name && fits_four d.instance && fits_four d.version) (list_all is_good d.elements) a.0 in
-    let c = and_parts (is_path 255 d.name && fits_four d.instance) (fits_four d.version) b.0 in
-    let f = and_parts (is_path 255 d.name) (fits_four d.instance) c.0 in
+    let a = and_parts (is_path LONGEST_NAME d.name && fits_four d.instance && fits_four d.version && list_all is_good d.elements) (list_all is_good_sub d.subs) e in
+    let b = and_parts (is_path LONGEST_NAME d.name && fits_four d.instance && fits_four d.version) (list_all is_good d.elements) a.0 in
+    let c = and_parts (is_path LONGEST_NAME d.name && fits_four d.instance) (fits_four d.version) b.0 in
+    let f = and_parts (is_path LONGEST_NAME d.name) (fits_four d.instance) c.0 in
     device_sound (map told_entry d.elements) d.instance d.name (map told_sub d.subs) d.version (list_sound d.elements b.1) (natural_sound d.instance (four_sound d.instance f.1))
     (array_sound (map told_sub d.subs) (subs_sound d.subs a.1)) (natural_sound d.version (four_sound d.version c.1))
 

@@ -14,6 +14,7 @@ use Rattle.vms_words.specs.Words.{kind_word}
 use Rattle.serde_json.specs.Find.{of_integer}
 use Rattle.vms_spec.specs.declared.Part.{Part}
 use Rattle.vms_spec.specs.declared.Part.TheVariants as parts
+use Rattle.vms_spec.specs.declared.TheConstants.{MOST_UNUSED}
 use Rattle.vms_spec.specs.Names.{is_name}
 use Rattle.vms_spec.specs.Rules.{in_range, defaults_well, counts_well, is_small_item, is_small_optional}
 use Rattle.vms_spec.specs.Sets.{Field, Desc, Set}
@@ -30,6 +31,7 @@ use Rattle.vms_selfdesc.proofs.EntryLong.{member_long}
 use Rattle.vms_selfdesc.proofs.Fits.{AreLong, longer, entries_few, entries_long}
 use Rattle.vms_selfdesc.proofs.Lengths.{fit}
 use Rattle.vms_selfdesc.proofs.Soundness.{part_sound, fields_flat}
+use Rattle.vms_analyze.specs.declared.elements.TheConstants.{LONGEST_PATH}
 use Rattle.vms_analyze.specs.Told.{Told, Sent, Kept, Fixed, Skipped, told_entry, is_path_byte, is_path, is_good, is_kept}
 use Rattle.vms_analyze.specs.Telling.{told_what, tolds, told_part}
 use Rattle.vms_analyze.proofs.Letters.{named_path}
@@ -63,7 +65,7 @@ name_longer path ms = omega (arith, member_long false (codes "name") (string pat
 abbrev sized : ℕ → List ℕ → Members → Members
 sized size type ms = member (codes "size") (natural size) (member (codes "type") (string type) ms)
 
-path_short : (t : Told) → length (compact_text (entry_tree (told_entry t))) ≤ 299 → length (path_of t) ≤ 300
+path_short : (t : Told) → length (compact_text (entry_tree (told_entry t))) ≤ 299 → length (path_of t) ≤ LONGEST_PATH
 path_short (Sent path kind) le = omega (arith, name_longer path (sized (width kind) (kind_word kind) no_members), le)
 path_short (Kept path kind z) le = omega (arith, name_longer path (sized 0 (kind_word kind) (member (codes "value") (number (of_integer z)) no_members)), le)
 path_short (Fixed path n) le = omega (arith, name_longer path (sized n (codes "equal") no_members), le)
@@ -75,7 +77,7 @@ abbrev IsOfShape : Told → Type 0
 IsOfShape (Sent path kind) = Unit {0}
 IsOfShape (Kept path kind z) = in_range kind z ≡ true
 IsOfShape (Fixed path n) = (n == 1 || n == 2 || n == 4 || n == 8) ≡ true
-IsOfShape (Skipped path n) = (nat_le 1 n && nat_le n 4096) ≡ true
+IsOfShape (Skipped path n) = (nat_le 1 n && nat_le n MOST_UNUSED) ≡ true
 
 record IsFine (t : Told) : Type 0 where
   some : 1 ≤ length (path_of t)
@@ -118,11 +120,11 @@ all_fine sent (x ∷ xs) h =
     fine_append (told_what x.what x.counted (sent && x.present) x.name) (tolds sent xs)
     (what_fine x.what x.counted (sent && x.present) x.name h.0.part.bytes h.0.part.what h.0.path) (all_fine sent xs h.1)
 
-one_good : (t : Told) → IsFine t → length (path_of t) ≤ 300 → is_good t ≡ true
-one_good (Sent path kind) h le = named_path 300 path (record { some = h.some; few = le; bytes = h.bytes })
-one_good (Kept path kind z) h le = and_from (is_path 300 path) _ (named_path 300 path (record { some = h.some; few = le; bytes = h.bytes })) h.shape
-one_good (Fixed path n) h le = and_from (is_path 300 path) _ (named_path 300 path (record { some = h.some; few = le; bytes = h.bytes })) h.shape
-one_good (Skipped path n) h le = and_from (is_path 300 path) _ (named_path 300 path (record { some = h.some; few = le; bytes = h.bytes })) h.shape
+one_good : (t : Told) → IsFine t → length (path_of t) ≤ LONGEST_PATH → is_good t ≡ true
+one_good (Sent path kind) h le = named_path LONGEST_PATH path (record { some = h.some; few = le; bytes = h.bytes })
+one_good (Kept path kind z) h le = and_from (is_path LONGEST_PATH path) _ (named_path LONGEST_PATH path (record { some = h.some; few = le; bytes = h.bytes })) h.shape
+one_good (Fixed path n) h le = and_from (is_path LONGEST_PATH path) _ (named_path LONGEST_PATH path (record { some = h.some; few = le; bytes = h.bytes })) h.shape
+one_good (Skipped path n) h le = and_from (is_path LONGEST_PATH path) _ (named_path LONGEST_PATH path (record { some = h.some; few = le; bytes = h.bytes })) h.shape
 
 all_good : (ts : List Told) → AreFine ts → AreLong 299 (map told_entry ts) → list_all is_good ts ≡ true
 all_good [] fine long = refl

@@ -3,6 +3,7 @@ use Rattle.std.proofs.Common.{◌≡◌, ℕ, ◌+◌, ◌<◌, ◌^◌, Bool, t
 use Rattle.std.proofs.lemmas.Bool.{le-leb, and_parts, and_from}
 use Rattle.std.specs.List.{flat_map, list_all}
 use Rattle.byteorder.specs.Endian.{big_number}
+use Rattle.vms_spec.specs.declared.TheConstants.{LONGEST_NAME}
 use Rattle.vms_spec.specs.Lookup.{number_at, bytes_at}
 use Rattle.vms_spec.specs.Names.{is_name, is_name_byte}
 use Rattle.vms_spec.specs.Sets.{Device, Set}
@@ -50,7 +51,7 @@ machine_plain set well name h =
 machine_good : (set : Set) → WellFormed set → (name : List ℕ) → is_one_of set.machines name ≡ true → is_machine name ≡ true
 machine_good set well name h =
     let few = machine_short set well name h in
-    and_from (nat_le (length name) 255) (list_all is_name_byte name) (le-leb (length name) 255 (omega arith)) (machine_plain set well name h)
+    and_from (nat_le (length name) LONGEST_NAME) (list_all is_name_byte name) (le-leb (length name) LONGEST_NAME (omega arith)) (machine_plain set well name h)
 
 -- without a machine none is taken, since a section or the end mark stands there
 pub no_machine : (id : ℕ) (rest : List ℕ) → (get_or rest 0 0 == 7) ≡ false → taken Machine id rest ≡ Some (took 0 id [])

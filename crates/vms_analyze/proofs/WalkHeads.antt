@@ -4,6 +4,7 @@ use Rattle.std.specs.List.{list_all}
 use Rattle.std.proofs.lemmas.Bool.{and_parts, leb-true, le-leb}
 use Rattle.std.proofs.lemmas.List.{take_all, drop-drop}
 use Rattle.byteorder.specs.Endian.{big_number}
+use Rattle.vms_spec.specs.declared.TheConstants.{LONGEST_NAME}
 use Rattle.vms_spec.proofs.KindLaws.{be32_read}
 use Rattle.vms_spec.specs.Lookup.{number_at, bytes_at}
 use Rattle.vms_spec.specs.Names.{is_name_byte}
@@ -95,7 +96,7 @@ machine_passes old inside e = record {
 pub machine_goes : (old mid new : Walk) (name : List ℕ) → is_machine name ≡ true → begins_with (configuration name) (left old) ≡ true → mid.id ≡ old.id → IsInside old
     → mid.place ≡ old.place + length (configuration name) → mid.text ≡ old.text → mid.input.now ≡ old.input.now → Prints mid new (machine_line name) → Goes (Machine ∷ []) old new
 machine_goes old mid new name good e id inside place text input prints =
-    let short = leb-true (length name) 255 (and_parts (nat_le (length name) 255) (list_all is_name_byte name) good).0 in
+    let short = leb-true (length name) LONGEST_NAME (and_parts (nat_le (length name) LONGEST_NAME) (list_all is_name_byte name) good).0 in
     printed_goes Machine old mid new (configuration name) (machine_line name)
     (subst (λ (i : ℕ). Rattle.vms_analyze.proofs.Following.Takes Machine old.id (configuration name) i (machine_line name ∷ [])) (sym id) (takes_machine name old.id good (omega (arith, short))))
     (behind_front (configuration name) old mid e place input) place text (front_inside (configuration name) old mid inside e place input) input prints
@@ -115,7 +116,7 @@ machine_other old name e is other =
 
 -- what a configuration with such a name needs
 record Needs (rest : List ℕ) : Type 0 where
-  few : number_at 4 1 rest ≤ 255
+  few : number_at 4 1 rest ≤ LONGEST_NAME
   long : 5 + number_at 4 1 rest ≤ length rest
   plain : list_all is_name_byte (bytes_at (number_at 4 1 rest) 5 rest) ≡ true
 
@@ -123,8 +124,8 @@ needs : (rest : List ℕ) → is_configuration rest (bytes_at (number_at 4 1 res
 needs rest e =
     let name = bytes_at (number_at 4 1 rest) 5 rest in
     let p = and_parts (begins_with (configuration name) rest) (is_machine name) e in
-    let q = and_parts (nat_le (length name) 255) (list_all is_name_byte name) p.1 in
-    let short = leb-true (length name) 255 q.0 in
+    let q = and_parts (nat_le (length name) LONGEST_NAME) (list_all is_name_byte name) p.1 in
+    let short = leb-true (length name) LONGEST_NAME q.0 in
     let more = drop (length (configuration name)) rest in
     let is = begun (configuration name) rest p.0 in
     let n : number_at 4 1 rest ≡ length name =
@@ -146,7 +147,7 @@ no_machine_if rest h = record { none = go _ refl }
 pub no_length : (rest : List ℕ) → length rest < 5 → HasNoMachine rest
 no_length rest lt = no_machine_if rest (λ n. omega (arith, lt, n.long))
 
-pub too_long : (rest : List ℕ) → 255 < number_at 4 1 rest → HasNoMachine rest
+pub too_long : (rest : List ℕ) → LONGEST_NAME < number_at 4 1 rest → HasNoMachine rest
 too_long rest lt = no_machine_if rest (λ n. omega (arith, lt, n.few))
 
 pub is_cut : (rest : List ℕ) → length rest < 5 + number_at 4 1 rest → HasNoMachine rest
@@ -161,8 +162,8 @@ name_there w n is =
     ap (take n) (take_all (length w.input.now - (w.place + 5)) (drop (w.place + 5) w.input.now) (omega (arith, length-drop (w.place + 5) w.input.now)) ∙ sym (drop-drop 5 w.place w.input.now))
     ∙ ap (λ (k : ℕ). take k (drop 5 (left w))) is
 
-pub is_name_of : (name : List ℕ) → length name ≤ 255 → list_all is_name_byte name ≡ true → is_machine name ≡ true
-is_name_of name few plain = ap (λ (b : Bool). b && list_all is_name_byte name) (le-leb (length name) 255 few) ∙ plain
+pub is_name_of : (name : List ℕ) → length name ≤ LONGEST_NAME → list_all is_name_byte name ≡ true → is_machine name ≡ true
+is_name_of name few plain = ap (λ (b : Bool). b && list_all is_name_byte name) (le-leb (length name) LONGEST_NAME few) ∙ plain
 
 -- ---- footers
 

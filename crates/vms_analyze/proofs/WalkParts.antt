@@ -4,6 +4,7 @@ use Rattle.std.specs.List.{flat_map, list_all}
 use Rattle.std.proofs.lemmas.Bool.{and_parts, leb-true}
 use Rattle.std.proofs.lemmas.List.Concat.{flat_map_single}
 use Rattle.std.proofs.lemmas.List.Folds.{flat_map-map}
+use Rattle.vms_spec.specs.declared.TheConstants.{LONGEST_NAME}
 use Rattle.vms_spec.specs.Streams.{magic, be32, end_mark}
 use Rattle.vms_analyze.specs.Told.{ToldSub, ToldDevice, is_path, is_path_byte, fits_four, is_good, is_kept, is_good_sub, is_good_device}
 use Rattle.vms_analyze.specs.Typed.{told_of, sub_of, device_of, element_wants, subs_wants, devices_wants}
@@ -24,21 +25,21 @@ path_short most text e =
     let p = and_parts (nat_le 1 (length text) && nat_le (length text) most) (list_all is_path_byte text) e in
     leb-true (length text) most (and_parts (nat_le 1 (length text)) (nat_le (length text) most) p.0).1
 
-pub sub_short : (s : ToldSub) → is_good_sub s ≡ true → length s.name ≤ 255
+pub sub_short : (s : ToldSub) → is_good_sub s ≡ true → length s.name ≤ LONGEST_NAME
 sub_short s e =
-    let p = and_parts (is_path 255 s.name && fits_four s.version && list_all is_good s.elements) (s.sent || list_all is_kept s.elements) e in
-    let q = and_parts (is_path 255 s.name && fits_four s.version) (list_all is_good s.elements) p.0 in
-    path_short 255 s.name (and_parts (is_path 255 s.name) (fits_four s.version) q.0).0
+    let p = and_parts (is_path LONGEST_NAME s.name && fits_four s.version && list_all is_good s.elements) (s.sent || list_all is_kept s.elements) e in
+    let q = and_parts (is_path LONGEST_NAME s.name && fits_four s.version) (list_all is_good s.elements) p.0 in
+    path_short LONGEST_NAME s.name (and_parts (is_path LONGEST_NAME s.name) (fits_four s.version) q.0).0
 
-pub device_short : (d : ToldDevice) → is_good_device d ≡ true → length d.name ≤ 255
+pub device_short : (d : ToldDevice) → is_good_device d ≡ true → length d.name ≤ LONGEST_NAME
 device_short d e =
-    let p = and_parts (is_path 255 d.name && fits_four d.instance && fits_four d.version && list_all is_good d.elements) (list_all is_good_sub d.subs) e in
-    let q = and_parts (is_path 255 d.name && fits_four d.instance && fits_four d.version) (list_all is_good d.elements) p.0 in
-    let r = and_parts (is_path 255 d.name && fits_four d.instance) (fits_four d.version) q.0 in
-    path_short 255 d.name (and_parts (is_path 255 d.name) (fits_four d.instance) r.0).0
+    let p = and_parts (is_path LONGEST_NAME d.name && fits_four d.instance && fits_four d.version && list_all is_good d.elements) (list_all is_good_sub d.subs) e in
+    let q = and_parts (is_path LONGEST_NAME d.name && fits_four d.instance && fits_four d.version) (list_all is_good d.elements) p.0 in
+    let r = and_parts (is_path LONGEST_NAME d.name && fits_four d.instance) (fits_four d.version) q.0 in
+    path_short LONGEST_NAME d.name (and_parts (is_path LONGEST_NAME d.name) (fits_four d.instance) r.0).0
 
 pub device_subs : (d : ToldDevice) → is_good_device d ≡ true → list_all is_good_sub d.subs ≡ true
-device_subs d e = (and_parts (is_path 255 d.name && fits_four d.instance && fits_four d.version && list_all is_good d.elements) (list_all is_good_sub d.subs) e).1
+device_subs d e = (and_parts (is_path LONGEST_NAME d.name && fits_four d.instance && fits_four d.version && list_all is_good d.elements) (list_all is_good_sub d.subs) e).1
 
 pub one_good : {X : Type 0} (good : X → Bool) (xs : List X) (i : ℕ) (d : X) → list_all good xs ≡ true → i < length xs → good (get_or xs i d) ≡ true
 one_good good [] i d e lt = absurd (omega arith)

@@ -7,6 +7,7 @@ use Rattle.serde_json.specs.Find.{get, as_bool, as_number, as_str, as_array, as_
 use Rattle.vms_kinds.specs.declared.Kind.{Kind}
 use Rattle.vms_kinds.specs.Codes.{width}
 use Rattle.vms_json.specs.Keys.{fits}
+use Rattle.vms_spec.specs.declared.TheConstants.{LONGEST_NAME, MOST_UNUSED}
 use Rattle.vms_spec.specs.Rules.{in_range}
 use Rattle.vms_words.specs.Words.{kind_named}
 use Rattle.vms_analyze.specs.Told.{Told, Sent, Kept, Fixed, Skipped, ToldSub, ToldDevice, is_path, fits_four, is_kept}
@@ -73,7 +74,7 @@ kept_keys = codes "name" ∷ codes "size" ∷ codes "type" ∷ codes "value" ∷
 abbrev pub unprinted : List ℕ → ℕ → List ℕ → Option Told
 unprinted path size word =
     if bytes_eq word (codes "equal") then only (size == 1 || size == 2 || size == 4 || size == 8) (Fixed path size)
-    else if bytes_eq word (codes "unused") then only (nat_le 1 size && nat_le size 4096) (Skipped path size)
+    else if bytes_eq word (codes "unused") then only (nat_le 1 size && nat_le size MOST_UNUSED) (Skipped path size)
     else None
 
 abbrev pub sent_as : List ℕ → ℕ → List ℕ → Option Kind → Option Told
@@ -107,7 +108,7 @@ sub_keys = codes "fields" ∷ codes "name" ∷ codes "sent" ∷ codes "version" 
 
 abbrev pub sub_from : Data → Option ToldSub
 sub_from d =
-    next (path_at 255 (codes "name") d) (λ name. next (flag_at (codes "sent") d) (λ sent. next (four_at (codes "version") d) (λ version.
+    next (path_at LONGEST_NAME (codes "name") d) (λ name. next (flag_at (codes "sent") d) (λ sent. next (four_at (codes "version") d) (λ version.
     next (elements_in d) (λ elements.
     only (sent || list_all is_kept elements) (record { name = name; sent = sent; version = version; elements = elements })))))
 
@@ -124,7 +125,7 @@ device_keys = codes "fields" ∷ codes "instance_id" ∷ codes "name" ∷ codes 
 
 abbrev pub device_from : Data → Option ToldDevice
 device_from d =
-    next (path_at 255 (codes "name") d) (λ name. next (four_at (codes "instance_id") d) (λ instance. next (four_at (codes "version") d) (λ version.
+    next (path_at LONGEST_NAME (codes "name") d) (λ name. next (four_at (codes "instance_id") d) (λ instance. next (four_at (codes "version") d) (λ version.
     next (elements_in d) (λ elements. next (subs_in d) (λ subs.
     Some (record { name = name; instance = instance; version = version; elements = elements; subs = subs }))))))
 

@@ -4,6 +4,7 @@ use Rattle.std.specs.List.{list_all}
 use Rattle.serde_json.specs.Data.{Data, object, no_members, put}
 use Rattle.vms_kinds.specs.declared.Kind.{Kind}
 use Rattle.vms_kinds.specs.Codes.{width}
+use Rattle.vms_spec.specs.declared.TheConstants.{LONGEST_NAME, MOST_UNUSED}
 use Rattle.vms_spec.specs.Names.{is_name_byte}
 use Rattle.vms_spec.specs.Rules.{in_range}
 use Rattle.vms_words.specs.Words.{kind_word}
@@ -66,7 +67,7 @@ abbrev pub is_good : Told → Bool
 is_good (Sent path kind) = is_path LONGEST_PATH path
 is_good (Kept path kind z) = is_path LONGEST_PATH path && in_range kind z
 is_good (Fixed path n) = is_path LONGEST_PATH path && (n == 1 || n == 2 || n == 4 || n == 8)
-is_good (Skipped path n) = is_path LONGEST_PATH path && (nat_le 1 n && nat_le n 4096)
+is_good (Skipped path n) = is_path LONGEST_PATH path && (nat_le 1 n && nat_le n MOST_UNUSED)
 
 abbrev pub is_kept : Told → Bool
 is_kept (Sent path kind) = false
@@ -76,7 +77,7 @@ is_kept (Skipped path n) = false
 
 -- of a subsection that isn't sent no element stands in the stream
 abbrev pub is_good_sub : ToldSub → Bool
-is_good_sub s = is_path 255 s.name && fits_four s.version && list_all is_good s.elements && (s.sent || list_all is_kept s.elements)
+is_good_sub s = is_path LONGEST_NAME s.name && fits_four s.version && list_all is_good s.elements && (s.sent || list_all is_kept s.elements)
 
 abbrev pub is_good_device : ToldDevice → Bool
-is_good_device d = is_path 255 d.name && fits_four d.instance && fits_four d.version && list_all is_good d.elements && list_all is_good_sub d.subs
+is_good_device d = is_path LONGEST_NAME d.name && fits_four d.instance && fits_four d.version && list_all is_good d.elements && list_all is_good_sub d.subs

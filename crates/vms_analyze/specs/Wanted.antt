@@ -4,6 +4,7 @@ use Rattle.std.specs.Fmt.{decimal, signed_decimal}
 use Rattle.std.specs.List.{flat_map, list_all}
 use Rattle.vms_kinds.specs.declared.Kind.{Kind}
 use Rattle.vms_kinds.specs.Codes.{width, value_of}
+use Rattle.vms_spec.specs.declared.TheConstants.{LONGEST_NAME}
 use Rattle.vms_spec.specs.Lookup.{number_at, bytes_at}
 use Rattle.vms_spec.specs.Names.{is_name_byte}
 use Rattle.vms_spec.specs.Rules.{in_range}
@@ -85,7 +86,7 @@ take_number path kind id rest z = only_if (nat_le (width kind) (length rest) && 
 
 -- a name of at most 255 letters, digits, `_`, `-` and `.`
 abbrev pub is_machine : List ℕ → Bool
-is_machine name = nat_le (length name) 255 && list_all is_name_byte name
+is_machine name = nat_le (length name) LONGEST_NAME && list_all is_name_byte name
 
 abbrev pub machine_line : List ℕ → List ℕ
 machine_line name = codes "machine " ++ name

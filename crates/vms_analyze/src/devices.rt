@@ -11,12 +11,10 @@ use crate::members::{Unread, flag_at, four_at, list_at, path_at};
 use crate::told::{Device, Sub};
 use std::alloc::Global;
 use vms_json::{Node, fits};
-
-/// A name has at most so many bytes.
-const LONGEST_NAME: usize = 255;
+use vms_spec::LONGEST_NAME;
 
 /// The devices of a description.
-pub(crate) fn devices_in<'a>(alloc: Global, value: &Node<'a>) -> Result<Vec<Device<'a>>, Unread>
+pub(crate) fn devices_in<'a>(alloc: Global, value: &Node<'_, 'a>) -> Result<Vec<Device<'a>>, Unread>
     ensures { ReadsAs (λ v. map device_of v.items) (devices_in (view value.now)) result }
 {
     if fits(value, &["devices"], &[]) {
@@ -33,7 +31,7 @@ impl<'a> Reads<'a> for Device<'a> {
 
     ghost says = { device_in };
 
-    fn read(alloc: Global, value: &Node<'a>) -> Result<Self, Unread> {
+    fn read(alloc: Global, value: &Node<'_, 'a>) -> Result<Self, Unread> {
         if fits(
             value,
             &["fields", "instance_id", "name", "subsections", "version"],
@@ -47,7 +45,7 @@ impl<'a> Reads<'a> for Device<'a> {
 }
 
 // A device whose keys are there.
-fn device_from<'a>(alloc: Global, value: &Node<'a>) -> Result<Device<'a>, Unread>
+fn device_from<'a>(alloc: Global, value: &Node<'_, 'a>) -> Result<Device<'a>, Unread>
     ensures { ReadsAs device_of (device_from (view value.now)) result }
 {
     let name = path_at(value, "name", LONGEST_NAME)?;
@@ -64,7 +62,7 @@ fn device_from<'a>(alloc: Global, value: &Node<'a>) -> Result<Device<'a>, Unread
     })
 }
 
-fn subs_in<'a>(alloc: Global, value: &Node<'a>) -> Result<Vec<Sub<'a>>, Unread>
+fn subs_in<'a>(alloc: Global, value: &Node<'_, 'a>) -> Result<Vec<Sub<'a>>, Unread>
     ensures { ReadsAs (λ v. map sub_of v.items) (subs_in (view value.now)) result }
 {
     each(alloc, list_at(value, "subsections")?)
@@ -77,7 +75,7 @@ impl<'a> Reads<'a> for Sub<'a> {
 
     ghost says = { sub_in };
 
-    fn read(alloc: Global, value: &Node<'a>) -> Result<Self, Unread> {
+    fn read(alloc: Global, value: &Node<'_, 'a>) -> Result<Self, Unread> {
         if fits(value, &["fields", "name", "sent", "version"], &[]) {
             sub_from(alloc, value)
         } else {
@@ -87,7 +85,7 @@ impl<'a> Reads<'a> for Sub<'a> {
 }
 
 // A subsection whose keys are there.
-fn sub_from<'a>(alloc: Global, value: &Node<'a>) -> Result<Sub<'a>, Unread>
+fn sub_from<'a>(alloc: Global, value: &Node<'_, 'a>) -> Result<Sub<'a>, Unread>
     ensures { ReadsAs sub_of (sub_from (view value.now)) result }
 {
     let name = path_at(value, "name", LONGEST_NAME)?;

@@ -11,13 +11,17 @@ use crate::members::{Unread, list_at, natural_at, path_at, text_at, whole_at};
 use crate::told::Element;
 use std::alloc::Global;
 use vms_json::{Node, fits};
+use vms_spec::MOST_UNUSED;
 use vms_words::kind_named;
 
 /// A path has at most so many bytes.
 const LONGEST_PATH: usize = 300;
 
 /// The elements of a device or a subsection.
-pub(crate) fn elements_in<'a>(alloc: Global, value: &Node<'a>) -> Result<Vec<Element<'a>>, Unread>
+pub(crate) fn elements_in<'a>(
+    alloc: Global,
+    value: &Node<'_, 'a>,
+) -> Result<Vec<Element<'a>>, Unread>
     ensures { ReadsAs (λ v. map told_of v.items) (elements_in (view value.now)) result }
 {
     each(alloc, list_at(value, "fields")?)
@@ -31,7 +35,7 @@ impl<'a> Reads<'a> for Element<'a> {
     ghost says = { element_in };
 
     // By its keys.
-    fn read(_: Global, value: &Node<'a>) -> Result<Self, Unread> {
+    fn read(_: Global, value: &Node<'_, 'a>) -> Result<Self, Unread> {
         if fits(value, &["name", "size", "type"], &[]) {
             sent_in(value)
         } else if fits(value, &["name", "size", "type", "value"], &[]) {
@@ -43,7 +47,7 @@ impl<'a> Reads<'a> for Element<'a> {
 }
 
 // What stands in the stream.
-fn sent_in<'a>(value: &Node<'a>) -> Result<Element<'a>, Unread>
+fn sent_in<'a>(value: &Node<'_, 'a>) -> Result<Element<'a>, Unread>
     ensures { ReadsAs told_of (sent_in (view value.now)) result }
 {
     let path = path_at(value, "name", LONGEST_PATH)?;
@@ -67,7 +71,7 @@ fn unprinted<'a>(path: &'a str, size: u64, word: &str) -> Result<Element<'a>, Un
                 bytes: size as usize,
             });
         }
-    } else if word == "unused" && 1 <= size && size <= 4096 {
+    } else if word == "unused" && 1 <= size && size <= u64::from(MOST_UNUSED) {
         return Ok(Element::Skipped {
             path,
             bytes: size as usize,
@@ -77,7 +81,7 @@ fn unprinted<'a>(path: &'a str, size: u64, word: &str) -> Result<Element<'a>, Un
 }
 
 // A number that doesn't stand there.
-fn kept_in<'a>(value: &Node<'a>) -> Result<Element<'a>, Unread>
+fn kept_in<'a>(value: &Node<'_, 'a>) -> Result<Element<'a>, Unread>
     ensures { ReadsAs told_of (kept_in (view value.now)) result }
 {
     let path = path_at(value, "name", LONGEST_PATH)?;

@@ -1,5 +1,6 @@
 // The machine, and what begins and ends a section.
 ghost use Rattle.std.specs.Prelude.{◌≡◌, ◌≤◌, ◌+◌, ◌<◌, ◌∷◌, [], ◌==◌, length, get_or, OnOk, IfErr, MatchOption};
+ghost use Rattle.vms_spec.specs.declared.TheConstants.{LONGEST_NAME};
 ghost use Rattle.vms_spec.specs.Lookup.{number_at};
 ghost use Rattle.vms_spec.specs.Spelling.{begins_with};
 ghost use Rattle.vms_analyze.specs.Wanted.{Foot as TheFoot, Head, Machine, machine_line, section_line};
@@ -9,12 +10,10 @@ ghost use Rattle.vms_analyze.specs.declared.walk.Stop.TheVariants as stops;
 use crate::walk::{Stop, Walk};
 use byteorder::{BigEndian, ByteOrder};
 use itoa::Buffer;
-use vms_marks::{Foot, Mark};
+use vms_marks::{CONFIGURATION_FRONT, Foot, Mark};
+use vms_spec::LONGEST_NAME;
 use vms_words::are_name_bytes;
 use vms_write::{configuration, section_head};
-
-// The name of a machine has at most so many bytes.
-const LONGEST_NAME: usize = 255;
 
 impl<'a> Walk<'a> {
     /// A configuration with the name of any machine, or nothing.
@@ -40,7 +39,7 @@ impl<'a> Walk<'a> {
     /// The head of a section with any id, which is open then.
     pub(crate) fn head(&mut self, name: &str, instance: u32, version: u32) -> Result<(), Stop>
         requires inside { IsInside self.old }
-        requires short { length name.now ≤ 255 }
+        requires short { length name.now ≤ LONGEST_NAME }
         ensures ok { OnOk result (Goes (Head name.now instance version ∷ []) self.old self.new) }
         ensures err { IfErr result
             (WhyStopped (Head name.now instance version ∷ []) self.old self.new) }
@@ -104,7 +103,7 @@ impl<'a> Walk<'a> {
             (λ name. IsMachineName (left self.now) name.now) }
     {
         let long = self.number_behind()? as usize;
-        let rest = &self.input[self.place + 5..];
+        let rest = &self.input[self.place + CONFIGURATION_FRONT..];
         if long > LONGEST_NAME || rest.len() < long {
             return None;
         }

@@ -12,12 +12,13 @@ ghost use Rattle.vms_analyze.specs.Calls.{ListsAs, ShowsAs};
 use crate::devices::devices_in;
 use crate::fault::{AnalyzeFault, AnalyzeReason};
 use crate::members::Unread;
-use crate::place::{BEFORE_TEXT, last_place};
+use crate::place::last_place;
 use crate::told::Device;
 use crate::walk::{Stop, Walk};
 use json::Scratch;
 use std::alloc::Global;
 use vms_json::{NoNode, read_bytes};
+use vms_marks::DESCRIPTION_FRONT;
 
 /// The text of an input that has a listing, or why it has none.
 pub(crate) fn list(alloc: Global, input: &[u8]) -> Result<Vec<u8>, AnalyzeFault>
@@ -40,7 +41,7 @@ fn list_at(alloc: Global, input: &[u8], place: usize) -> Result<Vec<u8>, Analyze
     ensures { ListsAs input.now result }
 {
     let mut scratch = Scratch::new(alloc);
-    match described(alloc, &input[place + BEFORE_TEXT..], &mut scratch) {
+    match described(alloc, &input[place + DESCRIPTION_FRONT..], &mut scratch) {
         Ok(devices) => show(alloc, &input[..place], &devices),
         Err(Unread::Shape) => Err(AnalyzeFault::Refused {
             at: place as u64,
@@ -59,7 +60,7 @@ fn described<'a>(
     ensures { ReadsAs (λ v. map device_of v.items) (next (value_in text.now) devices_in) result }
 {
     match read_bytes(alloc, text, scratch) {
-        Ok(value) => devices_in(alloc, &value),
+        Ok(value) => devices_in(alloc, &value.root()),
         Err(NoNode::Syntax) => Err(Unread::Shape),
         Err(NoNode::NoMemory) => Err(Unread::NoMemory),
     }

@@ -3,14 +3,14 @@ ghost use Rattle.std.specs.Prelude.{◌≡◌};
 ghost use Rattle.std.specs.List.{list_all};
 ghost use Rattle.serde_json.specs.Find.{as_bool};
 ghost use Rattle.serde_json.specs.View.{number_view};
-ghost use Rattle.vms_json.specs.Nodes.{view, items_view};
+ghost use Rattle.vms_json.specs.Nodes.{view, items_left};
 ghost use Rattle.vms_analyze.specs.Told.{is_path, is_path_byte};
 ghost use Rattle.vms_analyze.specs.Read.{flag_at, four_at, list_at, natural_at, path_at, text_at, whole_at, whole_of};
 ghost use Rattle.vms_analyze.specs.Typed.{ReadsAs};
 
 use serde_json::Number;
 use std::alloc::{AllocError, AllocFailed};
-use vms_json::Node;
+use vms_json::{Items, Node};
 use vms_words::is_name_byte;
 
 /// Why a value isn't read.
@@ -43,7 +43,7 @@ impl<T: Drop> From<AllocFailed<T>> for Unread {
 }
 
 /// The text under a key.
-pub(crate) fn text_at<'a>(value: &Node<'a>, key: &str) -> Result<&'a str, Unread>
+pub(crate) fn text_at<'a>(value: &Node<'_, 'a>, key: &str) -> Result<&'a str, Unread>
     ensures { ReadsAs (λ t. t.now) (text_at key.now (view value.now)) result }
 {
     match value.get(key).and_then(Node::as_str) {
@@ -53,7 +53,7 @@ pub(crate) fn text_at<'a>(value: &Node<'a>, key: &str) -> Result<&'a str, Unread
 }
 
 /// The path or name under a key, of 1 to so many bytes.
-pub(crate) fn path_at<'a>(value: &Node<'a>, key: &str, most: usize) -> Result<&'a str, Unread>
+pub(crate) fn path_at<'a>(value: &Node<'_, 'a>, key: &str, most: usize) -> Result<&'a str, Unread>
     ensures { ReadsAs (λ t. t.now) (path_at most key.now (view value.now)) result }
 {
     let text = text_at(value, key)?;
@@ -100,18 +100,18 @@ pub(crate) fn whole_at(value: &Node, key: &str) -> Result<i128, Unread>
 pub(crate) fn flag_at(value: &Node, key: &str) -> Result<bool, Unread>
     ensures { ReadsAs (λ b. b) (flag_at key.now (view value.now)) result }
 {
-    match value.get(key).and_then(flag_of) {
+    match value.get(key).and_then(Node::as_bool) {
         Some(flag) => Ok(flag),
         None => Err(Unread::Shape),
     }
 }
 
 /// The items of the list under a key.
-pub(crate) fn list_at<'v, 'a>(value: &'v Node<'a>, key: &str) -> Result<&'v [Node<'a>], Unread>
-    ensures { ReadsAs (λ v. items_view v.now) (list_at key.now (view value.now)) result }
+pub(crate) fn list_at<'t, 'a>(value: &Node<'t, 'a>, key: &str) -> Result<Items<'t, 'a>, Unread>
+    ensures { ReadsAs (λ v. items_left v) (list_at key.now (view value.now)) result }
 {
     match value.get(key).and_then(Node::as_list) {
-        Some(items) => Ok(items.as_slice()),
+        Some(items) => Ok(items),
         None => Err(Unread::Shape),
     }
 }
@@ -126,16 +126,6 @@ fn whole_of(number: &Number) -> Option<i128>
     match number.as_i128() {
         Some(number) if number < 0 => Some(number),
         _ => None,
-    }
-}
-
-fn flag_of(value: &Node) -> Option<bool>
-    ensures { result ≡ as_bool (view value.now) }
-{
-    if let Node::Bool(flag) = value {
-        Some(*flag)
-    } else {
-        None
     }
 }
 

@@ -4,11 +4,10 @@ ghost use Rattle.vms_analyze.specs.Listing.{IsPlace, TellsPlace};
 
 use byteorder::{BigEndian, ByteOrder};
 use memchr::memrchr;
+use vms_marks::DESCRIPTION_FRONT;
 
-// The mark of a description section, and how many bytes stand before its text.
+// The mark of a description section.
 const MARK: u8 = 0x06;
-
-pub(crate) const BEFORE_TEXT: usize = 5;
 
 // Whether a description may stand here: the mark, and the length of all that is left.
 fn is_place(input: &[u8], at: usize) -> bool
@@ -16,9 +15,9 @@ fn is_place(input: &[u8], at: usize) -> bool
     ensures { IsTrue result ↔ IsPlace input.now at }
 {
     let left = input.len() - at;
-    left >= BEFORE_TEXT
+    left >= DESCRIPTION_FRONT
         && input[at] == MARK
-        && BigEndian::read_u32(&input[at + 1..]) as usize == left - BEFORE_TEXT
+        && BigEndian::read_u32(&input[at + 1..]) as usize == left - DESCRIPTION_FRONT
 }
 
 /// The last place at which a description may stand.

@@ -1,6 +1,7 @@
 // What stands in a stream around its elements.
 ghost use Rattle.std.specs.Prelude.{◌≡◌, ◌≤◌, ◌∷◌, [], true, length, map, OnOk, IfErr};
 ghost use Rattle.std.specs.List.{list_all};
+ghost use Rattle.vms_spec.specs.declared.TheConstants.{LONGEST_NAME};
 ghost use Rattle.vms_spec.specs.Streams.{sub_head};
 ghost use Rattle.vms_analyze.specs.Told.{is_good_device, is_good_sub};
 ghost use Rattle.vms_analyze.specs.Wanted.{Bytes, Line, device_wants, kept_line, sent_line, found, start_wants, sub_head_wants, sub_wants, wants};
@@ -138,7 +139,7 @@ impl Walk<'_> {
     // The head of a subsection that was sent, and its line.
     fn sub_head(&mut self, sub: &Sub) -> Result<(), Stop>
         requires inside { IsInside self.old }
-        requires short { length sub.now.name.now ≤ 255 }
+        requires short { length sub.now.name.now ≤ LONGEST_NAME }
         ensures ok { OnOk result
             (Goes (sub_head_wants (sub_of sub.now) sub.now.sent) self.old self.new) }
         ensures err { IfErr result
@@ -153,7 +154,7 @@ impl Walk<'_> {
 
     fn sent_head(&mut self, name: &str, version: u32) -> Result<(), Stop>
         requires inside { IsInside self.old }
-        requires short { length name.now ≤ 255 }
+        requires short { length name.now ≤ LONGEST_NAME }
         ensures ok { OnOk result
             (Goes (Bytes (sub_head name.now version) ∷ Line (sent_line name.now version) ∷ [])
             self.old self.new) }

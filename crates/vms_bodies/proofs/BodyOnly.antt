@@ -1,19 +1,19 @@
 -- A body of a description is taken as that description.
-use Rattle.std.proofs.Common.{◌≡◌, ℕ, zero, suc, ◌+◌, ◌<◌, ◌≤◌, ◌≤ℤ◌, List, ◌∷◌, ◌++◌, length, get_or, take, drop, slice_set, Ok, Err, ℤ, pos, refl, sym, ap, ◌∙◌, subst, arith, append_assoc, length-append, Bool, true, false, if◌then◌else◌, nat_lt, ◌==◌, [], ◌||◌}
-use Rattle.std.specs.List.{AllByRecursion}
+use Rattle.std.proofs.Common.{◌≡◌, ℕ, zero, suc, ◌+◌, ◌<◌, ◌≤◌, List, ◌∷◌, ◌++◌, length, get_or, take, drop, slice_set, Ok, Err, ℤ, pos, refl, sym, ap, ◌∙◌, subst, arith, append_assoc, length-append, Bool, true, false, not, if◌then◌else◌, nat_lt, ◌==◌, [], ◌||◌}
 use Rattle.std.proofs.Math.Seq.{drop-append_seam}
 use Rattle.std.proofs.lemmas.List.{take-append-le, append_cancel_left, ext_get_or, get_or-set_same, length-set}
 use Rattle.std.proofs.lemmas.Bool.{le-ltb, eq-eqb, eqb-true}
 use Rattle.std.proofs.Math.Nat.{add-zero}
 use Rattle.vms_kinds.specs.declared.Kind.{Kind}
 use Rattle.vms_kinds.specs.Codes.{width, value_of, code, InRange}
+use Rattle.vms_spec.specs.declared.Reason.{Reason}
 use Rattle.vms_spec.specs.declared.Reason.TheVariants as reasons
 use Rattle.vms_spec.specs.Sets.{Desc}
 use Rattle.vms_spec.specs.Lookup.{is_bad_bool}
 use Rattle.vms_spec.specs.Numbers.{exceeds, same_number}
 use Rattle.vms_spec.specs.Layout.{Slot, Number, Constant, Filler, Rule, Cell, meanings, desc_slots, desc_cells}
 use Rattle.vms_spec.specs.Images.{Spells, RulesHold, has_cell}
-use Rattle.vms_spec.specs.Taking.{Taken, Progress, Refusal, refuse, on, take_number, take_constant, take_filler, take_rule, take_desc, takers, cells_of}
+use Rattle.vms_spec.specs.Taking.{Taken, Progress, Refusal, refuse, on, take_value, take_slot, take_desc, takers, cells_of}
 use Rattle.vms_spec.specs.Sound.{IsSound, AreSound}
 use Rattle.vms_bodies.specs.Cells.{AreCells}
 use Rattle.vms_bodies.proofs.Places.{SameBelow}
@@ -21,7 +21,7 @@ use Rattle.vms_spec.proofs.KindLaws.{length-code, value_code, good_code}
 use Rattle.vms_spec.proofs.NumberLaws.{same_number_itself, not_exceeds}
 use Rattle.vms_bodies.proofs.AboveLaws.{IsAbove, desc_above, meanings_above}
 use Rattle.vms_bodies.proofs.SpellLaws.{FitSlots, cell_in, set_other}
-use Rattle.vms_bodies.proofs.WalkLaws.{take_slot, Left, Gives, IsOther, Keeping, ComesTo, set_desc_comes}
+use Rattle.vms_bodies.proofs.WalkLaws.{Left, Gives, IsOther, Keeping, ComesTo, set_desc_comes}
 
 -- ---- tests that come out well
 
@@ -47,45 +47,28 @@ front_drop n xs ys rest e len = ap (drop n) e ∙ ap (λ (k : ℕ). drop k (xs +
 front_long : (n : ℕ) (xs ys rest : List ℕ) → rest ≡ xs ++ ys → length xs ≡ n → nat_lt (length rest) n ≡ false
 front_long n xs ys rest e len = le-ltb (length rest) n (omega (arith, ap length e, length-append xs ys))
 
--- a number's code stands there, and is none that no number has
-code_stands : (kind : Kind) (z : ℤ) (p : Progress) (r : List ℕ) (t : Taken) → InRange kind z → p.rest ≡ code kind z ++ r
-    → (if nat_lt (length p.rest) (width kind) then refuse p reasons.Truncated (length p.rest)
-    else if is_bad_bool kind (take (width kind) p.rest) then refuse p reasons.BadBool (width kind) else t) ≡ t
-code_stands kind z p r t fits e =
+-- a number's code is taken where it doesn't fail
+value_taken : (kind : Kind) (reason : Reason) (fails : ℤ → Bool) (put : ℤ → List ℤ) (z : ℤ) (p : Progress) (r : List ℕ) → InRange kind z → fails z ≡ false → p.rest ≡ code kind z ++ r
+    → take_value kind reason fails put p ≡ Ok (record { numbers = put z; place = p.place + width kind; rest = r })
+value_taken kind reason fails put z p r fits good e =
     let w = width kind in
+    let bytes = take w p.rest in
+    let front : bytes ≡ code kind z = front_take w (code kind z) r p.rest e (length-code kind z) in
+    let value : value_of kind bytes ≡ z = ap (value_of kind) front ∙ value_code kind z fits in
     if_false (nat_lt (length p.rest) w) (refuse p reasons.Truncated (length p.rest)) _ (front_long w (code kind z) r p.rest e (length-code kind z))
-    ∙ if_false (is_bad_bool kind (take w p.rest)) (refuse p reasons.BadBool w) t (ap (is_bad_bool kind) (front_take w (code kind z) r p.rest e (length-code kind z)) ∙ good_code kind z fits)
+    ∙ if_false (is_bad_bool kind bytes) (refuse p reasons.BadBool w) _ (ap (is_bad_bool kind) front ∙ good_code kind z fits)
+    ∙ if_false (fails (value_of kind bytes)) (refuse p reason w) (on w (put (value_of kind bytes)) p) (ap fails value ∙ good)
+    ∙ ap (λ (y : ℤ). on w (put y) p) value
+    ∙ ap (λ (l : List ℕ). Ok (record { numbers = put z; place = p.place + w; rest = l })) (front_drop w (code kind z) r p.rest e (length-code kind z))
 
--- a number's code is taken
-number_taken : (kind : Kind) (caps : List ℕ) (cell : ℕ) (z : ℤ) (p : Progress) (r : List ℕ) → InRange kind z → AllByRecursion (λ most. z ≤ℤ pos most) caps → p.rest ≡ code kind z ++ r
-    → take_number kind caps cell p ≡ Ok (record { numbers = slice_set p.numbers cell z; place = p.place + width kind; rest = r })
-number_taken kind caps cell z p r fits low e =
-    let w = width kind in
-    let bytes = take w p.rest in
-    let value : value_of kind bytes ≡ z = ap (value_of kind) (front_take w (code kind z) r p.rest e (length-code kind z)) ∙ value_code kind z fits in
-    code_stands kind z p r _ fits e
-    ∙ if_false (exceeds caps (value_of kind bytes)) (refuse p reasons.CountTooLarge w) (on w (slice_set p.numbers cell (value_of kind bytes)) p) (ap (exceeds caps) value ∙ not_exceeds caps z low)
-    ∙ ap (λ (y : ℤ). on w (slice_set p.numbers cell y) p) value
-    ∙ ap (λ (l : List ℕ). Ok (record { numbers = slice_set p.numbers cell z; place = p.place + w; rest = l })) (front_drop w (code kind z) r p.rest e (length-code kind z))
+filler_taken : (filler r : List ℕ) (p : Progress) (n : ℕ) → length filler ≡ n → p.rest ≡ filler ++ r → take_slot (Filler n) p ≡ Ok (record { numbers = p.numbers; place = p.place + n; rest = r })
+filler_taken filler r p n len e =
+    if_false (nat_lt (length p.rest) n) (refuse p reasons.Truncated (length p.rest)) (on n p.numbers p) (front_long n filler r p.rest e len)
+    ∙ ap (λ (l : List ℕ). Ok (record { numbers = p.numbers; place = p.place + n; rest = l })) (front_drop n filler r p.rest e len)
 
-constant_taken : (kind : Kind) (z : ℤ) (p : Progress) (r : List ℕ) → InRange kind z → p.rest ≡ code kind z ++ r
-    → take_constant kind z p ≡ Ok (record { numbers = p.numbers; place = p.place + width kind; rest = r })
-constant_taken kind z p r fits e =
-    let w = width kind in
-    let bytes = take w p.rest in
-    let value : value_of kind bytes ≡ z = ap (value_of kind) (front_take w (code kind z) r p.rest e (length-code kind z)) ∙ value_code kind z fits in
-    code_stands kind z p r _ fits e
-    ∙ if_true (same_number (value_of kind bytes) z) (on w p.numbers p) (refuse p reasons.NotEqual w) (ap (λ (y : ℤ). same_number y z) value ∙ same_number_itself z)
-    ∙ ap (λ (l : List ℕ). Ok (record { numbers = p.numbers; place = p.place + w; rest = l })) (front_drop w (code kind z) r p.rest e (length-code kind z))
-
-filler_taken : (n : ℕ) (filler r : List ℕ) (p : Progress) → length filler ≡ n → p.rest ≡ filler ++ r → take_filler n p ≡ Ok (record { numbers = p.numbers; place = p.place + n; rest = r })
-filler_taken zero [] r p len e =
-    ap (λ (k : ℕ). Ok (record { numbers = p.numbers; place = k; rest = p.rest })) (sym (add-zero p.place))
-    ∙ ap (λ (l : List ℕ). Ok (record { numbers = p.numbers; place = p.place + 0; rest = l })) e
-filler_taken zero (x ∷ xs) r p len e = absurd (omega arith)
-filler_taken (suc n) filler r p len e =
-    if_false (nat_lt (length p.rest) (suc n)) (refuse p reasons.Truncated (length p.rest)) (on (suc n) p.numbers p) (front_long (suc n) filler r p.rest e len)
-    ∙ ap (λ (l : List ℕ). Ok (record { numbers = p.numbers; place = p.place + suc n; rest = l })) (front_drop (suc n) filler r p.rest e len)
+-- no byte at all
+pub none_taken : (p : Progress) → take_slot (Filler 0) p ≡ Ok p
+none_taken p = filler_taken [] p.rest p 0 refl refl ∙ ap (λ (k : ℕ). Ok (record { numbers = p.numbers; place = k; rest = p.rest })) (add-zero p.place)
 
 -- ---- what is still to be taken
 
@@ -151,7 +134,7 @@ module _ (all : List Cell) (total : List ℤ → List Slot) (n : List ℤ) (end 
 
   number_spelling : length all ≤ length n → ((m : List ℤ) → AreCells all (total m)) → (cell : ℕ) (kind : Kind) (caps : List ℕ) (done : List Slot) (left : List ℤ → List Slot) (p : Progress)
       → ((m : List ℤ) → IsAbove (cell + 1) (left m)) → Left total (Spelling total n end tail) Never cell p done (λ m. Number cell kind caps ∷ left m)
-      → Gives total (Spelling total n end tail) Never (cell + 1) (done ++ Number cell kind caps ∷ []) (take_number kind caps cell p)
+      → Gives total (Spelling total n end tail) Never (cell + 1) (done ++ Number cell kind caps ∷ []) (take_slot (Number cell kind caps) p)
   number_spelling room cells cell kind caps done left p up l =
       let h = l.holds in
       let is : h.more ≡ Number cell kind caps ∷ left n = more_is cell done (λ m. Number cell kind caps ∷ left m) p l in
@@ -162,8 +145,8 @@ module _ (all : List Cell) (total : List ℤ → List Slot) (n : List ℤ) (end 
       let inside : cell < length p.numbers = (let a = (cell_in all done (left n) cell kind caps (subst (λ (xs : List Slot). AreCells all xs) split (cells n))).within in let b = h.long in omega arith) in
       let bytes = spells.0 in
       let front : p.rest ≡ code kind z ++ (bytes ++ tail) = h.front ∙ ap (λ (l : List ℕ). l ++ tail) spells.1 ∙ append_assoc (code kind z) bytes tail in
-      gives (cell + 1) (done ++ Number cell kind caps ∷ []) (take_number kind caps cell p) (record { numbers = slice_set p.numbers cell z; place = p.place + width kind; rest = bytes ++ tail })
-      (number_taken kind caps cell z p (bytes ++ tail) fits.0 fits.1 front)
+      gives (cell + 1) (done ++ Number cell kind caps ∷ []) (take_slot (Number cell kind caps) p) (record { numbers = slice_set p.numbers cell z; place = p.place + width kind; rest = bytes ++ tail })
+      (value_taken kind reasons.CountTooLarge (exceeds caps) (slice_set p.numbers cell) z p (bytes ++ tail) fits.0 (not_exceeds caps z fits.1) front)
       (record {
         more = left n;
         bytes = bytes;
@@ -212,21 +195,22 @@ module _ (all : List Cell) (total : List ℤ → List Slot) (n : List ℤ) (end 
       let spells : Spells n (Constant kind z ∷ left n) h.bytes = subst (λ (xs : List Slot). Spells n xs h.bytes) is h.spells in
       let fits : FitSlots n (Constant kind z ∷ left n) = subst (λ (xs : List Slot). FitSlots n xs) is h.fits in
       let front : p.rest ≡ code kind z ++ (spells.0 ++ tail) = h.front ∙ ap (λ (l : List ℕ). l ++ tail) spells.1 ∙ append_assoc (code kind z) spells.0 tail in
-      passed cell (Constant kind z) done left p (take_constant kind z p) (width kind) spells.0 up l (constant_taken kind z p (spells.0 ++ tail) fits.0 front)
+      passed cell (Constant kind z) done left p (take_slot (Constant kind z) p) (width kind) spells.0 up l
+      (value_taken kind reasons.NotEqual (λ y. not (same_number y z)) (λ y. p.numbers) z p (spells.0 ++ tail) fits.0 (ap not (same_number_itself z)) front)
       (omega (arith, ap length spells.1, length-append (code kind z) spells.0, length-code kind z)) spells.2 fits.1 (subst (λ (xs : List Slot). RulesHold xs) is h.rules) (λ c. refl)
   other_spelling cell (Filler k) done left p o up l =
       let h = l.holds in
       let is : h.more ≡ Filler k ∷ left n = more_is cell done (λ m. Filler k ∷ left m) p l in
       let spells : Spells n (Filler k ∷ left n) h.bytes = subst (λ (xs : List Slot). Spells n xs h.bytes) is h.spells in
       let front : p.rest ≡ spells.0 ++ (spells.1 ++ tail) = h.front ∙ ap (λ (l : List ℕ). l ++ tail) spells.3 ∙ append_assoc spells.0 spells.1 tail in
-      passed cell (Filler k) done left p (take_filler k p) k spells.1 up l (filler_taken k spells.0 (spells.1 ++ tail) p spells.2 front)
+      passed cell (Filler k) done left p (take_slot (Filler k) p) k spells.1 up l (filler_taken spells.0 (spells.1 ++ tail) p k spells.2 front)
       (omega (arith, ap length spells.3, length-append spells.0 spells.1, spells.2)) spells.4 (subst (λ (xs : List Slot). FitSlots n xs) is h.fits) (subst (λ (xs : List Slot). RulesHold xs) is h.rules) (λ c. refl)
   other_spelling cell (Rule b) done left p o up l =
       let h = l.holds in
       let is : h.more ≡ Rule b ∷ left n = more_is cell done (λ m. Rule b ∷ left m) p l in
       let spells : Spells n (left n) h.bytes = subst (λ (xs : List Slot). Spells n xs h.bytes) is h.spells in
       let rules : RulesHold (Rule b ∷ left n) = subst (λ (xs : List Slot). RulesHold xs) is h.rules in
-      passed cell (Rule b) done left p (take_rule b p) 0 h.bytes up l
+      passed cell (Rule b) done left p (take_slot (Rule b) p) 0 h.bytes up l
       (if_true b (Ok p) (refuse p reasons.Invalid 0) rules.0
       ∙ ap (λ (k : ℕ). Ok (record { numbers = p.numbers; place = k; rest = p.rest })) (sym (add-zero p.place))
       ∙ ap (λ (l : List ℕ). Ok (record { numbers = p.numbers; place = p.place + 0; rest = l })) h.front)

@@ -1,7 +1,8 @@
 -- What was taken of a body is spelled by its slots, as they are at last.
-use Rattle.std.proofs.Common.{◌≡◌, ◌≢◌, ℕ, zero, suc, ◌+◌, ◌<◌, ◌≤◌, ◌≤ℤ◌, List, ◌∷◌, ◌++◌, length, get_or, take, drop, slice_set, ℤ, pos, refl, sym, ap, ◌∙◌, subst, arith, append_assoc, append-nil, length-append, Bool as Truth, true, false, if◌then◌else◌, nat_lt, ◌==◌, get_or-set_other, get_or-set_same, [], ◌||◌}
+use Rattle.std.proofs.Common.{◌≡◌, ◌≢◌, ℕ, ◌+◌, ◌<◌, ◌≤◌, ◌≤ℤ◌, List, ◌∷◌, ◌++◌, length, get_or, take, drop, slice_set, ℤ, pos, refl, sym, ap, ◌∙◌, subst, arith, append_assoc, append-nil, length-append, true, false, not, ◌==◌, get_or-set_other, get_or-set_same, [], ◌||◌}
 use Rattle.std.specs.List.{AllByRecursion}
 use Rattle.std.proofs.lemmas.List.{take-append-drop, length-take-le, length-set}
+use Rattle.std.proofs.Math.Bool.{not-not}
 use Rattle.std.proofs.lemmas.Bool.{ltb-false, eq-eqb, or_parts}
 use Rattle.byteorder.specs.Endian.{big_number}
 use Rattle.vms_kinds.specs.declared.Kind.{Kind}
@@ -15,12 +16,12 @@ use Rattle.vms_spec.specs.Lookup.{is_bad_bool}
 use Rattle.vms_spec.specs.Numbers.{exceeds, same_number}
 use Rattle.vms_spec.specs.Layout.{Slot, Number, Constant, Filler, Rule, Cell}
 use Rattle.vms_spec.specs.Images.{Spells, RulesHold, has_cell}
-use Rattle.vms_spec.specs.Taking.{Taken, Progress, Refusal, refuse, on, take_number}
+use Rattle.vms_spec.specs.Taking.{Progress, Refusal, on, take_slot}
 use Rattle.vms_spec.proofs.NumberLaws.{same_number_is, within_all}
 use Rattle.vms_bodies.specs.Cells.{IsCell, AreCells}
 use Rattle.vms_bodies.proofs.Places.{SameBelow, same_refl, same_less}
 use Rattle.vms_bodies.proofs.Names.{names_append}
-use Rattle.vms_bodies.proofs.WalkLaws.{take_slot, Left, Gives, IsOther, Keeping}
+use Rattle.vms_bodies.proofs.WalkLaws.{Left, Gives, IsOther, Keeping, whole_gives, value_gives}
 
 -- ---- a number's bytes
 
@@ -98,11 +99,6 @@ other_cell : (cell c : ℕ) → ((cell == c) || false) ≡ false → c ≢ cell
 other_cell cell c e same = let f : (cell == c) ≡ true = eq-eqb cell c (sym same) in let g = or_parts (cell == c) false e in cc (sym f ∙ g.0)
 
 module _ (all : List Cell) (total : List ℤ → List Slot) (start : Progress) where
-  given : (cell : ℕ) (done : List Slot) (b : Truth) (t u : Taken) → (b ≡ true → Gives total (Spelled start) Anything cell done t) → (b ≡ false → Gives total (Spelled start) Anything cell done u)
-      → Gives total (Spelled start) Anything cell done (if b then t else u)
-  given cell done true t u x y = x refl
-  given cell done false t u x y = y refl
-
   pub spelled_less : (cell further : ℕ) (done : List Slot) (p : Progress) → cell ≤ further → Spelled start cell done p → Spelled start further done p
   spelled_less cell further done p le h = record {
     bytes = h.bytes;
@@ -119,7 +115,7 @@ module _ (all : List Cell) (total : List ℤ → List Slot) (start : Progress) w
   front_on bytes n p e = e ∙ ap (λ (l : List ℕ). bytes ++ l) (sym (take-append-drop n p.rest)) ∙ sym (append_assoc bytes (take n p.rest) (drop n p.rest))
 
   number_spelled : IsBytes start.rest → length all ≤ length start.numbers → ((m : List ℤ) → AreCells all (total m)) → (cell : ℕ) (kind : Kind) (caps : List ℕ) (done : List Slot) (left : List ℤ → List Slot) (p : Progress)
-      → Left total (Spelled start) Anything cell p done (λ m. Number cell kind caps ∷ left m) → Gives total (Spelled start) Anything (cell + 1) (done ++ Number cell kind caps ∷ []) (take_number kind caps cell p)
+      → Left total (Spelled start) Anything cell p done (λ m. Number cell kind caps ∷ left m) → Gives total (Spelled start) Anything (cell + 1) (done ++ Number cell kind caps ∷ []) (take_slot (Number cell kind caps) p)
   number_spelled ok room cells cell kind caps done left p l =
       let w = width kind in
       let bytes = take w p.rest in
@@ -127,9 +123,7 @@ module _ (all : List Cell) (total : List ℤ → List Slot) (start : Progress) w
       let h = l.holds in
       let next = done ++ Number cell kind caps ∷ [] in
       let numbers = slice_set p.numbers cell z in
-      given (cell + 1) next (nat_lt (length p.rest) w) (refuse p reasons.Truncated (length p.rest)) _ (λ e. tt) (λ e1.
-      given (cell + 1) next (is_bad_bool kind bytes) (refuse p reasons.BadBool w) _ (λ e. tt) (λ e2.
-      given (cell + 1) next (exceeds caps z) (refuse p reasons.CountTooLarge w) (on w numbers p) (λ e. tt) (λ e3.
+      value_gives (Gives total (Spelled start) Anything (cell + 1) next) p (λ reason n. tt) kind reasons.CountTooLarge (exceeds caps) (slice_set p.numbers cell) (λ e1 e2 e3.
       let long : w ≤ length p.rest = ltb-false (length p.rest) w e1 in
       let len : length bytes ≡ w = length-take-le w p.rest long in
       let fine : IsBytes bytes = bytes_first w p.rest (bytes_rest h.bytes p.rest (subst (λ (l : List ℕ). IsBytes l) h.front ok)) in
@@ -152,7 +146,7 @@ module _ (all : List Cell) (total : List ℤ → List Slot) (start : Progress) w
         kept = λ c e.
             let n = or_parts (has_cell done c) ((cell == c) || false) (sym (names_append done (Number cell kind caps ∷ []) c) ∙ e) in
             set_other p.numbers c cell z (other_cell cell c n.1) ∙ h.kept c n.0;
-      })))
+      })
 
   -- what a slot without a cell keeps
   plain : (cell n : ℕ) (slot : Slot) (done : List Slot) (left : List ℤ → List Slot) (p : Progress) → n ≤ length p.rest
@@ -172,47 +166,39 @@ module _ (all : List Cell) (total : List ℤ → List Slot) (start : Progress) w
         kept = λ c e. h.kept c (or_parts (has_cell done c) (has_cell (slot ∷ []) c) (sym (names_append done (slot ∷ []) c) ∙ e)).0;
       }
 
-  -- where no byte is taken
-  still : (cell : ℕ) (slot : Slot) (done : List Slot) (left : List ℤ → List Slot) (p : Progress)
-      → ((m : List ℤ) → Spells m (slot ∷ []) []) → ((m : List ℤ) → FitSlots m (slot ∷ [])) → RulesHold (slot ∷ []) → ((c : ℕ) → has_cell (slot ∷ []) c ≡ false)
-      → Left total (Spelled start) Anything cell p done (λ m. slot ∷ left m) → Spelled start cell (done ++ slot ∷ []) p
-  still cell slot done left p spells fits rules none l =
+  other_spelled : IsBytes start.rest → (cell : ℕ) (slot : Slot) (done : List Slot) (left : List ℤ → List Slot) (p : Progress) → IsOther total (Spelled start) Anything slot
+      → Left total (Spelled start) Anything cell p done (λ m. slot ∷ left m) → Gives total (Spelled start) Anything cell (done ++ slot ∷ []) (take_slot slot p)
+  other_spelled ok cell (Number c kind caps) done left p o l = absurd o
+  other_spelled ok cell (Rule false) done left p o l = tt
+  other_spelled ok cell (Rule true) done left p o l =
       let h = l.holds in
+      let next = done ++ Rule true ∷ [] in
       record {
         bytes = h.bytes;
         front = h.front;
         place = h.place;
-        spells = λ m s. subst (λ (b : List ℕ). Spells m (done ++ slot ∷ []) b) (append-nil h.bytes) (spells_append m done (slot ∷ []) h.bytes [] (h.spells m s) (spells m));
-        fits = λ m s. fit_append m done (slot ∷ []) (h.fits m s) (fits m);
-        rules = rules_append done (slot ∷ []) h.rules rules;
+        spells = λ m s. subst (λ (b : List ℕ). Spells m next b) (append-nil h.bytes) (spells_append m done (Rule true ∷ []) h.bytes [] (h.spells m s) refl);
+        fits = λ m s. fit_append m done (Rule true ∷ []) (h.fits m s) tt;
+        rules = rules_append done (Rule true ∷ []) h.rules (refl, tt);
         long = h.long;
-        kept = λ c e. h.kept c (or_parts (has_cell done c) (has_cell (slot ∷ []) c) (sym (names_append done (slot ∷ []) c) ∙ e)).0;
+        kept = λ c e. h.kept c (or_parts (has_cell done c) false (sym (names_append done (Rule true ∷ []) c) ∙ e)).0;
       }
-
-  other_spelled : IsBytes start.rest → (cell : ℕ) (slot : Slot) (done : List Slot) (left : List ℤ → List Slot) (p : Progress) → IsOther total (Spelled start) Anything slot
-      → Left total (Spelled start) Anything cell p done (λ m. slot ∷ left m) → Gives total (Spelled start) Anything cell (done ++ slot ∷ []) (take_slot slot p)
-  other_spelled ok cell (Number c kind caps) done left p o l = absurd o
-  other_spelled ok cell (Rule true) done left p o l = still cell (Rule true) done left p (λ m. refl) (λ m. tt) (refl, tt) (λ c. refl) l
-  other_spelled ok cell (Rule false) done left p o l = tt
-  other_spelled ok cell (Filler zero) done left p o l = still cell (Filler zero) done left p (λ m. ([], [], refl, refl, refl)) (λ m. tt) tt (λ c. refl) l
-  other_spelled ok cell (Filler (suc n)) done left p o l =
-      given cell (done ++ Filler (suc n) ∷ []) (nat_lt (length p.rest) (suc n)) (refuse p reasons.Truncated (length p.rest)) (on (suc n) p.numbers p) (λ e. tt) (λ e.
-      let long : suc n ≤ length p.rest = ltb-false (length p.rest) (suc n) e in
-      plain cell (suc n) (Filler (suc n)) done left p long (λ m. (take (suc n) p.rest, [], length-take-le (suc n) p.rest long, sym (append-nil (take (suc n) p.rest)), refl)) (λ m. tt) tt (λ c. refl) l)
+  other_spelled ok cell (Filler n) done left p o l =
+      whole_gives (Gives total (Spelled start) Anything cell (done ++ Filler n ∷ [])) p (λ reason n. tt) n (on n p.numbers p) (λ e.
+      let long : n ≤ length p.rest = ltb-false (length p.rest) n e in
+      plain cell n (Filler n) done left p long (λ m. (take n p.rest, [], length-take-le n p.rest long, sym (append-nil (take n p.rest)), refl)) (λ m. tt) tt (λ c. refl) l)
   other_spelled ok cell (Constant kind z) done left p o l =
       let w = width kind in
       let bytes = take w p.rest in
       let h = l.holds in
       let next = done ++ Constant kind z ∷ [] in
-      given cell next (nat_lt (length p.rest) w) (refuse p reasons.Truncated (length p.rest)) _ (λ e. tt) (λ e1.
-      given cell next (is_bad_bool kind bytes) (refuse p reasons.BadBool w) _ (λ e. tt) (λ e2.
-      given cell next (same_number (value_of kind bytes) z) (on w p.numbers p) (refuse p reasons.NotEqual w) (λ e3.
+      value_gives (Gives total (Spelled start) Anything cell next) p (λ reason n. tt) kind reasons.NotEqual (λ y. not (same_number y z)) (λ y. p.numbers) (λ e1 e2 e3.
       let long : w ≤ length p.rest = ltb-false (length p.rest) w e1 in
       let len : length bytes ≡ w = length-take-le w p.rest long in
       let fine : IsBytes bytes = bytes_first w p.rest (bytes_rest h.bytes p.rest (subst (λ (l : List ℕ). IsBytes l) h.front ok)) in
       let law = value_law kind bytes len fine e2 in
-      let same : value_of kind bytes ≡ z = same_number_is (value_of kind bytes) z e3 in
-      plain cell w (Constant kind z) done left p long (λ m. ([], law.1 ∙ ap (code kind) same ∙ sym (append-nil (code kind z)), refl)) (λ m. (subst (λ (y : ℤ). InRange kind y) same law.0, tt)) tt (λ c. refl) l) (λ e. tt)))
+      let same : value_of kind bytes ≡ z = same_number_is (value_of kind bytes) z (sym (not-not (same_number (value_of kind bytes) z)) ∙ ap not e3) in
+      plain cell w (Constant kind z) done left p long (λ m. ([], law.1 ∙ ap (code kind) same ∙ sym (append-nil (code kind z)), refl)) (λ m. (subst (λ (y : ℤ). InRange kind y) same law.0, tt)) tt (λ c. refl) l)
 
   -- what each slot of a body keeps
   pub spelled_keeps : IsBytes start.rest → length all ≤ length start.numbers → ((m : List ℤ) → AreCells all (total m)) → Keeping total (Spelled start) Anything

@@ -2,9 +2,9 @@
 use Rattle.std.proofs.Common.{◌≡◌, ℕ, suc, ◌+◌, List, [], ◌∷◌, ◌++◌, length, drop, Ok, Err, ℤ, ap, ◌∙◌, arith, length-append}
 use Rattle.std.proofs.Math.Seq.{drop-append_seam}
 use Rattle.vms_spec.specs.Layout.{Slot, Number}
-use Rattle.vms_spec.specs.Taking.{Taken, Progress, Refusal, take_number}
+use Rattle.vms_spec.specs.Taking.{Taken, Progress, Refusal, take_slot}
 use Rattle.vms_bodies.proofs.Places.{same_refl}
-use Rattle.vms_bodies.proofs.WalkLaws.{take_slot, Left, Gives, Keeping}
+use Rattle.vms_bodies.proofs.WalkLaws.{Left, Gives, Keeping}
 
 module _ {X : Type 0} (total : List ℤ → List Slot) (R : ℕ → Progress → X) (finish : ℕ → Progress → X) (refused : Refusal → X) where
   abbrev pub after : ℕ → Taken → X
@@ -42,6 +42,6 @@ module _ {X : Type 0} (total : List ℤ → List Slot) (R : ℕ → Progress →
   pub steps_keep : (w : Walks) (x : X) → Keeping total (Is x) (Refuses x)
   steps_keep w x = record {
     less = λ cell further done left p le up l. l.holds;
-    number = λ cell kind caps done left p up l. given x (cell + 1) done (Number cell kind caps) (take_number kind caps cell p) (one_step w x cell (Number cell kind caps) done left p l);
+    number = λ cell kind caps done left p up l. given x (cell + 1) done (Number cell kind caps) (take_slot (Number cell kind caps) p) (one_step w x cell (Number cell kind caps) done left p l);
     other = λ cell slot done left p o up l. given x cell done slot (take_slot slot p) (one_step w x cell slot done left p l);
   }

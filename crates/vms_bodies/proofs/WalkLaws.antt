@@ -1,76 +1,71 @@
 -- What the structural reader takes, by the slots that it goes through: whatever each slot keeps, the whole keeps.
-use Rattle.std.proofs.Common.{◌≡◌, ◌≢◌, ℕ, zero, suc, ◌+◌, ◌*◌, ◌≤◌, List, ◌∷◌, ◌++◌, length, get_or, map, take, drop, Ok, Err, IfOk, ℤ, refl, sym, ap, ◌∙◌, subst, arith, append_assoc, append-nil, length-append, Bool, true, false, if◌then◌else◌, nat_lt, slice_set, get_or-set_other, []}
+use Rattle.std.proofs.Common.{◌≡◌, ◌≢◌, ℕ, zero, suc, ◌+◌, ◌*◌, ◌≤◌, List, ◌∷◌, ◌++◌, length, get_or, map, take, drop, Ok, Err, IfOk, ℤ, pos, refl, sym, ap, ◌∙◌, subst, arith, append_assoc, append-nil, length-append, Bool, true, false, not, if◌then◌else◌, nat_lt, slice_set, get_or-set_other, []}
 use Rattle.std.proofs.Math.Nat.{mul-le-mul_right}
 use Rattle.vms_kinds.specs.declared.Kind.{Kind}
 use Rattle.vms_kinds.specs.declared.Item.{Item}
 use Rattle.vms_kinds.specs.declared.Item.TheVariants.{Num, Equal, Unused, Struct}
 use Rattle.vms_kinds.specs.Codes.{width, value_of}
+use Rattle.vms_spec.specs.declared.Reason.{Reason}
 use Rattle.vms_spec.specs.declared.Reason.TheVariants as reasons
 use Rattle.vms_spec.specs.Lookup.{exceeds, is_bad_bool, same_number}
 use Rattle.vms_spec.specs.Sets.{Field, Desc}
 use Rattle.vms_spec.specs.Tests.{is_there}
 use Rattle.vms_spec.specs.Layout.{Slot, Number, Constant, Filler, Rule, Cell, Meaning, no_meaning, no_desc, item_slots, item_size, times, field_slots, slots_from, desc_slots, desc_cells, cells_from, field_cells, place_of, numbers_of, elements_of, capacity_of, counted, all_hold, no_parent, first, meaning, meanings}
-use Rattle.vms_spec.specs.Taking.{Taken, Progress, Refusal, Taker, no_taker, takers, taker_of, cells_of, take_number, take_constant, take_filler, take_rule, take_item, take_items, take_field, take_fields, take_desc, check_rules, refuse, on, ◌>>=◌}
+use Rattle.vms_spec.specs.Taking.{Taken, Progress, Refusal, Taker, no_taker, takers, taker_of, cells_of, take_value, take_slot, take_item, take_items, take_field, take_fields, take_desc, check_rules, refuse, on, if_whole, ◌>>=◌}
 use Rattle.vms_spec.specs.Sound.{IsSound, AreSound, IsSoundField, AreSoundFields, IsEarlier}
 use Rattle.vms_bodies.proofs.AboveLaws.{IsAbove, MeanAbove, above_none, above_append, above_less, items_above, fields_above, meanings_above}
 use Rattle.vms_bodies.proofs.Places.{SameBelow, same_refl, same_less, same_trans, own_same, there_same, elements_same, hold_same, place_next, place_end}
 use Rattle.vms_spec.proofs.Sizes.{field_size, elements_fit}
 
--- one slot's unit, or its rule
-abbrev pub take_slot : Slot → Progress → Taken
-take_slot (Number c kind capacities) p = take_number kind capacities c p
-take_slot (Constant kind z) p = take_constant kind z p
-take_slot (Filler n) p = take_filler n p
-take_slot (Rule b) p = take_rule b p
+-- ---- what one slot gives
 
--- ---- what one slot leaves
+-- the numbers where a slot is taken
+abbrev pub Sets : Slot → List ℤ → List ℤ → Type 0
+Sets (Number c kind capacities) old new = (z : ℤ) × (new ≡ slice_set old c z)
+Sets slot old new = new ≡ old
+
+-- it is refused where it stands, or some bytes are taken
+module _ (P : Taken → Type 0) (p : Progress) (bad : (reason : Reason) (n : ℕ) → P (refuse p reason n)) where
+  test : (b : Bool) (reason : Reason) (n : ℕ) (t : Taken) → (b ≡ false → P t) → P (if b then refuse p reason n else t)
+  test true reason n t h = bad reason n
+  test false reason n t h = h refl
+
+  pub whole_gives : (n : ℕ) (t : Taken) → (nat_lt (length p.rest) n ≡ false → P t) → P (if_whole n p t)
+  whole_gives n t h = test (nat_lt (length p.rest) n) reasons.Truncated (length p.rest) t h
+
+  pub value_gives : (kind : Kind) (reason : Reason) (fails : ℤ → Bool) (put : ℤ → List ℤ)
+      → (nat_lt (length p.rest) (width kind) ≡ false → is_bad_bool kind (take (width kind) p.rest) ≡ false → fails (value_of kind (take (width kind) p.rest)) ≡ false
+      → P (on (width kind) (put (value_of kind (take (width kind) p.rest))) p)) → P (take_value kind reason fails put p)
+  value_gives kind reason fails put h =
+      let w = width kind in
+      whole_gives w _ (λ e1. test (is_bad_bool kind (take w p.rest)) reasons.BadBool w _ (λ e2. test (fails (value_of kind (take w p.rest))) reason w _ (h e1 e2)))
+
+  pub slot_gives : (slot : Slot) → ((n : ℕ) (numbers : List ℤ) → Sets slot p.numbers numbers → P (on n numbers p)) → P (Ok p) → P (take_slot slot p)
+  slot_gives (Number c kind capacities) h same = value_gives kind reasons.CountTooLarge (exceeds capacities) (slice_set p.numbers c) (λ e1 e2 e3. h (width kind) _ (_, refl))
+  slot_gives (Constant kind z) h same = value_gives kind reasons.NotEqual (λ y. not (same_number y z)) (λ y. p.numbers) (λ e1 e2 e3. h (width kind) _ refl)
+  slot_gives (Filler n) h same = whole_gives n _ (λ e. h n _ refl)
+  slot_gives (Rule true) h same = same
+  slot_gives (Rule false) h same = bad reasons.Invalid 0
 
 pub record Keeps (cell : ℕ) (n : List ℤ) (t : Taken) : Type 0 where
   pub kept : IfOk t (λ q. SameBelow cell n q.numbers)
 
-chosen : (b : Bool) (cell : ℕ) (n : List ℤ) (t u : Taken) → Keeps cell n t → Keeps cell n u → Keeps cell n (if b then t else u)
-chosen true cell n t u x y = x
-chosen false cell n t u x y = y
+-- a slot whose cell, where it has one, isn't below this one
+abbrev pub IsFrom : ℕ → Slot → Type 0
+IsFrom cell (Number c kind capacities) = cell ≤ c
+IsFrom cell slot = Unit {0}
 
-keeps_err : (cell : ℕ) (n : List ℤ) (e : Refusal) → Keeps cell n (Err e)
-keeps_err cell n e = record { kept = tt }
+sets_from : (cell : ℕ) (slot : Slot) (old new : List ℤ) → IsFrom cell slot → Sets slot old new → SameBelow cell old new
+sets_from cell (Number c kind capacities) old new le s = record { same = λ k h. let ne : k ≢ c = omega (arith, le, h) in ap (λ (l : List ℤ). get_or l k (pos 0)) s.1 ∙ (rw get_or-set_other) }
+sets_from cell (Constant kind z) old new le s = subst (SameBelow cell old) (sym s) (same_refl cell old)
+sets_from cell (Filler n) old new le s = subst (SameBelow cell old) (sym s) (same_refl cell old)
+sets_from cell (Rule b) old new le s = subst (SameBelow cell old) (sym s) (same_refl cell old)
 
-keeps_ok : (cell : ℕ) (n : List ℤ) (q : Progress) → SameBelow cell n q.numbers → Keeps cell n (Ok q)
-keeps_ok cell n q s = record { kept = s }
-
-set_below : (cell : ℕ) (xs : List ℤ) (z : ℤ) → SameBelow cell xs (slice_set xs cell z)
-set_below cell xs z = record { same = λ c h. let ne : c ≢ cell = omega arith in rw get_or-set_other }
-
-pub number_keeps : (kind : Kind) (caps : List ℕ) (cell : ℕ) (p : Progress) → Keeps cell p.numbers (take_number kind caps cell p)
-number_keeps kind caps cell p =
-    let n = p.numbers in
-    let bytes = take (width kind) p.rest in
-    let done : Taken = on (width kind) (slice_set n cell (value_of kind bytes)) p in
-    let capped : Taken = if exceeds caps (value_of kind bytes) then refuse p reasons.CountTooLarge (width kind) else done in
-    let good : Taken = if is_bad_bool kind bytes then refuse p reasons.BadBool (width kind) else capped in
-    chosen (nat_lt (length p.rest) (width kind)) cell n (refuse p reasons.Truncated (length p.rest)) good (keeps_err _ _ _)
-    (chosen (is_bad_bool kind bytes) cell n (refuse p reasons.BadBool (width kind)) capped (keeps_err _ _ _)
-    (chosen (exceeds caps (value_of kind bytes)) cell n (refuse p reasons.CountTooLarge (width kind)) done (keeps_err _ _ _) (keeps_ok cell n _ (set_below cell n _))))
-
-pub constant_keeps : (kind : Kind) (z : ℤ) (cell : ℕ) (p : Progress) → Keeps cell p.numbers (take_constant kind z p)
-constant_keeps kind z cell p =
-    let n = p.numbers in
-    let bytes = take (width kind) p.rest in
-    let done : Taken = on (width kind) n p in
-    let equal : Taken = if same_number (value_of kind bytes) z then done else refuse p reasons.NotEqual (width kind) in
-    let good : Taken = if is_bad_bool kind bytes then refuse p reasons.BadBool (width kind) else equal in
-    chosen (nat_lt (length p.rest) (width kind)) cell n (refuse p reasons.Truncated (length p.rest)) good (keeps_err _ _ _)
-    (chosen (is_bad_bool kind bytes) cell n (refuse p reasons.BadBool (width kind)) equal (keeps_err _ _ _)
-    (chosen (same_number (value_of kind bytes) z) cell n done (refuse p reasons.NotEqual (width kind)) (keeps_ok cell n _ (same_refl cell n)) (keeps_err _ _ _)))
-
-pub filler_keeps : (n cell : ℕ) (p : Progress) → Keeps cell p.numbers (take_filler n p)
-filler_keeps zero cell p = keeps_ok cell p.numbers p (same_refl cell p.numbers)
-filler_keeps (suc n) cell p =
-    chosen (nat_lt (length p.rest) (suc n)) cell p.numbers (refuse p reasons.Truncated (length p.rest)) (on (suc n) p.numbers p) (keeps_err _ _ _) (keeps_ok cell p.numbers _ (same_refl cell p.numbers))
-
-pub rule_keeps : (b : Bool) (cell : ℕ) (p : Progress) → Keeps cell p.numbers (take_rule b p)
-rule_keeps true cell p = keeps_ok cell p.numbers p (same_refl cell p.numbers)
-rule_keeps false cell p = keeps_err _ _ _
+-- the numbers below its cell stand
+pub slot_keeps : (cell : ℕ) (slot : Slot) (p : Progress) → IsFrom cell slot → Keeps cell p.numbers (take_slot slot p)
+slot_keeps cell slot p from =
+    slot_gives (Keeps cell p.numbers) p (λ reason n. record { kept = tt }) slot (λ n numbers s. record { kept = sets_from cell slot p.numbers numbers from s })
+    (record { kept = same_refl cell p.numbers })
 
 -- ---- tools
 
@@ -107,7 +102,7 @@ module _ (total : List ℤ → List Slot) (Holds : ℕ → List Slot → Progres
   pub record Keeping : Type 0 where
     pub less : (cell further : ℕ) (done : List Slot) (left : List ℤ → List Slot) (p : Progress) → cell ≤ further → ((m : List ℤ) → IsAbove further (left m)) → Left cell p done left → Holds further done p
     pub number : (cell : ℕ) (kind : Kind) (capacities : List ℕ) (done : List Slot) (left : List ℤ → List Slot) (p : Progress)
-        → ((m : List ℤ) → IsAbove (cell + 1) (left m)) → Left cell p done (λ m. Number cell kind capacities ∷ left m) → Gives (cell + 1) (done ++ Number cell kind capacities ∷ []) (take_number kind capacities cell p)
+        → ((m : List ℤ) → IsAbove (cell + 1) (left m)) → Left cell p done (λ m. Number cell kind capacities ∷ left m) → Gives (cell + 1) (done ++ Number cell kind capacities ∷ []) (take_slot (Number cell kind capacities) p)
     pub other : (cell : ℕ) (slot : Slot) (done : List Slot) (left : List ℤ → List Slot) (p : Progress) → IsOther slot
         → ((m : List ℤ) → IsAbove cell (left m)) → Left cell p done (λ m. slot ∷ left m) → Gives cell (done ++ slot ∷ []) (take_slot slot p)
 
@@ -154,16 +149,22 @@ module _ (total : List ℤ → List Slot) (Holds : ℕ → List Slot → Progres
   comes_less w cell further left (Ok q) le up c = record { comes = (c.comes.0, left_less w cell further q c.comes.0 left le up c.comes.1) }
 
   one_number : (w : Keeping) (cell : ℕ) (kind : Kind) (caps : List ℕ) (done : List Slot) (left : List ℤ → List Slot) (p : Progress)
-      → ((m : List ℤ) → IsAbove (cell + 1) (left m)) → Left cell p done (λ m. Number cell kind caps ∷ left m) → Comes (cell + 1) left (take_number kind caps cell p)
+      → ((m : List ℤ) → IsAbove (cell + 1) (left m)) → Left cell p done (λ m. Number cell kind caps ∷ left m) → Comes (cell + 1) left (take_slot (Number cell kind caps) p)
   one_number w cell kind caps done left p up l =
-      slot_comes cell (cell + 1) (Number cell kind caps) done left p (take_number kind caps cell p) (omega arith) l (number_keeps kind caps cell p) (w.number cell kind caps done left p up l)
+      slot_comes cell (cell + 1) (Number cell kind caps) done left p (take_slot (Number cell kind caps) p) (omega arith) l (slot_keeps cell (Number cell kind caps) p (omega arith)) (w.number cell kind caps done left p up l)
+
+  other_from : (cell : ℕ) (slot : Slot) → IsOther slot → IsFrom cell slot
+  other_from cell (Number c kind capacities) o = absurd o
+  other_from cell (Constant kind z) o = tt
+  other_from cell (Filler n) o = tt
+  other_from cell (Rule b) o = tt
 
   -- a slot without a cell, which is this one whatever comes
-  one_other : (w : Keeping) (cell further : ℕ) (slot : Slot) (done : List Slot) (left : List ℤ → List Slot) (p : Progress) → cell ≤ further → IsOther slot → Keeps cell p.numbers (take_slot slot p)
+  one_other : (w : Keeping) (cell further : ℕ) (slot : Slot) (done : List Slot) (left : List ℤ → List Slot) (p : Progress) → cell ≤ further → IsOther slot
       → ((m : List ℤ) → IsAbove further (left m)) → Left cell p done (λ m. slot ∷ left m) → Comes further left (take_slot slot p)
-  one_other w cell further slot done left p le o k up l =
+  one_other w cell further slot done left p le o up l =
       comes_less w cell further left (take_slot slot p) le up
-      (slot_comes cell cell slot done left p (take_slot slot p) (omega arith) l k (w.other cell slot done left p o (λ m. above_less cell further (left m) le (up m)) l))
+      (slot_comes cell cell slot done left p (take_slot slot p) (omega arith) l (slot_keeps cell slot p (other_from cell slot o)) (w.other cell slot done left p o (λ m. above_less cell further (left m) le (up m)) l))
 
   -- ---- structures
 
@@ -211,9 +212,9 @@ module _ (total : List ℤ → List Slot) (Holds : ℕ → List Slot → Progres
   item_comes w ts ms pairs (Num kind) caps cell p done left up l =
       one_number w cell kind caps done left p up l
   item_comes w ts ms pairs (Equal kind z) caps cell p done left up l =
-      one_other w cell (cell + 0) (Constant kind z) done left p (omega arith) tt (constant_keeps kind z cell p) up l
+      one_other w cell (cell + 0) (Constant kind z) done left p (omega arith) tt up l
   item_comes w ts ms pairs (Unused n) caps cell p done left up l =
-      one_other w cell (cell + 0) (Filler n) done left p (omega arith) tt (filler_keeps n cell p) up l
+      one_other w cell (cell + 0) (Filler n) done left p (omega arith) tt up l
   item_comes w ts ms pairs (Struct j) caps cell p done left up l =
       subst (λ (cs : List Cell). Comes (cell + length cs) left ((get_or ts j no_taker).takes cell p)) (cells_get ts j)
       ((pair_at w ts ms j pairs).takes cell p done left (λ n. subst (λ (cs : List Cell). IsAbove (cell + length cs) (left n)) (sym (cells_get ts j)) (up n)) l)
@@ -320,8 +321,7 @@ module _ (total : List ℤ → List Slot) (Holds : ℕ → List Slot → Progres
       (left_ap base p done _ (λ m. slots_from ms d.fields v (own m) m 0 base d.fields ++ rule m)
       (λ m s. append_assoc (slots_from ms d.fields v (own m) m 0 base d.fields) (Rule (all_hold d.validate v (own m)) ∷ []) (left m)) l))
       (λ q done' l'.
-      one_other w end end (Rule (all_hold d.validate v (numbers_of cs d q.numbers base))) done' left q (omega arith) tt
-      (rule_keeps (all_hold d.validate v (numbers_of cs d q.numbers base)) end q) up
+      one_other w end end (Rule (all_hold d.validate v (numbers_of cs d q.numbers base))) done' left q (omega arith) tt up
       (left_ap end q done' rule (λ m. Rule (all_hold d.validate v (numbers_of cs d q.numbers base)) ∷ left m)
       (λ m s. ap (λ (cs : List (List Cell)). Rule (all_hold d.validate v (numbers_of cs d m base)) ∷ left m) (pairs_cells ts ms pairs)
       ∙ ap (λ (b : Bool). Rule b ∷ left m) (hold_same d.fields (length d.fields) v (numbers_of cs d q.numbers base) (numbers_of cs d m base)

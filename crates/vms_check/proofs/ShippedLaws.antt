@@ -3,6 +3,7 @@ use Rattle.std.proofs.Common.{◌≡◌, ℕ, zero, suc, ◌<◌, ◌≤◌, Lis
 use Rattle.std.specs.Prelude.{◌&&◌, is_none}
 use Rattle.std.specs.List.{list_all}
 use Rattle.std.proofs.lemmas.Bool.{and_parts}
+use Rattle.vms_kinds.specs.declared.TheConstants.{NEWEST_SET}
 use Rattle.vms_spec.specs.Layout.{first}
 use Rattle.vms_spec.specs.Sets.{Set}
 use Rattle.vms_spec.specs.Shipped.{set_1, set_2, set_3, set_4}
@@ -48,7 +49,7 @@ numbered (suc (suc (suc i))) lt = last i
     last zero = refl
     last (suc i) = refl
 
-pub shipped_compatible : (s t : ℕ) → 1 ≤ s → s < t → t ≤ 4 → Compatible (shipped_set s) (shipped_set t)
+pub shipped_compatible : (s t : ℕ) → 1 ≤ s → s < t → t ≤ NEWEST_SET → Compatible (shipped_set s) (shipped_set t)
 shipped_compatible zero t low less le = absurd (omega arith)
 shipped_compatible (suc i) zero low less le = absurd (omega arith)
 shipped_compatible (suc i) (suc j) low less le =

@@ -1,5 +1,6 @@
 -- Laws of the comparison, in the order in which they stand on public functions.
 use Rattle.std.specs.Prelude.{◌≡◌, ◌≤◌, ◌<◌, ℕ}
+use Rattle.vms_kinds.specs.declared.TheConstants.{NEWEST_SET}
 use Rattle.vms_spec.specs.Sets.{Formula, Set}
 use Rattle.vms_spec.specs.Tests.{truth}
 use Rattle.vms_spec.specs.WellFormed.{WellFormed}
@@ -26,4 +27,4 @@ ReflexiveLaw = (set : Set) → WellFormed set → Compatible set set
 
 -- each shipped set from 1 on is compatible to each later one
 abbrev pub ShippedLaw : Type 0
-ShippedLaw = (s t : ℕ) → 1 ≤ s → s < t → t ≤ 4 → Compatible (shipped_set s) (shipped_set t)
+ShippedLaw = (s t : ℕ) → 1 ≤ s → s < t → t ≤ NEWEST_SET → Compatible (shipped_set s) (shipped_set t)

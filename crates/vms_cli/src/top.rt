@@ -43,8 +43,8 @@ use vms_io::{Shelf, Sink, Source, write_all_of};
 /// | 11 | the set doesn't keep all of the stream |
 ///
 /// One line goes to notes for each status but 0. On statuses but 0 and 6 out is untouched, but for `play`: on 7 and 10
-/// the traces of the lines before the one that failed stand on it. Nothing of the input is taken but by `show`,
-/// `convert`, `analyze` and `load`.
+/// the traces of its first lines stand on it, of the last perhaps a beginning. Nothing of the input is taken but by
+/// `show`, `convert`, `analyze` and `load`.
 pub fn vmstate<I: Source, O: Sink, N: Sink, H: Shelf>(
     alloc: Global,
     words: &Words,

@@ -2,6 +2,7 @@
 use Rattle.std.specs.Prelude.{ℕ, ◌+◌, List, [], ◌∷◌}
 use Rattle.vms_spec.specs.Sets.{Sub, Device}
 use Rattle.vms_load.specs.Bounds.{desc_bytes}
+use Rattle.vms_marks.specs.declared.foot.TheConstants.{FOOT_LENGTH}
 use Rattle.vms_marks.specs.declared.head.TheConstants.{LONGEST_HEAD}
 use Rattle.vms_marks.specs.declared.sub_head.TheConstants.{LONGEST_SUB_HEAD}
 
@@ -12,7 +13,7 @@ subs_in structs (s ∷ subs) = (desc_bytes structs s.desc + LONGEST_SUB_HEAD) + 
 
 -- a device's section, with its head, its footer and all its subsections
 abbrev pub device_in : List ℕ → Device → ℕ
-device_in structs d = (desc_bytes structs d.desc + subs_in structs d.subs) + (LONGEST_HEAD + 5)
+device_in structs d = (desc_bytes structs d.desc + subs_in structs d.subs) + (LONGEST_HEAD + FOOT_LENGTH)
 
 abbrev pub devices_in : List ℕ → List Device → ℕ
 devices_in structs [] = 0

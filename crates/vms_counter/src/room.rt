@@ -7,13 +7,13 @@ ghost use Rattle.vms_load.specs.Bounds.{item_bytes, fields_bytes, struct_bytes};
 ghost use Rattle.vms_load.specs.Staging.{devices_most};
 ghost use Rattle.vms_counter.specs.Found.{HasRoom};
 ghost use Rattle.vms_counter.specs.Room.{device_in, devices_in, subs_in};
-ghost use Rattle.vms_marks.specs.declared.head.TheConstants.{LONGEST_HEAD};
+ghost use Rattle.vms_marks.specs.declared.stream_head.TheConstants.{BESIDE_SECTIONS};
 
 use std::alloc::{AllocError, Global};
 use vms_desc::{Desc, DescSet, Device, Field, Sub};
 use vms_io::NoMemory;
 use vms_kinds::Item;
-use vms_marks::{LONGEST_HEAD, LONGEST_SUB_HEAD};
+use vms_marks::{BESIDE_SECTIONS, FOOT_LENGTH, LONGEST_HEAD, LONGEST_SUB_HEAD};
 use vms_parts::capacity;
 
 // The bytes of one element, where those of each structure are given.
@@ -99,7 +99,7 @@ impl TakesRoom for Device {
         let own = all_bytes(structs, self.desc.fields.as_slice());
         let subs = all_bytes(structs, self.subs.as_slice());
         own.saturating_add(subs)
-            .saturating_add(LONGEST_HEAD as u32 + 5)
+            .saturating_add((LONGEST_HEAD + FOOT_LENGTH) as u32)
     }
 }
 
@@ -125,13 +125,13 @@ fn struct_bytes(alloc: Global, structs: &[Desc]) -> Result<Vec<u32>, AllocError>
     Ok(bytes)
 }
 
-/// `LONGEST_HEAD` bytes more than all sections of the set have at full lengths and capacities: no stream of ready images that has no
-/// description fills that.
+/// All sections of the set at full lengths and capacities, and what stands beside sections: no stream of ready images
+/// that has no description fills that.
 pub(crate) fn room(alloc: Global, set: &DescSet) -> Result<u32, NoMemory>
     ensures bytes { IfOk result (λ room.
-        room ≡ LONGEST_HEAD + devices_most (described set.now) (described set.now).devices) }
+        room ≡ BESIDE_SECTIONS + devices_most (described set.now) (described set.now).devices) }
     ensures room { IfOk result (HasRoom (described set.now)) }
 {
     let structs = struct_bytes(alloc, set.parts().structs.as_slice())?;
-    Ok(LONGEST_HEAD as u32 + all_bytes(&structs, set.parts().devices.as_slice()))
+    Ok(BESIDE_SECTIONS as u32 + all_bytes(&structs, set.parts().devices.as_slice()))
 }

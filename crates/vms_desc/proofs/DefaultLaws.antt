@@ -19,22 +19,15 @@ use Rattle.vms_parts.specs.declared.types.Desc.{Desc}
 use Rattle.vms_parts.specs.declared.types.Device.{Device}
 use Rattle.vms_parts.specs.declared.types.Parts.{Parts}
 use Rattle.vms_parts.proofs.Items.{get_map_at}
-use Rattle.vms_spots.specs.declared.layout.Spot.{Spot}
-use Rattle.vms_spots.specs.Spots.{Held, spots_of, kinds_of}
-use Rattle.vms_spots.proofs.SpotLaws.{kinds_are}
+use Rattle.vms_spots.specs.Spots.{Held}
 use Rattle.vms_desc.specs.Formed.{is_well_formed}
+use Rattle.vms_desc.specs.declared.forms.Forms.{Forms}
 use Rattle.vms_desc.specs.Forms.{device_forms, forms_to}
+use Rattle.vms_desc.specs.Put.{AreForms}
 use Rattle.vms_desc.specs.Spots.{kinds_at, form_numbers, defaults_at}
 use Rattle.vms_desc.proofs.Bounds.{none_is}
 use Rattle.vms_desc.proofs.CellSizes.{device_forms_are}
 use Rattle.vms_desc.proofs.FormLaws.{layout_is}
-
--- spots that are laid out are those of their kinds
-pub laid_again : (kinds : List Kind) (spots : List Spot) → spots ≡ spots_of kinds → spots ≡ spots_of (kinds_of spots)
-laid_again kinds spots e = e ∙ ap spots_of (sym (ap kinds_of e ∙ kinds_are 0 kinds))
-
-pub kinds_again : (kinds : List Kind) (spots : List Spot) → spots ≡ spots_of kinds → kinds_of spots ≡ kinds
-kinds_again kinds spots e = ap kinds_of e ∙ kinds_are 0 kinds
 
 pub same_held : (h : Held) (kinds : List Kind) (numbers : List ℤ) → h.kinds ≡ kinds → h.numbers ≡ numbers → h ≡ record { kinds = kinds; numbers = numbers }
 same_held h kinds numbers e f =
@@ -42,10 +35,9 @@ same_held h kinds numbers e f =
     ∙ ap (λ (x : List ℤ). let y : Held = record { kinds = kinds; numbers = x } in y) f
 
 -- a list that was written from the front to its end
-pub filled_with : {X Y : Type 0} (f : X → Y) (d : Y) (new : List Y) (old : List X) (i : ℕ) → length new ≡ length old → length old ≤ i
-    → ((k : ℕ) → k < i → get_or new k d ≡ get_or (map f old) k d) → new ≡ map f old
-filled_with f d new old i long all written =
-    ext_get_or d new (map f old) (long ∙ sym (length-map old f)) (λ k h. written k (omega (arith, long, h)))
+pub filled_with : {X : Type 0} (d : X) (new old : List X) (i : ℕ) → length new ≡ length old → length old ≤ i
+    → ((k : ℕ) → k < i → get_or new k d ≡ get_or old k d) → new ≡ old
+filled_with d new old i long all written = ext_get_or d new old long (λ k h. written k (omega (arith, long, h)))
 
 -- the forms of a device's cells
 module _ (set : sets.Set) (k : ℕ) (forms : List CellForm) (laid : forms ≡ map form_of (device_cells set (device_at set k))) where
@@ -77,6 +69,26 @@ module _ (set : sets.Set) (k : ℕ) (forms : List CellForm) (laid : forms ≡ ma
   defaults_are =
       ap (λ (l : List Kind). let h : Held = record { kinds = l; numbers = map (λ form. form.default) forms } in h) form_kinds
       ∙ ap (λ (l : List ℤ). let h : Held = record { kinds = kinds_at set k; numbers = l } in h) form_defaults
+
+-- forms that are kept as their kinds and their defaults
+module _ (forms : Forms) (cells : List CellForm) (are : AreForms forms cells) where
+  pub kinds_long : length forms.kinds.items ≡ length cells
+  kinds_long = ap length are.kinds ∙ length-map cells (λ form. form.kind)
+
+  pub defaults_long : length forms.defaults.items ≡ length forms.kinds.items
+  defaults_long = ap length are.defaults ∙ length-map cells (λ form. form.default) ∙ sym kinds_long
+
+  pub numbers_seen : (h : Held) → h ≡ record { kinds = forms.kinds.items; numbers = forms.defaults.items } → h ≡ form_numbers cells
+  numbers_seen h e =
+      e ∙ ap (λ (l : List Kind). let x : Held = record { kinds = l; numbers = forms.defaults.items } in x) are.kinds
+      ∙ ap (λ (l : List ℤ). let x : Held = record { kinds = map (λ form. form.kind) cells; numbers = l } in x) are.defaults
+
+  pub kept_fit : (set : sets.Set) (k : ℕ) → cells ≡ map form_of (device_cells set (device_at set k)) → is_well_formed set ≡ true → FitsHeads set → k < length set.devices
+      → (c : ℕ) → c < length forms.kinds.items → InRange (get_or forms.kinds.items c U8) (get_or forms.defaults.items c (pos 0))
+  kept_fit set k laid well heads lt c inside =
+      subst (λ (l : List ℤ). InRange (get_or forms.kinds.items c U8) (get_or l c (pos 0))) (sym are.defaults)
+      (subst (λ (l : List Kind). InRange (get_or l c U8) (get_or (map (λ form. form.default) cells) c (pos 0))) (sym are.kinds)
+      (defaults_fit set k cells laid well heads lt c (omega (arith, inside, kinds_long))))
 
 abbrev no_device : sets.Device
 no_device = record { instance = 0; desc = no_desc; subs = [] }

@@ -9,5 +9,6 @@ pub mod Parts
 pub mod Paths
 pub mod Plain
 pub mod Scopes
+pub mod Put
 pub mod Spots
 pub mod Tables

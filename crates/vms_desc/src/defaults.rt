@@ -8,10 +8,10 @@ ghost use Rattle.vms_parts.specs.Views.{set_of, layout_of};
 ghost use Rattle.vms_desc.specs.Formed.{is_well_formed};
 ghost use Rattle.vms_desc.specs.Spots.{form_numbers};
 
-use crate::forms::device_cells;
-use crate::{CellForm, Parts};
+use crate::Parts;
+use crate::forms::{Forms, device_cells};
 use std::alloc::{AllocError, Global};
-use vms_spots::{Buffer, lay_out};
+use vms_spots::Buffer;
 
 // The numbers of each device's cells at their defaults, in order. Each structure has so many cells.
 pub(crate) fn device_defaults(
@@ -32,31 +32,34 @@ pub(crate) fn device_defaults(
     Ok(defaults)
 }
 
-// The numbers of cells of these forms, each at its default.
-fn numbers_of(alloc: Global, forms: &[CellForm]) -> Result<Buffer, AllocError>
-    requires few { length forms.now ≤ MOST_ITEMS }
-    requires range { (k : ℕ) → k < length forms.now
-        → InRange (get_or (map (λ form. form.kind) forms.now) k U8)
-        (get_or (map (λ form. form.default) forms.now) k (pos 0)) }
-    ensures { IfOk result (λ numbers. numbers ≡ form_numbers forms.now) }
+// The numbers of cells of these kinds, each at its default.
+fn numbers_of(alloc: Global, forms: &Forms) -> Result<Buffer, AllocError>
+    requires few { length forms.now.kinds.items ≤ MOST_ITEMS }
+    requires long { length forms.now.defaults.items ≡ length forms.now.kinds.items }
+    requires range { (k : ℕ) → k < length forms.now.kinds.items
+        → InRange (get_or forms.now.kinds.items k U8)
+        (get_or forms.now.defaults.items k (pos 0)) }
+    ensures { IfOk result (λ numbers.
+        numbers ≡ record {
+          kinds = forms.now.kinds.items;
+          numbers = forms.now.defaults.items;
+        }) }
 {
-    let mut numbers = Buffer::new(alloc, &lay_out(alloc, forms)?)?;
-    put_defaults(&mut numbers, forms);
+    let mut numbers = Buffer::new(alloc, &forms.kinds)?;
+    put_defaults(&mut numbers, &forms.defaults);
     Ok(numbers)
 }
 
 // Each cell, which is 0, gets its default.
-fn put_defaults(cells: &mut Buffer, forms: &[CellForm])
-    requires few { length forms.now ≤ MOST_ITEMS }
-    requires zero { cells.old.numbers ≡ replicate (length forms.now) (pos 0) }
-    requires kinds { cells.old.kinds ≡ map (λ form. form.kind) forms.now }
-    requires range { (k : ℕ) → k < length forms.now
-        → InRange (get_or (map (λ form. form.kind) forms.now) k U8)
-        (get_or (map (λ form. form.default) forms.now) k (pos 0)) }
-    ensures { cells.new ≡ record cells.old { numbers = map (λ form. form.default) forms.now } }
+fn put_defaults(cells: &mut Buffer, defaults: &[i128])
+    requires few { length defaults.now ≤ MOST_ITEMS }
+    requires zero { cells.old.numbers ≡ replicate (length defaults.now) (pos 0) }
+    requires range { (k : ℕ) → k < length defaults.now
+        → InRange (get_or cells.old.kinds k U8) (get_or defaults.now k (pos 0)) }
+    ensures { cells.new ≡ record cells.old { numbers = defaults.now } }
 {
-    for (cell, form) in forms.iter().enumerate() {
-        put_default(cells, cell as u32, form.default);
+    for (cell, default) in defaults.iter().enumerate() {
+        put_default(cells, cell as u32, *default);
     }
 }
 

@@ -1,13 +1,36 @@
 // The cells of a device, laid out.
-ghost use Rattle.std.specs.Prelude.{◌≡◌, ◌<◌, ◌≤◌, ◌++◌, length, take, drop, map, OnOk, IfOk};
+ghost use Rattle.std.specs.Prelude.{◌≡◌, ◌<◌, ◌≤◌, ◌++◌, ◌∷◌, [], length, take, drop, map, OnOk, IfOk};
 ghost use Rattle.vms_spec.specs.Layout.{times};
+ghost use Rattle.vms_desc.specs.Put.{AreForms, Puts};
 ghost use Rattle.vms_desc.specs.Forms.{item_forms, field_forms, fields_forms, subs_forms, device_forms, forms_to};
 ghost use Rattle.vms_parts.specs.Views.{desc_of, field_of, sub_of, device_of};
 
-use crate::{CellForm, Desc, Device, Field, Sub};
+use crate::{Desc, Device, Field, Sub};
 use std::alloc::{AllocError, Global};
-use vms_kinds::Item;
+use vms_kinds::{Item, Kind};
 use vms_parts::{Measure, capacity, size_of_fields, size_of_subs};
+
+// The forms of cells, in order: what kind each has, and its default. So they take half of the room that a list of
+// `CellForm` would.
+#[derive(Drop)]
+pub(crate) struct Forms {
+    pub(crate) kinds: Vec<Kind>,
+    pub(crate) defaults: Vec<i128>,
+}
+
+impl Forms {
+    // Puts the form of one cell after those that are there.
+    #[inline(always)]
+    fn put(&mut self, kind: Kind, default: i128) -> Result<(), AllocError>
+        ensures kinds { OnOk result (self.new.kinds.items ≡ self.old.kinds.items ++ kind ∷ []) }
+        ensures defaults { OnOk result
+            (self.new.defaults.items ≡ self.old.defaults.items ++ default ∷ []) }
+    {
+        self.kinds.push(kind)?;
+        self.defaults.push(default)?;
+        Ok(())
+    }
+}
 
 // Puts the forms of the cells of these fields after those that are there. `structs` are the structures that
 // they may use.
@@ -15,11 +38,11 @@ use vms_parts::{Measure, capacity, size_of_fields, size_of_subs};
 pub(crate) fn put_fields(
     structs: &[Desc],
     fields: &[Field],
-    forms: &mut Vec<CellForm>,
+    forms: &mut Forms,
 ) -> Result<(), AllocError>
-    ensures { OnOk result (forms.new.items ≡ forms.old.items
-        ++ fields_forms (forms_to (map desc_of structs.now) (length structs.now))
-        (map field_of fields.now)) }
+    ensures { OnOk result (Puts forms.old forms.new
+        (fields_forms (forms_to (map desc_of structs.now) (length structs.now))
+        (map field_of fields.now))) }
 {
     for field in fields {
         put_field(structs, field, forms)?;
@@ -29,34 +52,36 @@ pub(crate) fn put_fields(
 
 #[cycle(forms)]
 #[inline(always)]
-fn put_field(structs: &[Desc], field: &Field, forms: &mut Vec<CellForm>) -> Result<(), AllocError>
-    ensures { OnOk result (forms.new.items ≡ forms.old.items
-        ++ field_forms (forms_to (map desc_of structs.now) (length structs.now))
-        (field_of field.now)) }
+fn put_field(structs: &[Desc], field: &Field, forms: &mut Forms) -> Result<(), AllocError>
+    ensures { OnOk result (Puts forms.old forms.new
+        (field_forms (forms_to (map desc_of structs.now) (length structs.now))
+        (field_of field.now))) }
 {
     let count = capacity(field.count);
     if count == 0 {
         return Ok(());
     }
-    let start = forms.len();
+    let (kinds, defaults) = (forms.kinds.len(), forms.defaults.len());
     put_element(structs, field, forms)?;
-    repeat(forms, start, count)
+    repeat(&mut forms.kinds, kinds, count)?;
+    repeat(&mut forms.defaults, defaults, count)?;
+    Ok(())
 }
 
 // What stands from a place on is repeated, so that it stands there so many times.
 #[inline(always)]
-fn repeat(forms: &mut Vec<CellForm>, start: usize, count: u32) -> Result<(), AllocError>
-    requires within { start ≤ length forms.old.items }
+fn repeat<T: Copy>(list: &mut Vec<T>, start: usize, count: u32) -> Result<(), AllocError>
+    requires within { start ≤ length list.old.items }
     requires some { 0 < count }
-    ensures { let part = drop start forms.old.items in
+    ensures { let part = drop start list.old.items in
         OnOk result
-        (forms.new.items ≡ take start forms.old.items ++ times count (λ _. part) 0 0) }
+        (list.new.items ≡ take start list.old.items ++ times count (λ _. part) 0 0) }
 {
-    let size = forms.len() - start;
+    let size = list.len() - start;
     let mut done = 1;
     while done < count {
         let more = done.min(count - done);
-        forms.extend_from_within(start..start + size * more as usize)?;
+        list.extend_from_within(start..start + size * more as usize)?;
         done += more;
     }
     Ok(())
@@ -64,16 +89,13 @@ fn repeat(forms: &mut Vec<CellForm>, start: usize, count: u32) -> Result<(), All
 
 #[cycle(forms)]
 #[inline(always)]
-fn put_element(structs: &[Desc], field: &Field, forms: &mut Vec<CellForm>) -> Result<(), AllocError>
-    ensures { OnOk result (forms.new.items ≡ forms.old.items
-        ++ item_forms (forms_to (map desc_of structs.now) (length structs.now))
-        field.now.item field.now.default) }
+fn put_element(structs: &[Desc], field: &Field, forms: &mut Forms) -> Result<(), AllocError>
+    ensures { OnOk result (Puts forms.old forms.new
+        (item_forms (forms_to (map desc_of structs.now) (length structs.now))
+        field.now.item field.now.default)) }
 {
     match field.item {
-        Item::Num(kind) => forms.push(CellForm {
-            kind,
-            default: field.default,
-        })?,
+        Item::Num(kind) => forms.put(kind, field.default)?,
         Item::Equal { .. } | Item::Unused { .. } => {}
         Item::Struct(number) => {
             let number = number as usize;
@@ -85,10 +107,10 @@ fn put_element(structs: &[Desc], field: &Field, forms: &mut Vec<CellForm>) -> Re
     Ok(())
 }
 
-fn put_subs(structs: &[Desc], subs: &[Sub], forms: &mut Vec<CellForm>) -> Result<(), AllocError>
-    ensures { OnOk result (forms.new.items ≡ forms.old.items
-        ++ subs_forms (forms_to (map desc_of structs.now) (length structs.now))
-        (map sub_of subs.now)) }
+fn put_subs(structs: &[Desc], subs: &[Sub], forms: &mut Forms) -> Result<(), AllocError>
+    ensures { OnOk result (Puts forms.old forms.new
+        (subs_forms (forms_to (map desc_of structs.now) (length structs.now))
+        (map sub_of subs.now))) }
 {
     for sub in subs {
         put_fields(structs, sub.desc.fields.as_slice(), forms)?;
@@ -102,15 +124,18 @@ pub(crate) fn device_cells(
     sizes: &[u32],
     structs: &[Desc],
     device: &Device,
-) -> Result<Vec<CellForm>, AllocError>
-    ensures { IfOk result (λ forms.
-        forms.items ≡ device_forms (forms_to (map desc_of structs.now) (length structs.now))
-        (device_of device.now)) }
+) -> Result<Forms, AllocError>
+    ensures { IfOk result (λ forms. AreForms forms
+        (device_forms (forms_to (map desc_of structs.now) (length structs.now))
+        (device_of device.now))) }
 {
     let (fields, subs) = (device.desc.fields.as_slice(), device.subs.as_slice());
     let own = size_of_fields(Measure::Cells, sizes, fields);
     let cells = own.saturating_add(size_of_subs(Measure::Cells, sizes, subs));
-    let mut forms = Vec::with_capacity(alloc, cells as usize)?;
+    let mut forms = Forms {
+        kinds: Vec::with_capacity(alloc, cells as usize)?,
+        defaults: Vec::with_capacity(alloc, cells as usize)?,
+    };
     put_fields(structs, fields, &mut forms)?;
     put_subs(structs, subs, &mut forms)?;
     Ok(forms)

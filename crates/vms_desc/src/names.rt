@@ -3,7 +3,7 @@ ghost use Rattle.std.specs.Prelude.{◌≡◌, ◌<◌, ◌^◌, length, map};
 ghost use Rattle.vms_spec.specs.Lookup.{find_sub};
 ghost use Rattle.vms_spec.specs.Streams.{is_one_of};
 ghost use Rattle.vms_parts.specs.Views.{sub_of};
-ghost use Rattle.vms_desc.specs.Names.{IsNameAt};
+ghost use Rattle.vms_desc.specs.Names.{IsNameAt, first_named};
 
 use crate::{Sub, Text};
 
@@ -22,7 +22,8 @@ pub fn is_one_of(names: &[Text], name: &[u8]) -> bool
 /// The number, from 0, of the first of these names that is this one; `None` if none is.
 pub fn find_name(names: &[Text], name: &[u8]) -> Option<u32>
     requires { length names.now < 2 ^ 32 }
-    ensures { IsNameAt names.now name.now result }
+    ensures first { result ≡ first_named names.now name.now }
+    ensures one { IsNameAt names.now name.now result }
 {
     for (number, known) in names.iter().enumerate() {
         if known.as_bytes() == name {

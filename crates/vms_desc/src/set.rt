@@ -1,6 +1,7 @@
 // A well-formed description set.
+ghost use Rattle.vms_kinds.specs.declared.TheConstants.{NEWEST_CLOCK_SET, NEWEST_SET};
 ghost use Rattle.vms_spec.specs.declared.TheConstants.{MOST_ITEMS};
-ghost use Rattle.std.specs.Prelude.{true, [], get_or, ◌≤◌, ◌<◌, ◌+◌, ◌==◌, ◌&&◌, ◌≡◌, ℕ, length, IfOk, map};
+ghost use Rattle.std.specs.Prelude.{true, ◌≤◌, ◌<◌, ◌+◌, ◌==◌, ◌&&◌, ◌≡◌, length, IfOk, map};
 ghost use Rattle.std.specs.Str.{bytes_eq};
 ghost use Rattle.vms_spec.specs.Layout.{device_cells, struct_cells, numbers_of};
 ghost use Rattle.vms_spec.specs.Places.{own_cell_count};
@@ -14,7 +15,7 @@ ghost use Rattle.vms_desc.specs.Scopes.{IsParent};
 ghost use Rattle.vms_desc.specs.Spots.{form_numbers, defaults_at};
 ghost use Rattle.vms_desc.specs.Tables.{IsTable, AreTables, AreDeviceTables, device_fields};
 ghost use Rattle.vms_parts.specs.Sizes.{in_u32};
-ghost use Rattle.vms_parts.specs.Views.{set_of, formula, desc_of, device_of, form_of, layout_of};
+ghost use Rattle.vms_parts.specs.Views.{set_of, formula, desc_of, device_of, layout_of};
 
 use crate::defaults::device_defaults;
 use crate::eval::{Scope, holds};
@@ -53,7 +54,7 @@ impl DescSet {
 
     /// The shipped set of this number, 0 to 4. Fails only where memory is wanting.
     pub fn shipped(alloc: Global, s: u8) -> Result<DescSet, NoMemory>
-        requires { s ≤ 4 }
+        requires { s ≤ NEWEST_SET }
         ensures { IfOk result (λ set. described set ≡ shipped_set s) }
     {
         Ok(Self::assemble(alloc, shipped_parts(alloc, s)?)?)
@@ -61,7 +62,7 @@ impl DescSet {
 
     /// The clock set of this number, 1 or 2; number 0 stands for the first too. Fails only where memory is wanting.
     pub fn clock(alloc: Global, c: u8) -> Result<DescSet, NoMemory>
-        requires { c ≤ 2 }
+        requires { c ≤ NEWEST_CLOCK_SET }
         ensures { IfOk result (λ set. described set ≡ clock_set c) }
     {
         Ok(Self::assemble(alloc, clock_parts(alloc, c)?)?)

@@ -1,5 +1,5 @@
 // What walks ask of descriptions again and again, worked out once.
-ghost use Rattle.std.specs.Prelude.{◌<◌, ◌^◌, map, IfOk, OnOk};
+ghost use Rattle.std.specs.Prelude.{◌<◌, map, IfOk, OnOk};
 ghost use Rattle.vms_parts.specs.Views.{field_of, desc_of, device_of};
 ghost use Rattle.vms_desc.specs.Heads.{FitsHead, HeadsFit};
 ghost use Rattle.vms_desc.specs.Tables.{AreStarts, IsTable, AreTables, AreDeviceTables, device_fields};

@@ -1,8 +1,8 @@
 -- What reading a file answers.
 use Rattle.std.specs.Prelude.{◌≡◌, ℕ, List, Option, Some, None, Result, Ok, Err}
 use Rattle.serde_json.specs.Data.{Data}
-use Rattle.vms_json.specs.Nodes.{view}
-use Rattle.vms_json.specs.declared.node.Node.{Node}
+use Rattle.vms_json.specs.Nodes.{tree_view}
+use Rattle.vms_json.specs.declared.node.Tree.{Tree}
 use Rattle.vms_desc.specs.declared.set.DescSet.{DescSet}
 use Rattle.vms_desc.specs.Described.{described}
 use Rattle.vms_spec.specs.WellFormed.{first_fault}
@@ -23,8 +23,8 @@ Gives said (Err (file_faults.IllFormed rule place)) = said ≡ IllFormed (record
 Gives said (Err file_faults.NoMemory) = Unit {0}
 
 -- the value, if the text has one
-abbrev pub GivesValue : Option Data → Result Node FileFault → Type 0
-GivesValue found (Ok value) = found ≡ Some (view value)
+abbrev pub GivesValue : Option Data → Result Tree FileFault → Type 0
+GivesValue found (Ok value) = found ≡ Some (tree_view value)
 GivesValue found (Err file_faults.Syntax) = found ≡ None
 GivesValue found (Err file_faults.NoMemory) = Unit {0}
 GivesValue found (Err fault) = ⊥

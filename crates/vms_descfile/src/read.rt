@@ -9,7 +9,7 @@ use json::Scratch;
 use std::alloc::Global;
 use vms_desc::{DescFault, DescSet, Parts};
 use vms_descread::read_parts;
-use vms_json::{NoNode, Node, read_bytes};
+use vms_json::{NoNode, Tree, read_bytes};
 
 /// The set that a description file says. Else the fault is `Syntax` where the bytes are no JSON
 /// value, the first path at which the value isn't of the shape of a file, or the first place at
@@ -33,7 +33,7 @@ fn read_file(alloc: Global, text: &[u8]) -> Result<Parts, FileFault>
         Ok(value) => value,
         Err(fault) => return Err(fault),
     };
-    match read_parts(alloc, &value) {
+    match read_parts(alloc, &value.root()) {
         Ok(parts) => Ok(parts),
         Err(fault) => Err(FileFault::of(alloc, fault)),
     }
@@ -55,7 +55,7 @@ fn read_value<'a>(
     alloc: Global,
     text: &'a [u8],
     scratch: &'a mut Scratch,
-) -> Result<Node<'a>, FileFault>
+) -> Result<Tree<'a>, FileFault>
     ensures { GivesValue (value_in text.now) result }
 {
     match read_bytes(alloc, text, scratch) {

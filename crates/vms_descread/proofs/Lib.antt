@@ -1,3 +1,4 @@
 pub mod AskedLaws
+pub mod PlainLaws
 pub mod TestLaws
 pub mod WalkLaws

@@ -1,6 +1,5 @@
 -- What the tests of a file say.
 use Rattle.std.specs.Prelude.{ℕ, zero, suc, Bool, if◌then◌else◌, List, [], ◌∷◌, Option, Some, None, codes}
-use denote.Ref.{Bor}
 use Rattle.std.specs.Str.{bytes_eq}
 use Rattle.serde_json.specs.Data.{Data, Items, no_items, item}
 use Rattle.serde_json.specs.Find.{as_array}
@@ -72,8 +71,8 @@ abbrev pub two_of : Data → Answer Pair
 two_of d = two_in (as_array d)
 
 -- as the code has them
-abbrev pub pair_seen : Bor Node × Bor Node → Pair
-pair_seen two = record { first = view two.0.now; second = view two.1.now }
+abbrev pub pair_seen : Node × Node → Pair
+pair_seen two = record { first = view two.0; second = view two.1 }
 
 -- what both say
 abbrev pub both : (Formula → Formula → Formula) → Answer Formula → Answer Formula → Answer Formula

@@ -235,18 +235,20 @@ struct Plain<'a> {
     name: &'a str,
 }
 
-fn plain_in<'a>(value: &Node<'a>) -> Option<Plain<'a>>
+fn plain_in<'a>(value: &Node<'_, 'a>) -> Option<Plain<'a>>
     ensures { IfSome result (λ p. IsPlain p.kind p.name.now (view value.now)) }
 {
-    let Some(members) = value.as_members() else {
+    let mut members = value.as_members()?;
+    let first = members.next()?;
+    let second = members.next()?;
+    if members.next().is_some() {
         return None;
-    };
-    let [first, second] = members.as_slice() else {
-        return None;
-    };
-    if first.0 == "kind" && second.0 == "name" {
+    }
+    let one = first.0;
+    let two = second.0;
+    if one == "kind" && two == "name" {
         plain_by(&first.1, &second.1)
-    } else if first.0 == "name" && second.0 == "kind" {
+    } else if one == "name" && two == "kind" {
         plain_by(&second.1, &first.1)
     } else {
         None
@@ -254,7 +256,7 @@ fn plain_in<'a>(value: &Node<'a>) -> Option<Plain<'a>>
 }
 
 // By what stands under its two keys.
-fn plain_by<'a>(kind: &Node<'a>, name: &Node<'a>) -> Option<Plain<'a>>
+fn plain_by<'a>(kind: &Node, name: &Node<'_, 'a>) -> Option<Plain<'a>>
     ensures { IfSome result
         (λ p. IsPlain p.kind p.name.now (kind_and_name (view kind.now) (view name.now))) }
 {

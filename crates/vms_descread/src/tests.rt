@@ -1,7 +1,7 @@
 // Tests.
 ghost use Rattle.std.specs.Prelude.{◌≡◌, IfOk, IfErr, Some, codes};
 ghost use Rattle.serde_json.specs.Find.{get};
-ghost use Rattle.vms_json.specs.Nodes.{view, items_view};
+ghost use Rattle.vms_json.specs.Nodes.{view, items_left};
 ghost use Rattle.vms_spec.specs.Sets.{Formula, Not};
 ghost use Rattle.vms_parts.specs.Views.{formula};
 ghost use Rattle.vms_json.specs.Answers.{Answer, Answers, under, changed};
@@ -12,7 +12,7 @@ ghost use Rattle.vms_descread.specs.Tests.{test_within, test_of, leaf_as, pair_s
 
 use crate::cells::{Form, Join, Leaf, form_of, read_own, read_parent};
 use std::alloc::Global;
-use vms_json::{Fault, Node, Reads, Scope, U32, at};
+use vms_json::{Fault, Items, Node, Reads, Scope, U32, at};
 use vms_parts::Test;
 
 // No value that is read nests deeper.
@@ -46,13 +46,13 @@ fn read_test(alloc: Global, depth: u8, scope: Scope, value: &Node) -> Result<Tes
     match form_of(value) {
         Form::Leaf(leaf) => read_leaf(alloc, leaf, scope, value),
         Form::Not => match value.get("not") {
-            Some(inner) => negated(alloc, read_test(alloc, depth - 1, scope, inner)),
+            Some(inner) => negated(alloc, read_test(alloc, depth - 1, scope, &inner)),
             None => Err(Fault::here(alloc)),
         },
         Form::Two(join) => match two_items(alloc, value, join.key()) {
             Ok((first, second)) => {
-                let first = read_test(alloc, depth - 1, scope, first);
-                let second = read_test(alloc, depth - 1, scope, second);
+                let first = read_test(alloc, depth - 1, scope, &first);
+                let second = read_test(alloc, depth - 1, scope, &second);
                 both(alloc, join, first, second)
             }
             Err(fault) => Err(fault),
@@ -87,11 +87,11 @@ fn negated(alloc: Global, inner: Result<Test, Fault>) -> Result<Test, Fault>
 }
 
 // The items of a list of two under a key.
-fn two_items<'v, 'a>(
+fn two_items<'t, 'a>(
     alloc: Global,
-    value: &'v Node<'a>,
+    value: &Node<'t, 'a>,
     key: &str,
-) -> Result<(&'v Node<'a>, &'v Node<'a>), Fault>
+) -> Result<(Node<'t, 'a>, Node<'t, 'a>), Fault>
     ensures { Answers pair_seen (said_at two_of key.now (view value.now)) result }
 {
     match value.get(key) {
@@ -103,8 +103,8 @@ fn two_items<'v, 'a>(
     }
 }
 
-fn two_of<'v, 'a>(alloc: Global, list: &'v Node<'a>) -> Result<(&'v Node<'a>, &'v Node<'a>), Fault>
-    ensures { Answers pair_seen (two_of (view list.now)) result }
+fn two_of<'t, 'a>(alloc: Global, list: Node<'t, 'a>) -> Result<(Node<'t, 'a>, Node<'t, 'a>), Fault>
+    ensures { Answers pair_seen (two_of (view list.entry)) result }
 {
     match list.as_list() {
         Some(items) => two_in(alloc, items),
@@ -112,16 +112,22 @@ fn two_of<'v, 'a>(alloc: Global, list: &'v Node<'a>) -> Result<(&'v Node<'a>, &'
     }
 }
 
-fn two_in<'v, 'a>(
+fn two_in<'t, 'a>(
     alloc: Global,
-    items: &'v [Node<'a>],
-) -> Result<(&'v Node<'a>, &'v Node<'a>), Fault>
-    ensures { Answers pair_seen (two_in (Some (items_view items.now))) result }
+    mut items: Items<'t, 'a>,
+) -> Result<(Node<'t, 'a>, Node<'t, 'a>), Fault>
+    ensures { Answers pair_seen (two_in (Some (items_left items.entry))) result }
 {
-    if items.len() != 2 {
+    let Some(first) = items.next() else {
+        return Err(Fault::here(alloc));
+    };
+    let Some(second) = items.next() else {
+        return Err(Fault::here(alloc));
+    };
+    if items.next().is_some() {
         return Err(Fault::here(alloc));
     }
-    Ok((&items[0], &items[1]))
+    Ok((first, second))
 }
 
 // Both tests of a list of two.

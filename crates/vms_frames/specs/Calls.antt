@@ -12,6 +12,7 @@ use Rattle.vms_stream.specs.SoFar as tails
 use Rattle.vms_stream.specs.Dues.{Due, AMagic, AVersion, AfterFields, begins_next, Between as IsBetween, AfterEnd, Field}
 use Rattle.vms_stream.specs.Seen.{Seen, Good, Bad, Short, seen}
 use Rattle.vms_stream.specs.Taking.{nothing_known}
+use Rattle.vms_marks.specs.declared.configuration.TheConstants.{CONFIGURATION_FRONT}
 use Rattle.vms_frames.specs.Stands.{Stand}
 use Rattle.vms_frames.specs.declared.fault.FrameFault.{FrameFault}
 use Rattle.vms_frames.specs.declared.fault.FrameFault.TheVariants.{Refused, ReadFault}
@@ -30,7 +31,7 @@ use Rattle.vms_frames.specs.declared.units.After.TheVariants.{Sub, Next, Done}
 
 -- how many bytes a unit between sections has
 abbrev pub step_long : Step → ℕ
-step_long (steps.Configuration name) = 5 + length name.items
+step_long (steps.Configuration name) = CONFIGURATION_FRONT + length name.items
 step_long (steps.Section head) = 14 + length head.name.items
 step_long steps.End = 1
 

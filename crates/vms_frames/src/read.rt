@@ -4,7 +4,7 @@ ghost use Rattle.vms_kinds.specs.Codes.{InRange};
 ghost use Rattle.vms_frames.specs.Calls.{IsNext, is_configuration, tail_of};
 ghost use Rattle.vms_io.specs.Told.{intake};
 ghost use Rattle.vms_frames.specs.Reads.{ReadsMagic, ReadsVersion, ReadsCode, ReadsStep, ReadsNext, ReadsBehind, ReadsSub, ReadsFoot, ReadsText, ReadsTrailer, IsBegun, held_bytes, head_seen, start_seen, configuration_seen, start_reason as start_reason_of, sub_reason as sub_reason_of};
-ghost use Rattle.vms_frames.specs.declared.read.TheConstants.{LONGEST_DESCRIPTION};
+ghost use Rattle.vms_marks.specs.declared.description.TheConstants.{DESCRIPTION_FRONT, LONGEST_DESCRIPTION};
 
 use crate::fault::refused;
 use crate::fill::{Unit, fill, grow, pass};
@@ -14,15 +14,10 @@ use byteorder::{BigEndian, ByteOrder};
 use vms_io::{Source, read_exact_of};
 use vms_kinds::Kind;
 use vms_marks::{
-    CONFIGURATION_FRONT, Configuration, Foot, HEAD_FRONT, Head, MAGIC, Mark, SUB_FRONT, SubHead,
+    CONFIGURATION_FRONT, Configuration, DESCRIPTION_FRONT, Foot, HEAD_FRONT, Head, MAGIC, Mark,
+    SUB_FRONT, SubHead,
 };
-use vms_spec::Reason;
-
-/// A description has at most so many bytes of text.
-const LONGEST_TEXT: u32 = 16_777_216;
-
-/// A description section has at most so many bytes: its mark, its length and its text.
-const LONGEST_DESCRIPTION: u64 = 16_777_221;
+use vms_spec::{LONGEST_NAME, LONGEST_TEXT, Reason};
 
 /// The first four bytes of a stream, which tell that it is one.
 pub(crate) fn magic<S: Source>(source: &mut S, at: u64) -> Result<(), FrameFault>
@@ -145,7 +140,7 @@ fn configuration<S: Source>(source: &mut S, at: u64, unit: Unit) -> Result<Step,
     let mut unit = unit;
     grow(source, at, &mut unit, CONFIGURATION_FRONT - 1)?;
     let length = Configuration::name_length(&unit);
-    if length > 255 {
+    if length as usize > LONGEST_NAME {
         return Err(refused(at, Reason::WrongMachine));
     }
     grow(source, at, &mut unit, length as usize)?;
@@ -288,7 +283,7 @@ pub(crate) fn trailer<S: Source>(source: &mut S, at: u64) -> Result<u64, FrameFa
 fn description<S: Source>(source: &mut S, at: u64) -> Result<u64, FrameFault>
     ensures reads { ReadsText (intake S.Source source.old) (intake S.Source source.new)
         (0x06 ∷ []) at result }
-    ensures least { IfOk result (λ n. 5 ≤ n) }
+    ensures least { IfOk result (λ n. DESCRIPTION_FRONT ≤ n) }
     ensures most { IfOk result (λ n. n ≤ LONGEST_DESCRIPTION) }
 {
     let mut length = [0; 4];
@@ -298,5 +293,5 @@ fn description<S: Source>(source: &mut S, at: u64) -> Result<u64, FrameFault>
         return Err(refused(at, Reason::DescriptionTooLong));
     }
     pass(source, at, length as usize)?;
-    Ok(5 + length as u64)
+    Ok(DESCRIPTION_FRONT as u64 + length as u64)
 }

@@ -1,7 +1,7 @@
 // What a cursor reads.
 ghost use Rattle.std.specs.Prelude.{◌≡◌};
 
-use vms_marks::{Head, Name};
+use vms_marks::{CONFIGURATION_FRONT, Head, Name};
 
 /// Where between the sections a cursor stands.
 #[derive(Clone, Copy, Debug, PartialEq, Eq)]
@@ -79,7 +79,7 @@ impl Step {
         ensures { result ≡ step_long self.now }
     {
         match self {
-            Step::Configuration(name) => 5 + name.len() as u64,
+            Step::Configuration(name) => CONFIGURATION_FRONT as u64 + name.len() as u64,
             Step::Section(head) => 14 + head.name.len() as u64,
             Step::End => 1,
         }

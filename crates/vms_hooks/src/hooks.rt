@@ -5,7 +5,7 @@ ghost use Rattle.vms_hooks.specs.Numbers.{Numbers};
 ghost use Rattle.vms_hooks.specs.declared.fault.HookFault.{HookFault};
 
 use crate::fault::HookFault;
-use crate::pass::{Pass, make_pass};
+use crate::pass::make_pass;
 use crate::steps::{LoadStep, SaveStep};
 use std::marker::PhantomData;
 use vms_kinds::DevCells;

@@ -1,16 +1,17 @@
 -- Lists of keys.
-use Rattle.std.proofs.Common.{◌≡◌, ℕ, List, ◌∷◌, ◌++◌, ◌&&◌, Bool, map, Ordering, Less, Equal, Greater, is_eq, refl, ap, sym, ◌∙◌, [], ◌||◌}
+use Rattle.std.proofs.Common.{◌≡◌, ℕ, zero, suc, take, drop, false, List, ◌∷◌, ◌++◌, ◌&&◌, Bool, map, Ordering, Less, Equal, Greater, is_eq, refl, ap, ap₂, true, sym, ◌∙◌, [], ◌||◌}
 use Rattle.std.proofs.lemmas.Map.Text.{is_eq-slice_cmp}
 use Rattle.std.proofs.lemmas.Slice.Eq.{bytes_eq-Decides}
 use Rattle.std.specs.Cmp.Lexicographic.{slice_cmp}
 use Rattle.std.specs.Ordering.{nat_cmp, match_ordering}
 use Rattle.std.specs.List.{list_all, list_any}
 use Rattle.std.specs.Str.{bytes_eq}
-use Rattle.std.proofs.Math.Bool.{and-true, and_assoc, and_comm, and_self_left}
-use denote.Ref.{Bor}
+use Rattle.std.proofs.Math.Bool.{and-false, and_assoc, and_comm, and_self_left}
+use Rattle.std.specs.Borrow.{Bor}
 use Rattle.serde_json.specs.Data.{Data, Members, no_members, member, put}
-use Rattle.vms_json.specs.Nodes.{view, members_view, put_on}
-use Rattle.vms_json.proofs.NodeLaws.{Member}
+use Rattle.vms_json.specs.declared.node.Row.{Row}
+use Rattle.vms_json.specs.declared.node.Row.TheVariants as rows
+use Rattle.vms_json.specs.Nodes.{front, data_in, members_in}
 use Rattle.vms_spec.specs.Streams.{is_one_of}
 use Rattle.vms_spec.proofs.ListLaws.{one_of_both}
 use Rattle.vms_json.specs.Keys.{has, has_all, has_no_others}
@@ -41,15 +42,35 @@ put_one keys k d (member l e ms) = by_order (put_one keys k d ms) (slice_cmp nat
         sym (and_self_left (is_one_of keys l) (has_no_others keys ms)) ∙ ap (λ n. is_one_of keys n && (is_one_of keys l && has_no_others keys ms)) (sym same)
     by_order h Greater is = ap (λ (r : Bool). is_one_of keys l && r) h ∙ turned (is_one_of keys l) (is_one_of keys k) (has_no_others keys ms) ∙ and_assoc (is_one_of keys k) (is_one_of keys l) (has_no_others keys ms)
 
-put_all : (needed allowed : List (List ℕ)) (found : Members) (ms : List Member)
-    → has_no_others (needed ++ allowed) (put_on found (map (λ (m : Member). (m.0, view m.1)) ms)) ≡ (list_all (λ m. is_one_of needed m.0.now || is_one_of allowed m.0.now) ms && has_no_others (needed ++ allowed) found)
-put_all needed allowed found [] = refl
-put_all needed allowed found (m ∷ ms) =
-    put_all needed allowed (put m.0.now (view m.1) found) ms
-    ∙ ap (λ (r : Bool). list_all (λ (n : Member). is_one_of needed n.0.now || is_one_of allowed n.0.now) ms && r)
-    (put_one (needed ++ allowed) m.0.now (view m.1) found ∙ ap (λ (b : Bool). b && has_no_others (needed ++ allowed) found) (one_of_both needed allowed m.0.now))
-    ∙ turned (list_all (λ (n : Member). is_one_of needed n.0.now || is_one_of allowed n.0.now) ms) (is_one_of needed m.0.now || is_one_of allowed m.0.now) (has_no_others (needed ++ allowed) found)
+-- a key that isn't among them stays
+pub others_stay : (keys : List (List ℕ)) (n : ℕ) (rs : List Row) (found : Members) → has_no_others keys found ≡ false → has_no_others keys (members_in n rs found) ≡ false
+unfolding members_in
+others_stay keys zero rs found e = e
+others_stay keys (suc n) [] found e = e
+others_stay keys (suc n) (rows.Null ∷ rs) found e = e
+others_stay keys (suc n) (rows.Bool b ∷ rs) found e = e
+others_stay keys (suc n) (rows.Number k ∷ rs) found e = e
+others_stay keys (suc n) (rows.Text s ∷ rs) found e = e
+others_stay keys (suc n) (rows.List k ∷ rs) found e = e
+others_stay keys (suc n) (rows.Object k ∷ rs) found e = e
+others_stay keys (suc n) (rows.Key s ∷ rs) found e =
+    let d = data_in n (take (front rs) rs) in
+    others_stay keys n (drop (front rs) rs) (put s.now d found) (put_one keys s.now d found ∙ ap (λ (r : Bool). is_one_of keys s.now && r) e ∙ and-false (is_one_of keys s.now))
 
-pub no_others : (needed allowed : List (List ℕ)) (ms : List Member)
-    → list_all (λ m. is_one_of needed m.0.now || is_one_of allowed m.0.now) ms ≡ has_no_others (needed ++ allowed) (members_view ms)
-no_others needed allowed ms = sym (put_all needed allowed no_members ms ∙ and-true _)
+-- one of the first keys or of the others
+one_more : (needed allowed : List (List ℕ)) (k : List ℕ) (d : Data) (ms : Members)
+    → has_no_others (needed ++ allowed) (put k d ms) ≡ ((is_one_of needed k || is_one_of allowed k) && has_no_others (needed ++ allowed) ms)
+one_more needed allowed k d ms = put_one (needed ++ allowed) k d ms ∙ ap (λ (b : Bool). b && has_no_others (needed ++ allowed) ms) (one_of_both needed allowed k)
+
+pub one_other : (needed allowed : List (List ℕ)) (k : List ℕ) (d : Data) (ms : Members) → is_one_of needed k ≡ false → is_one_of allowed k ≡ false
+    → has_no_others (needed ++ allowed) (put k d ms) ≡ false
+one_other needed allowed k d ms a b = one_more needed allowed k d ms ∙ ap₂ (λ (x y : Bool). (x || y) && has_no_others (needed ++ allowed) ms) a b
+
+pub one_needed : (needed allowed : List (List ℕ)) (k : List ℕ) (d : Data) (ms : Members) → is_one_of needed k ≡ true → has_no_others (needed ++ allowed) ms ≡ true
+    → has_no_others (needed ++ allowed) (put k d ms) ≡ true
+one_needed needed allowed k d ms a e = one_more needed allowed k d ms ∙ ap₂ (λ (x h : Bool). (x || is_one_of allowed k) && h) a e
+
+pub one_allowed : (needed allowed : List (List ℕ)) (k : List ℕ) (d : Data) (ms : Members) → is_one_of needed k ≡ false → is_one_of allowed k ≡ true
+    → has_no_others (needed ++ allowed) ms ≡ true → has_no_others (needed ++ allowed) (put k d ms) ≡ true
+one_allowed needed allowed k d ms a b e =
+    one_more needed allowed k d ms ∙ ap₂ (λ (x y : Bool). (x || y) && has_no_others (needed ++ allowed) ms) a b ∙ e

@@ -1,7 +1,12 @@
-pub mod AskingLaws
+pub mod DueLaws
+pub mod EndLaws
+pub mod FrameLaws
+pub mod GoLaws
 pub mod KeyLaws
+pub mod LaidLaws
 pub mod ListLaws
 pub mod NameLaws
-pub mod NodeLaws
 pub mod ReadingLaws
+pub mod RowLaws
 pub mod TextLaws
+pub mod WholeLaws

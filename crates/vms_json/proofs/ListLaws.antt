@@ -1,10 +1,7 @@
 -- Lists of what items say.
-use Rattle.std.proofs.Common.{◌≡◌, ℕ, ◌+◌, ◌<◌, ◌≤◌, List, [], ◌∷◌, ◌++◌, length, get_or, map, refl, ap, sym, subst, ◌∙◌, drop, decimal, append_assoc}
-use Rattle.std.proofs.lemmas.List.{drop_all, append-nil, map-append}
-use Rattle.serde_json.specs.Data.{Data}
-use Rattle.vms_json.specs.Nodes.{view, items_view}
-use Rattle.vms_json.specs.declared.node.Node.{Node}
-use Rattle.vms_parts.proofs.Items.{drop_is}
+use Rattle.std.proofs.Common.{◌≡◌, ℕ, ◌+◌, List, [], ◌∷◌, ◌++◌, map, refl, ap, sym, subst, ◌∙◌, decimal, append_assoc}
+use Rattle.std.proofs.lemmas.List.{append-nil, map-append}
+use Rattle.serde_json.specs.Data.{Data, Items, no_items, item}
 use Rattle.vms_json.specs.declared.fault.Fault.{Fault}
 use Rattle.vms_json.specs.declared.fault.Fault.TheVariants as faults
 use Rattle.vms_json.specs.Answers.{Answer, good, bad, under, next, changed, each_from, Refuses, IsUnder}
@@ -21,21 +18,14 @@ pub before_none : {A : Type 0} (answer : Answer (List A)) → answer ≡ before 
 before_none (good rest) = refl
 before_none (bad path) = refl
 
--- from the item of the number i on
-abbrev pub from : {A : Type 0} → (Data → Answer A) → List Node → ℕ → Answer (List A)
-from says xs i = each_from says i (items_view (drop i xs))
-
-from_item : {A : Type 0} (says : Data → Answer A) (xs : List Node) (i : ℕ) (x : Node) → i < length xs → x ≡ get_or xs i x
-    → from says xs i ≡ next (under (decimal i) (says (view x))) (λ a. changed (λ list. a ∷ list) (from says xs (i + 1)))
-from_item says xs i x lt is = ap (λ l. each_from says i (items_view l)) (drop_is xs i x lt is)
-
-pub goes_on : {A T : Type 0} (m : T → A) (says : Data → Answer A) (xs : List Node) (i : ℕ) (x : Node) (whole : Answer (List A)) (done : List T) (t : T)
-    → whole ≡ before (map m done) (from says xs i) → i < length xs → x ≡ get_or xs i x → says (view x) ≡ good (m t)
-    → whole ≡ before (map m (done ++ t ∷ [])) (from says xs (i + 1))
-goes_on m says xs i x whole done t e lt is said =
-    e ∙ ap (before (map m done)) (from_item says xs i x lt is ∙ ap (λ a. next (under (decimal i) a) (λ a. changed (λ list. a ∷ list) (from says xs (i + 1)))) said)
-    ∙ before_one (map m done) (m t) (from says xs (i + 1))
-    ∙ ap (λ d. before d (from says xs (i + 1))) (sym (map-append m done (t ∷ [])))
+pub goes_on : {A T : Type 0} (m : T → A) (says : Data → Answer A) (i : ℕ) (now rest : Items) (d : Data) (whole : Answer (List A)) (done : List T) (t : T)
+    → whole ≡ before (map m done) (each_from says i now) → now ≡ item d rest → says d ≡ good (m t)
+    → whole ≡ before (map m (done ++ t ∷ [])) (each_from says (i + 1) rest)
+goes_on m says i now rest d whole done t e is said =
+    e ∙ ap (λ l. before (map m done) (each_from says i l)) is
+    ∙ ap (λ a. before (map m done) (next (under (decimal i) a) (λ a. changed (λ list. a ∷ list) (each_from says (i + 1) rest)))) said
+    ∙ before_one (map m done) (m t) (each_from says (i + 1) rest)
+    ∙ ap (λ l. before l (each_from says (i + 1) rest)) (sym (map-append m done (t ∷ [])))
 
 refused : {A B : Type 0} (done : List B) (key : List ℕ) (answer : Answer A) (f : A → Answer (List B)) (fault result : Fault)
     → Refuses answer fault → IsUnder key fault result → Refuses (before done (next (under key answer) f)) result
@@ -44,13 +34,13 @@ refused done key answer f (faults.Shape path) faults.NoMemory said is = tt
 refused done key answer f faults.NoMemory (faults.Shape p) said is = absurd is
 refused done key answer f faults.NoMemory faults.NoMemory said is = tt
 
-pub stops : {A : Type 0} (says : Data → Answer A) (xs : List Node) (i : ℕ) (x : Node) (whole : Answer (List A)) (done : List A) (fault result : Fault)
-    → whole ≡ before done (from says xs i) → i < length xs → x ≡ get_or xs i x → Refuses (says (view x)) fault → IsUnder (decimal i) fault result
+pub stops : {A : Type 0} (says : Data → Answer A) (i : ℕ) (now rest : Items) (d : Data) (whole : Answer (List A)) (done : List A) (fault result : Fault)
+    → whole ≡ before done (each_from says i now) → now ≡ item d rest → Refuses (says d) fault → IsUnder (decimal i) fault result
     → Refuses whole result
-stops says xs i x whole done fault result e lt is said under_it =
-    subst (λ a. Refuses a result) (sym (e ∙ ap (before done) (from_item says xs i x lt is)))
-    (refused done (decimal i) (says (view x)) (λ a. changed (λ list. a ∷ list) (from says xs (i + 1))) fault result said under_it)
+stops says i now rest d whole done fault result e is said under_it =
+    subst (λ a. Refuses a result) (sym (e ∙ ap (λ l. before done (each_from says i l)) is))
+    (refused done (decimal i) (says d) (λ a. changed (λ list. a ∷ list) (each_from says (i + 1) rest)) fault result said under_it)
 
-pub ends : {A : Type 0} (says : Data → Answer A) (xs : List Node) (i : ℕ) (whole : Answer (List A)) (done : List A)
-    → whole ≡ before done (from says xs i) → length xs ≤ i → whole ≡ good done
-ends says xs i whole done e le = e ∙ ap (λ l. before done (each_from says i (items_view l))) (drop_all i xs le) ∙ ap good (append-nil done)
+pub ends : {A : Type 0} (says : Data → Answer A) (i : ℕ) (now : Items) (whole : Answer (List A)) (done : List A)
+    → whole ≡ before done (each_from says i now) → now ≡ no_items → whole ≡ good done
+ends says i now whole done e none = e ∙ ap (λ l. before done (each_from says i l)) none ∙ ap good (append-nil done)

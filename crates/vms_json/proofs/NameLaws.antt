@@ -1,17 +1,16 @@
 -- The number of the first field of each name.
-use Rattle.std.proofs.Common.{◌≡◌, ℕ, suc, ◌+◌, ◌<◌, ◌≤◌, List, [], ◌∷◌, ◌++◌, Bool, true, false, cond, eqb, ltb, if◌then◌else◌, Option, Some, None, is_some, option_and_then, take, get_or, length, refl, ap, sym, ◌∙◌, codes, arith, ⊎_elim}
+use Rattle.std.proofs.Common.{◌≡◌, ℕ, ◌+◌, ◌<◌, ◌≤◌, List, [], ◌∷◌, ◌++◌, Bool, true, false, cond, eqb, ltb, if◌then◌else◌, Option, Some, None, is_some, option_and_then, length, append_assoc, refl, ap, sym, ◌∙◌, codes, arith, ⊎_elim}
 use Rattle.std.specs.List.{position, position_or_len}
 use Rattle.std.specs.Str.{bytes_eq}
 use Rattle.std.proofs.lemmas.Bool.{cases_lt, lt-ltb, le-ltb, eq-eqb, ne_eqb, false≢true}
-use Rattle.std.proofs.lemmas.List.{take_more, length-take, length-append}
+use Rattle.std.proofs.lemmas.List.{length-append, append-nil}
 use Rattle.std.proofs.lemmas.List.Folds.{position_or_len_push}
 use Rattle.std.proofs.lemmas.List.Sums.{prefix_len-le-length}
 use Rattle.std.proofs.lemmas.Slice.Eq.{bytes_eq-Decides}
+use Rattle.serde_json.specs.Data.{Data, Items, no_items, item}
 use Rattle.serde_json.specs.Find.{get, as_str}
-use Rattle.vms_json.specs.Nodes.{view, items_view}
-use Rattle.vms_json.specs.declared.node.Node.{Node}
 use Rattle.vms_spec.specs.Lists.{or_else}
-use Rattle.vms_json.specs.Index.{text_or_none, names_of, first_of}
+use Rattle.vms_json.specs.Index.{at_name, text_or_none, names_of, first_of}
 
 -- ---- one more at the end
 
@@ -50,27 +49,17 @@ position_push p xs y =
 
 -- ---- the names of fields
 
-names_append : (xs ys : List Node) → names_of (items_view (xs ++ ys)) ≡ names_of (items_view xs) ++ names_of (items_view ys)
-names_append [] ys = refl
-names_append (x ∷ xs) ys = ap (λ l. text_or_none (option_and_then as_str (get (codes "name") (view x))) ∷ l) (names_append xs ys)
+-- one name more
+pub one_named : (before : List (List ℕ)) (name q : List ℕ) (i : ℕ) → length before ≡ i → first_of (before ++ name ∷ []) q ≡ or_else (first_of before q) (at_name name i q)
+one_named before name q i long = position_push (λ n. bytes_eq n q) before name ∙ ap (λ (k : ℕ). or_else (first_of before q) (at_name name k q)) long
 
-names_length : (xs : List Node) → length (names_of (items_view xs)) ≡ length xs
-names_length [] = refl
-names_length (x ∷ xs) = ap suc (names_length xs)
+pub names_on : (before whole : List (List ℕ)) (name : List ℕ) (now rest : Items) (d : Data) → whole ≡ before ++ names_of now → now ≡ item d rest
+    → name ≡ text_or_none (option_and_then as_str (get (codes "name") d)) → whole ≡ (before ++ name ∷ []) ++ names_of rest
+names_on before whole name now rest d e is named =
+    e ∙ ap (λ l. before ++ names_of l) is ∙ ap (λ n. before ++ n ∷ names_of rest) (sym named) ∙ sym (append_assoc before (name ∷ []) (names_of rest))
 
-pub one_named : (fields : List Node) (i : ℕ) (x : Node) (name q : List ℕ) → i < length fields → x ≡ get_or fields i x
-    → name ≡ text_or_none (option_and_then as_str (get (codes "name") (view x)))
-    → first_of (names_of (items_view (take (i + 1) fields))) q
-    ≡ or_else (first_of (names_of (items_view (take i fields))) q) (if bytes_eq name q then Some i else None)
-one_named fields i x name q lt is named =
-    let before = names_of (items_view (take i fields)) in
-    let long : length before ≡ i = omega (arith, names_length (take i fields), length-take i fields) in
-    let names : names_of (items_view (take (i + 1) fields)) ≡ before ++ name ∷ [] =
-    ap (λ l. names_of (items_view l)) (take_more fields i x lt) ∙ names_append (take i fields) (get_or fields i x ∷ [])
-    ∙ ap (λ v. before ++ text_or_none (option_and_then as_str (get (codes "name") (view v))) ∷ []) (sym is)
-    ∙ ap (λ n. before ++ n ∷ []) (sym named) in
-    ap (λ l. first_of l q) names ∙ position_push (λ n. bytes_eq n q) before name
-    ∙ ap (λ (k : ℕ). or_else (first_of before q) (if bytes_eq name q then Some k else None)) long
+pub names_end : (before whole : List (List ℕ)) (now : Items) → whole ≡ before ++ names_of now → now ≡ no_items → before ≡ whole
+names_end before whole now e none = sym (e ∙ ap (λ l. before ++ names_of l) none ∙ append-nil before)
 
 -- ---- one more in the index
 
@@ -87,16 +76,6 @@ pub put_one : (name q : List ℕ) (number : ℕ) (old : List ℕ → Option ℕ)
     → new ≡ or_else (old q) (if bytes_eq name q then Some number else None)
 put_one name q number old new none is =
     is ∙ by_name (bytes_eq name q) number (old q) (λ same. ap old (sym ((bytes_eq-Decides name q).0 same)) ∙ none)
-
-there_already : (same : Bool) (old : Option ℕ) (number : ℕ) → (same ≡ true → is_some old ≡ true) → old ≡ or_else old (if same then Some number else None)
-there_already same (Some k) number there = refl
-there_already true None number there = absurd (false≢true (there refl))
-there_already false None number there = refl
-
--- a name that was there
-pub keep_one : (name q : List ℕ) (number : ℕ) (old : List ℕ → Option ℕ) → is_some (old name) ≡ true → old q ≡ or_else (old q) (if bytes_eq name q then Some number else None)
-keep_one name q number old there =
-    there_already (bytes_eq name q) (old q) number (λ same. ap (λ n. is_some (old n)) (sym ((bytes_eq-Decides name q).0 same)) ∙ there)
 
 pub is_none_of : (o : Option ℕ) → is_some o ≡ false → o ≡ None
 is_none_of None e = refl

@@ -4,9 +4,9 @@ use Rattle.std.specs.Str.{is_utf8}
 use Rattle.std.proofs.lemmas.Str.{IsUtf8-from_is_utf8, is_utf8-from_IsUtf8}
 use Rattle.serde_json.specs.Data.{Data}
 use Rattle.serde_json.specs.Read.{read}
-use Rattle.vms_json.specs.Nodes.{view}
+use Rattle.vms_json.specs.Nodes.{tree_view}
 use Rattle.vms_json.specs.Texts.{value_in}
-use Rattle.vms_json.specs.declared.node.Node.{Node}
+use Rattle.vms_json.specs.declared.node.Tree.{Tree}
 use Rattle.vms_json.specs.declared.parse.NoNode.{NoNode}
 
 pub has_value : (text : List ℕ) (d : Data) → IsUtf8 text → read text ≡ Some d → value_in text ≡ Some d
@@ -21,6 +21,6 @@ has_none text no_read = no_value_if text (is_utf8 text) refl no_read
 
 -- ---- what is read of a text
 
-pub if_read : (bytes text : List ℕ) → text ≡ bytes → IsUtf8 bytes → (r : Result Node NoNode) → IfOk r (λ v. read text ≡ Some (view v)) → IfOk r (λ v. value_in bytes ≡ Some (view v))
-if_read bytes text same utf8 (Ok v) e = has_value bytes (view v) utf8 (ap read (sym same) ∙ e)
+pub if_read : (bytes text : List ℕ) → text ≡ bytes → IsUtf8 bytes → (r : Result Tree NoNode) → IfOk r (λ v. read text ≡ Some (tree_view v)) → IfOk r (λ v. value_in bytes ≡ Some (tree_view v))
+if_read bytes text same utf8 (Ok v) e = has_value bytes (tree_view v) utf8 (ap read (sym same) ∙ e)
 if_read bytes text same utf8 (Err why) e = e

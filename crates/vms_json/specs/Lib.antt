@@ -1,7 +1,9 @@
 pub mod Answers
 pub mod Asked
+pub mod Frames
 pub mod Index
 pub mod Keys
+pub mod Laying
 pub mod Members
 pub mod Names
 pub mod Nodes

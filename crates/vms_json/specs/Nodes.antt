@@ -1,30 +1,131 @@
--- The value of a tree. The members of an object go in one after another, so that the last value of a key stays.
-use Rattle.std.specs.Prelude.{ℕ, List, [], ◌∷◌, map}
+-- The value of the rows of a tree. Each value stands in a run of rows: a list and an object have the count of theirs, and what is in
+-- them comes after; a member's key stands before the rows of its value. The members of an object go in one after another, so that the
+-- last value of a key stays.
+use Rattle.std.specs.Prelude.{ℕ, zero, suc, ◌+◌, ◌*◌, List, [], ◌∷◌, length, take, drop, min, max, Option, Some, None, Bool, true, false}
 use Rattle.std.specs.Borrow.{Bor}
-use Rattle.serde_json.specs.Data.{Data, null, boolean, number, string, array, object, Members, no_members, put, Items}
-use Rattle.serde_json.specs.View.{number_view, items_of}
-use Rattle.vms_json.specs.declared.node.Node.{Node, fold-Node}
-use Rattle.vms_json.specs.declared.node.Node.TheOpen.{Node-F}
+use Rattle.serde_json.specs.Data.{Data, Num, null, boolean, number, string, array, object, Members, no_members, put, Items, no_items, item}
+use Rattle.serde_json.specs.View.{number_view}
+use Rattle.vms_json.specs.declared.node.Row.{Row}
+use Rattle.vms_json.specs.declared.node.Row.TheVariants as rows
+use Rattle.vms_json.specs.declared.node.Tree.{Tree}
+use Rattle.vms_json.specs.declared.node.Node.{Node}
+use Rattle.vms_json.specs.declared.node.Items.{Items as ItemsLeft}
+use Rattle.vms_json.specs.declared.node.Members.{Members as MembersLeft}
 
--- the members with these after them
-abbrev pub put_on : Members → List (Bor (List ℕ) × Data) → Members
-put_on found [] = found
-put_on found (m ∷ ms) = put_on (put m.0.now m.1 found) ms
+-- how many rows begin with this one
+abbrev pub count_at : Row → ℕ
+count_at rows.Null = 1
+count_at (rows.Bool b) = 1
+count_at (rows.Number n) = 1
+count_at (rows.Text s) = 1
+count_at (rows.Key s) = 1
+count_at (rows.List n) = n
+count_at (rows.Object n) = n
 
--- one level, with each value inside already seen
-abbrev pub view_step : Node-F Data → Data
-view_step Node-F.Null = null
-view_step (Node-F.Bool b) = boolean b
-view_step (Node-F.Number n) = number (number_view n)
-view_step (Node-F.Text s) = string s.now
-view_step (Node-F.List v) = array (items_of v.items)
-view_step (Node-F.Object v) = object (put_on no_members v.items)
+abbrev pub number_at : Row → Option Num
+number_at rows.Null = None
+number_at (rows.Bool b) = None
+number_at (rows.Number n) = Some (number_view n)
+number_at (rows.Text s) = None
+number_at (rows.Key s) = None
+number_at (rows.List n) = None
+number_at (rows.Object n) = None
+
+abbrev pub text_at : Row → Option (List ℕ)
+text_at rows.Null = None
+text_at (rows.Bool b) = None
+text_at (rows.Number n) = None
+text_at (rows.Text s) = Some s.now
+text_at (rows.Key s) = None
+text_at (rows.List n) = None
+text_at (rows.Object n) = None
+
+abbrev pub flag_at : Row → Option Bool
+flag_at rows.Null = None
+flag_at (rows.Bool b) = Some b
+flag_at (rows.Number n) = None
+flag_at (rows.Text s) = None
+flag_at (rows.Key s) = None
+flag_at (rows.List n) = None
+flag_at (rows.Object n) = None
+
+abbrev pub is_list : Row → Bool
+is_list rows.Null = false
+is_list (rows.Bool b) = false
+is_list (rows.Number n) = false
+is_list (rows.Text s) = false
+is_list (rows.Key s) = false
+is_list (rows.List n) = true
+is_list (rows.Object n) = false
+
+abbrev pub is_object : Row → Bool
+is_object rows.Null = false
+is_object (rows.Bool b) = false
+is_object (rows.Number n) = false
+is_object (rows.Text s) = false
+is_object (rows.Key s) = false
+is_object (rows.List n) = false
+is_object (rows.Object n) = true
+
+abbrev pub key_at : Row → Option (Bor (List ℕ))
+key_at rows.Null = None
+key_at (rows.Bool b) = None
+key_at (rows.Number n) = None
+key_at (rows.Text s) = None
+key_at (rows.Key s) = Some s
+key_at (rows.List n) = None
+key_at (rows.Object n) = None
+
+-- how many rows the first value has
+abbrev pub front : List Row → ℕ
+front [] = 0
+front (r ∷ rs) = min (max (count_at r) 1) (length (r ∷ rs))
+
+-- the number bounds how deep and how far is looked; twice the count of the rows, and one more, is always enough
+unfoldable mutual
+  pub data_in : ℕ → List Row → Data
+  data_in zero rs = null
+  data_in (suc n) [] = null
+  data_in (suc n) (rows.Null ∷ rs) = null
+  data_in (suc n) (rows.Bool b ∷ rs) = boolean b
+  data_in (suc n) (rows.Number k ∷ rs) = number (number_view k)
+  data_in (suc n) (rows.Text s ∷ rs) = string s.now
+  data_in (suc n) (rows.Key s ∷ rs) = null
+  data_in (suc n) (rows.List k ∷ rs) = array (items_in n rs)
+  data_in (suc n) (rows.Object k ∷ rs) = object (members_in n rs no_members)
+
+  pub items_in : ℕ → List Row → Items
+  items_in zero rs = no_items
+  items_in (suc n) [] = no_items
+  items_in (suc n) (r ∷ rs) = item (data_in n (take (front (r ∷ rs)) (r ∷ rs))) (items_in n (drop (front (r ∷ rs)) (r ∷ rs)))
+
+  -- those that were found before, with these after them; no member begins with anything but a key
+  pub members_in : ℕ → List Row → Members → Members
+  members_in zero rs found = found
+  members_in (suc n) [] found = found
+  members_in (suc n) (rows.Null ∷ rs) found = found
+  members_in (suc n) (rows.Bool b ∷ rs) found = found
+  members_in (suc n) (rows.Number k ∷ rs) found = found
+  members_in (suc n) (rows.Text s ∷ rs) found = found
+  members_in (suc n) (rows.Key s ∷ rs) found = members_in n (drop (front rs) rs) (put s.now (data_in n (take (front rs) rs)) found)
+  members_in (suc n) (rows.List k ∷ rs) found = found
+  members_in (suc n) (rows.Object k ∷ rs) found = found
+
+abbrev pub rows_view : List Row → Data
+rows_view rs = data_in (2 * length rs) rs
+
+abbrev pub tree_view : Tree → Data
+tree_view t = rows_view t.rows.items
 
 abbrev pub view : Node → Data
-view = fold-Node Data view_step
+view v = rows_view v.rows.now
 
-abbrev pub items_view : List Node → Items
-items_view vs = items_of (map view vs)
+abbrev pub items_left : ItemsLeft → Items
+items_left l = items_in (2 * length l.rows.now + 1) l.rows.now
 
-abbrev pub members_view : List (Bor (List ℕ) × Node) → Members
-members_view ms = put_on no_members (map (λ m. (m.0, view m.1)) ms)
+-- the members with those that are left after them
+abbrev pub members_on : MembersLeft → Members → Members
+members_on l found = members_in (2 * length l.rows.now + 1) l.rows.now found
+
+abbrev pub members_left : MembersLeft → Members
+members_left l = members_on l no_members

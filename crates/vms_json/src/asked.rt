@@ -3,11 +3,11 @@ ghost use Rattle.std.specs.Prelude.{◌≡◌, ◌&&◌, ◌||◌, codes, option
 ghost use Rattle.std.specs.List.{list_any};
 ghost use Rattle.serde_json.specs.Find.{get, as_array};
 ghost use Rattle.vms_json.specs.Keys.{has};
-ghost use Rattle.vms_json.specs.Nodes.{view, items_view};
+ghost use Rattle.vms_json.specs.Nodes.{view, items_left};
 ghost use Rattle.vms_json.specs.Asked.{asks_a_name, some_ask, asks_in, asks_names};
 
 use crate::keys::has;
-use crate::node::Node;
+use crate::node::{Items, Node};
 
 /// Whether a walk that looks names up may ask one of a description: in a validation, in a
 /// subsection, or in a test or a count of a field. Where `asks` is false it asks nothing.
@@ -21,21 +21,20 @@ fn fields_ask(value: &Node) -> bool
     ensures { result ≡ asks_in (option_and_then as_array (get (codes "fields") (view value.now))) }
 {
     match value.get("fields").and_then(Node::as_list) {
-        Some(fields) => some_ask(fields),
+        Some(fields) => any_asks(fields),
         None => false,
     }
 }
 
-fn some_ask(fields: &[Node]) -> bool
-    ensures { result ≡ some_ask (items_view fields.now) }
+fn any_asks(mut fields: Items) -> bool
+    ensures { result ≡ some_ask (items_left fields.entry) }
 {
-    any_asks(fields)
-}
-
-fn any_asks(fields: &[Node]) -> bool
-    ensures { result ≡ list_any (λ f. asks_a_name (view f)) fields.now }
-{
-    fields.iter().any(|field| asks_a_name(field))
+    while let Some(field) = fields.next() {
+        if asks_a_name(&field) {
+            return true;
+        }
+    }
+    false
 }
 
 fn asks_a_name(field: &Node) -> bool

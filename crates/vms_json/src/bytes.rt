@@ -1,9 +1,9 @@
 // Reads bytes as JSON.
 ghost use Rattle.std.specs.Prelude.{◌≡◌, Some, None, Err, IfOk};
-ghost use Rattle.vms_json.specs.Nodes.{view};
+ghost use Rattle.vms_json.specs.Nodes.{tree_view};
 ghost use Rattle.vms_json.specs.Texts.{value_in};
 
-use crate::Node;
+use crate::Tree;
 use crate::parse::{NoNode, read_node};
 use json::Scratch;
 use std::alloc::Global;
@@ -14,8 +14,8 @@ pub fn read_bytes<'a>(
     alloc: Global,
     bytes: &'a [u8],
     scratch: &'a mut Scratch,
-) -> Result<Node<'a>, NoNode>
-    ensures ok { IfOk result (λ v. value_in bytes.now ≡ Some (view v)) }
+) -> Result<Tree<'a>, NoNode>
+    ensures ok { IfOk result (λ v. value_in bytes.now ≡ Some (tree_view v)) }
     ensures err { result ≡ Err NoNode.Syntax → value_in bytes.now ≡ None }
 {
     match str::from_utf8(bytes) {

@@ -2,10 +2,10 @@
 ghost use Rattle.std.specs.Prelude.{◌≡◌, List, ℕ, Some, Option, IfOk, OnOk, codes, option_and_then};
 ghost use Rattle.vms_spec.specs.Lists.{or_else};
 ghost use Rattle.serde_json.specs.Find.{get, as_str};
-ghost use Rattle.vms_json.specs.Nodes.{view, items_view};
+ghost use Rattle.vms_json.specs.Nodes.{view, items_left};
 ghost use Rattle.vms_json.specs.Index.{names_in, names_of, text_or_none, first_of, number_of, numbers, IsIndex, at_name};
 
-use crate::node::Node;
+use crate::node::{Items, Node};
 use std::alloc::{AllocError, Global};
 use std::collections::BTreeMap;
 
@@ -41,12 +41,14 @@ fn index_in(alloc: Global, value: &Node) -> Result<BTreeMap<String, usize>, Allo
     }
 }
 
-fn index_of(alloc: Global, fields: &[Node]) -> Result<BTreeMap<String, usize>, AllocError>
-    ensures { IfOk result (λ first. IsIndex first (names_of (items_view fields.now))) }
+fn index_of(alloc: Global, mut fields: Items) -> Result<BTreeMap<String, usize>, AllocError>
+    ensures { IfOk result (λ first. IsIndex first (names_of (items_left fields.entry))) }
 {
     let mut first = BTreeMap::new(alloc);
-    for (i, field) in fields.iter().enumerate() {
-        put_first(alloc, &mut first, name_of(field), i)?;
+    let mut i = 0;
+    while let Some(field) = fields.next() {
+        put_first(alloc, &mut first, name_of(&field), i)?;
+        i += 1;
     }
     Ok(first)
 }
@@ -67,7 +69,7 @@ fn put_first(
     Ok(())
 }
 
-fn name_of<'a>(field: &Node<'a>) -> &'a str
+fn name_of<'a>(field: &Node<'_, 'a>) -> &'a str
     ensures { result.now
         ≡ text_or_none (option_and_then as_str (get (codes "name") (view field.now))) }
 {

@@ -2,11 +2,11 @@
 ghost use Rattle.std.specs.Prelude.{◌≡◌, ◌++◌, ◌||◌, map};
 ghost use Rattle.std.specs.List.{list_all, list_any};
 ghost use Rattle.std.specs.Str.{bytes_eq};
-ghost use Rattle.vms_json.specs.Nodes.{view, members_view};
+ghost use Rattle.vms_json.specs.Nodes.{view, members_left};
 ghost use Rattle.vms_spec.specs.Streams.{is_one_of};
 ghost use Rattle.vms_json.specs.Keys.{has, has_all, fits, has_no_others};
 
-use crate::node::{Node, is_key};
+use crate::node::{Members, Node, is_key};
 
 /// Whether a value is an object with each of the first keys, and no others than those and the
 /// second.
@@ -52,19 +52,16 @@ fn is_one_of(keys: &[&str], key: &str) -> bool
     is_among(keys, key)
 }
 
-fn has_keys(members: &[(&str, Node)], needed: &[&str], allowed: &[&str]) -> bool
-    ensures { result
-        ≡ list_all (λ m. is_one_of (map (λ n. n.now) needed.now) m.0.now
-        || is_one_of (map (λ n. n.now) allowed.now) m.0.now) members.now }
-{
-    members.iter().all(|member| is_one_of(needed, member.0) || is_one_of(allowed, member.0))
-}
-
 // Whether the members have no other keys than these.
-fn has_no_others(members: &[(&str, Node)], needed: &[&str], allowed: &[&str]) -> bool
+fn has_no_others(mut members: Members, needed: &[&str], allowed: &[&str]) -> bool
     ensures { result
         ≡ has_no_others (map (λ k. k.now) needed.now ++ map (λ k. k.now) allowed.now)
-        (members_view members.now) }
+        (members_left members.entry) }
 {
-    has_keys(members, needed, allowed)
+    while let Some((key, _value)) = members.next() {
+        if !is_one_of(needed, key) && !is_one_of(allowed, key) {
+            return false;
+        }
+    }
+    true
 }

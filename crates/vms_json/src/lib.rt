@@ -24,6 +24,6 @@ pub use keys::{fits, has};
 pub use lists::ListOf;
 pub use members::{at, at_or, maybe_at};
 pub use names::{NameIn, Names, Scope};
-pub use node::Node;
+pub use node::{Items, Members, Node, Tree};
 pub use parse::{NoNode, read_node};
 pub use words::{Integer, Reads, TextOf, U16, U32, U64};

@@ -1,12 +1,12 @@
 // Lists.
 ghost use Rattle.std.specs.Prelude.{◌≡◌, ◌++◌, ◌∷◌, [], List, map, OnOk, IfErr};
-ghost use Rattle.vms_json.specs.Nodes.{items_view};
+ghost use Rattle.vms_json.specs.Nodes.{items_left};
 ghost use Rattle.vms_json.specs.Answers.{Answers, list_of, each_from};
 ghost use Rattle.vms_json.specs.declared.fault.Fault.TheVariants as faults;
 
-use crate::Node;
 use crate::fault::Fault;
 use crate::words::Reads;
+use crate::{Items, Node};
 use std::alloc::Global;
 use vms_parts::Listed;
 
@@ -38,18 +38,20 @@ where
 }
 
 // What all items say.
-fn read_each<R: Reads>(alloc: Global, reader: &R, items: &[Node]) -> Result<Vec<R::Out>, Fault>
+fn read_each<R: Reads>(alloc: Global, reader: &R, mut items: Items) -> Result<Vec<R::Out>, Fault>
 where
     R::Out: Drop,
     ensures { Answers (λ v. map R.means v.items)
-        (each_from (R.says reader.now) 0 (items_view items.now)) result }
+        (each_from (R.says reader.now) 0 (items_left items.entry)) result }
 {
-    let mut list = Vec::with_capacity(alloc, items.len().min(LONGEST))?;
-    for (i, item) in items.iter().enumerate() {
-        match reader.read(alloc, item) {
+    let mut list = Vec::with_capacity(alloc, items.count().min(LONGEST))?;
+    let mut i = 0;
+    while let Some(item) = items.next() {
+        match reader.read(alloc, &item) {
             Ok(out) => put(&mut list, out)?,
             Err(fault) => return Err(fault.under_item(alloc, i)),
         }
+        i += 1;
     }
     Ok(list)
 }

@@ -15,7 +15,7 @@ pub fn at<R: Reads>(alloc: Global, reader: &R, key: &str, value: &Node) -> Resul
     ensures { Answers R.means (at (R.says reader.now) key.now (view value.now)) result }
 {
     match value.get(key) {
-        Some(member) => match reader.read(alloc, member) {
+        Some(member) => match reader.read(alloc, &member) {
             Ok(out) => Ok(out),
             Err(fault) => Err(fault.under(alloc, key)),
         },
@@ -37,7 +37,7 @@ where
         (view value.now)) result }
 {
     match value.get(key) {
-        Some(member) => match reader.read(alloc, member) {
+        Some(member) => match reader.read(alloc, &member) {
             Ok(out) => Ok(out),
             Err(fault) => Err(fault.under(alloc, key)),
         },
@@ -57,7 +57,7 @@ pub fn maybe_at<R: Reads>(
         result }
 {
     match value.get(key) {
-        Some(member) => match reader.read(alloc, member) {
+        Some(member) => match reader.read(alloc, &member) {
             Ok(out) => Ok(Some(out)),
             Err(fault) => Err(fault.under(alloc, key)),
         },

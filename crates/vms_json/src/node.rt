@@ -1,39 +1,131 @@
-// JSON values as trees over their text.
-ghost use Rattle.std.specs.Prelude.{◌≡◌, option_map, option_and_then};
+// JSON values as rows over their text.
+ghost use Rattle.std.specs.Prelude.{◌≡◌, ◌<◌, ◌≤◌, length, take, drop, MatchOption, OnSome, option_map, option_and_then};
+ghost use Rattle.serde_json.specs.Data as Data;
+ghost use Rattle.serde_json.specs.Data.{no_items, item, put};
 ghost use Rattle.std.specs.Str.{bytes_eq};
-ghost use Rattle.serde_json.specs.Find.{as_number, as_str, as_array, as_object, as_u64, get, get_member};
+ghost use Rattle.serde_json.specs.Find.{as_number, as_str, as_array, as_object, as_bool, as_u64, get, get_member};
+ghost use Rattle.serde_json.specs.Events.{items_len};
 ghost use Rattle.serde_json.specs.View.{number_view};
-ghost use Rattle.vms_json.specs.Nodes.{view, items_view, members_view};
+ghost use Rattle.vms_json.specs.Nodes.{count_at, flag_at, is_list, is_object, key_at, number_at, text_at, front, view, tree_view, items_left, members_left, members_on};
 
 use serde_json::Number;
 
-/// A JSON value, whose texts stand in the text that was read. The members of an object are in the
-/// order of that text; of a key that comes twice the last counts.
-#[derive(Drop)]
-pub enum Node<'a> {
+/// A row of a tree. A list and an object stand before the rows of what is in them, and have the count of all these
+/// with their own; a member's key stands before the rows of its value.
+#[derive(Clone, Copy, Drop)]
+pub enum Row<'a> {
     Null,
     Bool(bool),
     Number(Number),
     Text(&'a str),
-    List(Vec<Node<'a>>),
-    Object(Vec<(&'a str, Node<'a>)>),
+    Key(&'a str),
+    List(usize),
+    Object(usize),
 }
 
-impl<'a> Node<'a> {
-    /// Its number.
-    pub fn as_number(&self) -> Option<&Number>
-        ensures { option_map (λ n. number_view n.now) result ≡ as_number (view self.now) }
+impl<'a> Row<'a> {
+    // How many rows begin with it.
+    #[inline(always)]
+    fn count(&self) -> usize
+        ensures { result ≡ count_at self.now }
     {
-        if let Node::Number(number) = self {
-            Some(number)
-        } else {
-            None
+        match self {
+            Row::List(count) => *count,
+            Row::Object(count) => *count,
+            _ => 1,
+        }
+    }
+
+    fn number(&self) -> Option<&Number>
+        ensures { option_map (λ n. number_view n.now) result ≡ number_at self.now }
+    {
+        match self {
+            Row::Number(number) => Some(number),
+            _ => None,
+        }
+    }
+
+    fn text(&self) -> Option<&'a str>
+        ensures { option_map (λ s. s.now) result ≡ text_at self.now }
+    {
+        match self {
+            Row::Text(text) => Some(*text),
+            _ => None,
+        }
+    }
+
+    fn flag(&self) -> Option<bool>
+        ensures { result ≡ flag_at self.now }
+    {
+        match self {
+            Row::Bool(flag) => Some(*flag),
+            _ => None,
+        }
+    }
+
+    #[inline(always)]
+    pub(crate) fn is_list(&self) -> bool
+        ensures { result ≡ is_list self.now }
+    {
+        matches!(self, Row::List(_))
+    }
+
+    fn is_object(&self) -> bool
+        ensures { result ≡ is_object self.now }
+    {
+        matches!(self, Row::Object(_))
+    }
+
+    // The key that it is.
+    #[inline(always)]
+    fn key(&self) -> Option<&'a str>
+        ensures { result ≡ key_at self.now }
+    {
+        match self {
+            Row::Key(key) => Some(*key),
+            _ => None,
+        }
+    }
+}
+
+/// The value of a JSON text, whose texts stand in the text that was read.
+#[derive(Drop)]
+pub struct Tree<'a> {
+    pub(crate) rows: Vec<Row<'a>>,
+}
+
+impl<'a> Tree<'a> {
+    /// The whole value.
+    pub fn root(&self) -> Node<'_, 'a>
+        ensures { view result ≡ tree_view self.now }
+    {
+        Node {
+            rows: self.rows.as_slice(),
+        }
+    }
+}
+
+/// A value of a tree. The members of an object are in the order of the text; of a key that comes twice
+/// the last counts.
+#[derive(Clone, Copy, Drop)]
+pub struct Node<'t, 'a> {
+    pub(crate) rows: &'t [Row<'a>],
+}
+
+impl<'t, 'a> Node<'t, 'a> {
+    /// Its number.
+    pub fn as_number(self) -> Option<&'t Number>
+        ensures { option_map (λ n. number_view n.now) result ≡ as_number (view self.entry) }
+    {
+        match self.rows.split_first() {
+            Some((row, _inside)) => row.number(),
+            None => None,
         }
     }
 
     /// Its number, where that is a whole one from 0 on, of 64 bits.
-    pub fn as_u64(&self) -> Option<u64>
-        ensures { result ≡ option_and_then as_u64 (as_number (view self.now)) }
+    pub fn as_u64(self) -> Option<u64>
+        ensures { result ≡ option_and_then as_u64 (as_number (view self.entry)) }
     {
         match self.as_number() {
             Some(number) => number.as_u64(),
@@ -42,64 +134,175 @@ impl<'a> Node<'a> {
     }
 
     /// Its text.
-    pub fn as_str(&self) -> Option<&'a str>
-        ensures { option_map (λ s. s.now) result ≡ as_str (view self.now) }
+    pub fn as_str(self) -> Option<&'a str>
+        ensures { option_map (λ s. s.now) result ≡ as_str (view self.entry) }
     {
-        if let Node::Text(text) = self {
-            Some(*text)
-        } else {
-            None
+        match self.rows.split_first() {
+            Some((row, _inside)) => row.text(),
+            None => None,
+        }
+    }
+
+    /// Its flag.
+    pub fn as_bool(self) -> Option<bool>
+        ensures { result ≡ as_bool (view self.entry) }
+    {
+        match self.rows.split_first() {
+            Some((row, _inside)) => row.flag(),
+            None => None,
         }
     }
 
     /// Its items.
-    pub fn as_list(&self) -> Option<&Vec<Node<'a>>>
-        ensures { option_map (λ v. items_view v.now.items) result ≡ as_array (view self.now) }
+    pub fn as_list(self) -> Option<Items<'t, 'a>>
+        ensures { option_map items_left result ≡ as_array (view self.entry) }
     {
-        if let Node::List(items) = self {
-            Some(items)
-        } else {
-            None
+        match self.rows.split_first() {
+            Some((row, rows)) if row.is_list() => Some(Items { rows }),
+            _ => None,
         }
     }
 
     /// Its members, in the order of the text.
-    pub fn as_members(&self) -> Option<&Vec<(&'a str, Node<'a>)>>
-        ensures { option_map (λ v. members_view v.now.items) result ≡ as_object (view self.now) }
+    pub fn as_members(self) -> Option<Members<'t, 'a>>
+        ensures { option_map members_left result ≡ as_object (view self.entry) }
     {
-        if let Node::Object(members) = self {
-            Some(members)
-        } else {
-            None
+        match self.rows.split_first() {
+            Some((row, rows)) if row.is_object() => Some(Members { rows }),
+            _ => None,
         }
     }
 
     /// The member of this key, where this is an object that has one.
     #[inline(always)]
-    pub fn get(&self, key: &str) -> Option<&Node<'a>>
-        ensures { option_map (λ v. view v.now) result ≡ get key.now (view self.now) }
+    pub fn get(self, key: &str) -> Option<Node<'t, 'a>>
+        ensures { option_map view result ≡ get key.now (view self.entry) }
     {
-        if let Node::Object(members) = self {
-            find(members, key)
-        } else {
-            None
+        match self.as_members() {
+            Some(members) => find(members, key),
+            None => None,
         }
     }
 }
 
-fn find<'v, 'a>(members: &'v Vec<(&'a str, Node<'a>)>, key: &str) -> Option<&'v Node<'a>>
-    ensures { option_map (λ v. view v.now) result
-        ≡ get_member key.now (members_view members.now.items) }
+/// The items of a list that are left.
+#[derive(Clone, Copy, Drop)]
+pub struct Items<'t, 'a> {
+    rows: &'t [Row<'a>],
+}
+
+impl<'t, 'a> Items<'t, 'a> {
+    // Goes on after the first value.
+    #[inline(always)]
+    fn pass(&mut self, parted: Parted<'t, 'a>)
+        ensures { self.new.rows.now ≡ parted.entry.rest.now }
+    {
+        self.rows = parted.rest;
+    }
+
+    /// How many there are.
+    pub fn count(self) -> usize
+        ensures { result ≡ items_len (items_left self.entry) }
+    {
+        let mut left = self;
+        let mut count: usize = 0;
+        while let Some(_item) = left.next() {
+            count += 1;
+        }
+        count
+    }
+
+    /// The next.
+    #[inline(always)]
+    pub fn next(&mut self) -> Option<Node<'t, 'a>>
+        ensures value { MatchOption result (items_left self.old ≡ no_items)
+            (λ v. items_left self.old ≡ item (view v) (items_left self.new)) }
+        ensures fewer { OnSome result (length self.new.rows.now < length self.old.rows.now) }
+    {
+        if self.rows.is_empty() {
+            return None;
+        }
+        let parted = cut(self.rows);
+        self.pass(parted);
+        Some(Node { rows: parted.first })
+    }
+}
+
+/// The members of an object that are left.
+#[derive(Clone, Copy, Drop)]
+pub struct Members<'t, 'a> {
+    rows: &'t [Row<'a>],
+}
+
+impl<'t, 'a> Members<'t, 'a> {
+    // Goes on after the first value.
+    #[inline(always)]
+    fn pass(&mut self, parted: Parted<'t, 'a>)
+        ensures { self.new.rows.now ≡ parted.entry.rest.now }
+    {
+        self.rows = parted.rest;
+    }
+
+    /// The next, with its key.
+    #[inline(always)]
+    pub fn next(&mut self) -> Option<(&'a str, Node<'t, 'a>)>
+        ensures value { (found : Data.Members) → MatchOption result (members_on self.old found ≡ found)
+            (λ m. members_on self.old found
+            ≡ members_on self.new (put m.0.now (view m.1) found)) }
+        ensures fewer { OnSome result (length self.new.rows.now < length self.old.rows.now) }
+    {
+        let Some((row, rows)) = self.rows.split_first() else {
+            return None;
+        };
+        let Some(key) = row.key() else {
+            return None;
+        };
+        let parted = cut(rows);
+        self.pass(parted);
+        Some((key, Node { rows: parted.first }))
+    }
+}
+
+// The rows of the first value, and those after them.
+#[derive(Clone, Copy, Drop)]
+struct Parted<'t, 'a> {
+    first: &'t [Row<'a>],
+    rest: &'t [Row<'a>],
+}
+
+#[inline(always)]
+fn cut<'t, 'a>(rows: &'t [Row<'a>]) -> Parted<'t, 'a>
+    ensures first { result.first.now ≡ take (front rows.now) rows.now }
+    ensures rest { result.rest.now ≡ drop (front rows.now) rows.now }
+    ensures fewer { 0 < length rows.now → length result.rest.now < length rows.now }
 {
-    let mut left = members.len();
-    while left > 0 {
-        left -= 1;
-        let member = &members[left];
-        if is_key(member.0, key) {
-            return Some(&member.1);
+    let (first, rest) = rows.split_at(front(rows));
+    Parted { first, rest }
+}
+
+// How many rows the first value has.
+#[inline(always)]
+fn front(rows: &[Row]) -> usize
+    ensures value { result ≡ front rows.now }
+    ensures within { result ≤ length rows.now }
+    ensures some { 0 < length rows.now → 0 < result }
+{
+    match rows.first() {
+        Some(row) => row.count().max(1).min(rows.len()),
+        None => 0,
+    }
+}
+
+fn find<'t, 'a>(mut members: Members<'t, 'a>, key: &str) -> Option<Node<'t, 'a>>
+    ensures { option_map view result ≡ get_member key.now (members_left members.entry) }
+{
+    let mut found = None;
+    while let Some((name, value)) = members.next() {
+        if is_key(name, key) {
+            found = Some(value);
         }
     }
-    None
+    found
 }
 
 // Whether two keys are the same. Most differ in length.

@@ -1,11 +1,16 @@
 // Reads JSON texts as trees.
-ghost use Rattle.std.specs.Prelude.{◌≡◌, ◌<◌, ◌++◌, ◌∷◌, [], length, Some, None, Err, IfOk, IfErr, OnOk};
-ghost use Rattle.json.specs.Json.{value, items, members};
-ghost use Rattle.serde_json.specs.Data.{no_members};
-ghost use Rattle.serde_json.specs.Read.{of_json, of_items, of_members, converted, read};
-ghost use Rattle.vms_json.specs.Nodes.{view, items_view, members_view};
+ghost use Rattle.std.specs.Prelude.{◌≡◌, ◌≤◌, ◌++◌, ◌∷◌, [], ℕ, List, length, get_or, true, false, Option, Some, None, Err, IfOk, IfErr, OnOk, MatchBool};
+ghost use Rattle.json.specs.Json.{value};
+ghost use Rattle.json.specs.Reads.{token_of};
+ghost use Rattle.json.specs.Token.{Token as TokenRead};
+ghost use Rattle.serde_json.specs.Data.{Data, array, object, no_items, Members};
+ghost use Rattle.serde_json.specs.Read.{of_json, converted, read};
+ghost use Rattle.vms_json.specs.Frames.{Frame, before};
+ghost use Rattle.vms_json.specs.Laying.{AreBelow, InList, InObject, IsLaid, HasValue, IsRowOf, is_in_list, IsUnder, HasEnded, IsWhole};
+ghost use Rattle.vms_json.specs.Nodes.{is_list, tree_view};
+ghost use Rattle.vms_json.specs.declared.node.Row.{Row as RowRead};
 
-use crate::Node;
+use crate::node::{Row, Tree};
 use crate::number::number_of;
 use json::{Invalid, Reader, Scratch, Token};
 use std::alloc::{AllocError, AllocFailed, Global};
@@ -57,110 +62,205 @@ pub fn read_node<'a>(
     alloc: Global,
     text: &'a str,
     scratch: &'a mut Scratch,
-) -> Result<Node<'a>, NoNode>
-    ensures ok { IfOk result (λ v. read text.now ≡ Some (view v)) }
+) -> Result<Tree<'a>, NoNode>
+    ensures ok { IfOk result (λ v. read text.now ≡ Some (tree_view v)) }
     ensures err { result ≡ Err NoNode.Syntax → read text.now ≡ None }
 {
+    // The reader is a value of this one function, and is lent to none that isn't laid into it.
     let mut reader = Reader::new(text, scratch)?;
-    let node = read(alloc, &mut reader, DEEPEST)?;
+    let mut laid = Laid {
+        rows: Vec::new(alloc),
+        open: Vec::new(alloc),
+        in_list: false,
+    };
+    let mut is_done = false;
+    while !is_done {
+        let token = reader.next().ok_or(NoNode::Syntax)?;
+        let is_value = lay(token, &mut reader, &mut laid)?;
+        if is_value && !laid.in_list {
+            is_done = go_on(&mut reader, &mut laid)?;
+        }
+    }
     if reader.next().is_some() {
         return Err(NoNode::Syntax);
     }
-    Ok(node)
+    Ok(Tree { rows: laid.rows })
 }
 
-// One value. It is laid into the two loops below, so that a text or a number among members or items takes no call.
-#[cycle(read)]
+// Lays what a token is where the next is due. Whether a value ends with it.
 #[inline(always)]
-fn read<'a>(alloc: Global, reader: &mut Reader<'a>, depth: usize) -> Result<Node<'a>, NoNode>
-    ensures ok { IfOk result
-        (λ v. converted of_json (value depth reader.old) ≡ Some (view v, reader.new)) }
-    ensures shorter { OnOk result (length reader.new < length reader.old) }
-    ensures err { result ≡ Err NoNode.Syntax → converted of_json (value depth reader.old) ≡ None }
+fn lay<'a>(token: Token<'a>, reader: &mut Reader<'a>, laid: &mut Laid<'a>) -> Result<bool, NoNode>
+    requires { AreBelow laid.old.open.items (length laid.old.rows.items) }
+    ensures ok { (said : Option (Data × List TokenRead))
+        → IsUnder said laid.old (token_of token.entry ∷ reader.old)
+        → IfOk result (λ is_value. MatchBool is_value
+        (HasEnded said laid.new reader.new) (IsUnder said laid.new reader.new)) }
+    ensures fewer { OnOk result (length reader.new ≤ length reader.old) }
+    ensures err { (said : Option (Data × List TokenRead))
+        → IsUnder said laid.old (token_of token.entry ∷ reader.old)
+        → result ≡ Err NoNode.Syntax → said ≡ None }
 {
-    let token = reader.next().ok_or(NoNode::Syntax)?;
     match token {
-        Token::String(text) => Ok(Node::Text(text)),
+        Token::BeginObject => begin_object(reader, laid),
+        Token::EndArray => {
+            if !laid.in_list {
+                return Err(NoNode::Syntax);
+            }
+            laid.end();
+            Ok(true)
+        }
+        Token::BeginArray => {
+            if laid.open.len() >= DEEPEST {
+                return Err(NoNode::Syntax);
+            }
+            laid.begin(Row::List(0))?;
+            laid.in_list = true;
+            Ok(false)
+        }
+        _ => {
+            laid.rows.push(row_of(token)?)?;
+            Ok(true)
+        }
+    }
+}
+
+// After the brace that opens an object: its first key, or its end. Whether it ends.
+#[inline(always)]
+fn begin_object<'a>(reader: &mut Reader<'a>, laid: &mut Laid<'a>) -> Result<bool, NoNode>
+    ensures ok { (said : Option (Data × List TokenRead))
+        → IsUnder said laid.old (TokenRead.begin_object ∷ reader.old)
+        → IfOk result (λ is_value. MatchBool is_value
+        (HasEnded said laid.new reader.new) (IsUnder said laid.new reader.new)) }
+    ensures fewer { OnOk result (length reader.new ≤ length reader.old) }
+    ensures err { (said : Option (Data × List TokenRead))
+        → IsUnder said laid.old (TokenRead.begin_object ∷ reader.old)
+        → result ≡ Err NoNode.Syntax → said ≡ None }
+{
+    if laid.open.len() >= DEEPEST {
+        return Err(NoNode::Syntax);
+    }
+    match reader.next_key()? {
+        None => {
+            laid.rows.push(Row::Object(1))?;
+            Ok(true)
+        }
+        Some(name) => {
+            laid.begin(Row::Object(0))?;
+            laid.in_list = false;
+            laid.rows.push(Row::Key(name))?;
+            Ok(false)
+        }
+    }
+}
+
+// After a value: the next key of an object, or the ends of objects. Whether the value is the whole.
+#[inline(always)]
+fn go_on<'a>(reader: &mut Reader<'a>, laid: &mut Laid<'a>) -> Result<bool, NoNode>
+    requires { AreBelow laid.old.open.items (length laid.old.rows.items) }
+    ensures ok { (said : Option (Data × List TokenRead)) → HasEnded said laid.old reader.old
+        → IfOk result (λ is_whole. MatchBool is_whole
+        (IsWhole said laid.new reader.new) (IsUnder said laid.new reader.new)) }
+    ensures fewer { OnOk result (length reader.new ≤ length reader.old) }
+    ensures err { (said : Option (Data × List TokenRead)) → HasEnded said laid.old reader.old
+        → result ≡ Err NoNode.Syntax → said ≡ None }
+{
+    while !laid.in_list {
+        if laid.open.is_empty() {
+            return Ok(true);
+        }
+        match reader.next_key()? {
+            Some(name) => {
+                laid.rows.push(Row::Key(name))?;
+                return Ok(false);
+            }
+            None => laid.end(),
+        }
+    }
+    Ok(false)
+}
+
+// The row of a token that is a value.
+#[inline(always)]
+fn row_of<'a>(token: Token<'a>) -> Result<Row<'a>, NoNode>
+    ensures ok { IfOk result (λ r. IsRowOf (token_of token.entry) r) }
+    ensures err { result ≡ Err NoNode.Syntax → (ts : List TokenRead)
+        → converted of_json (value 0 (token_of token.entry ∷ ts)) ≡ None }
+{
+    match token {
+        Token::String(text) => Ok(Row::Text(text)),
         Token::Number(text) => match number_of(text) {
-            Some(number) => Ok(Node::Number(number)),
+            Some(number) => Ok(Row::Number(number)),
             None => Err(NoNode::Syntax),
         },
-        Token::Bool(b) => Ok(Node::Bool(b)),
-        Token::Null => Ok(Node::Null),
-        Token::EndObject | Token::EndArray | Token::Key(_) | Token::Bad => Err(NoNode::Syntax),
-        Token::BeginArray => {
-            if depth == 0 {
-                return Err(NoNode::Syntax);
-            }
-            Ok(Node::List(read_items(alloc, reader, depth - 1)?))
+        Token::Bool(b) => Ok(Row::Bool(b)),
+        Token::Null => Ok(Row::Null),
+        _ => Err(NoNode::Syntax),
+    }
+}
+
+// The rows so far, where lists and objects that are open begin, and whether the innermost is a list.
+#[derive(Drop)]
+struct Laid<'a> {
+    rows: Vec<Row<'a>>,
+    open: Vec<usize>,
+    in_list: bool,
+}
+
+impl<'a> Laid<'a> {
+    // Begins a list or an object.
+    #[inline(always)]
+    fn begin(&mut self, row: Row<'a>) -> Result<(), NoNode>
+        ensures rows { OnOk result (self.new.rows.items ≡ self.old.rows.items ++ row.entry ∷ []) }
+        ensures open { OnOk result (self.new.open.items
+            ≡ self.old.open.items ++ length self.old.rows.items ∷ []) }
+        ensures err { IfErr result (λ why. why ≡ NoNode.NoMemory) }
+    {
+        self.open.push(self.rows.len())?;
+        self.rows.push(row)?;
+        Ok(())
+    }
+
+    // Ends the innermost.
+    #[inline(always)]
+    fn end(&mut self)
+        requires { AreBelow self.old.open.items (length self.old.rows.items) }
+        ensures list { (fs : List Frame) (done : List Data)
+            → InList (IsLaid fs) done self.old.rows.items self.old.open.items
+            → self.old.in_list ≡ true
+            → HasValue fs self.new.rows.items self.new.open.items (array (before done no_items))
+            × (self.new.in_list ≡ is_in_list fs) }
+        ensures object { (fs : List Frame) (found : Members)
+            → InObject (IsLaid fs) found self.old.rows.items self.old.open.items
+            → self.old.in_list ≡ false
+            → HasValue fs self.new.rows.items self.new.open.items (object found)
+            × (self.new.in_list ≡ is_in_list fs) }
+        ensures within { AreBelow self.new.open.items (length self.new.rows.items) }
+    {
+        let Some(at) = self.open.pop() else {
+            return;
+        };
+        let count = self.rows.len() - at;
+        let row = if self.in_list {
+            Row::List(count)
+        } else {
+            Row::Object(count)
+        };
+        self.rows[at] = row;
+        self.in_list = self.is_in_list();
+    }
+
+    // Whether the innermost is a list, by its row.
+    #[inline(always)]
+    fn is_in_list(&self) -> bool
+        requires { AreBelow self.now.open.items (length self.now.rows.items) }
+        ensures none { self.now.open.items ≡ [] → result ≡ false }
+        ensures some { (places : List ℕ) (at : ℕ) (none : RowRead)
+            → self.now.open.items ≡ places ++ at ∷ []
+            → result ≡ is_list (get_or self.now.rows.items at none) }
+    {
+        match self.open.last() {
+            Some(at) => self.rows[*at].is_list(),
+            None => false,
         }
-        Token::BeginObject => {
-            if depth == 0 {
-                return Err(NoNode::Syntax);
-            }
-            Ok(Node::Object(read_members(alloc, reader, depth - 1)?))
-        }
     }
-}
-
-#[cycle(read)]
-#[inline(never)]
-fn read_items<'a>(
-    alloc: Global,
-    reader: &mut Reader<'a>,
-    depth: usize,
-) -> Result<Vec<Node<'a>>, NoNode>
-    ensures ok { IfOk result
-        (λ v. converted of_items (items (value depth) (length reader.old) reader.old)
-        ≡ Some (items_view v.items, reader.new)) }
-    ensures shorter { OnOk result (length reader.new < length reader.old) }
-    ensures err { result ≡ Err NoNode.Syntax
-        → converted of_items (items (value depth) (length reader.old) reader.old) ≡ None }
-{
-    let mut found = Vec::new(alloc);
-    'items: while !reader.take_end_array() {
-        let item = read(alloc, reader, depth)?;
-        found.push(item)?;
-    }
-    Ok(found)
-}
-
-#[cycle(read)]
-#[inline(never)]
-fn read_members<'a>(
-    alloc: Global,
-    reader: &mut Reader<'a>,
-    depth: usize,
-) -> Result<Vec<(&'a str, Node<'a>)>, NoNode>
-    ensures ok { IfOk result
-        (λ m. converted (λ ms. of_members ms no_members)
-        (members (value depth) (length reader.old) reader.old)
-        ≡ Some (members_view m.items, reader.new)) }
-    ensures shorter { OnOk result (length reader.new < length reader.old) }
-    ensures err { result ≡ Err NoNode.Syntax
-        → converted (λ ms. of_members ms no_members)
-        (members (value depth) (length reader.old) reader.old) ≡ None }
-{
-    let mut found = Vec::new(alloc);
-    'members: while let Some(name) = reader.next_key()? {
-        let member = read(alloc, reader, depth)?;
-        put_member(alloc, &mut found, (name, member))?;
-    }
-    Ok(found)
-}
-
-// Appends a member. The first takes room for two: most objects have a field's name and its kind.
-fn put_member<'a>(
-    alloc: Global,
-    members: &mut Vec<(&'a str, Node<'a>)>,
-    member: (&'a str, Node<'a>),
-) -> Result<(), NoNode>
-    ensures put { OnOk result (members.new.items ≡ members.old.items ++ member.entry ∷ []) }
-    ensures wanting { IfErr result (λ fault. fault ≡ NoNode.NoMemory) }
-{
-    if members.is_empty() {
-        *members = Vec::with_capacity(alloc, 2)?;
-    }
-    members.push(member)?;
-    Ok(())
 }

@@ -4,7 +4,7 @@
 //! two's complement with the highest byte first.
 #![tactic(auto)]
 
-ghost use Rattle.std.specs.Prelude.{◌++◌, drop, ◌≡◌, ◌<◌, ◌≤◌, ◌↔◌, ◌^◌, length, IsTrue, IfSome, IsNone};
+ghost use Rattle.std.specs.Prelude.{◌++◌, drop, ◌≡◌, ◌<◌, ◌≤◌, ◌↔◌, length, IsTrue, IfSome, IsNone};
 ghost use Rattle.vms_kinds.specs.Codes.{width, lowest, highest, InRange, code, value_of, IsBadBool};
 
 use arrayvec::ArrayVec;
@@ -43,6 +43,12 @@ pub enum Item {
 
 /// The most numbers of one device's state.
 pub const MOST_CELLS: usize = 96;
+
+/// The number of the newest shipped set of the boards isa-0 to isa-4, which are numbered from 0.
+pub const NEWEST_SET: u8 = 4;
+
+/// The number of the newest shipped set of the boards with a clock chip; the first is 1.
+pub const NEWEST_CLOCK_SET: u8 = 2;
 
 /// The numbers of one device's state, in the order of its description, at most `MOST_CELLS`.
 pub type DevCells = ArrayVec<i128, MOST_CELLS>;

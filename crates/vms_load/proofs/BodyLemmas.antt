@@ -1,6 +1,5 @@
 -- Readings of fields that go on.
-use Rattle.std.proofs.Common.{◌≡◌, ℕ, zero, suc, ◌+◌, ◌<◌, ◌≤◌, List, [], length, take, drop, slice_set, Option, Some, None, Result, Ok, Err, IfSome, OnOk, ℤ, refl, sym, ap, ◌∙◌, subst, arith, Bool, true, false, not, ◌&&◌, if◌then◌else◌, nat_lt}
-use Rattle.std.proofs.lemmas.Bool.{ltb-true}
+use Rattle.std.proofs.Common.{◌≡◌, ℕ, ◌+◌, ◌≤◌, List, [], length, take, drop, slice_set, Option, Some, Result, Ok, Err, OnOk, ℤ, refl, sym, ap, ◌∙◌, subst, arith, Bool, true, false, not, ◌&&◌, nat_lt}
 use Rattle.std.proofs.lemmas.List.{drop_all}
 use Rattle.vms_kinds.specs.declared.Kind.{Kind}
 use Rattle.vms_kinds.specs.Codes.{width, value_of}
@@ -8,23 +7,18 @@ use Rattle.vms_spec.specs.declared.Reason.{Reason}
 use Rattle.vms_spec.specs.declared.Reason.TheVariants as reasons
 use Rattle.vms_spec.specs.Numbers.{same_number, exceeds, is_truth, is_above}
 use Rattle.vms_spec.specs.Layout.{Slot, Number as NumberSlot, Constant as ConstantSlot, Filler as FillerSlot}
-use Rattle.vms_spec.specs.Taking.{Taken, Progress, take_number, take_constant, take_filler}
+use Rattle.vms_spec.specs.Taking.{Taken, Progress, take_slot}
 use Rattle.vms_spec.specs.Units.{Piece, Number, Constant, Filler}
 use Rattle.vms_stream.specs.Dues.{raw, Field}
-use Rattle.vms_stream.specs.Finding.{Whole, Cut}
-use Rattle.vms_stream.specs.Seen.{Seen, Good, Bad, Short, seen, seen_in}
-use Rattle.vms_stream.specs.Taking.{nothing_known, put, taken_by, take_slot}
-use Rattle.vms_stream.proofs.Bodies.Takes.{number_taken, constant_taken, filler_taken}
+use Rattle.vms_stream.specs.Seen.{Seen, Good, Bad, Short, seen}
+use Rattle.vms_stream.specs.Taking.{nothing_known, put, taken_by}
+use Rattle.vms_stream.proofs.Bodies.Takes.{IsUnit, by_tests, tested, slot_seen}
 use Rattle.vms_frames.specs.Calls.{AnswersSeen, Fails, ReadsNumber, ReadsFiller}
 use Rattle.vms_frames.specs.declared.fault.FrameFault.{FrameFault}
 use Rattle.vms_frames.specs.declared.fault.FrameFault.TheVariants as faults
 use Rattle.vms_load.specs.Bodies.{TakesAs, ReadsCapped, ReadsConstant}
 
 -- ---- what a slot asks besides
-
--- by the tests: whether the input ends, a bad bool, and what the slot asks
-abbrev by_tests : Bool → Bool → Bool → Piece → ℕ → Reason → Seen
-by_tests cut bad other x n reason = if cut then Short else if bad then Bad n reasons.BadBool else if other then Bad n reason else Good x n
 
 module _ (kind : Kind) (rest : List ℕ) where
   abbrev z : ℤ
@@ -37,22 +31,10 @@ module _ (kind : Kind) (rest : List ℕ) where
   bad = is_truth kind && is_above z 1
 
   number_by : (c : ℕ) (caps : List ℕ) → seen (Field 0 (NumberSlot c kind caps)) nothing_known rest ≡ by_tests cut bad (exceeds caps z) (Number c kind z) (width kind) reasons.CountTooLarge
-  number_by c caps = by cut bad (exceeds caps z) refl refl
-    where
-      by : (a b e : Bool) → bad ≡ b → exceeds caps z ≡ e → seen_in (Field 0 (NumberSlot c kind caps)) nothing_known (if a then Cut else Whole (Number c kind z) (width kind)) ≡ by_tests a b e (Number c kind z) (width kind) reasons.CountTooLarge
-      by true b e f g = refl
-      by false true e f g = rw f refl
-      by false false true f g = rw (f, g) refl
-      by false false false f g = rw (f, g) refl
+  number_by c caps = tested 0 nothing_known (NumberSlot c kind caps) cut bad (exceeds caps z) (Number c kind z) (width kind) reasons.CountTooLarge refl
 
   constant_by : (y : ℤ) → seen (Field 0 (ConstantSlot kind y)) nothing_known rest ≡ by_tests cut bad (not (same_number z y)) (Constant kind z) (width kind) reasons.NotEqual
-  constant_by y = by cut bad (not (same_number z y)) refl refl
-    where
-      by : (a b e : Bool) → bad ≡ b → not (same_number z y) ≡ e → seen_in (Field 0 (ConstantSlot kind y)) nothing_known (if a then Cut else Whole (Constant kind z) (width kind)) ≡ by_tests a b e (Constant kind z) (width kind) reasons.NotEqual
-      by true b e f g = refl
-      by false true e f g = rw f refl
-      by false false true f g = rw (f, g) refl
-      by false false false f g = rw (f, g) refl
+  constant_by y = tested 0 nothing_known (ConstantSlot kind y) cut bad (not (same_number z y)) (Constant kind z) (width kind) reasons.NotEqual refl
 
 -- a good unit passed all tests
 record Passed (a b e : Bool) (x y : Piece) : Type 0 where
@@ -99,50 +81,44 @@ module _ (kind : Kind) (at : ℕ) (new : Option (List ℕ)) where
       → Passed (cut kind rest) (bad kind rest) false (Number 0 kind (z kind rest)) (Number 0 kind v)
   read_good rest v h = passed (cut kind rest) (bad kind rest) false _ _ (width kind) reasons.CountTooLarge (sym (number_by kind rest 0 []) ∙ h)
 
-  pub capped_ok : (caps : List ℕ) (old : Option (List ℕ)) (v : ℤ) → ReadsNumber kind at old new (Ok v) → exceeds caps v ≡ false → ReadsCapped kind caps at old new (Ok v)
-  capped_ok caps None v h e = tt
-  capped_ok caps (Some rest) v h e =
+  pub capped_ok : (caps : List ℕ) (rest : List ℕ) (v : ℤ) → ReadsNumber kind at (Some rest) new (Ok v) → exceeds caps v ≡ false → ReadsCapped kind caps at (Some rest) new (Ok v)
+  capped_ok caps rest v h e =
       let t = read_good rest v h.0 in
       let same = number_same kind (z kind rest) v t.same in
       (number_by kind rest 0 caps ∙ to_good _ _ _ _ _ (width kind) reasons.CountTooLarge t.cut t.bad (ap (exceeds caps) same ∙ e) t.same, h.1)
 
-  pub capped_large : (caps : List ℕ) (old : Option (List ℕ)) (v : ℤ) → ReadsNumber kind at old new (Ok v) → exceeds caps v ≡ true → ReadsCapped kind caps at old new (Err (faults.Refused at reasons.CountTooLarge))
-  capped_large caps None v h e = tt
-  capped_large caps (Some rest) v h e =
+  pub capped_large : (caps : List ℕ) (rest : List ℕ) (v : ℤ) → ReadsNumber kind at (Some rest) new (Ok v) → exceeds caps v ≡ true → ReadsCapped kind caps at (Some rest) new (Err (faults.Refused at reasons.CountTooLarge))
+  capped_large caps rest v h e =
       let t = read_good rest v h.0 in
       let same = number_same kind (z kind rest) v t.same in
       let is = number_by kind rest 0 caps ∙ to_bad _ _ _ _ (width kind) reasons.CountTooLarge t.cut t.bad (ap (exceeds caps) same ∙ e) in
       (refl, subst (λ (f : Seen). Fails f rest new reasons.CountTooLarge) (sym is) (refl, h.1))
 
-  pub capped_err : (caps : List ℕ) (old : Option (List ℕ)) (fault : FrameFault) → ReadsNumber kind at old new (Err fault) → ReadsCapped kind caps at old new (Err fault)
-  capped_err caps None fault h = tt
-  capped_err caps (Some rest) faults.ReadFault h = tt
-  capped_err caps (Some rest) (faults.Refused place reason) h = (
+  pub capped_err : (caps : List ℕ) (rest : List ℕ) (fault : FrameFault) → ReadsNumber kind at (Some rest) new (Err fault) → ReadsCapped kind caps at (Some rest) new (Err fault)
+  capped_err caps rest faults.ReadFault h = tt
+  capped_err caps rest (faults.Refused place reason) h = (
     h.0,
     subst (λ (f : Seen). Fails f rest new reason) (sym (number_by kind rest 0 caps))
         (fails_with (cut kind rest) (bad kind rest) (exceeds caps (z kind rest)) _ _ (width kind) reasons.CountTooLarge reasons.CountTooLarge rest new reason
         (subst (λ (f : Seen). Fails f rest new reason) (number_by kind rest 0 []) h.1)),
   )
 
-  pub constant_ok : (y : ℤ) (old : Option (List ℕ)) (v : ℤ) → ReadsNumber kind at old new (Ok v) → same_number v y ≡ true → v ≡ y → ReadsConstant kind y at old new (Ok tt)
-  constant_ok y None v h e is = tt
-  constant_ok y (Some rest) v h e is =
+  pub constant_ok : (y : ℤ) (rest : List ℕ) (v : ℤ) → ReadsNumber kind at (Some rest) new (Ok v) → same_number v y ≡ true → v ≡ y → ReadsConstant kind y at (Some rest) new (Ok tt)
+  constant_ok y rest v h e is =
       let t = read_good rest v h.0 in
       let same = number_same kind (z kind rest) v t.same in
       (constant_by kind rest y ∙ to_good _ _ _ _ _ (width kind) reasons.NotEqual t.cut t.bad (ap (λ (x : ℤ). not (same_number x y)) same ∙ ap not e) (ap (Constant kind) (same ∙ is)), h.1)
 
-  pub constant_other : (y : ℤ) (old : Option (List ℕ)) (v : ℤ) → ReadsNumber kind at old new (Ok v) → same_number v y ≡ false → ReadsConstant kind y at old new (Err (faults.Refused at reasons.NotEqual))
-  constant_other y None v h e = tt
-  constant_other y (Some rest) v h e =
+  pub constant_other : (y : ℤ) (rest : List ℕ) (v : ℤ) → ReadsNumber kind at (Some rest) new (Ok v) → same_number v y ≡ false → ReadsConstant kind y at (Some rest) new (Err (faults.Refused at reasons.NotEqual))
+  constant_other y rest v h e =
       let t = read_good rest v h.0 in
       let same = number_same kind (z kind rest) v t.same in
       let is = constant_by kind rest y ∙ to_bad _ _ _ _ (width kind) reasons.NotEqual t.cut t.bad (ap (λ (x : ℤ). not (same_number x y)) same ∙ ap not e) in
       (refl, subst (λ (f : Seen). Fails f rest new reasons.NotEqual) (sym is) (refl, h.1))
 
-  pub constant_err : (y : ℤ) (old : Option (List ℕ)) (fault : FrameFault) → ReadsNumber kind at old new (Err fault) → ReadsConstant kind y at old new (Err fault)
-  constant_err y None fault h = tt
-  constant_err y (Some rest) faults.ReadFault h = tt
-  constant_err y (Some rest) (faults.Refused place reason) h = (
+  pub constant_err : (y : ℤ) (rest : List ℕ) (fault : FrameFault) → ReadsNumber kind at (Some rest) new (Err fault) → ReadsConstant kind y at (Some rest) new (Err fault)
+  constant_err y rest faults.ReadFault h = tt
+  constant_err y rest (faults.Refused place reason) h = (
     h.0,
     subst (λ (f : Seen). Fails f rest new reason) (sym (constant_by kind rest y))
         (fails_with (cut kind rest) (bad kind rest) (not (same_number (z kind rest) y)) _ _ (width kind) reasons.CountTooLarge reasons.NotEqual rest new reason
@@ -165,65 +141,39 @@ by_read_fault : (t : Taken) (n : List ℤ) (to : ℕ) (left : Option (List ℕ))
 by_read_fault (Ok q) n to left = tt
 by_read_fault (Err e) n to left = tt
 
-module _ (left new : Option (List ℕ)) (at to : ℕ) (numbers : List ℤ) where
-  abbrev from : List ℕ → Progress
-  from rest = record { numbers = numbers; place = at; rest = rest }
+module _ (rest : List ℕ) (new : Option (List ℕ)) (at to : ℕ) (numbers : List ℤ) where
+  abbrev from : Progress
+  from = record { numbers = numbers; place = at; rest = rest }
 
-  pub number_ok : (kind : Kind) (caps : List ℕ) (cell : ℕ) (x : ℤ) → to ≡ at + width kind → ReadsCapped kind caps at left new (Ok x)
-      → IfSome left (λ rest. TakesAs (take_number kind caps cell (from rest)) (slice_set numbers cell x) to new (Ok tt))
-  number_ok kind caps cell x far a = by left a
-    where
-      by : (left : Option (List ℕ)) → ReadsCapped kind caps at left new (Ok x) → IfSome left (λ rest. TakesAs (take_number kind caps cell (from rest)) (slice_set numbers cell x) to new (Ok tt))
-      by None a = tt
-      by (Some rest) a =
-          let t = passed (cut kind rest) (bad kind rest) (exceeds caps (z kind rest)) _ (Number 0 kind x) (width kind) reasons.CountTooLarge (sym (number_by kind rest 0 caps) ∙ a.0) in
-          let same = number_same kind (z kind rest) x t.same in
-          subst (λ (t : Taken). TakesAs t (slice_set numbers cell x) to new (Ok tt)) (number_taken kind caps cell (from rest))
-          (good_taken (from rest) _ (Number cell kind x) (width kind) to new
-          (number_by kind rest cell caps ∙ to_good _ _ _ _ _ (width kind) reasons.CountTooLarge t.cut t.bad t.other (ap (Number cell kind) same)) far a.1)
+  seen_taken : (slot : Slot) (n : List ℤ) (result : Result (Unit {0}) FrameFault) → IsUnit slot → TakesAs (taken_by from (seen (Field 0 slot) nothing_known rest)) n to new result → TakesAs (take_slot slot from) n to new result
+  seen_taken slot n result u h = subst (λ (t : Taken). TakesAs t n to new result) (slot_seen 0 nothing_known from slot u) h
 
-  pub number_err : (kind : Kind) (caps : List ℕ) (cell : ℕ) (n : List ℤ) (fault : FrameFault) → ReadsCapped kind caps at left new (Err fault)
-      → IfSome left (λ rest. TakesAs (take_number kind caps cell (from rest)) n to new (Err fault))
-  number_err kind caps cell n fault a = by left fault a
-    where
-      by : (left : Option (List ℕ)) (fault : FrameFault) → ReadsCapped kind caps at left new (Err fault) → IfSome left (λ rest. TakesAs (take_number kind caps cell (from rest)) n to new (Err fault))
-      by None fault a = tt
-      by (Some rest) faults.ReadFault a = by_read_fault (take_number kind caps cell (from rest)) n to new
-      by (Some rest) (faults.Refused place reason) a =
-          subst (λ (t : Taken). TakesAs t n to new (Err (faults.Refused place reason))) (number_taken kind caps cell (from rest))
-          (fails_taken (from rest) (seen (Field 0 (NumberSlot cell kind caps)) nothing_known rest) n to new place reason a.0
-          (subst (λ (f : Seen). Fails f rest new reason) (sym (number_by kind rest cell caps))
-          (fails_alike (cut kind rest) (bad kind rest) (exceeds caps (z kind rest)) _ _ (width kind) reasons.CountTooLarge rest new reason
-          (subst (λ (f : Seen). Fails f rest new reason) (number_by kind rest 0 caps) a.1))))
+  pub number_ok : (kind : Kind) (caps : List ℕ) (cell : ℕ) (x : ℤ) → to ≡ at + width kind → ReadsCapped kind caps at (Some rest) new (Ok x) → TakesAs (take_slot (NumberSlot cell kind caps) from) (slice_set numbers cell x) to new (Ok tt)
+  number_ok kind caps cell x far a =
+      let t = passed (cut kind rest) (bad kind rest) (exceeds caps (z kind rest)) _ (Number 0 kind x) (width kind) reasons.CountTooLarge (sym (number_by kind rest 0 caps) ∙ a.0) in
+      let same = number_same kind (z kind rest) x t.same in
+      seen_taken (NumberSlot cell kind caps) (slice_set numbers cell x) (Ok tt) tt
+      (good_taken from _ (Number cell kind x) (width kind) to new
+      (number_by kind rest cell caps ∙ to_good _ _ _ _ _ (width kind) reasons.CountTooLarge t.cut t.bad t.other (ap (Number cell kind) same)) far a.1)
+
+  pub number_err : (kind : Kind) (caps : List ℕ) (cell : ℕ) (n : List ℤ) (fault : FrameFault) → ReadsCapped kind caps at (Some rest) new (Err fault) → TakesAs (take_slot (NumberSlot cell kind caps) from) n to new (Err fault)
+  number_err kind caps cell n faults.ReadFault a = by_read_fault (take_slot (NumberSlot cell kind caps) from) n to new
+  number_err kind caps cell n (faults.Refused place reason) a =
+      seen_taken (NumberSlot cell kind caps) n (Err (faults.Refused place reason)) tt
+      (fails_taken from (seen (Field 0 (NumberSlot cell kind caps)) nothing_known rest) n to new place reason a.0
+      (subst (λ (f : Seen). Fails f rest new reason) (sym (number_by kind rest cell caps))
+      (fails_alike (cut kind rest) (bad kind rest) (exceeds caps (z kind rest)) _ _ (width kind) reasons.CountTooLarge rest new reason
+      (subst (λ (f : Seen). Fails f rest new reason) (number_by kind rest 0 caps) a.1))))
 
   -- a constant and unused bytes give no number
-  plain : (slot : Slot) (rest : List ℕ) (x : Piece) (m : ℕ) (result : Result (Unit {0}) FrameFault) → OnOk result (to ≡ at + m) → put x numbers ≡ numbers
-      → AnswersSeen (λ _. x) (λ _. m) (seen (Field 0 slot) nothing_known rest) at rest new result → TakesAs (take_slot slot (from rest)) numbers to new result
-  plain slot rest x m (Ok tt') far same a =
-      subst (λ (n : List ℤ). TakesAs (take_slot slot (from rest)) n to new (Ok tt')) same (good_taken (from rest) _ x m to new a.0 far a.1)
-  plain slot rest x m (Err (faults.Refused place reason)) far same a = fails_taken (from rest) (seen (Field 0 slot) nothing_known rest) numbers to new place reason a.0 a.1
-  plain slot rest x m (Err faults.ReadFault) far same a = by_read_fault (take_slot slot (from rest)) numbers to new
+  plain : (slot : Slot) (x : Piece) (m : ℕ) (result : Result (Unit {0}) FrameFault) → IsUnit slot → OnOk result (to ≡ at + m) → put x numbers ≡ numbers
+      → AnswersSeen (λ _. x) (λ _. m) (seen (Field 0 slot) nothing_known rest) at rest new result → TakesAs (take_slot slot from) numbers to new result
+  plain slot x m (Ok tt') u far same a = seen_taken slot numbers (Ok tt') u (subst (λ (n : List ℤ). TakesAs (taken_by from (seen (Field 0 slot) nothing_known rest)) n to new (Ok tt')) same (good_taken from _ x m to new a.0 far a.1))
+  plain slot x m (Err (faults.Refused place reason)) u far same a = seen_taken slot numbers (Err (faults.Refused place reason)) u (fails_taken from (seen (Field 0 slot) nothing_known rest) numbers to new place reason a.0 a.1)
+  plain slot x m (Err faults.ReadFault) u far same a = by_read_fault (take_slot slot from) numbers to new
 
-  pub constant_taken_so : (kind : Kind) (y : ℤ) (result : Result (Unit {0}) FrameFault) → OnOk result (to ≡ at + width kind) → ReadsConstant kind y at left new result
-      → IfSome left (λ rest. TakesAs (take_constant kind y (from rest)) numbers to new result)
-  constant_taken_so kind y result far a = by left a
-    where
-      by : (left : Option (List ℕ)) → ReadsConstant kind y at left new result → IfSome left (λ rest. TakesAs (take_constant kind y (from rest)) numbers to new result)
-      by None a = tt
-      by (Some rest) a = subst (λ (t : Taken). TakesAs t numbers to new result) (constant_taken kind y (from rest)) (plain (ConstantSlot kind y) rest (Constant kind y) (width kind) result far refl a)
+  pub constant_taken : (kind : Kind) (y : ℤ) (result : Result (Unit {0}) FrameFault) → OnOk result (to ≡ at + width kind) → ReadsConstant kind y at (Some rest) new result → TakesAs (take_slot (ConstantSlot kind y) from) numbers to new result
+  constant_taken kind y result far a = plain (ConstantSlot kind y) (Constant kind y) (width kind) result tt far refl a
 
-  pub filler_taken_so : (n : ℕ) (result : Result (Unit {0}) FrameFault) → OnOk result (to ≡ at + n) → ReadsFiller n at left new result
-      → IfSome left (λ rest. TakesAs (take_filler n (from rest)) numbers to new result)
-  filler_taken_so n result far a = by n left result far a
-    where
-      by : (n : ℕ) (left : Option (List ℕ)) (result : Result (Unit {0}) FrameFault) → OnOk result (to ≡ at + n) → ReadsFiller n at left new result → IfSome left (λ rest. TakesAs (take_filler n (from rest)) numbers to new result)
-      by n None result far a = tt
-      by zero (Some rest) (Ok x) far a = (refl, omega (arith, far), a.1)
-      by zero (Some rest) (Err (faults.Refused place reason)) far a = absurd (none (nat_lt (length rest) 0) refl a.1)
-        where
-          none : (b : Bool) → nat_lt (length rest) 0 ≡ b → Fails (seen_in (Field 0 (FillerSlot 0)) nothing_known (if b then Cut else Whole (Filler []) 0)) rest new reason → ⊥
-          none true e h = let lt : length rest < 0 = ltb-true (length rest) 0 e in absurd (omega (arith, lt))
-          none false e h = h
-      by zero (Some rest) (Err faults.ReadFault) far a = tt
-      by (suc n) (Some rest) result far a =
-          subst (λ (t : Taken). TakesAs t numbers to new result) (filler_taken n (from rest)) (plain (FillerSlot (suc n)) rest (Filler (take (suc n) rest)) (suc n) result far refl a)
+  pub filler_taken : (n : ℕ) (result : Result (Unit {0}) FrameFault) → OnOk result (to ≡ at + n) → ReadsFiller n at (Some rest) new result → TakesAs (take_slot (FillerSlot n) from) numbers to new result
+  filler_taken n result far a = plain (FillerSlot n) (Filler (take n rest)) n result tt far refl a

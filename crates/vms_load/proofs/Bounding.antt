@@ -5,6 +5,7 @@ use Rattle.std.proofs.lemmas.Bool.{and_parts, leb-true}
 use Rattle.vms_kinds.specs.declared.Kind.TheVariants as kinds
 use Rattle.vms_kinds.specs.declared.Item.{Item}
 use Rattle.vms_kinds.specs.declared.Item.TheVariants.{Num, Equal, Unused, Struct}
+use Rattle.vms_spec.specs.declared.TheConstants.{MOST_UNUSED}
 use Rattle.vms_spec.specs.Sets.{Field, Desc, Sub, Device, Set}
 use Rattle.vms_spec.specs.Layout.{first, no_desc, capacity_of}
 use Rattle.vms_spec.specs.Rules.{is_small_item}
@@ -20,34 +21,35 @@ use Rattle.vms_load.specs.Staging.{section_bytes, sections_due, subs_bytes, devi
 use Rattle.vms_load.proofs.SetFacts.{well_of, few_subs}
 use Rattle.std.proofs.lemmas.Option.{slice_get_within, get_or_from_slice_get}
 use Rattle.vms_load.proofs.SmallItems.{AreSmall, struct_small, part_small}
+use Rattle.vms_marks.specs.declared.foot.TheConstants.{FOOT_LENGTH}
 use Rattle.vms_marks.specs.declared.head.TheConstants.{LONGEST_HEAD}
 use Rattle.vms_marks.specs.declared.sub_head.TheConstants.{LONGEST_SUB_HEAD}
 
 -- ---- no item has more than 4,096 bytes
 
 abbrev Small : List ℕ → List ℕ → Type 0
-Small bytes items = (j : ℕ) → get_or bytes j 0 ≤ 4096 * get_or items j 0
+Small bytes items = (j : ℕ) → get_or bytes j 0 ≤ MOST_UNUSED * get_or items j 0
 
-item_small : (bytes items : List ℕ) → Small bytes items → (item : Item) → is_small_item item ≡ true → item_bytes bytes item ≤ 4096 * item_count items item
+item_small : (bytes items : List ℕ) → Small bytes items → (item : Item) → is_small_item item ≡ true → item_bytes bytes item ≤ MOST_UNUSED * item_count items item
 item_small bytes items s (Num kind) h = omega (arith, width_small kind)
 item_small bytes items s (Equal kind z) h = omega (arith, width_small kind)
-item_small bytes items s (Unused n) h = omega (arith, leb-true n 4096 (and_parts (nat_le 1 n) (nat_le n 4096) h).1)
+item_small bytes items s (Unused n) h = omega (arith, leb-true n MOST_UNUSED (and_parts (nat_le 1 n) (nat_le n MOST_UNUSED) h).1)
 item_small bytes items s (Struct j) h = s j
 
-times_small : (n b i : ℕ) → b ≤ 4096 * i → n * b ≤ 4096 * (n * i)
+times_small : (n b i : ℕ) → b ≤ MOST_UNUSED * i → n * b ≤ MOST_UNUSED * (n * i)
 times_small zero b i h = omega arith
 times_small (suc n) b i h =
     let e : suc n * b ≡ b + n * b = grind arith in
     let f : suc n * i ≡ i + n * i = grind arith in
-    let g : n * b ≤ 4096 * (n * i) = times_small n b i h in
+    let g : n * b ≤ MOST_UNUSED * (n * i) = times_small n b i h in
     omega (arith, e, f, g, h)
 
-fields_small : (bytes items : List ℕ) → Small bytes items → (fs : List Field) → AreSmall fs → fields_bytes bytes fs ≤ 4096 * items_in items fs
+fields_small : (bytes items : List ℕ) → Small bytes items → (fs : List Field) → AreSmall fs → fields_bytes bytes fs ≤ MOST_UNUSED * items_in items fs
 fields_small bytes items s [] h = omega arith
 fields_small bytes items s (f ∷ fs) h =
     omega (arith, times_small (capacity_of f.count) (item_bytes bytes f.item) (item_count items f.item) (item_small bytes items s f.item h.0), fields_small bytes items s fs h.1)
 
-small_append : (bytes items : List ℕ) (b i : ℕ) → length bytes ≡ length items → Small bytes items → b ≤ 4096 * i → Small (bytes ++ b ∷ []) (items ++ i ∷ [])
+small_append : (bytes items : List ℕ) (b i : ℕ) → length bytes ≡ length items → Small bytes items → b ≤ MOST_UNUSED * i → Small (bytes ++ b ∷ []) (items ++ i ∷ [])
 small_append [] [] b i e s h zero = h
 small_append [] [] b i e s h (suc j) = omega arith
 small_append [] (y ∷ items) b i e s h j = absurd (omega arith)
@@ -73,15 +75,15 @@ structs_small ds small (suc k) le j =
 -- ---- the parts of a set
 
 module _ (set : Set) (well : is_well_formed set ≡ true) where
-  desc_small : (d : Desc) → AreSmall d.fields → bytes_of set d ≤ 4096 * items_in (struct_items set.structs) d.fields
+  desc_small : (d : Desc) → AreSmall d.fields → bytes_of set d ≤ MOST_UNUSED * items_in (struct_items set.structs) d.fields
   desc_small d small = fields_small (struct_bytes set.structs (length set.structs)) (struct_items set.structs) (structs_small set.structs (struct_small set (well_of set well)) (length set.structs) (omega arith)) d.fields small
 
-  subs_small : (subs : List Sub) → ((j : ℕ) (s : Sub) → slice_get subs j ≡ Some s → AreSmall s.desc.fields) → subs_bytes set subs ≤ 4096 * subs_items (struct_items set.structs) subs
+  subs_small : (subs : List Sub) → ((j : ℕ) (s : Sub) → slice_get subs j ≡ Some s → AreSmall s.desc.fields) → subs_bytes set subs ≤ MOST_UNUSED * subs_items (struct_items set.structs) subs
   subs_small [] h = omega arith
   subs_small (s ∷ subs) h = omega (arith, desc_small s.desc (h 0 s refl), subs_small subs (λ j t e. h (suc j) t e))
 
   devices_small : (devices : List Device) → ((k : ℕ) (d : Device) → slice_get devices k ≡ Some d → AreSmall d.desc.fields × (length d.subs ≤ 32) × ((j : ℕ) (s : Sub) → slice_get d.subs j ≡ Some s → AreSmall s.desc.fields))
-      → devices_most set devices ≤ 8626 * length devices + 4096 * devices_items (struct_items set.structs) devices
+      → devices_most set devices ≤ (LONGEST_HEAD + FOOT_LENGTH + LONGEST_SUB_HEAD * 32) * length devices + MOST_UNUSED * devices_items (struct_items set.structs) devices
   devices_small [] h = omega arith
   devices_small (d ∷ devices) h =
       let here = h 0 d refl in
@@ -108,7 +110,7 @@ subs_all : (set : Set) (subs : List Sub) → subs_due set subs (map (λ s. None)
 subs_all set [] = refl
 subs_all set (s ∷ subs) = omega (arith, subs_all set subs)
 
-section_is : (set : Set) (d : Device) → section_bytes set d ≡ LONGEST_HEAD + 5 + LONGEST_SUB_HEAD * length d.subs + (bytes_of set d.desc + subs_bytes set d.subs)
+section_is : (set : Set) (d : Device) → section_bytes set d ≡ LONGEST_HEAD + FOOT_LENGTH + LONGEST_SUB_HEAD * length d.subs + (bytes_of set d.desc + subs_bytes set d.subs)
 section_is set d = omega (arith, subs_all set d.subs)
 
 pub all_due : (set : Set) (devices : List Device) → sections_due set devices (map (λ d. false) devices) ≡ devices_most set devices

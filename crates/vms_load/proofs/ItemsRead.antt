@@ -7,7 +7,8 @@ use Rattle.vms_kinds.specs.declared.Kind.{Kind}
 use Rattle.vms_kinds.specs.Codes.{width}
 use Rattle.vms_spec.specs.declared.Reason.TheVariants as reasons
 use Rattle.vms_spec.specs.Numbers.{exceeds, same_number}
-use Rattle.vms_spec.specs.Taking.{take_rule}
+use Rattle.vms_spec.specs.Layout.{Rule}
+use Rattle.vms_spec.specs.Taking.{take_slot}
 use Rattle.vms_frames.specs.Calls.{ReadsNumber}
 use Rattle.vms_frames.specs.Reads.{ReadsAs}
 use Rattle.vms_frames.specs.declared.fault.FrameFault.{FrameFault}
@@ -34,36 +35,36 @@ module _ (a b : Intake) (kind : Kind) (at : ℕ) where
 
 module _ {a b : Intake} (kind : Kind) (at : ℕ) where
   pub reads_capped : (caps : List ℕ) (v : ℤ) → exceeds caps v ≡ false → Number a b kind at (Ok v) → Capped a b kind at caps (Ok v)
-  reads_capped caps v few p = reads_as (λ n l. l) (λ rest left h. capped_ok kind at (Some left) caps (Some rest) v h few) p
+  reads_capped caps v few p = reads_as (λ n l. l) (λ rest left h. capped_ok kind at (Some left) caps rest v h few) p
 
   -- a number that is above a capacity
   pub reads_large : (caps : List ℕ) (v : ℤ) (place : ℕ) → place ≡ at → exceeds caps v ≡ true → Number a b kind at (Ok v) → Capped a b kind at caps (Err (faults.Refused place reasons.CountTooLarge))
   reads_large caps v place here large p =
       subst (λ (k : ℕ). Capped a b kind at caps (Err (faults.Refused k reasons.CountTooLarge))) (sym here)
-      (reads_last (reads_as (λ n l. omega (arith, l)) (λ rest left h. capped_large kind at (Some left) caps (Some rest) v h large) p))
+      (reads_last (reads_as (λ n l. omega (arith, l)) (λ rest left h. capped_large kind at (Some left) caps rest v h large) p))
 
   pub reads_no_number : (caps : List ℕ) (e : FrameFault) → Number a b kind at (Err e) → Capped a b kind at caps (Err e)
-  reads_no_number caps e p = reads_as (λ n l. l) (λ rest left h. capped_err kind at (Some left) caps (Some rest) e h) p
+  reads_no_number caps e p = reads_as (λ n l. l) (λ rest left h. capped_err kind at (Some left) caps rest e h) p
 
   pub reads_constant : (y v : ℤ) → same_number v y ≡ true → v ≡ y → Number a b kind at (Ok v) → Constant a b kind at y (Ok tt)
-  reads_constant y v same is p = reads_as (λ n l. l) (λ rest left h. constant_ok kind at (Some left) y (Some rest) v h same is) p
+  reads_constant y v same is p = reads_as (λ n l. l) (λ rest left h. constant_ok kind at (Some left) y rest v h same is) p
 
   -- another number
   pub reads_other : (y v : ℤ) (place : ℕ) → place ≡ at → same_number v y ≡ false → Number a b kind at (Ok v) → Constant a b kind at y (Err (faults.Refused place reasons.NotEqual))
   reads_other y v place here other p =
       subst (λ (k : ℕ). Constant a b kind at y (Err (faults.Refused k reasons.NotEqual))) (sym here)
-      (reads_last (reads_as (λ n l. omega (arith, l)) (λ rest left h. constant_other kind at (Some left) y (Some rest) v h other) p))
+      (reads_last (reads_as (λ n l. omega (arith, l)) (λ rest left h. constant_other kind at (Some left) y rest v h other) p))
 
   pub reads_no_constant : (y : ℤ) (e : FrameFault) → Number a b kind at (Err e) → Constant a b kind at y (Err e)
-  reads_no_constant y e p = reads_as (λ n l. l) (λ rest left h. constant_err kind at (Some left) y (Some rest) e h) p
+  reads_no_constant y e p = reads_as (λ n l. l) (λ rest left h. constant_err kind at (Some left) y rest e h) p
 
 -- of the validations of a description nothing is read
 pub reads_rule : (a : Intake) (holds : Bool) (numbers : List ℤ) (at : ℕ) (result : Result (Unit {0}) FrameFault) → a.given < 2 ^ 64 → OnOk result (holds ≡ true)
-    → IfErr result (λ fault. (holds ≡ false) × (fault ≡ faults.Refused at reasons.Invalid)) → TakesOn a a 0 at at (λ rest. take_rule holds (progress numbers at rest)) numbers result
+    → IfErr result (λ fault. (holds ≡ false) × (fault ≡ faults.Refused at reasons.Invalid)) → TakesOn a a 0 at at (λ rest. take_slot (Rule holds) (progress numbers at rest)) numbers result
 reads_rule a holds numbers at (Ok x) counted ok err =
-    subst (λ (b : Bool). TakesOn a a 0 at at (λ rest. take_rule b (progress numbers at rest)) numbers (Ok x)) (sym ok)
+    subst (λ (b : Bool). TakesOn a a 0 at at (λ rest. take_slot (Rule b) (progress numbers at rest)) numbers (Ok x)) (sym ok)
     (record { bytes = []; takes = takes_none a counted; long = (omega arith, omega arith); says = λ more f. (refl, refl, refl); cause = tt })
 reads_rule a holds numbers at (Err e) counted ok err =
-    subst (λ (b : Bool). TakesOn a a 0 at at (λ rest. take_rule b (progress numbers at rest)) numbers (Err e)) (sym err.0)
-    (subst (λ (f : FrameFault). TakesOn a a 0 at at (λ rest. take_rule false (progress numbers at rest)) numbers (Err f)) (sym err.1)
+    subst (λ (b : Bool). TakesOn a a 0 at at (λ rest. take_slot (Rule b) (progress numbers at rest)) numbers (Err e)) (sym err.0)
+    (subst (λ (f : FrameFault). TakesOn a a 0 at at (λ rest. take_slot (Rule false) (progress numbers at rest)) numbers (Err f)) (sym err.1)
     (record { bytes = []; takes = takes_none a counted; long = (omega arith, tt); says = λ more f. (refl, refl, refl); cause = tt }))

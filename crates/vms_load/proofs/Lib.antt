@@ -1,7 +1,6 @@
 pub mod AfterReads
 pub mod BodyLemmas
 pub mod Bounding
-pub mod Counting
 pub mod ExactLoads
 pub mod HeadLemmas
 pub mod HeadRows

@@ -1,27 +1,35 @@
 -- What the steps of a part take is what the structural reader takes.
-use Rattle.std.proofs.Common.{◌≡◌, ℕ, ◌+◌, ◌≤◌, List, [], ◌∷◌, ◌++◌, length, append_assoc, append-nil, ℤ, Option, Some, Ok, Err, Bool, true, false, ◌||◌, ◌==◌, nat_lt, refl, sym, ap, ◌∙◌, subst}
+use Rattle.std.proofs.Common.{◌≡◌, ℕ, ◌+◌, ◌≤◌, List, [], ◌∷◌, ◌++◌, length, take, slice_set, append_assoc, append-nil, ℤ, Option, Some, Ok, Err, Bool, true, false, ◌||◌, ◌==◌, nat_lt, if◌then◌else◌, refl, sym, ap, ◌∙◌, subst}
 use Rattle.std.proofs.lemmas.Bool.{eq-eqb, ltb-true, ltb-false, or_parts}
 use Rattle.vms_kinds.specs.declared.Kind.{Kind}
+use Rattle.vms_kinds.specs.Codes.{width, value_of}
+use Rattle.vms_spec.specs.declared.Reason.TheVariants as reasons
+use Rattle.vms_spec.specs.Lookup.{is_bad_bool}
 use Rattle.vms_spec.specs.Sets.{Desc, Set}
 use Rattle.vms_spec.specs.Images.{has_cell}
 use Rattle.vms_spec.specs.Layout.{Slot, Number, Constant, Filler, Rule, meanings, desc_slots}
-use Rattle.vms_spec.specs.Taking.{Taken, Progress, Refusal, ◌>>=◌, takers, take_desc, take_number}
+use Rattle.vms_spec.specs.Taking.{Taken, Progress, Refusal, ◌>>=◌, takers, take_desc, refuse, on, if_whole, take_slot}
 use Rattle.vms_spec.specs.Sound.{IsSound, AreSound}
 use Rattle.vms_bodies.proofs.AboveLaws.{IsAbove, desc_above, meanings_above}
-use Rattle.vms_bodies.proofs.Places.{SameBelow, same_refl, same_less, same_trans}
-use Rattle.vms_bodies.proofs.WalkLaws.{Keeps, Keeping, Gives, ComesTo, take_slot, number_keeps, constant_keeps, filler_keeps, rule_keeps, set_desc_comes}
+use Rattle.vms_bodies.proofs.Places.{SameBelow, same_refl, same_trans}
+use Rattle.vms_bodies.proofs.WalkLaws.{Keeps, Keeping, Gives, ComesTo, IsFrom, slot_keeps, set_desc_comes}
 use Rattle.vms_frames.specs.declared.fault.FrameFault.{FrameFault}
 use Rattle.vms_frames.specs.declared.fault.FrameFault.TheVariants as faults
 use Rattle.vms_walk.specs.declared.step.WalkStep.{WalkStep}
 use Rattle.vms_walk.specs.Steps.{step_of, steps_of}
 use Rattle.vms_walk.proofs.Walking.{steps_append}
+use Rattle.vms_walk.proofs.Least.{exceeds_least}
 use Rattle.vms_load.specs.Bodies.{TakesAs}
-use Rattle.vms_load.specs.Reading.{take_step, take_steps, last_numbers, numbers_then, take_append, last_taken, Told, from, IsTaken, IsStopped}
-use Rattle.vms_load.proofs.Counting.{number_least}
+use Rattle.vms_load.specs.Reading.{slot_of, take_steps, last_numbers, numbers_then, take_append, last_taken, Told, from, IsTaken, IsStopped}
 
 -- a step takes what its slot takes: of the capacities that a number counts, the least decides
-slot_taken : (x : Slot) (p : Progress) → take_step (step_of x) p ≡ take_slot x p
-slot_taken (Number c kind caps) p = number_least kind caps c p
+slot_taken : (x : Slot) (p : Progress) → take_slot (slot_of (step_of x)) p ≡ take_slot x p
+slot_taken (Number c kind caps) p =
+    let w = width kind in
+    let z = value_of kind (take w p.rest) in
+    ap
+    (λ (b : Bool). if_whole w p (if is_bad_bool kind (take w p.rest) then refuse p reasons.BadBool w else if b then refuse p reasons.CountTooLarge w else on w (slice_set p.numbers c z) p))
+    (exceeds_least caps z)
 slot_taken (Constant kind z) p = refl
 slot_taken (Filler n) p = refl
 slot_taken (Rule b) p = refl
@@ -44,20 +52,16 @@ rest_above cell (Constant kind z) xs above = record { below = λ k lt. above.bel
 rest_above cell (Filler n) xs above = record { below = λ k lt. above.below k lt }
 rest_above cell (Rule b) xs above = record { below = λ k lt. above.below k lt }
 
-less : (cell further : ℕ) (n : List ℤ) (t : Taken) → cell ≤ further → Keeps further n t → Keeps cell n t
-less cell further n (Ok q) le k = record { kept = same_less cell further n q.numbers le k.kept }
-less cell further n (Err e) le k = record { kept = tt }
-
-step_below : (cell : ℕ) (x : Slot) (xs : List Slot) (p : Progress) → IsAbove cell (x ∷ xs) → Keeps cell p.numbers (take_slot x p)
-step_below cell (Number c kind caps) xs p above = less cell c p.numbers (take_number kind caps c p) (first_above cell c kind caps xs above) (number_keeps kind caps c p)
-step_below cell (Constant kind z) xs p above = constant_keeps kind z cell p
-step_below cell (Filler n) xs p above = filler_keeps n cell p
-step_below cell (Rule b) xs p above = rule_keeps b cell p
+first_from : (cell : ℕ) (x : Slot) (xs : List Slot) → IsAbove cell (x ∷ xs) → IsFrom cell x
+first_from cell (Number c kind caps) xs above = first_above cell c kind caps xs above
+first_from cell (Constant kind z) xs above = tt
+first_from cell (Filler n) xs above = tt
+first_from cell (Rule b) xs above = tt
 
 last_below : (cell : ℕ) (xs : List Slot) (p : Progress) → IsAbove cell xs → SameBelow cell p.numbers (last_numbers (steps_of xs) p)
 last_below cell [] p above = same_refl cell p.numbers
 last_below cell (x ∷ xs) p above =
-    go (take_step (step_of x) p) (subst (Keeps cell p.numbers) (sym (slot_taken x p)) (step_below cell x xs p above)) (λ q. last_below cell xs q (rest_above cell x xs above))
+    go (take_slot (slot_of (step_of x)) p) (subst (Keeps cell p.numbers) (sym (slot_taken x p)) (slot_keeps cell x p (first_from cell x xs above))) (λ q. last_below cell xs q (rest_above cell x xs above))
   where
     go : (t : Taken) → Keeps cell p.numbers t → ((q : Progress) → SameBelow cell q.numbers (last_numbers (steps_of xs) q)) → SameBelow cell p.numbers (numbers_then t p.numbers (last_numbers (steps_of xs)))
     go (Ok q) k h = same_trans cell p.numbers q.numbers (last_numbers (steps_of xs) q) k.kept (h q)
@@ -84,7 +88,7 @@ module _ (set : Set) (structs : AreSound set.structs) (d : Desc) (sound : IsSoun
         subst (SameBelow cell q.numbers) (sym last) (last_below cell rest q above)
 
     -- the next slot
-    next : (slot : Slot) (further : ℕ) (done rest : List Slot) (q : Progress) (t : Taken) → take_step (step_of slot) q ≡ t → take_steps (steps_of done) p ≡ Ok q → slots n ≡ done ++ (slot ∷ rest)
+    next : (slot : Slot) (further : ℕ) (done rest : List Slot) (q : Progress) (t : Taken) → take_slot (slot_of (step_of slot)) q ≡ t → take_steps (steps_of done) p ≡ Ok q → slots n ≡ done ++ (slot ∷ rest)
         → IsAbove further rest → Gives slots Holds Fails further (done ++ slot ∷ []) t
     next slot further done rest q (Ok r) e h split above =
         let step : take_steps (steps_of (done ++ slot ∷ [])) p ≡ Ok r =
@@ -99,7 +103,7 @@ module _ (set : Set) (structs : AreSound set.structs) (d : Desc) (sound : IsSoun
     keeping = record {
       less = λ cell further done left q le up l. (l.holds.0, later further done (left n) q (l.split n l.holds.1) l.holds.0 (up n));
       number = λ cell kind caps done left q up l.
-          next (Number cell kind caps) (cell + 1) done (left n) q (take_number kind caps cell q) (slot_taken (Number cell kind caps) q) l.holds.0 (l.split n l.holds.1) (up n);
+          next (Number cell kind caps) (cell + 1) done (left n) q (take_slot (Number cell kind caps) q) (slot_taken (Number cell kind caps) q) l.holds.0 (l.split n l.holds.1) (up n);
       other = λ cell slot done left q o up l. next slot cell done (left n) q (take_slot slot q) (slot_taken slot q) l.holds.0 (l.split n l.holds.1) (up n);
     }
 

@@ -9,7 +9,7 @@ use Rattle.vms_kinds.specs.Codes.{width, value_of}
 use Rattle.vms_spec.specs.declared.Reason.TheVariants as reasons
 use Rattle.vms_spec.specs.Lookup.{is_bad_bool}
 use Rattle.vms_spec.specs.Numbers.{exceeds}
-use Rattle.vms_spec.specs.Taking.{Taken, Progress, ◌>>=◌, refuse, on, take_number}
+use Rattle.vms_spec.specs.Taking.{Taken, Progress, ◌>>=◌, refuse, on, take_slot}
 use Rattle.vms_spots.specs.Spots.{values_of, put_from}
 use Rattle.vms_walk.specs.declared.step.WalkStep.{WalkStep}
 use Rattle.vms_walk.specs.declared.step.WalkStep.TheVariants.{Number}
@@ -18,7 +18,7 @@ use Rattle.vms_walk.specs.Runs.{run_of}
 use Rattle.vms_walk.proofs.Kept.{keeps_same, keeps_more, keeps_put}
 use Rattle.vms_walk.proofs.Runs.{run_split}
 use Rattle.vms_load.specs.Bodies.{progress}
-use Rattle.vms_load.specs.Reading.{take_step, take_steps, steps_long, last_numbers, numbers_then, take_append, last_taken}
+use Rattle.vms_load.specs.Reading.{slot_of, take_steps, steps_long, last_numbers, numbers_then, take_append, last_taken}
 
 any_good : (kind : Kind) (bytes : List ℕ) → (kind ≡ Bool → ⊥) → is_bad_bool kind bytes ≡ false
 any_good U8 bytes any = refl
@@ -57,7 +57,7 @@ module _ (kind : Kind) (any : kind ≡ Bool → ⊥) where
   -- ---- one number
 
   number_whole : (cell place : ℕ) (numbers : List ℤ) (rest : List ℕ) → width kind ≤ length rest
-      → take_number kind [] cell (progress numbers place rest) ≡ Ok (progress (slice_set numbers cell (value_of kind (take (width kind) rest))) (place + width kind) (drop (width kind) rest))
+      → take_slot (slot_of (Number cell kind None)) (progress numbers place rest) ≡ Ok (progress (slice_set numbers cell (value_of kind (take (width kind) rest))) (place + width kind) (drop (width kind) rest))
   number_whole cell place numbers rest le =
       let p = progress numbers place rest in
       let v = value_of kind (take w rest) in
@@ -66,7 +66,7 @@ module _ (kind : Kind) (any : kind ≡ Bool → ⊥) where
       ∙ ap (λ (b : Truth). if b then refuse p reasons.BadBool w else (if exceeds [] v then refuse p reasons.CountTooLarge w else done)) (any_good kind (take w rest) any)
 
   number_cut : (cell place : ℕ) (numbers : List ℤ) (rest : List ℕ) → length rest < width kind
-      → take_number kind [] cell (progress numbers place rest) ≡ refuse (progress numbers place rest) reasons.Truncated (length rest)
+      → take_slot (slot_of (Number cell kind None)) (progress numbers place rest) ≡ refuse (progress numbers place rest) reasons.Truncated (length rest)
   number_cut cell place numbers rest lt =
       let p = progress numbers place rest in
       let v = value_of kind (take w rest) in
@@ -107,7 +107,7 @@ module _ (kind : Kind) (any : kind ≡ Bool → ⊥) where
     done : take_steps (run_of first whole kind) (progress numbers place (bytes ++ last)) ≡ Ok behind
     done = run_taken whole first place numbers bytes last long
 
-    at_cut : take_step (Number (first + whole) kind None) behind ≡ refuse behind reasons.Truncated (length last)
+    at_cut : take_slot (slot_of (Number (first + whole) kind None)) behind ≡ refuse behind reasons.Truncated (length last)
     at_cut = number_cut (first + whole) behind.place behind.numbers last cut
 
     pub run_cut : take_steps (run_of first count kind) (progress numbers place (bytes ++ last)) ≡ refuse behind reasons.Truncated (length last)

@@ -1,14 +1,14 @@
 -- One step that was taken, or that is refused.
 use Rattle.std.proofs.Common.{◌≡◌, ℕ, List, [], ◌∷◌, Option, Some, Result, Ok, Err, OnOk, IfErr, ℤ, ap, arith}
 use Rattle.vms_image.specs.Typed.{Typed}
-use Rattle.vms_spec.specs.Taking.{Taken, ◌>>=◌}
+use Rattle.vms_spec.specs.Taking.{Taken, ◌>>=◌, take_slot}
 use Rattle.vms_io.proofs.ReadingLemmas.{reads_as}
 use Rattle.vms_frames.specs.declared.fault.FrameFault.{FrameFault}
 use Rattle.vms_frames.specs.declared.fault.FrameFault.TheVariants as faults
 use Rattle.vms_walk.specs.declared.step.WalkStep.{WalkStep}
 use Rattle.vms_walk.specs.Inside.{Keeps}
 use Rattle.vms_load.specs.Bodies.{TakesAs, TakesOn}
-use Rattle.vms_load.specs.Reading.{take_step, take_steps, last_numbers, numbers_then, step_long, Told, from, Took, Failed, IsTaken, IsStopped}
+use Rattle.vms_load.specs.Reading.{slot_of, take_steps, last_numbers, numbers_then, step_long, Told, from, Took, Failed, IsTaken, IsStopped}
 
 pub on_ok : {X E P Q R : Type 0} (r : Result X E) → (P → Q → R) → OnOk r P → OnOk r Q → OnOk r R
 on_ok (Ok x) f p q = f p q
@@ -25,14 +25,14 @@ module _ (x : WalkStep) where
 
   module _ (a b : Told) where
     abbrev OneReads : Result (Unit {0}) FrameFault → Type 0
-    OneReads r = TakesOn a.source b.source (step_long x) a.place b.place (λ rest. take_step x (from a rest)) b.image.numbers r
+    OneReads r = TakesOn a.source b.source (step_long x) a.place b.place (λ rest. take_slot (slot_of x) (from a rest)) b.image.numbers r
 
-    one_taken : (r : Result (Unit {0}) FrameFault) (rest left : List ℕ) → TakesAs (take_step x (from a rest)) b.image.numbers b.place (Some left) r → IsTaken (x ∷ []) a b r rest left
-    one_taken r rest left h = alone (take_step x (from a rest)) b.image.numbers b.place (Some left) r h
+    one_taken : (r : Result (Unit {0}) FrameFault) (rest left : List ℕ) → TakesAs (take_slot (slot_of x) (from a rest)) b.image.numbers b.place (Some left) r → IsTaken (x ∷ []) a b r rest left
+    one_taken r rest left h = alone (take_slot (slot_of x) (from a rest)) b.image.numbers b.place (Some left) r h
 
-    one_stopped : (fault : FrameFault) (rest left : List ℕ) → b.image.numbers ≡ a.image.numbers → TakesAs (take_step x (from a rest)) b.image.numbers b.place (Some left) (Err fault) → IsStopped (x ∷ []) a fault b rest left
+    one_stopped : (fault : FrameFault) (rest left : List ℕ) → b.image.numbers ≡ a.image.numbers → TakesAs (take_slot (slot_of x) (from a rest)) b.image.numbers b.place (Some left) (Err fault) → IsStopped (x ∷ []) a fault b rest left
     one_stopped (faults.Refused at reason) rest left e h =
-        (one_taken (Err (faults.Refused at reason)) rest left h, same_then (take_step x (from a rest)) a.image.numbers b.image.numbers b.place at reason (Some left) h e)
+        (one_taken (Err (faults.Refused at reason)) rest left h, same_then (take_slot (slot_of x) (from a rest)) a.image.numbers b.image.numbers b.place at reason (Some left) h e)
     one_stopped faults.ReadFault rest left e h = (one_taken (Err faults.ReadFault) rest left h, tt)
 
     pub step_ok : (r : Result (Unit {0}) FrameFault) → OneReads r → b.image ≡ record a.image { numbers = b.image.numbers } → Keeps (x ∷ []) a.image.numbers b.image.numbers → OnOk r (Took (x ∷ []) a b)

@@ -17,6 +17,7 @@ use Rattle.vms_spec.specs.Layout.{Slot, Number, Constant, Filler, Rule, Meaning,
 use Rattle.vms_spec.specs.Sets.{Field, Desc, Sub, Device, Set}
 use Rattle.vms_spec.specs.Tests.{is_there}
 use Rattle.vms_spec.specs.Streams.{be32, optional, configuration, section_head, sub_head, foot, trailer, end_mark, stream_head, written, written_section, written_sections, written_subs}
+use Rattle.vms_marks.specs.declared.foot.TheConstants.{FOOT_LENGTH}
 use Rattle.vms_load.specs.Bounds.{item_bytes, fields_bytes, desc_bytes, struct_bytes}
 use Rattle.vms_load.specs.Parts.{bytes_of}
 use Rattle.vms_spec.proofs.Sizes.{elements_fit}
@@ -141,7 +142,7 @@ subs_long set [] = 0
 subs_long set (s ∷ subs) = (6 + length s.desc.name + bytes_of set s.desc) + subs_long set subs
 
 abbrev pub device_long : Set → Device → ℕ
-device_long set d = (14 + length d.desc.name) + bytes_of set d.desc + subs_long set d.subs + 5
+device_long set d = (14 + length d.desc.name) + bytes_of set d.desc + subs_long set d.subs + FOOT_LENGTH
 
 abbrev pub devices_long : Set → List Device → ℕ
 devices_long set [] = 0

@@ -17,6 +17,7 @@ use Rattle.vms_load.specs.Bounds.{desc_bytes, struct_bytes}
 use Rattle.vms_load.specs.Reads.{Onward}
 use Rattle.vms_load.specs.declared.parts.Section.{Section}
 use Rattle.vms_load.specs.declared.parts.Open.{Open}
+use Rattle.vms_marks.specs.declared.foot.TheConstants.{FOOT_LENGTH}
 use Rattle.vms_marks.specs.declared.sub_head.TheConstants.{LONGEST_SUB_HEAD}
 
 -- the description of the device's own fields or of a subsection, and where its cells begin
@@ -65,7 +66,7 @@ subs_due set (s ∷ subs) (Some v ∷ came) = subs_due set subs came
 -- from the fields of this part on to the end of the section, with its footer; nothing where it has ended
 abbrev pub part_due : Set → Device → List (Option ℕ) → Option Open → ℕ
 part_due set d came None = 0
-part_due set d came (Some part) = bytes_of_part set d part.sub + (subs_due set d.subs came + 5)
+part_due set d came (Some part) = bytes_of_part set d part.sub + (subs_due set d.subs came + FOOT_LENGTH)
 
 -- ---- where the reading of a section stands
 

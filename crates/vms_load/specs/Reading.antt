@@ -3,7 +3,8 @@ use Rattle.std.specs.Prelude.{◌≡◌, ℕ, ◌+◌, ◌^◌, ◌<◌, List, [
 use Rattle.std.proofs.Common.{refl, sym, ap, ◌∙◌, subst, arith, Some}
 use Rattle.vms_kinds.specs.Codes.{width}
 use Rattle.vms_image.specs.Typed.{Typed}
-use Rattle.vms_spec.specs.Taking.{Taken, Progress, Refusal, ◌>>=◌, take_number, take_constant, take_filler, take_rule}
+use Rattle.vms_spec.specs.Layout.{Slot, Number, Constant, Filler, Rule}
+use Rattle.vms_spec.specs.Taking.{Taken, Progress, Refusal, ◌>>=◌, take_slot}
 use Rattle.vms_io.specs.Told.{Intake}
 use Rattle.vms_io.specs.Reading.{On, Reads}
 use Rattle.vms_io.proofs.ReadingLemmas.{takes_none, reads_as, reads_both}
@@ -11,22 +12,23 @@ use Rattle.vms_frames.specs.Reads.{fault_course}
 use Rattle.vms_frames.specs.declared.fault.FrameFault.{FrameFault}
 use Rattle.vms_frames.specs.declared.fault.FrameFault.TheVariants as faults
 use Rattle.vms_walk.specs.declared.step.WalkStep.{WalkStep}
-use Rattle.vms_walk.specs.declared.step.WalkStep.TheVariants.{Number, Constant, Filler, Rule}
+use Rattle.vms_walk.specs.declared.step.WalkStep.TheVariants as steps
 use Rattle.vms_walk.specs.Inside.{Keeps}
 use Rattle.vms_walk.specs.Steps.{capacities_of}
 use Rattle.vms_walk.proofs.Kept.{keeps_same, keeps_more, keeps_front}
 use Rattle.vms_load.specs.Bodies.{TakesAs, HasMoved, progress}
 
--- what is taken at a step, and at steps one after the other
-abbrev pub take_step : WalkStep → Progress → Taken
-take_step (Number cell kind most) p = take_number kind (capacities_of most) cell p
-take_step (Constant kind value) p = take_constant kind value p
-take_step (Filler bytes) p = take_filler bytes p
-take_step (Rule holds) p = take_rule holds p
+-- the slot of a step, which of the capacities keeps the least
+abbrev pub slot_of : WalkStep → Slot
+slot_of (steps.Number cell kind most) = Number cell kind (capacities_of most)
+slot_of (steps.Constant kind value) = Constant kind value
+slot_of (steps.Filler bytes) = Filler bytes
+slot_of (steps.Rule holds) = Rule holds
 
+-- what is taken at steps one after the other
 abbrev pub take_steps : List WalkStep → Progress → Taken
 take_steps [] p = Ok p
-take_steps (x ∷ xs) p = take_step x p >>= take_steps xs
+take_steps (x ∷ xs) p = take_slot (slot_of x) p >>= take_steps xs
 
 -- the numbers behind the steps, or where one of them is refused
 abbrev pub numbers_then : Taken → List ℤ → (Progress → List ℤ) → List ℤ
@@ -35,14 +37,14 @@ numbers_then (Err e) numbers more = numbers
 
 abbrev pub last_numbers : List WalkStep → Progress → List ℤ
 last_numbers [] p = p.numbers
-last_numbers (x ∷ xs) p = numbers_then (take_step x p) p.numbers (last_numbers xs)
+last_numbers (x ∷ xs) p = numbers_then (take_slot (slot_of x) p) p.numbers (last_numbers xs)
 
 -- how many bytes steps have
 abbrev pub step_long : WalkStep → ℕ
-step_long (Number cell kind most) = width kind
-step_long (Constant kind value) = width kind
-step_long (Filler bytes) = bytes
-step_long (Rule holds) = 0
+step_long (steps.Number cell kind most) = width kind
+step_long (steps.Constant kind value) = width kind
+step_long (steps.Filler bytes) = bytes
+step_long (steps.Rule holds) = 0
 
 abbrev pub steps_long : List WalkStep → ℕ
 steps_long [] = 0
@@ -92,7 +94,7 @@ on_both xs ys zs h (Err e) = refl
 
 pub take_append : (xs ys : List WalkStep) (p : Progress) → take_steps (xs ++ ys) p ≡ (take_steps xs p >>= take_steps ys)
 take_append [] ys p = refl
-take_append (x ∷ xs) ys p = on_both xs ys (xs ++ ys) (λ q. take_append xs ys q) (take_step x p)
+take_append (x ∷ xs) ys p = on_both xs ys (xs ++ ys) (λ q. take_append xs ys q) (take_slot (slot_of x) p)
 
 pub long_append : (xs ys : List WalkStep) → steps_long (xs ++ ys) ≡ steps_long xs + steps_long ys
 long_append [] ys = omega arith
@@ -101,7 +103,7 @@ long_append (x ∷ xs) ys = omega (arith, long_append xs ys)
 -- the numbers behind steps that are taken, and where further ones follow
 pub last_taken : (xs ys : List WalkStep) (p q : Progress) → take_steps xs p ≡ Ok q → last_numbers (xs ++ ys) p ≡ last_numbers ys q
 last_taken [] ys p q e = ap (λ (t : Taken). numbers_then t p.numbers (last_numbers ys)) e
-last_taken (x ∷ xs) ys p q e = go (take_step x p) (λ r. last_taken xs ys r q) e
+last_taken (x ∷ xs) ys p q e = go (take_slot (slot_of x) p) (λ r. last_taken xs ys r q) e
   where
     go : (t : Taken) → ((r : Progress) → take_steps xs r ≡ Ok q → last_numbers (xs ++ ys) r ≡ last_numbers ys q) → (t >>= take_steps xs) ≡ Ok q
         → numbers_then t p.numbers (last_numbers (xs ++ ys)) ≡ last_numbers ys q
@@ -111,7 +113,7 @@ last_taken (x ∷ xs) ys p q e = go (take_step x p) (λ r. last_taken xs ys r q)
 -- where they are refused, nothing follows
 pub last_refused : (xs ys : List WalkStep) (p : Progress) (e : Refusal) → take_steps xs p ≡ Err e → last_numbers (xs ++ ys) p ≡ last_numbers xs p
 last_refused [] ys p r e = cc
-last_refused (x ∷ xs) ys p r e = go (take_step x p) (λ q. last_refused xs ys q r) e
+last_refused (x ∷ xs) ys p r e = go (take_slot (slot_of x) p) (λ q. last_refused xs ys q r) e
   where
     go : (t : Taken) → ((q : Progress) → take_steps xs q ≡ Err r → last_numbers (xs ++ ys) q ≡ last_numbers xs q) → (t >>= take_steps xs) ≡ Err r
         → numbers_then t p.numbers (last_numbers (xs ++ ys)) ≡ numbers_then t p.numbers (last_numbers xs)

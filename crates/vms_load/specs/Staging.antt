@@ -20,7 +20,11 @@ use Rattle.vms_load.specs.Parts.{bytes_of, subs_due}
 use Rattle.vms_load.specs.declared.fault.LoadFault.{LoadFault}
 use Rattle.vms_load.specs.declared.fault.LoadFault.TheVariants as faults
 use Rattle.vms_load.specs.declared.staged.Staged.{Staged}
+use Rattle.vms_marks.specs.declared.configuration.TheConstants.{LONGEST_CONFIGURATION}
+use Rattle.vms_marks.specs.declared.description.TheConstants.{LONGEST_DESCRIPTION}
+use Rattle.vms_marks.specs.declared.foot.TheConstants.{FOOT_LENGTH}
 use Rattle.vms_marks.specs.declared.head.TheConstants.{LONGEST_HEAD}
+use Rattle.vms_marks.specs.declared.stream_head.TheConstants.{BESIDE_SECTIONS}
 use Rattle.vms_marks.specs.declared.sub_head.TheConstants.{LONGEST_SUB_HEAD}
 
 abbrev pub no_image : Typed
@@ -103,7 +107,7 @@ IsAccepted machines only name (Some machine) = (is_one_of (accepted machines onl
 
 -- of a section: its head, its fields, all subsections with their heads, and its footer
 abbrev pub section_bytes : Set → Device → ℕ
-section_bytes set d = LONGEST_HEAD + (bytes_of set d.desc + (subs_due set d.subs (map (λ s. None) d.subs) + 5))
+section_bytes set d = LONGEST_HEAD + (bytes_of set d.desc + (subs_due set d.subs (map (λ s. None) d.subs) + FOOT_LENGTH))
 
 -- of the sections of devices that haven't come
 abbrev pub sections_due : Set → List Device → List Bool → ℕ
@@ -114,7 +118,7 @@ sections_due set (d ∷ devices) (false ∷ came) = section_bytes set d + sectio
 
 -- of a configuration, where one may stand
 abbrev pub configuration_due : Between → ℕ
-configuration_due First = 260
+configuration_due First = LONGEST_CONFIGURATION
 configuration_due AfterConfiguration = 0
 configuration_due Later = 0
 
@@ -130,11 +134,11 @@ subs_bytes set (s ∷ subs) = bytes_of set s.desc + subs_bytes set subs
 
 abbrev pub devices_most : Set → List Device → ℕ
 devices_most set [] = 0
-devices_most set (d ∷ devices) = (LONGEST_HEAD + 5 + LONGEST_SUB_HEAD * length d.subs + (bytes_of set d.desc + subs_bytes set d.subs)) + devices_most set devices
+devices_most set (d ∷ devices) = (LONGEST_HEAD + FOOT_LENGTH + LONGEST_SUB_HEAD * length d.subs + (bytes_of set d.desc + subs_bytes set d.subs)) + devices_most set devices
 
--- so many bytes are given to a load at most
+-- so many bytes are given to a load at most: what stands in no section, the sections, a head that is refused, and a description
 abbrev pub most_given : Set → ℕ
-most_given set = 16777759 + devices_most set set.devices
+most_given set = BESIDE_SECTIONS + LONGEST_HEAD + LONGEST_DESCRIPTION + devices_most set set.devices
 
 -- ---- a whole stream
 

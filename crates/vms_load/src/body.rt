@@ -3,12 +3,13 @@ ghost use Rattle.std.specs.Prelude.{◌≡◌, ◌+◌, ◌≤◌, ◌^◌, ◌�
 ghost use Rattle.vms_desc.specs.Described.{described};
 ghost use Rattle.vms_desc.specs.Parts.{desc_at};
 ghost use Rattle.vms_io.specs.Told.{intake};
+ghost use Rattle.vms_spec.specs.Taking.{take_slot};
 ghost use Rattle.vms_walk.specs.Inside.{IsInside, Keeps};
 ghost use Rattle.vms_walk.specs.Steps.{HasSpot, steps_of, spot_slots};
 ghost use Rattle.vms_load.specs.Bodies.{TakesOn, progress};
 ghost use Rattle.vms_load.specs.Bodies.{IsOfKind, AreOfKinds};
 ghost use Rattle.vms_load.specs.Parts.{bytes_of};
-ghost use Rattle.vms_load.specs.Reading.{take_step, step_long, told, Took, Failed};
+ghost use Rattle.vms_load.specs.Reading.{slot_of, step_long, told, Took, Failed};
 
 use crate::items::{constant, put_number, rule};
 use vms_desc::{Cells, DescSet};
@@ -152,7 +153,7 @@ fn read_step<S: Source>(
     requires held { cursor.old.held ≡ None }
     ensures reads { TakesOn (intake S.Source source.old) (intake S.Source source.new)
         (step_long step) cursor.old.at cursor.new.at
-        (λ rest. take_step step (progress image.old.numbers cursor.old.at rest))
+        (λ rest. take_slot (slot_of step) (progress image.old.numbers cursor.old.at rest))
         image.new.numbers result }
     ensures held { OnOk result (cursor.new.held ≡ None) }
     ensures kept { image.new ≡ record image.old { numbers = image.new.numbers } }

@@ -1,6 +1,7 @@
 // What the heads of sections and subsections open.
 ghost use Rattle.std.specs.List.{slice_get};
 ghost use Rattle.std.specs.Prelude.{◌≡◌, ◌<◌, ◌≤◌, ◌^◌, length, false, Some, IfOk, IfErr};
+ghost use Rattle.vms_spec.specs.declared.TheConstants.{LONGEST_NAME};
 ghost use Rattle.vms_spec.specs.Lookup.{find_sub};
 ghost use Rattle.vms_desc.specs.Described.{described};
 ghost use Rattle.vms_parts.specs.Views.{desc_of, device_of, sub_of};
@@ -22,7 +23,7 @@ pub(crate) fn open_section(
     at: u64,
 ) -> Result<u32, LoadFault>
     requires { length came.now ≡ length (described set.now).devices }
-    ensures short { length head.now.name.items ≤ 255 }
+    ensures short { length head.now.name.items ≤ LONGEST_NAME }
     ensures refused { IfErr result IsRefused }
     ensures fresh { IfOk result (λ k. (k < length (described set.now).devices)
         × (slice_get came.now k ≡ Some false)) }
@@ -74,7 +75,7 @@ pub(crate) fn open_sub(
 ) -> Result<u32, LoadFault>
     requires long { length image.now.came ≡ length (device_of device.now).subs }
     requires few { length (device_of device.now).subs < 2 ^ 32 }
-    ensures short { length name.now.items ≤ 255 }
+    ensures short { length name.now.items ≤ LONGEST_NAME }
     ensures refused { IfErr result IsRefused }
     ensures opened { result ≡ opened_at at
         (sub_opened number (device_of device.now) image.now.came name.now.items version) }

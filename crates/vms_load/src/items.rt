@@ -3,7 +3,8 @@ ghost use Rattle.std.specs.Prelude.{◌≡◌, ◌+◌, ◌≤◌, ◌<◌, ◌^
 ghost use Rattle.vms_kinds.specs.Codes.{InRange, width};
 ghost use Rattle.vms_kinds.specs.declared.Kind.TheVariants.{U8};
 ghost use Rattle.vms_spec.specs.Numbers.{exceeds, is_above};
-ghost use Rattle.vms_spec.specs.Taking.{take_number};
+ghost use Rattle.vms_spec.specs.Layout.{Number};
+ghost use Rattle.vms_spec.specs.Taking.{take_slot};
 ghost use Rattle.vms_io.specs.Told.{intake};
 ghost use Rattle.vms_frames.specs.Reads.{ReadsAs};
 ghost use Rattle.vms_load.specs.Bodies.{ReadsCapped, ReadsConstant, TakesOn, progress};
@@ -32,7 +33,7 @@ pub(crate) fn put_number<S: Source>(
     ensures reads { TakesOn (intake S.Source source.old) (intake S.Source source.new) (width kind)
         cursor.old.at cursor.new.at
         (λ rest.
-        take_number kind (capacities_of most) cell
+        take_slot (Number cell kind (capacities_of most))
         (progress image.old.numbers cursor.old.at rest))
         image.new.numbers result }
     ensures kept { image.new ≡ record image.old { numbers = image.new.numbers } }

@@ -7,6 +7,7 @@ ghost use Rattle.vms_image.specs.Typed.{IsImageOf, state_of as untyped};
 ghost use Rattle.vms_io.specs.Told.{intake};
 ghost use Rattle.vms_load.specs.Going.{GoesOn, Moves};
 ghost use Rattle.vms_load.specs.Parts.{IsOpen, OpensNext, part_of, part_due, bytes_of_part, subs_due, in_fields, after_fields, after_part, IsMoved, IsSame, HoldsNone};
+ghost use Rattle.vms_marks.specs.declared.foot.TheConstants.{FOOT_LENGTH};
 ghost use Rattle.vms_marks.specs.declared.head.TheConstants.{LONGEST_HEAD};
 ghost use Rattle.vms_marks.specs.declared.sub_head.TheConstants.{LONGEST_SUB_HEAD};
 
@@ -114,7 +115,7 @@ fn after<S: Source>(
     ensures moves { Moves cursor.old cursor.new
         (subs_due (described set.now)
         (device_at (described set.now) section.old.device).subs image.old.came
-        + 5)
+        + FOOT_LENGTH)
         (part_due (described set.now)
         (device_at (described set.now) section.old.device) image.new.came)
         result }

@@ -1,5 +1,7 @@
 // What is read of a stream so far.
 ghost use Rattle.std.specs.Prelude.{◌≡◌, ◌<◌, ◌≤◌, ◌+◌, ◌^◌, Bool, not, true, false, ℕ, List, length, get_or, map, replicate, slice_set, IfErr, IfOk, Some, None};
+ghost use Rattle.vms_spec.specs.declared.TheConstants.{LONGEST_NAME};
+ghost use Rattle.vms_marks.specs.declared.configuration.TheConstants.{CONFIGURATION_FRONT};
 ghost use Rattle.vms_spec.specs.Sets.{Set};
 ghost use Rattle.vms_spec.specs.Images.{default_image};
 ghost use Rattle.vms_spec.specs.Lists.{position};
@@ -113,15 +115,15 @@ pub(crate) fn configure(
     requires machine { IsMachine (described set.now).machines only }
     requires whole { IsOf (described set.now) staged.old }
     ensures next { IfOk result (λ next. next ≡ Some Between.AfterConfiguration) }
-    ensures short { length name.now.items ≤ 255 }
+    ensures short { length name.now.items ≤ LONGEST_NAME }
     ensures refused { IfErr result IsRefused }
     ensures settles { (first after : Bool)
         → Settles
         (ask (described set.now) (accepted_of (described set.now) only)
         (state_of (described set.now) staged.old (Free first after))
-        (Configuration name.now.items) (5 + length name.now.items))
+        (Configuration name.now.items) (CONFIGURATION_FRONT + length name.now.items))
         at (λ next. state_of (described set.now) staged.new (spot_at next))
-        (5 + length name.now.items) result }
+        (CONFIGURATION_FRONT + length name.now.items) result }
     ensures images { staged.new.images.items ≡ staged.old.images.items }
     ensures came { staged.new.came.items ≡ staged.old.came.items }
     ensures whole { IsOf (described set.now) staged.new }

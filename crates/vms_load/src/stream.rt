@@ -1,5 +1,6 @@
 // A whole stream, unit by unit and section by section.
 ghost use Rattle.std.specs.Prelude.{◌≡◌, ◌+◌, ◌<◌, ◌≤◌, ◌^◌, Bool, true, false, ℕ, List, Some, None, length, IfOk, OnOk};
+ghost use Rattle.vms_spec.specs.declared.TheConstants.{LONGEST_NAME};
 ghost use Rattle.vms_spec.specs.Sets.{Set};
 ghost use Rattle.vms_stream.specs.Judge.{judge, reading};
 ghost use Rattle.vms_stream.specs.State.{State, Before, Free, by_state, at_start};
@@ -167,7 +168,7 @@ fn opened<S: Source>(
         + sections_due (described set.now) (described set.now).devices staged.new.came.items)
         result }
     ensures whole { IsOf (described set.now) staged.new }
-    ensures short { length head.now.name.items ≤ 255 }
+    ensures short { length head.now.name.items ≤ LONGEST_NAME }
 {
     let device = open_section(set, &staged.came, head, at)?;
     begin(staged, device, head.version);

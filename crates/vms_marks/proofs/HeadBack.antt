@@ -3,6 +3,7 @@ use Rattle.std.proofs.Common.{◌≡◌, ℕ, ◌+◌, ◌<◌, ◌≤◌, ◌^�
 use Rattle.std.proofs.lemmas.List.{drop-drop}
 use Rattle.std.proofs.Math.Seq.{drop-append_seam}
 use Rattle.byteorder.specs.Endian.{big_number}
+use Rattle.vms_spec.specs.declared.TheConstants.{LONGEST_NAME}
 use Rattle.vms_spec.specs.Streams.{be32}
 use Rattle.vms_marks.specs.declared.sub_head.SubHead.{SubHead}
 use Rattle.vms_marks.specs.declared.configuration.Configuration.{Configuration}
@@ -79,7 +80,7 @@ sub_head_holds head v rest =
 configured : List ℕ → Configuration
 configured name = record { machine = record { items = name } }
 
-said_name : (name rest : List ℕ) → length name ≤ 255 → configuration_in (0x07 ∷ (be32 (length name) ++ (name ++ rest))) ≡ configured name
+said_name : (name rest : List ℕ) → length name ≤ LONGEST_NAME → configuration_in (0x07 ∷ (be32 (length name) ++ (name ++ rest))) ≡ configured name
 unfolding configured
 said_name name rest few =
     let n = length name in

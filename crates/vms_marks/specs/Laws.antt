@@ -1,5 +1,6 @@
 -- What has bytes, and what these bytes say.
 use Rattle.std.specs.Prelude.{◌≡◌, ℕ, ◌<◌, ◌≤◌, ◌^◌, List, ◌++◌, length}
+use Rattle.vms_spec.specs.declared.TheConstants.{LONGEST_NAME}
 use Rattle.vms_spec.specs.Streams.{configuration, sub_head, foot}
 use Rattle.vms_marks.specs.declared.head.Head.{Head}
 use Rattle.vms_marks.specs.declared.sub_head.SubHead.{SubHead}
@@ -20,7 +21,7 @@ abbrev pub SubHeadLaw : Type 0
 SubHeadLaw = (head : SubHead) → head.version < 2 ^ 32 → (rest : List ℕ) → sub_head_in (sub_head head.name.items head.version ++ rest) ≡ head
 
 abbrev pub ConfigurationLaw : Type 0
-ConfigurationLaw = (c : Configuration) → length c.machine.items ≤ 255 → (rest : List ℕ) → configuration_in (configuration c.machine.items ++ rest) ≡ c
+ConfigurationLaw = (c : Configuration) → length c.machine.items ≤ LONGEST_NAME → (rest : List ℕ) → configuration_in (configuration c.machine.items ++ rest) ≡ c
 
 abbrev pub FootLaw : Type 0
 FootLaw = (f : Foot) → f.id < 2 ^ 32 → (rest : List ℕ) → foot_in (foot f.id ++ rest) ≡ f

@@ -6,12 +6,13 @@ ghost use Rattle.vms_spec.specs.Streams.{configuration};
 use crate::{Mark, Name, marked, name_of};
 use arrayvec::ArrayVec;
 use byteorder::{BigEndian, ByteOrder};
+use vms_spec::LONGEST_NAME;
 
 /// A configuration begins with so many bytes: its mark, and the length of its name.
 pub const CONFIGURATION_FRONT: usize = 5;
 
-/// The most bytes of a configuration: its mark, and a name of 255 bytes with its length.
-pub const LONGEST_CONFIGURATION: usize = 260;
+/// The most bytes of a configuration: its mark, and the longest name with its length.
+pub const LONGEST_CONFIGURATION: usize = CONFIGURATION_FRONT + LONGEST_NAME;
 
 /// The configuration of a stream.
 #[derive(Clone, Debug, Drop, PartialEq, Eq)]
@@ -45,7 +46,7 @@ impl Configuration {
 
     /// The configuration that these bytes, of the right length, say.
     pub fn of(bytes: &[u8]) -> Configuration
-        requires long { length bytes.now ≡ 5 + number_at 4 1 bytes.now }
+        requires long { length bytes.now ≡ CONFIGURATION_FRONT + number_at 4 1 bytes.now }
         requires most { length bytes.now ≤ LONGEST_CONFIGURATION }
         ensures { result ≡ configuration_in bytes.now }
     {

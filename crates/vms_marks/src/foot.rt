@@ -5,6 +5,9 @@ ghost use Rattle.vms_spec.specs.Streams.{foot};
 use crate::{Mark, marked};
 use byteorder::{BigEndian, ByteOrder};
 
+/// A footer has so many bytes: its mark, and the id of the section's head.
+pub const FOOT_LENGTH: usize = 5;
+
 /// The footer of a section.
 #[derive(Clone, Copy, Debug, PartialEq, Eq)]
 pub struct Foot {
@@ -16,14 +19,14 @@ impl Foot {
     ghost use Rattle.vms_marks.specs.Heads.{foot_in};
 
     /// The bytes of the footer: its mark and the id.
-    pub fn bytes(&self) -> [u8; 5]
+    pub fn bytes(&self) -> [u8; FOOT_LENGTH]
         ensures { result ≡ foot self.now.id }
     {
         marked(Mark::Footer, self.id)
     }
 
     /// The footer whose bytes these are, or `None` exactly where the first byte is not the mark of a footer.
-    pub fn read(bytes: [u8; 5]) -> Option<Foot>
+    pub fn read(bytes: [u8; FOOT_LENGTH]) -> Option<Foot>
         ensures some { IfSome result (λ footer. foot footer.id ≡ bytes) }
         ensures none { IsNone result ↔ (slice_index bytes 0 ≢ 0x7e) }
     {
@@ -35,7 +38,7 @@ impl Foot {
 
     /// The footer that these five bytes, of which the first is its mark, say.
     pub fn of(bytes: &[u8]) -> Foot
-        requires { length bytes.now ≡ 5 }
+        requires { length bytes.now ≡ FOOT_LENGTH }
         ensures { result ≡ foot_in bytes.now }
     {
         Foot {

@@ -5,12 +5,13 @@ ghost use Rattle.vms_spec.specs.Streams.{section_head};
 use crate::{Mark, Name, name_of};
 use arrayvec::ArrayVec;
 use byteorder::{BigEndian, ByteOrder};
+use vms_spec::LONGEST_NAME;
 
 /// A section's head begins with so many bytes: its mark, its id, and the length of its name.
 pub const HEAD_FRONT: usize = 6;
 
-/// The most bytes of a head: its mark, three numbers, and a name of 255 bytes with its length.
-pub const LONGEST_HEAD: usize = 269;
+/// The most bytes of a head: its mark, three numbers, and the longest name with its length.
+pub const LONGEST_HEAD: usize = HEAD_FRONT + LONGEST_NAME + 8;
 
 /// The head of a section that is sent whole.
 #[derive(Clone, Debug, Drop, PartialEq, Eq)]

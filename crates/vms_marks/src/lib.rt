@@ -6,6 +6,7 @@
 #![tactic(auto)]
 
 mod configuration;
+mod description;
 mod foot;
 mod head;
 pub mod laws;
@@ -15,9 +16,10 @@ mod stream_head;
 mod sub_head;
 
 pub use configuration::{CONFIGURATION_FRONT, Configuration, LONGEST_CONFIGURATION};
-pub use foot::Foot;
+pub use description::{DESCRIPTION_FRONT, LONGEST_DESCRIPTION};
+pub use foot::{FOOT_LENGTH, Foot};
 pub use head::{HEAD_FRONT, Head, HeadFault, LONGEST_HEAD};
 pub use mark::{Mark, marked};
 pub use name::{Name, name_of};
-pub use stream_head::{MAGIC, STREAM_HEAD};
+pub use stream_head::{BESIDE_SECTIONS, MAGIC, STREAM_HEAD};
 pub use sub_head::{LONGEST_SUB_HEAD, SUB_FRONT, SubHead};

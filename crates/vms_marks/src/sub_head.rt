@@ -5,12 +5,13 @@ ghost use Rattle.vms_spec.specs.Streams.{sub_head};
 use crate::{Mark, Name, name_of};
 use arrayvec::ArrayVec;
 use byteorder::{BigEndian, ByteOrder};
+use vms_spec::LONGEST_NAME;
 
 /// A subsection's head begins with so many bytes: its mark, and the length of its name.
 pub const SUB_FRONT: usize = 2;
 
-/// The most bytes of a subsection's head: its mark, its version, and a name of 255 bytes with its length.
-pub const LONGEST_SUB_HEAD: usize = 261;
+/// The most bytes of a subsection's head: its mark, its version, and the longest name with its length.
+pub const LONGEST_SUB_HEAD: usize = SUB_FRONT + LONGEST_NAME + 4;
 
 /// The head of a subsection.
 #[derive(Clone, Debug, Drop, PartialEq, Eq)]
@@ -51,7 +52,7 @@ impl SubHead {
     {
         let end = bytes.len() - 4;
         SubHead {
-            name: name_of(&bytes[2..end]),
+            name: name_of(&bytes[SUB_FRONT..end]),
             version: BigEndian::read_u32(&bytes[end..]),
         }
     }

@@ -1,7 +1,9 @@
 // Ports, registers, versions and the crystal.
 
+use vms_kinds::NEWEST_CLOCK_SET;
+
 /// The greatest version of the chip, which is also the number of the newest clock set; the least is 1.
-pub const NEWEST_CLOCK: u8 = 2;
+pub const NEWEST_CLOCK: u8 = NEWEST_CLOCK_SET;
 
 /// The version, and the clock set, from which on there is a mask of NMI.
 pub(crate) const NMI_SINCE: u8 = 2;

@@ -25,6 +25,7 @@ use std::alloc::{AllocError, Global};
 use std::collections::BTreeSet;
 use vms_kinds::{Item, Kind};
 use vms_parts::{Count, Desc, Field, Part, Place, Test, least_capacities};
+use vms_spec::MOST_UNUSED;
 use vms_words::is_name;
 
 // The fields before the one of this number, which its test and its count may name.
@@ -110,7 +111,7 @@ fn is_small_item(item: Item) -> bool
     ensures { result ≡ is_small_item item }
 {
     match item {
-        Item::Unused { bytes } => 1 <= bytes && bytes <= 4096,
+        Item::Unused { bytes } => 1 <= bytes && bytes <= MOST_UNUSED,
         _ => true,
     }
 }

@@ -9,6 +9,7 @@ use Rattle.vms_kinds.specs.declared.Item.TheVariants.{Num, Equal, Unused, Struct
 use Rattle.vms_kinds.specs.declared.Kind.{Kind}
 use Rattle.vms_kinds.specs.declared.Kind.TheVariants.{U8, U16, U32}
 use Rattle.vms_kinds.specs.Codes.{InRange}
+use Rattle.vms_spec.specs.declared.TheConstants.{MOST_UNUSED}
 use Rattle.vms_spec.specs.declared.Count.{Count}
 use Rattle.vms_spec.specs.declared.Count.TheVariants.{One, Fixed, Counted}
 use Rattle.vms_spec.specs.Layout.{counted}
@@ -86,12 +87,12 @@ uses_decides k (Unused n) = (λ e j same. absurd (cc), λ h. refl)
 uses_decides k (Struct i) =
     (λ e j same. let is : i ≡ j = cc in subst (λ (n : ℕ). n < k) is ((Decides-ltb i k).0 e), λ h. (Decides-ltb i k).1 (h i refl))
 
-unused_decides : (item : Item) → Decides (is_small_item item) ((n : ℕ) → item ≡ Unused n → IsWithin 1 4096 n)
+unused_decides : (item : Item) → Decides (is_small_item item) ((n : ℕ) → item ≡ Unused n → IsWithin 1 MOST_UNUSED n)
 unused_decides (Num kind) = (λ e n same. absurd (cc), λ h. refl)
 unused_decides (Equal kind z) = (λ e n same. absurd (cc), λ h. refl)
 unused_decides (Struct j) = (λ e n same. absurd (cc), λ h. refl)
 unused_decides (Unused m) =
-    (λ e n same. let is : m ≡ n = cc in subst (λ (k : ℕ). IsWithin 1 4096 k) is ((within_decides 1 4096 m).0 e), λ h. (within_decides 1 4096 m).1 (h m refl))
+    (λ e n same. let is : m ≡ n = cc in subst (λ (k : ℕ). IsWithin 1 MOST_UNUSED k) is ((within_decides 1 MOST_UNUSED m).0 e), λ h. (within_decides 1 MOST_UNUSED m).1 (h m refl))
 
 good_count_decides : (item : Item) (c : Count) → Decides (has_good_count item c) (CountFits item c)
 good_count_decides (Equal kind z) c = one_decides c

@@ -7,7 +7,7 @@ use Rattle.vms_kinds.specs.declared.Item.TheVariants.{Num, Equal, Unused, Struct
 use Rattle.vms_kinds.specs.declared.Kind.{Kind}
 use Rattle.vms_kinds.specs.declared.Kind.TheVariants.{U8, U16, U32}
 use Rattle.vms_kinds.specs.Codes.{InRange}
-use Rattle.vms_spec.specs.declared.TheConstants.{MOST_ITEMS}
+use Rattle.vms_spec.specs.declared.TheConstants.{MOST_ITEMS, MOST_UNUSED}
 use Rattle.vms_spec.specs.declared.Count.{Count}
 use Rattle.vms_spec.specs.declared.Count.TheVariants.{One, Fixed, Counted}
 use Rattle.vms_spec.specs.declared.Whose.{Whose}
@@ -129,7 +129,7 @@ pub record IsField (k : ℕ) (d : Desc) (i : ℕ) (f : Field) : Type 0 where
   pub counts : (j most : ℕ) (g : Field) → At d.fields j g → g.count ≡ Counted i most → f.default ≤ℤ pos most
   pub few_former : length f.former ≤ 8
   pub small : (t : Formula) → f.test ≡ Some t → IsSmall t
-  pub unused : (n : ℕ) → f.item ≡ Unused n → IsWithin 1 4096 n
+  pub unused : (n : ℕ) → f.item ≡ Unused n → IsWithin 1 MOST_UNUSED n
   pub good_count : CountFits f.item f.count
 
 pub record IsValidation (d : Desc) (t : Formula) : Type 0 where

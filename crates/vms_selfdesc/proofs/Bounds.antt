@@ -1,6 +1,7 @@
 -- The text of every well-formed set is shorter than what a description section may have, and that of a shipped set is short.
 use Rattle.std.proofs.Common.{◌≡◌, ℕ, zero, suc, ◌*◌, ◌<◌, ◌≤◌, List, ◌∷◌, length, get_or, ap, arith, true, is_none, []}
 use Rattle.std.proofs.lemmas.Option.{slice_get-get_or}
+use Rattle.vms_kinds.specs.declared.TheConstants.{NEWEST_SET}
 use Rattle.vms_spec.specs.declared.Part.TheVariants as parts
 use Rattle.vms_spec.specs.Heads.{FitsHeads}
 use Rattle.vms_spec.specs.Images.{Image}
@@ -87,7 +88,7 @@ rooms : (set_room set_0 < 60000) × (set_room set_1 < 60000) × (set_room set_2 
 unfolding first
 rooms = (omega arith, omega arith, omega arith, omega arith, omega arith)
 
-by_number : (s : ℕ) → s ≤ 4 → (images : List Image) → length (described_text (shipped_set s) images) < 60000
+by_number : (s : ℕ) → s ≤ NEWEST_SET → (images : List Image) → length (described_text (shipped_set s) images) < 60000
 by_number zero le images = let f = shipped_stands.0 in omega (arith, set_long set_0 (ap is_none f.well) f.heads images, rooms.0)
 by_number (suc zero) le images = let f = shipped_stands.1 in omega (arith, set_long set_1 (ap is_none f.well) f.heads images, rooms.1)
 by_number (suc (suc zero)) le images = let f = shipped_stands.2 in omega (arith, set_long set_2 (ap is_none f.well) f.heads images, rooms.2)

@@ -7,6 +7,7 @@ use Rattle.serde_json.specs.Find.{of_integer}
 use Rattle.serde_json.specs.Written.{compact_text, members_text, number_text, comma_if}
 use Rattle.vms_kinds.specs.declared.Kind.{Kind}
 use Rattle.vms_kinds.specs.declared.Kind.TheVariants as kinds
+use Rattle.vms_spec.specs.declared.TheConstants.{MOST_UNUSED}
 use Rattle.vms_words.specs.Words.{kind_word}
 use Rattle.vms_selfdesc.specs.Entries.{sent_entry, absent_entry}
 use Rattle.vms_selfdesc.specs.Tree.{natural, entry_tree}
@@ -26,7 +27,7 @@ pub word_short : (kind : Kind) → length (quoted (kind_word kind)) ≤ 8
 word_short kinds.U8 = omega (arith, key_long (codes "u8") refl)
 word_short kind = omega (arith, key_long (kind_word kind) (word_plain kind))
 
-pub size_short : (n : ℕ) → n ≤ 4096 → length (decimal n) ≤ 4
+pub size_short : (n : ℕ) → n ≤ MOST_UNUSED → length (decimal n) ≤ 4
 size_short n le = length-decimal-le 4 n (omega arith) (omega arith) (omega arith)
 
 pub number_short : (n : ℕ) → n < 4294967296 → length (decimal n) ≤ 10
@@ -34,7 +35,7 @@ number_short n lt = length-decimal-le 10 n (omega arith) (omega arith) (omega ar
 
 -- ---- entries
 
-sent_members_long : (path type : List ℕ) (size : ℕ) (ms : Members) → IsPlain path → size ≤ 4096 → length (quoted type) ≤ 8
+sent_members_long : (path type : List ℕ) (size : ℕ) (ms : Members) → IsPlain path → size ≤ MOST_UNUSED → length (quoted type) ≤ 8
     → length (members_text false (member (codes "name") (string path) (member (codes "size") (natural size) (member (codes "type") (string type) ms))))
     ≤ length path + 37 + length (members_text true ms)
 sent_members_long path type size ms p small word =
@@ -43,7 +44,7 @@ sent_members_long path type size ms p small word =
     let front = member_long false (codes "name") (string path) (member (codes "size") (natural size) (member (codes "type") (string type) ms)) in
     omega (arith, front, second, third, key_long (codes "name") refl, key_long (codes "size") refl, key_long (codes "type") refl, quoted_long path p, size_short size small, word)
 
-pub sent_long : (path : List ℕ) (size : ℕ) (type : List ℕ) → IsPlain path → size ≤ 4096 → length (quoted type) ≤ 8
+pub sent_long : (path : List ℕ) (size : ℕ) (type : List ℕ) → IsPlain path → size ≤ MOST_UNUSED → length (quoted type) ≤ 8
     → length (compact_text (entry_tree (sent_entry path size type))) ≤ length path + 39
 sent_long path size type p small word = omega (arith, sent_members_long path type size no_members p small word)
 

@@ -10,7 +10,7 @@ use Rattle.vms_kinds.specs.declared.Item.{Item}
 use Rattle.vms_kinds.specs.declared.Kind.{Kind}
 use Rattle.vms_kinds.specs.declared.Item.TheVariants.{Num, Equal, Unused, Struct}
 use Rattle.vms_kinds.specs.Codes.{width}
-use Rattle.vms_spec.specs.declared.TheConstants.{MOST_ITEMS}
+use Rattle.vms_spec.specs.declared.TheConstants.{MOST_ITEMS, MOST_UNUSED}
 use Rattle.vms_spec.specs.declared.Count.{Count}
 use Rattle.vms_spec.specs.declared.Count.TheVariants.{One, Fixed, Counted}
 use Rattle.vms_spec.specs.Sets.{Field, Desc}
@@ -49,11 +49,11 @@ none_long most (e ∷ es) le = absurd (omega arith)
 
 -- ---- what the rules of fields give
 
--- the default of a number is spelled with at most 20 bytes; unused bytes are at most 4096
+-- the default of a number is spelled with at most 20 bytes; unused bytes are few
 abbrev pub IsSmall : Item → ℤ → Type 0
 IsSmall (Num kind) z = length (number_text (of_integer z)) ≤ 20
 IsSmall (Equal kind y) z = Unit {0}
-IsSmall (Unused n) z = n ≤ 4096
+IsSmall (Unused n) z = n ≤ MOST_UNUSED
 IsSmall (Struct j) z = Unit {0}
 
 pub record IsSoundField (f : Field) : Type 0 where

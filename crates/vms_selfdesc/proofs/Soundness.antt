@@ -11,6 +11,7 @@ use Rattle.vms_kinds.specs.declared.Kind.TheVariants as kinds
 use Rattle.vms_kinds.specs.declared.Item.{Item}
 use Rattle.vms_kinds.specs.declared.Item.TheVariants.{Num, Equal, Unused, Struct}
 use Rattle.vms_kinds.specs.Codes.{lowest, highest}
+use Rattle.vms_spec.specs.declared.TheConstants.{MOST_UNUSED}
 use Rattle.vms_spec.specs.declared.Part.{Part}
 use Rattle.vms_spec.specs.declared.Part.TheVariants as parts
 use Rattle.vms_spec.specs.Sets.{Field, Desc, Set}
@@ -61,7 +62,7 @@ default_short kind (negsuc n) e =
 small_item : (item : Item) (z : ℤ) → defaults_well item z ≡ true → is_small_item item ≡ true → IsSmall item z
 small_item (Num kind) z e f = default_short kind z e
 small_item (Equal kind y) z e f = tt
-small_item (Unused n) z e f = leb-true n 4096 (and_parts (nat_le 1 n) (nat_le n 4096) f).1
+small_item (Unused n) z e f = leb-true n MOST_UNUSED (and_parts (nat_le 1 n) (nat_le n MOST_UNUSED) f).1
 small_item (Struct j) z e f = tt
 
 sound_field : (k : ℕ) (d : Desc) (i : ℕ) (f : Field) → AllTrue (field_rules k d i f) → IsSoundField f

@@ -1,5 +1,6 @@
 -- How long self-descriptions are.
 use Rattle.std.specs.Prelude.{ℕ, ◌<◌, ◌≤◌, List, length}
+use Rattle.vms_kinds.specs.declared.TheConstants.{NEWEST_SET}
 use Rattle.vms_spec.specs.Sets.{Set}
 use Rattle.vms_spec.specs.Heads.{FitsHeads}
 use Rattle.vms_spec.specs.Images.{Image}
@@ -15,7 +16,7 @@ pub record ShortLaw : Type 0 where
 
 -- of a shipped set
 pub record ShippedLaw : Type 0 where
-  pub shipped : (s : ℕ) → s ≤ 4 → (images : List Image) → length (described_text (shipped_set s) images) < 60000
+  pub shipped : (s : ℕ) → s ≤ NEWEST_SET → (images : List Image) → length (described_text (shipped_set s) images) < 60000
 
 -- of a set of the clock boards
 pub record ClockLaw : Type 0 where

@@ -1,5 +1,6 @@
 // The names of the machines.
 ghost use Rattle.std.specs.Prelude.{◌≡◌, ◌≤◌};
+ghost use Rattle.vms_kinds.specs.declared.TheConstants.{NEWEST_CLOCK_SET, NEWEST_SET};
 ghost use Rattle.vms_shipped.specs.ClockSets.{clock_machine};
 ghost use Rattle.vms_spec.specs.Shipped.{isa_machine};
 
@@ -20,7 +21,7 @@ pub const CLK_2: &str = "clk-2";
 
 /// The machine of a level, `isa-0` to `isa-4`.
 pub fn isa_machine(level: u8) -> &'static str
-    requires { level ≤ 4 }
+    requires { level ≤ NEWEST_SET }
     ensures { result.now ≡ isa_machine level }
 {
     match level {
@@ -35,7 +36,7 @@ pub fn isa_machine(level: u8) -> &'static str
 /// The machine of a version of the clock chip, `clk-1` or `clk-2`.
 pub fn clock_machine(version: u8) -> &'static str
     requires first { 1 ≤ version }
-    requires last { version ≤ 2 }
+    requires last { version ≤ NEWEST_CLOCK_SET }
     ensures { result.now ≡ clock_machine version }
 {
     match version {

@@ -1,6 +1,5 @@
 // The parts that rows of tables stand for.
 ghost use Rattle.std.specs.Prelude.{◌≡◌, ◌++◌, map, IfOk, OnOk};
-ghost use Rattle.vms_spec.specs.Sets as sets;
 ghost use Rattle.vms_spec.specs.Shipped.{numbers};
 ghost use Rattle.vms_parts.specs.Views.{formula, field_of, desc_of, device_of, sub_of, set_of};
 ghost use Rattle.vms_shipped.specs.Rows.{field_in, fields_in, all_in, desc_in, asked_in, needed_in, sub_in, device_in, set_in};
@@ -9,7 +8,7 @@ use crate::rows::{Asked, BYTE, DescRow, DeviceRow, FieldRow, Needed, Rows, SetRo
 use std::alloc::Global;
 use vms_io::NoMemory;
 use vms_kinds::{Item, Kind};
-use vms_parts::{Desc, Device, Field, Listed, Parts, Rel, Sub, Test, Text, Whose};
+use vms_parts::{Desc, Device, Field, Listed, Parts, Sub, Test, Text, Whose};
 
 fn text(alloc: Global, bytes: &str) -> Result<Text, NoMemory>
     ensures { IfOk result (λ t. t ≡ bytes.now) }

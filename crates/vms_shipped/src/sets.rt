@@ -1,5 +1,6 @@
 // The shipped sets.
 ghost use Rattle.std.specs.Prelude.{◌≡◌, ◌≤◌, IfOk};
+ghost use Rattle.vms_kinds.specs.declared.TheConstants.{NEWEST_CLOCK_SET, NEWEST_SET};
 ghost use Rattle.vms_shipped.specs.ClockSets.{clock_set};
 ghost use Rattle.vms_shipped.specs.Numbered.{shipped_set};
 ghost use Rattle.vms_parts.specs.Views.{set_of};
@@ -51,7 +52,7 @@ const SET_4: SetRow = SetRow {
 
 /// The parts of the shipped set of this number, 0 to 4. The answer is an error only where memory is wanting.
 pub fn shipped_parts(alloc: Global, s: u8) -> Result<Parts, NoMemory>
-    requires { s ≤ 4 }
+    requires { s ≤ NEWEST_SET }
     ensures { IfOk result (λ parts. set_of parts ≡ shipped_set s) }
 {
     match s {
@@ -93,7 +94,7 @@ const CLOCK_2: SetRow = SetRow {
 /// The parts of the clock set of this number, 1 or 2; number 0 stands for the first too. The answer is an error only
 /// where memory is wanting.
 pub fn clock_parts(alloc: Global, c: u8) -> Result<Parts, NoMemory>
-    requires { c ≤ 2 }
+    requires { c ≤ NEWEST_CLOCK_SET }
     ensures { IfOk result (λ parts. set_of parts ≡ clock_set c) }
 {
     match c {

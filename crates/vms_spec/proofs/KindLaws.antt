@@ -8,6 +8,7 @@ use Rattle.byteorder.specs.Numbers.{big_number-reads_back}
 use Rattle.vms_kinds.specs.declared.Kind.{Kind}
 use Rattle.vms_kinds.specs.declared.Kind.TheVariants.{U8, U16, U32, U64, I8, I16, I32, I64, Bool, Timer}
 use Rattle.vms_kinds.specs.Codes.{width, residue, code, InRange, value_of}
+use Rattle.vms_spec.specs.declared.TheConstants.{MOST_UNUSED}
 use Rattle.vms_spec.specs.Streams.{be32}
 use Rattle.vms_spec.specs.Lookup.{is_bad_bool}
 
@@ -27,7 +28,7 @@ length-code I64 z = refl
 length-code Bool z = refl
 length-code Timer z = refl
 
-pub width_small : (kind : Kind) → width kind ≤ 4096
+pub width_small : (kind : Kind) → width kind ≤ MOST_UNUSED
 width_small U8 = omega arith
 width_small U16 = omega arith
 width_small U32 = omega arith

@@ -6,6 +6,7 @@ use Rattle.vms_kinds.specs.declared.Kind.TheVariants.{U8, U16, U32}
 use Rattle.vms_kinds.specs.declared.Item.{Item}
 use Rattle.vms_kinds.specs.declared.Item.TheVariants.{Num, Equal, Unused, Struct}
 use Rattle.vms_kinds.specs.Codes.{lowest, highest}
+use Rattle.vms_spec.specs.declared.TheConstants.{MOST_UNUSED}
 use Rattle.vms_spec.specs.declared.Count.{Count}
 use Rattle.vms_spec.specs.declared.Count.TheVariants.{One, Fixed, Counted}
 use Rattle.vms_spec.specs.declared.Whose.TheVariants.{Own, Parent}
@@ -124,7 +125,7 @@ abbrev pub counts_well : List ℕ → ℤ → Bool
 counts_well capacities z = list_all (λ most. int_le z (pos most)) capacities
 
 abbrev pub is_small_item : Item → Bool
-is_small_item (Unused n) = nat_le 1 n && nat_le n 4096
+is_small_item (Unused n) = nat_le 1 n && nat_le n MOST_UNUSED
 is_small_item _ = true
 
 abbrev pub has_good_count : Item → Count → Bool

@@ -4,6 +4,7 @@ use Rattle.std.specs.Prelude.{◌≡◌, ℕ, suc, ◌+◌, ◌≤◌, Bool, tru
 use Rattle.std.specs.List.{slice_get}
 use Rattle.std.specs.Str.{bytes_eq}
 use Rattle.byteorder.specs.Endian.{big_bytes}
+use Rattle.vms_spec.specs.declared.TheConstants.{LONGEST_NAME, LONGEST_TEXT}
 use Rattle.vms_spec.specs.Sets.{Sub, Device, Set}
 use Rattle.vms_spec.specs.Layout.{desc_cells, struct_cells, numbers_of}
 use Rattle.vms_spec.specs.Tests.{truth}
@@ -37,7 +38,7 @@ end_mark = 0x00 ∷ []
 
 -- a description section has at most so many bytes of text
 abbrev pub longest_text : ℕ
-longest_text = 16777216
+longest_text = LONGEST_TEXT
 
 abbrev pub trailer : List ℕ → List ℕ
 trailer text = 0x06 ∷ be32 (length text) ++ text
@@ -87,7 +88,7 @@ is_one_of (n ∷ names) name = bytes_eq n name || is_one_of names name
 -- is never accepted
 abbrev pub IsConfiguration : List (List ℕ) → Option (List ℕ) → List ℕ → Type 0
 IsConfiguration names None bytes = bytes ≡ []
-IsConfiguration names (Some name) bytes = (is_one_of names name ≡ true) × (length name ≤ 255) × (bytes ≡ configuration name)
+IsConfiguration names (Some name) bytes = (is_one_of names name ≡ true) × (length name ≤ LONGEST_NAME) × (bytes ≡ configuration name)
 
 -- nothing, or a description section
 abbrev pub IsTrailer : Option (List ℕ) → List ℕ → Type 0

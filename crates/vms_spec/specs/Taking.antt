@@ -1,6 +1,6 @@
 -- Reading the bytes of a description, field by field and structure by structure, as the judge reads them slot by slot.
 -- Readers of bodies are proved against this form.
-use Rattle.std.specs.Prelude.{ℕ, zero, suc, ◌+◌, Bool, if◌then◌else◌, nat_lt, List, [], ◌∷◌, length, get_or, map, take, drop, slice_set, ℤ, Result, Ok, Err}
+use Rattle.std.specs.Prelude.{ℕ, zero, suc, ◌+◌, Bool, not, if◌then◌else◌, nat_lt, List, [], ◌∷◌, length, get_or, map, take, drop, slice_set, ℤ, Result, Ok, Err}
 use Rattle.vms_kinds.specs.declared.Kind.{Kind}
 use Rattle.vms_kinds.specs.declared.Item.{Item}
 use Rattle.vms_kinds.specs.declared.Item.TheVariants.{Num, Equal, Unused, Struct}
@@ -9,7 +9,7 @@ use Rattle.vms_spec.specs.declared.Reason.{Reason}
 use Rattle.vms_spec.specs.declared.Reason.TheVariants as reasons
 use Rattle.vms_spec.specs.Sets.{Field, Desc}
 use Rattle.vms_spec.specs.Tests.{is_there}
-use Rattle.vms_spec.specs.Layout.{Cell, counted, item_size, field_cells, desc_cells, numbers_of, elements_of, all_hold, no_parent, first}
+use Rattle.vms_spec.specs.Layout.{Slot, Number, Constant, Filler, Rule, Cell, counted, item_size, field_cells, desc_cells, numbers_of, elements_of, all_hold, no_parent, first}
 use Rattle.vms_spec.specs.Numbers.{same_number, exceeds}
 use Rattle.vms_spec.specs.Lookup.{is_bad_bool}
 
@@ -57,26 +57,24 @@ no_taker = record { cells = []; takes = λ at p. Ok p }
 abbrev pub cells_of : List Taker → List (List Cell)
 cells_of structs = map (λ t. t.cells) structs
 
-abbrev pub take_number : Kind → List ℕ → ℕ → Progress → Taken
-take_number kind capacities cell p = if_whole (width kind) p (
+-- a number of a kind: refused for this reason where it `fails`, and else these are the numbers with it
+abbrev pub take_value : Kind → Reason → (ℤ → Bool) → (ℤ → List ℤ) → Progress → Taken
+take_value kind reason fails put p = if_whole (width kind) p (
     if is_bad_bool kind (take (width kind) p.rest) then refuse p reasons.BadBool (width kind)
-    else if exceeds capacities (value_of kind (take (width kind) p.rest)) then refuse p reasons.CountTooLarge (width kind)
-    else on (width kind) (slice_set p.numbers cell (value_of kind (take (width kind) p.rest))) p)
+    else if fails (value_of kind (take (width kind) p.rest)) then refuse p reason (width kind)
+    else on (width kind) (put (value_of kind (take (width kind) p.rest))) p)
 
-abbrev pub take_constant : Kind → ℤ → Progress → Taken
-take_constant kind z p = if_whole (width kind) p (
-    if is_bad_bool kind (take (width kind) p.rest) then refuse p reasons.BadBool (width kind)
-    else if same_number (value_of kind (take (width kind) p.rest)) z then on (width kind) p.numbers p
-    else refuse p reasons.NotEqual (width kind))
-
-abbrev pub take_filler : ℕ → Progress → Taken
-take_filler zero p = Ok p
-take_filler n p = if_whole n p (on n p.numbers p)
+-- the unit of one slot, or its rule
+abbrev pub take_slot : Slot → Progress → Taken
+take_slot (Number cell kind capacities) p = take_value kind reasons.CountTooLarge (exceeds capacities) (slice_set p.numbers cell) p
+take_slot (Constant kind z) p = take_value kind reasons.NotEqual (λ y. not (same_number y z)) (λ y. p.numbers) p
+take_slot (Filler n) p = if_whole n p (on n p.numbers p)
+take_slot (Rule holds) p = if holds then Ok p else refuse p reasons.Invalid 0
 
 abbrev pub take_item : List Taker → Item → List ℕ → ℕ → Progress → Taken
-take_item structs (Num kind) capacities cell p = take_number kind capacities cell p
-take_item structs (Equal kind z) capacities cell p = take_constant kind z p
-take_item structs (Unused n) capacities cell p = take_filler n p
+take_item structs (Num kind) capacities cell p = take_slot (Number cell kind capacities) p
+take_item structs (Equal kind z) capacities cell p = take_slot (Constant kind z) p
+take_item structs (Unused n) capacities cell p = take_slot (Filler n) p
 take_item structs (Struct j) capacities cell p = (get_or structs j no_taker).takes cell p
 
 -- n items, each `step` cells further
@@ -97,12 +95,9 @@ take_fields structs d v base i cell [] p = Ok p
 take_fields structs d v base i cell (f ∷ fs) p =
     take_field structs d v base i cell f p >>= λ q. take_fields structs d v base (suc i) (cell + length (field_cells (cells_of structs) d.fields i f)) fs q
 
-abbrev pub take_rule : Bool → Progress → Taken
-take_rule b p = if b then Ok p else refuse p reasons.Invalid 0
-
 -- the validations of a description whose first cell is `base`
 abbrev pub check_rules : List Taker → Desc → ℕ → ℕ → Progress → Taken
-check_rules structs d v base p = take_rule (all_hold d.validate v (numbers_of (cells_of structs) d p.numbers base)) p
+check_rules structs d v base p = take_slot (Rule (all_hold d.validate v (numbers_of (cells_of structs) d p.numbers base))) p
 
 -- the bytes of a description at a version, whose cells begin at `base`
 unfoldable pub take_desc : List Taker → Desc → ℕ → ℕ → Progress → Taken

@@ -9,6 +9,16 @@
 /// as often as it may stand there.
 pub const MOST_ITEMS: u32 = 16_384;
 
+/// How many unused bytes stand in one place of a well-formed set at most, as `VMSTATE_UNUSED` has them.
+pub const MOST_UNUSED: u16 = 4096;
+
+/// How many bytes the name of a section, a subsection or a machine has in a stream at most: as many as one byte
+/// can tell.
+pub const LONGEST_NAME: usize = 255;
+
+/// How many bytes of text a description has in a stream at most.
+pub const LONGEST_TEXT: u32 = 16_777_216;
+
 /// How a masked number is compared with a value in a test.
 #[derive(Clone, Copy, Debug, PartialEq, Eq)]
 pub enum Rel {

@@ -11,7 +11,7 @@ use Rattle.vms_spots.specs.declared.layout.TheConstants.{MOST_BYTES}
 use Rattle.vms_spots.specs.declared.layout.Spot.{Spot}
 use Rattle.vms_spots.specs.Spots.{aligned, spots_of, end_from, bytes_of, no_spot, kinds_of, raw_from, raw_of, AreOf, number_at, Held, held, IsHeld}
 use Rattle.vms_spots.proofs.SpotLaws.{aligned_is, spot_is, code_at, numbers_are, set_fits, set_raw, code_0, range_0, end_after}
-use Rattle.vms_spots.proofs.LayoutLaws.{few_bytes}
+use Rattle.vms_spots.proofs.LayoutLaws.{few_bytes, laid_again, kinds_again}
 
 -- as many bytes as the spots want
 pub raw_long : (e : ℕ) (kinds : List Kind) (numbers : List ℤ) → length numbers ≡ length kinds → e + length (raw_from e kinds numbers) ≡ end_from e kinds
@@ -193,6 +193,19 @@ starts spots bytes n few laid size e =
     subst (λ (m : ℕ). Holds spots (replicate m (pos 0)) bytes) long
     (holds spots (replicate (length kinds) (pos 0)) bytes few laid (zeros_fit kinds)
     (e ∙ ap (λ (m : ℕ). replicate m 0) (size ∙ sym all) ∙ sym (zeros 0 kinds)))
+
+-- so does a buffer of these kinds begin
+pub begun : (kinds : List Kind) (spots : List Spot) (bytes : List ℕ) (n : ℕ) → length kinds ≤ MOST_ITEMS → spots ≡ spots_of kinds
+    → n ≡ bytes_of (kinds_of spots) → bytes ≡ replicate n 0 → IsHeld spots bytes × (held spots bytes ≡ record { kinds = kinds; numbers = replicate (length kinds) (pos 0) })
+begun kinds spots bytes n few laid size e =
+    let same : kinds_of spots ≡ kinds = kinds_again kinds spots laid in
+    let long : length spots ≡ length kinds = sym (length-map spots (λ s. s.kind)) ∙ ap length same in
+    let h = starts spots bytes n (omega (arith, few, long)) (laid_again kinds spots laid) size e in (
+      h.held_is,
+      h.seen
+          ∙ ap (λ (l : List Kind). let x : Held = record { kinds = l; numbers = replicate (length spots) (pos 0) } in x) same
+          ∙ ap (λ (m : ℕ). let x : Held = record { kinds = kinds; numbers = replicate m (pos 0) } in x) long,
+    )
 
 -- buffers of the same kinds have the same spots and as many bytes
 pub same_spots : (spots others : List Spot) (bytes more : List ℕ) (seen other : Held) → held spots bytes ≡ seen → held others more ≡ other → IsHeld spots bytes → IsHeld others more → seen.kinds ≡ other.kinds

@@ -6,42 +6,45 @@ use Rattle.std.proofs.lemmas.Option.{slice_get_within, get_or_from_slice_get}
 use Rattle.std.specs.List.{slice_get}
 use Rattle.vms_kinds.specs.declared.Kind.{Kind}
 use Rattle.vms_kinds.specs.Codes.{width}
-use Rattle.vms_parts.specs.declared.types.CellForm.{CellForm}
 use Rattle.vms_spots.specs.declared.layout.TheConstants.{MOST_BYTES}
 use Rattle.vms_spots.specs.declared.layout.Spot.{Spot}
 use Rattle.vms_spots.specs.Spots.{aligned, spots_from, spots_of, bytes_of, no_spot, kinds_of}
-use Rattle.vms_spots.proofs.SpotLaws.{aligned_is, last_end, end_small}
-
-abbrev pub kinds_in : List CellForm → List Kind
-kinds_in forms = map (λ form. form.kind) forms
+use Rattle.vms_spots.proofs.SpotLaws.{aligned_is, kinds_are, last_end, end_small}
 
 -- what is laid out and what is still to come is the whole
-pub record LaidOut (forms : List CellForm) (spots : List Spot) (end i : ℕ) : Type 0 where
+pub record LaidOut (kinds : List Kind) (spots : List Spot) (end i : ℕ) : Type 0 where
   pub small : end ≤ 8 * i
-  pub rest : spots ++ spots_from end (kinds_in (drop i forms)) ≡ spots_of (kinds_in forms)
+  pub rest : spots ++ spots_from end (drop i kinds) ≡ spots_of kinds
 
-pub begins : (forms : List CellForm) → LaidOut forms [] 0 0
-begins forms = record { small = omega arith; rest = refl }
+pub begins : (kinds : List Kind) → LaidOut kinds [] 0 0
+begins kinds = record { small = omega arith; rest = refl }
 
-pub goes : (forms : List CellForm) (spots new : List Spot) (end next i : ℕ) (d : CellForm) (s : Spot) → i < length forms
-    → s ≡ record { offset = aligned (width (get_or forms i d).kind) end; kind = (get_or forms i d).kind }
-    → new ≡ spots ++ (s ∷ []) → next ≡ s.offset + width s.kind → LaidOut forms spots end i → LaidOut forms new next (i + 1)
-goes forms spots new end next i d s lt is n e l =
-    let kind = (get_or forms i d).kind in
+pub goes : (kinds : List Kind) (spots new : List Spot) (end next i : ℕ) (d : Kind) (s : Spot) → i < length kinds
+    → s ≡ record { offset = aligned (width (get_or kinds i d)) end; kind = get_or kinds i d }
+    → new ≡ spots ++ (s ∷ []) → next ≡ s.offset + width s.kind → LaidOut kinds spots end i → LaidOut kinds new next (i + 1)
+goes kinds spots new end next i d s lt is n e l =
+    let kind = get_or kinds i d in
     let a = aligned_is kind end in
     let next_is : next ≡ aligned (width kind) end + width kind = e ∙ ap (λ (x : Spot). x.offset + width x.kind) is in
     let here : Spot = record { offset = aligned (width kind) end; kind = kind } in
-    let rest : List Spot = spots_from (aligned (width kind) end + width kind) (kinds_in (drop (i + 1) forms)) in
+    let rest : List Spot = spots_from (aligned (width kind) end + width kind) (drop (i + 1) kinds) in
     record {
       small = omega (arith, next_is, a.eighth i l.small);
-      rest = ap (λ (x : ℕ). new ++ spots_from x (kinds_in (drop (i + 1) forms))) next_is
+      rest = ap (λ (x : ℕ). new ++ spots_from x (drop (i + 1) kinds)) next_is
           ∙ ap (λ (x : List Spot). x ++ rest) (n ∙ ap (λ (x : Spot). spots ++ (x ∷ [])) is) ∙ append_assoc spots (here ∷ []) rest
-          ∙ ap (λ (x : List CellForm). spots ++ spots_from end (kinds_in x)) (sym (drop_more forms i d lt)) ∙ l.rest;
+          ∙ ap (λ (x : List Kind). spots ++ spots_from end x) (sym (drop_more kinds i d lt)) ∙ l.rest;
     }
 
-pub ends : (forms : List CellForm) (spots : List Spot) (end i : ℕ) → length forms ≤ i → LaidOut forms spots end i → spots ≡ spots_of (kinds_in forms)
-ends forms spots end i all l =
-    sym (append-nil spots) ∙ ap (λ (x : List CellForm). spots ++ spots_from end (kinds_in x)) (sym (drop_all i forms all)) ∙ l.rest
+pub ends : (kinds : List Kind) (spots : List Spot) (end i : ℕ) → length kinds ≤ i → LaidOut kinds spots end i → spots ≡ spots_of kinds
+ends kinds spots end i all l =
+    sym (append-nil spots) ∙ ap (λ (x : List Kind). spots ++ spots_from end x) (sym (drop_all i kinds all)) ∙ l.rest
+
+-- spots that are laid out are those of their kinds
+pub laid_again : (kinds : List Kind) (spots : List Spot) → spots ≡ spots_of kinds → spots ≡ spots_of (kinds_of spots)
+laid_again kinds spots e = e ∙ ap spots_of (sym (ap kinds_of e ∙ kinds_are 0 kinds))
+
+pub kinds_again : (kinds : List Kind) (spots : List Spot) → spots ≡ spots_of kinds → kinds_of spots ≡ kinds
+kinds_again kinds spots e = ap kinds_of e ∙ kinds_are 0 kinds
 
 -- ---- the last one
 

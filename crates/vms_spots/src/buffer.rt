@@ -3,9 +3,9 @@ ghost use Rattle.vms_spec.specs.declared.TheConstants.{MOST_ITEMS};
 ghost use Rattle.std.specs.Prelude.{◌≡◌, ◌+◌, ◌*◌, ◌≤◌, ◌<◌, length, get_or, slice_set, replicate, take, drop, pos, IfOk};
 ghost use Rattle.vms_kinds.specs.Codes.{InRange, code, width};
 ghost use Rattle.vms_kinds.specs.declared.Kind.TheVariants.{U8};
-ghost use Rattle.vms_spots.specs.Spots.{spots_of, kinds_of, raw_of, codes_of, AreOne, put_from, values_of};
+ghost use Rattle.vms_spots.specs.Spots.{spots_of, raw_of, codes_of, AreOne, put_from, values_of};
 
-use crate::{Spot, size};
+use crate::{Spot, lay_out, size};
 use std::alloc::{AllocError, Global};
 use std::marker::Model;
 use vms_kinds::Kind;
@@ -29,20 +29,18 @@ impl Model for Buffer {
 }
 
 impl Buffer {
-    /// The buffer of these spots, with 0 at each.
-    pub fn new(alloc: Global, spots: &[Spot]) -> Result<Buffer, AllocError>
-        requires few { length spots.now ≤ MOST_ITEMS }
-        requires laid { spots.now ≡ spots_of (kinds_of spots.now) }
+    /// The buffer of numbers of these kinds, each of which is 0.
+    pub fn new(alloc: Global, kinds: &[Kind]) -> Result<Buffer, AllocError>
+        requires { length kinds.now ≤ MOST_ITEMS }
         ensures { IfOk result (λ b.
             b ≡ record {
-              kinds = kinds_of spots.now;
-              numbers = replicate (length spots.now) (pos 0);
+              kinds = kinds.now;
+              numbers = replicate (length kinds.now) (pos 0);
             }) }
     {
-        Ok(Buffer {
-            spots: spots.to_vec(alloc)?,
-            bytes: vec![in alloc; 0; size(spots) as usize]?,
-        })
+        let spots = lay_out(alloc, kinds)?;
+        let bytes = vec![in alloc; 0; size(&spots) as usize]?;
+        Ok(Buffer { spots, bytes })
     }
 
     /// A buffer of the same spots with the same numbers.

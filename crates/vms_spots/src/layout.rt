@@ -1,13 +1,12 @@
 // Where numbers lie.
 ghost use Rattle.vms_spec.specs.declared.TheConstants.{MOST_ITEMS};
-ghost use Rattle.std.specs.Prelude.{◌≡◌, ◌≤◌, ◌+◌, length, map, IfOk};
+ghost use Rattle.std.specs.Prelude.{◌≡◌, ◌≤◌, ◌+◌, length, IfOk};
 ghost use Rattle.vms_kinds.specs.Codes.{width};
 ghost use Rattle.vms_spots.specs.declared.layout.TheConstants.{MOST_BYTES};
 ghost use Rattle.vms_spots.specs.Spots.{aligned, spots_of, kinds_of, bytes_of, AreApart};
 
 use std::alloc::{AllocError, Global};
 use vms_kinds::Kind;
-use vms_parts::CellForm;
 
 /// The numbers of a well-formed set's devices take no more bytes: eight for each item.
 pub const MOST_BYTES: u32 = 131_072;
@@ -43,19 +42,17 @@ impl Spot {
     }
 }
 
-/// The spots of cells of these forms, in order: each at the least multiple of its kind's width that isn't
+/// The spots of numbers of these kinds, in order: each at the least multiple of its kind's width that isn't
 /// below the end of the one before, and the first at 0.
-pub fn lay_out(alloc: Global, forms: &[CellForm]) -> Result<Vec<Spot>, AllocError>
-    requires { length forms.now ≤ MOST_ITEMS }
-    ensures spots { IfOk result (λ spots.
-        spots.items ≡ spots_of (map (λ form. form.kind) forms.now)) }
-    ensures apart { IfOk result (λ spots.
-        AreApart (map (λ form. form.kind) forms.now) spots.items) }
+pub fn lay_out(alloc: Global, kinds: &[Kind]) -> Result<Vec<Spot>, AllocError>
+    requires { length kinds.now ≤ MOST_ITEMS }
+    ensures spots { IfOk result (λ spots. spots.items ≡ spots_of kinds.now) }
+    ensures apart { IfOk result (λ spots. AreApart kinds.now spots.items) }
 {
-    let mut spots = Vec::with_capacity(alloc, forms.len())?;
+    let mut spots = Vec::with_capacity(alloc, kinds.len())?;
     let mut end = 0;
-    for form in forms {
-        let spot = Spot::behind(end, form.kind);
+    for kind in kinds {
+        let spot = Spot::behind(end, *kind);
         end = spot.end();
         spots.push(spot)?;
     }

@@ -1,5 +1,6 @@
 -- The laws as they are stated.
 use Rattle.std.proofs.Common.{length, Option, Some, None, IfSome, arith, suc, ◌≡◌, ◌≤◌, true, ℕ, List, ◌++◌, refl, sym, ap, ◌∙◌, subst}
+use Rattle.vms_spec.specs.declared.TheConstants.{LONGEST_NAME}
 use Rattle.vms_spec.specs.Units.{Piece}
 use Rattle.vms_stream.specs.Dues.{Due}
 use Rattle.vms_stream.specs.Finding.{Found, Whole, unit_at}
@@ -139,7 +140,7 @@ written_holds set names few machine text images configured described ready rest 
   all = all;
 }
 
-configured : (names : List (List ℕ)) (machine : Option (List ℕ)) → IfSome machine (λ name. (is_one_of names name ≡ true) × (length name ≤ 255)) → IsConfiguration names machine (optional configuration machine)
+configured : (names : List (List ℕ)) (machine : Option (List ℕ)) → IfSome machine (λ name. (is_one_of names name ≡ true) × (length name ≤ LONGEST_NAME)) → IsConfiguration names machine (optional configuration machine)
 configured names None h = refl
 configured names (Some name) h = (h.0, h.1, refl)
 

@@ -2,6 +2,7 @@
 use Rattle.std.specs.Prelude.{◌≡◌, ℕ, zero, ◌<◌, ◌≤◌, Bool, true, false, not, ◌&&◌, ◌||◌, ◌==◌, List, [], ◌∷◌, length, get_or, drop, Option, Some, None, ℤ}
 use Rattle.vms_kinds.specs.declared.Kind.{Kind}
 use Rattle.vms_kinds.specs.Codes.{InRange}
+use Rattle.vms_spec.specs.declared.TheConstants.{LONGEST_NAME}
 use Rattle.vms_spec.specs.Sets.{Set}
 use Rattle.vms_spec.specs.Layout.{Slot, Number as NumberSlot, Constant as ConstantSlot, Filler as FillerSlot, Rule as RuleSlot}
 use Rattle.vms_spec.specs.Streams.{longest_text}
@@ -80,8 +81,8 @@ first_byte x = get_or (spell x) 0 0
 pub data May : Due → Piece → Type 0 where
   AtMagic : (bytes : List ℕ) → length bytes ≡ 4 → May AMagic (Magic bytes)
   AtVersion : (v : ℕ) → fits_four v → May AVersion (Version v)
-  AtConfiguration : (after : Bool) (name : List ℕ) → length name ≤ 255 → May (Between true after) (Configuration name)
-  AtLongName : (after : Bool) (n : ℕ) → 255 < n → fits_four n → May (Between true after) (Long 0x07 n)
+  AtConfiguration : (after : Bool) (name : List ℕ) → length name ≤ LONGEST_NAME → May (Between true after) (Configuration name)
+  AtLongName : (after : Bool) (n : ℕ) → LONGEST_NAME < n → fits_four n → May (Between true after) (Long 0x07 n)
   AtStart : (first after : Bool) (id : ℕ) (name : List ℕ) → fits_four id → May (Between first after) (Start id name)
   AtHead : (first after : Bool) (id : ℕ) (name : List ℕ) (instance v : ℕ) → fits_four id → fits_four instance → fits_four v → May (Between first after) (Head id name instance v)
   AtEnd : (first after : Bool) → May (Between first after) End

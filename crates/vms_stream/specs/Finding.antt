@@ -1,6 +1,7 @@
 -- What stands at the front of an input where something is due: a whole unit with its length, or the beginning of one.
 use Rattle.std.specs.Prelude.{ℕ, ◌+◌, Bool, false, ◌&&◌, ◌==◌, nat_lt, if◌then◌else◌, List, length, get_or, take}
 use Rattle.vms_kinds.specs.Codes.{width, value_of}
+use Rattle.vms_spec.specs.declared.TheConstants.{LONGEST_NAME}
 use Rattle.vms_spec.specs.Layout.{Number as NumberSlot, Constant as ConstantSlot, Filler as FillerSlot, Rule as RuleSlot}
 use Rattle.vms_spec.specs.Streams.{longest_text}
 use Rattle.vms_spec.specs.Lookup.{number_at, bytes_at}
@@ -38,7 +39,7 @@ between_at first m rest =
     if m == 0x00 then needs 1 rest End
     else if m == 0x01 then start_at rest (get_or rest 5 0)
     else if m == 0x04 then head_at rest (get_or rest 5 0)
-    else if m == 0x07 && first then text_at 0x07 255 Configuration rest (number_at 4 1 rest)
+    else if m == 0x07 && first then text_at 0x07 LONGEST_NAME Configuration rest (number_at 4 1 rest)
     else needs 1 rest (Mark m)
 
 -- after fields, by the mark

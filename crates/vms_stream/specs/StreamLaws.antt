@@ -2,6 +2,7 @@
 -- bytes that heads have for them.
 use Rattle.std.specs.Prelude.{◌≡◌, ℕ, ◌+◌, ◌≤◌, List, [], ◌++◌, length, get_or, take, slice_set, Bool, true, false, Option, Some, None, IfSome, ◌<◌}
 use Rattle.std.specs.List.{slice_get}
+use Rattle.vms_spec.specs.declared.TheConstants.{LONGEST_NAME}
 use Rattle.vms_spec.specs.declared.Reason.{Reason}
 use Rattle.vms_kinds.specs.Bytes.{IsBytes}
 use Rattle.vms_spec.specs.declared.Reason.TheVariants as reasons
@@ -169,5 +170,5 @@ pub record IsWholeStream (set : Set) (names : List (List ℕ)) (bytes : List ℕ
 -- room for machine and text.
 abbrev pub WholeLaw : Type 0
 WholeLaw = (set : Set) (names : List (List ℕ)) → length set.devices ≤ 4294967296 → (machine text : Option (List ℕ)) (images : List Image)
-    → IfSome machine (λ name. (is_one_of names name ≡ true) × (length name ≤ 255)) → IfSome text (λ t. length t ≤ longest_text) → AreReady set images
+    → IfSome machine (λ name. (is_one_of names name ≡ true) × (length name ≤ LONGEST_NAME)) → IfSome text (λ t. length t ≤ longest_text) → AreReady set images
     → IsWholeStream set names (written set machine images text) machine images text

@@ -1,12 +1,9 @@
--- The fields of a part, slot by slot, by what is found there.
-use Rattle.std.specs.Prelude.{List, length, slice_set, None, ℤ}
+-- What is taken of a unit, by what is seen of it.
+use Rattle.std.specs.Prelude.{List, [], length, slice_set, None, ℤ}
 use Rattle.vms_spec.specs.declared.Reason.TheVariants as reasons
-use Rattle.vms_spec.specs.Layout.{Slot}
 use Rattle.vms_spec.specs.Taking.{Progress, Taken, refuse, on}
 use Rattle.vms_spec.specs.Units.{Piece, Number}
-use Rattle.vms_stream.specs.Dues.{Field}
-use Rattle.vms_stream.specs.Seen.{Seen, Good, Bad, Short, seen}
-use Rattle.std.specs.Prelude.{[]}
+use Rattle.vms_stream.specs.Seen.{Seen, Good, Bad, Short}
 use Rattle.vms_stream.specs.SoFar.{Known, no_image}
 
 abbrev pub nothing_known : Known
@@ -21,6 +18,3 @@ abbrev pub taken_by : Progress → Seen → Taken
 taken_by p (Good x n) = on n (put x p.numbers) p
 taken_by p (Bad n reason) = refuse p reason n
 taken_by p Short = refuse p reasons.Truncated (length p.rest)
-
-abbrev pub take_slot : Slot → Progress → Taken
-take_slot slot p = taken_by p (seen (Field 0 slot) nothing_known p.rest)

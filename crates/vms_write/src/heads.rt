@@ -1,5 +1,6 @@
 // The heads of a stream, of the names in a set.
 ghost use Rattle.std.specs.Prelude.{◌≡◌, ◌≤◌, length};
+ghost use Rattle.vms_spec.specs.declared.TheConstants.{LONGEST_NAME};
 ghost use Rattle.vms_spec.specs.Streams.{configuration, section_head, sub_head};
 
 use arrayvec::ArrayVec;
@@ -9,7 +10,7 @@ use vms_marks::{
 
 /// The bytes of a configuration: its mark, and the machine's name with its length.
 pub fn configuration(name: &[u8]) -> ArrayVec<u8, LONGEST_CONFIGURATION>
-    requires { length name.now ≤ 255 }
+    requires { length name.now ≤ LONGEST_NAME }
     ensures { result.items ≡ configuration name.now }
 {
     let machine = name_of(name);
@@ -18,7 +19,7 @@ pub fn configuration(name: &[u8]) -> ArrayVec<u8, LONGEST_CONFIGURATION>
 
 /// The bytes of a section's head: its mark, id, name, instance id and version.
 pub fn section_head(id: u32, name: &[u8], instance: u32, version: u32) -> ArrayVec<u8, LONGEST_HEAD>
-    requires { length name.now ≤ 255 }
+    requires { length name.now ≤ LONGEST_NAME }
     ensures { result.items ≡ section_head id name.now instance version }
 {
     let head = Head {
@@ -32,7 +33,7 @@ pub fn section_head(id: u32, name: &[u8], instance: u32, version: u32) -> ArrayV
 
 /// The bytes of a subsection's head: its mark, full name and version.
 pub fn sub_head(name: &[u8], version: u32) -> ArrayVec<u8, LONGEST_SUB_HEAD>
-    requires { length name.now ≤ 255 }
+    requires { length name.now ≤ LONGEST_NAME }
     ensures { result.items ≡ sub_head name.now version }
 {
     let name = name_of(name);

@@ -1,23 +1,23 @@
 -- In the fields of a part the judge goes slot by slot as the structural reader does.
-use Rattle.std.proofs.Common.{◌≡◌, ℕ, zero, suc, ◌+◌, ◌<◌, List, [], ◌∷◌, length, get_or, take, drop, slice_set, Option, Some, None, ℤ, Ok, Err, refl, sym, ap, ◌∙◌, arith, Bool, true, false, not, nat_lt, ◌==◌, ◌&&◌, if◌then◌else◌}
+use Rattle.std.proofs.Common.{◌≡◌, ℕ, zero, suc, ◌+◌, ◌<◌, List, [], ◌∷◌, length, get_or, take, drop, slice_set, Option, Some, ℤ, Ok, Err, refl, sym, ap, ◌∙◌, arith, Bool, true, false, not, nat_lt, ◌==◌, ◌&&◌, if◌then◌else◌}
 use Rattle.std.specs.List.{slice_get}
 use Rattle.vms_kinds.specs.declared.Kind.{Kind}
 use Rattle.vms_kinds.specs.Codes.{width, value_of}
+use Rattle.vms_spec.specs.declared.TheConstants.{LONGEST_NAME}
 use Rattle.vms_spec.specs.declared.Reason.{Reason}
 use Rattle.vms_spec.specs.declared.Reason.TheVariants as reasons
 use Rattle.vms_spec.specs.Numbers.{is_truth, is_above, exceeds, same_number}
 use Rattle.vms_spec.specs.Sets.{Set, Device, Desc}
 use Rattle.vms_spec.specs.Layout.{desc_slots, meanings, desc_cells, Slot, Number as NumberSlot, Constant as ConstantSlot, Filler as FillerSlot, Rule as RuleSlot}
 use Rattle.vms_spec.specs.Images.{Image}
-use Rattle.vms_spec.specs.Lookup.{is_bad_bool}
 use Rattle.vms_spec.specs.Readings.{Verdict, Faulty, Over as IsOver, Reading, Refused, reading_after}
-use Rattle.vms_spec.specs.Taking.{Progress, Refusal, Taken, refuse, on, take_number, take_constant, take_filler, take_desc, takers, cells_of}
+use Rattle.vms_spec.specs.Taking.{Progress, Refusal, Taken, take_slot, take_desc, takers, cells_of}
 use Rattle.vms_spec.specs.Units.{Piece, Magic, Version, Configuration, Long, Head, Number, Constant, Filler, SubHead, Foot, End, Description, Start, Mark}
 use Rattle.vms_spec.specs.SoFar.{part_slots}
 use Rattle.vms_bodies.specs.Whole.{reading_on}
 use Rattle.vms_bodies.proofs.BodyLaws.{at_set, set_twice}
 use Rattle.vms_bodies.proofs.FrameLaws.{one_unit}
-use Rattle.vms_bodies.proofs.FaultFields.{raw_same, bad_same}
+use Rattle.vms_bodies.proofs.BodyOnly.{none_taken}
 use Rattle.vms_spec.specs.Sound.{IsSound, AreSound}
 use Rattle.vms_bodies.proofs.Places.{same_refl}
 use Rattle.vms_bodies.proofs.WalkLaws.{drop_next, Comes, set_desc_comes}
@@ -33,6 +33,9 @@ use Rattle.vms_stream.specs.State.{State, Inside, or_none, image_at, part_at, kn
 use Rattle.vms_stream.proofs.Finding.Advancing.{advances}
 use Rattle.vms_stream.proofs.Judging.Mirrors.{solid}
 use Rattle.vms_stream.specs.SoFar.{Tail, beyond, skipped}
+use Rattle.vms_stream.specs.Seen.{seen_in, seen_by}
+use Rattle.vms_stream.specs.Taking.{put, taken_by}
+use Rattle.vms_stream.proofs.Bodies.Takes.{two_rows, slot_seen}
 
 module _ (set : Set) (names : List (List ℕ)) (state : State) (d : Device) (image : Image) (k id : ℕ) (part : Option ℕ) where
   abbrev g : Grammar State
@@ -95,82 +98,55 @@ module _ (set : Set) (names : List (List ℕ)) (state : State) (d : Device) (ima
         let f : skipped (drop i (part_slots set (slice_get set.devices k) (image_at (in_body numbers i)) part)) ≡ 0 = ap (λ (l : List Slot). skipped (drop i l)) (part_now numbers i) ∙ ap skipped h ∙ z in
         omega arith
 
-    number_is : (i : ℕ) (p : Progress) (c : ℕ) (kind : Kind) (caps : List ℕ) (more : List Slot) → drop i (total p.numbers) ≡ NumberSlot c kind caps ∷ more
-        → goes_on i p ≡ step_after total goes_on goes_on is_refused i (take_number kind caps c p)
+    -- what is taken, as the judge goes on from there
+    abbrev goes : ℕ → Taken → Option (Reading State)
+    goes i t = step_after total goes_on goes_on is_refused i t
+
+    -- a unit is refused by the row that takes it, or puts what it holds
+    by_rows : (i : ℕ) (p : Progress) (x : Piece) (n : ℕ) (bad other : Bool) (why : Reason) → after set (in_body p.numbers i) x ≡ in_body (put x p.numbers) (suc i)
+        → reads p (by_row g (two_rows (Some k) bad other why) n (after set (in_body p.numbers i) x)) ≡ goes i (taken_by p (seen_by (two_rows (Some k) bad other why) x n))
+    by_rows i p x n true other why e = refl
+    by_rows i p x n false true why e = refl
+    by_rows i p x n false false why e = ap (λ (s : State). reading_on (judge g) s (p.place + n) (drop n p.rest)) e
+
+    -- as it is seen, so the judge goes on
+    as_seen : (i : ℕ) (p : Progress) (slot : Slot) (cut : Bool) (x : Piece) (n : ℕ)
+        → reads p (verdict i p (Field k slot) (Whole x n)) ≡ goes i (taken_by p (seen_in (Field k slot) (known_at set (in_body p.numbers i)) (Whole x n)))
+        → reads p (verdict i p (Field k slot) (if cut then Cut else Whole x n)) ≡ goes i (taken_by p (seen_in (Field k slot) (known_at set (in_body p.numbers i)) (if cut then Cut else Whole x n)))
+    as_seen i p slot true x n e = refl
+    as_seen i p slot false x n e = e
+
+    put_on : (numbers : List ℤ) (i c : ℕ) (kind : Kind) (z : ℤ) → beyond i (part_at set (in_body numbers i) (Inside k id part i)) ≡ suc i
+        → after set (in_body numbers i) (Number c kind z) ≡ in_body (slice_set numbers c z) (suc i)
+    put_on numbers i c kind z n =
+        let with : List Image → ℕ → State = λ images m. record { machine = state.machine; images = images; came = state.came; tail = state.tail; spot = Inside k id part m } in
+        ap (with (slice_set (slice_set state.images k (now numbers)) k (let j = image_at (in_body numbers i) in record j { numbers = slice_set j.numbers c z }))) n
+        ∙ ap (λ (j : Image). with (slice_set (slice_set state.images k (now numbers)) k (record j { numbers = slice_set j.numbers c z })) (suc i)) (image_now numbers i)
+        ∙ ap (λ (l : List Image). with l (suc i)) (set_twice state.images k (now numbers) (now (slice_set numbers c z)))
+
+    number_is : (i : ℕ) (p : Progress) (c : ℕ) (kind : Kind) (caps : List ℕ) (more : List Slot) → drop i (total p.numbers) ≡ NumberSlot c kind caps ∷ more → goes_on i p ≡ goes i (take_slot (NumberSlot c kind caps) p)
     number_is i p c kind caps more h =
-        let w = width kind in
-        let bytes = take w p.rest in
-        let z = value_of (raw kind) bytes in
-        let y = value_of kind bytes in
-        let to : ℤ → State = λ z. after set (in_body p.numbers i) (Number c kind z) in
-        let row : ℤ → Bool → Option (Option ℕ × Reason) = λ z b. if b then Some (Some k, reasons.BadBool) else if exceeds caps z then Some (Some k, reasons.CountTooLarge) else None in
-        let of : ℤ → Bool → Verdict State = λ z b. if nat_lt (length p.rest) w then Faulty (Some k) reasons.Truncated (length p.rest) else by_row g (row z b) w (to z) in
+        let z = value_of (raw kind) (take (width kind) p.rest) in
         so i p _ h
-        ∙ ap (reads p) (by_length (nat_lt (length p.rest) w) (is_truth kind && is_above z 1) z)
-        ∙ ap (λ (b : Bool). reads p (of z b)) (bad_same kind bytes)
-        ∙ ap (λ (z : ℤ). reads p (of z (is_bad_bool kind bytes))) (raw_same kind bytes)
-        ∙ by_tests (nat_lt (length p.rest) w) (is_bad_bool kind bytes) (exceeds caps y) y (counted p.numbers i _ h refl)
-      where
-        by_length : (a b : Bool) (z : ℤ) → verdict i p (Field k (NumberSlot c kind caps)) (if a then Cut else Whole (Number c kind z) (width kind))
-            ≡ (if a then Faulty (Some k) reasons.Truncated (length p.rest) else by_row g (if is_truth kind && is_above z 1 then Some (Some k, reasons.BadBool) else if exceeds caps z then Some (Some k, reasons.CountTooLarge) else None) (width kind) (after set (in_body p.numbers i) (Number c kind z)))
-        by_length true b z = refl
-        by_length false b z = refl
+        ∙ as_seen i p (NumberSlot c kind caps) (nat_lt (length p.rest) (width kind)) (Number c kind z) (width kind)
+        (by_rows i p (Number c kind z) (width kind) (is_truth kind && is_above z 1) (exceeds caps z) reasons.CountTooLarge (put_on p.numbers i c kind z (counted p.numbers i _ h refl)))
+        ∙ ap (goes i) (slot_seen k (known_at set (in_body p.numbers i)) p (NumberSlot c kind caps) tt)
 
-        by_tests : (a b x : Bool) (y : ℤ) → beyond i (part_at set (in_body p.numbers i) (Inside k id part i)) ≡ suc i
-            → reads p (if a then Faulty (Some k) reasons.Truncated (length p.rest) else by_row g (if b then Some (Some k, reasons.BadBool) else if x then Some (Some k, reasons.CountTooLarge) else None) (width kind) (after set (in_body p.numbers i) (Number c kind y)))
-            ≡ step_after total goes_on goes_on is_refused i (if a then refuse p reasons.Truncated (length p.rest) else if b then refuse p reasons.BadBool (width kind) else if x then refuse p reasons.CountTooLarge (width kind) else on (width kind) (slice_set p.numbers c y) p)
-        by_tests true b x y n = refl
-        by_tests false true x y n = refl
-        by_tests false false true y n = refl
-        by_tests false false false y n = ap (λ (s : State). reading_on (judge g) s (p.place + width kind) (drop (width kind) p.rest)) (put y n)
-          where
-            put : (y : ℤ) → beyond i (part_at set (in_body p.numbers i) (Inside k id part i)) ≡ suc i → after set (in_body p.numbers i) (Number c kind y) ≡ in_body (slice_set p.numbers c y) (suc i)
-            put y n =
-                let with : List Image → ℕ → State = λ images m. record { machine = state.machine; images = images; came = state.came; tail = state.tail; spot = Inside k id part m } in
-                ap (with (slice_set (slice_set state.images k (now p.numbers)) k (let j = image_at (in_body p.numbers i) in record j { numbers = slice_set j.numbers c y }))) n
-                ∙ ap (λ (j : Image). with (slice_set (slice_set state.images k (now p.numbers)) k (record j { numbers = slice_set j.numbers c y })) (suc i)) (image_now p.numbers i)
-                ∙ ap (λ (l : List Image). with l (suc i)) (set_twice state.images k (now p.numbers) (now (slice_set p.numbers c y)))
-
-    -- a unit that puts nothing
-    passes : (numbers : List ℤ) (i : ℕ) → beyond i (part_at set (in_body numbers i) (Inside k id part i)) ≡ suc i → (slice_get to : ℕ) (rest : List ℕ)
-        → reading_on (judge g) (record (in_body numbers i) { spot = Inside k id part (beyond i (part_at set (in_body numbers i) (Inside k id part i))) }) to rest ≡ reading_on (judge g) (in_body numbers (suc i)) to rest
-    passes numbers i n at to rest = ap (λ (m : ℕ). reading_on (judge g) (in_body numbers m) to rest) n
-
-    constant_is : (i : ℕ) (p : Progress) (kind : Kind) (y : ℤ) (more : List Slot) → drop i (total p.numbers) ≡ ConstantSlot kind y ∷ more
-        → goes_on i p ≡ step_after total goes_on goes_on is_refused i (take_constant kind y p)
+    constant_is : (i : ℕ) (p : Progress) (kind : Kind) (y : ℤ) (more : List Slot) → drop i (total p.numbers) ≡ ConstantSlot kind y ∷ more → goes_on i p ≡ goes i (take_slot (ConstantSlot kind y) p)
     constant_is i p kind y more h =
-        let w = width kind in
-        let bytes = take w p.rest in
-        let z = value_of (raw kind) bytes in
-        let row : ℤ → Bool → Option (Option ℕ × Reason) = λ z b. if b then Some (Some k, reasons.BadBool) else if not (same_number z y) then Some (Some k, reasons.NotEqual) else None in
-        let of : ℤ → Bool → Verdict State = λ z b. if nat_lt (length p.rest) w then Faulty (Some k) reasons.Truncated (length p.rest) else by_row g (row z b) w (after set (in_body p.numbers i) (Constant kind z)) in
+        let z = value_of (raw kind) (take (width kind) p.rest) in
         so i p _ h
-        ∙ ap (reads p) (by_length (nat_lt (length p.rest) w) z)
-        ∙ ap (λ (b : Bool). reads p (of z b)) (bad_same kind bytes)
-        ∙ ap (λ (z : ℤ). reads p (of z (is_bad_bool kind bytes))) (raw_same kind bytes)
-        ∙ by_tests (nat_lt (length p.rest) w) (is_bad_bool kind bytes) (same_number (value_of kind bytes) y) (counted p.numbers i _ h refl)
-      where
-        by_length : (a : Bool) (z : ℤ) → verdict i p (Field k (ConstantSlot kind y)) (if a then Cut else Whole (Constant kind z) (width kind))
-            ≡ (if a then Faulty (Some k) reasons.Truncated (length p.rest) else by_row g (if is_truth kind && is_above z 1 then Some (Some k, reasons.BadBool) else if not (same_number z y) then Some (Some k, reasons.NotEqual) else None) (width kind) (after set (in_body p.numbers i) (Constant kind z)))
-        by_length true z = refl
-        by_length false z = refl
+        ∙ as_seen i p (ConstantSlot kind y) (nat_lt (length p.rest) (width kind)) (Constant kind z) (width kind)
+        (by_rows i p (Constant kind z) (width kind) (is_truth kind && is_above z 1) (not (same_number z y)) reasons.NotEqual (ap (in_body p.numbers) (counted p.numbers i _ h refl)))
+        ∙ ap (goes i) (slot_seen k (known_at set (in_body p.numbers i)) p (ConstantSlot kind y) tt)
 
-        by_tests : (a b x : Bool) → beyond i (part_at set (in_body p.numbers i) (Inside k id part i)) ≡ suc i
-            → reads p (if a then Faulty (Some k) reasons.Truncated (length p.rest) else by_row g (if b then Some (Some k, reasons.BadBool) else if not x then Some (Some k, reasons.NotEqual) else None) (width kind) (after set (in_body p.numbers i) (Constant kind (value_of kind (take (width kind) p.rest)))))
-            ≡ step_after total goes_on goes_on is_refused i (if a then refuse p reasons.Truncated (length p.rest) else if b then refuse p reasons.BadBool (width kind) else if x then on (width kind) p.numbers p else refuse p reasons.NotEqual (width kind))
-        by_tests true b x n = refl
-        by_tests false true x n = refl
-        by_tests false false true n = passes p.numbers i n p.place (p.place + width kind) (drop (width kind) p.rest)
-        by_tests false false false n = refl
-
-    filler_is : (i : ℕ) (p : Progress) (n : ℕ) (more : List Slot) → drop i (total p.numbers) ≡ FillerSlot (suc n) ∷ more → goes_on i p ≡ step_after total goes_on goes_on is_refused i (take_filler (suc n) p)
-    filler_is i p n more h = so i p _ h ∙ by_length (nat_lt (length p.rest) (suc n)) (counted p.numbers i _ h refl)
-      where
-        by_length : (a : Bool) → beyond i (part_at set (in_body p.numbers i) (Inside k id part i)) ≡ suc i
-            → reads p (verdict i p (Field k (FillerSlot (suc n))) (if a then Cut else Whole (Filler (take (suc n) p.rest)) (suc n)))
-            ≡ step_after total goes_on goes_on is_refused i (if a then refuse p reasons.Truncated (length p.rest) else on (suc n) p.numbers p)
-        by_length true c = refl
-        by_length false c = passes p.numbers i c p.place (p.place + suc n) (drop (suc n) p.rest)
+    filler_is : (i : ℕ) (p : Progress) (n : ℕ) (more : List Slot) → drop i (total p.numbers) ≡ FillerSlot (suc n) ∷ more → goes_on i p ≡ goes i (take_slot (FillerSlot (suc n)) p)
+    filler_is i p n more h =
+        let bytes = take (suc n) p.rest in
+        so i p _ h
+        ∙ as_seen i p (FillerSlot (suc n)) (nat_lt (length p.rest) (suc n)) (Filler bytes) (suc n)
+        (by_rows i p (Filler bytes) (suc n) false false reasons.Invalid (ap (in_body p.numbers) (counted p.numbers i _ h refl)))
+        ∙ ap (goes i) (slot_seen k (known_at set (in_body p.numbers i)) p (FillerSlot (suc n)) tt)
 
     -- ---- what takes no byte
 
@@ -222,7 +198,7 @@ module _ (set : Set) (names : List (List ℕ)) (state : State) (d : Device) (ima
     walk i p [] h = refl
     walk i p (NumberSlot c kind caps ∷ more) h = number_is i p c kind caps more h
     walk i p (ConstantSlot kind z ∷ more) h = constant_is i p kind z more h
-    walk i p (FillerSlot zero ∷ more) h = skips i p (FillerSlot 0) more h refl refl
+    walk i p (FillerSlot zero ∷ more) h = skips i p (FillerSlot 0) more h refl refl ∙ ap (goes i) (sym (none_taken p))
     walk i p (FillerSlot (suc n) ∷ more) h = filler_is i p n more h
     walk i p (RuleSlot true ∷ more) h = skips i p (RuleSlot true) more h refl refl
     walk i p (RuleSlot false ∷ more) h = so i p (RuleSlot false ∷ more) h
@@ -270,7 +246,7 @@ module _ (set : Set) (names : List (List ℕ)) (state : State) (d : Device) (ima
     between_outer first m rest =
         pick (m == 0x00) _ _ (pick (nat_lt (length rest) 1) Cut _ tt tt) (pick (m == 0x01) _ _ (pick (nat_lt (length rest) (6 + get_or rest 5 0)) Cut _ tt tt)
         (pick (m == 0x04) _ _ (pick (nat_lt (length rest) (14 + get_or rest 5 0)) Cut _ tt tt) (pick (m == 0x07 && first) _ _
-        (pick (nat_lt 255 (number_at 4 1 rest)) _ _ (pick (nat_lt (length rest) 5) Cut _ tt tt) (pick (nat_lt (length rest) (5 + number_at 4 1 rest)) Cut _ tt tt)) (pick (nat_lt (length rest) 1) Cut _ tt tt))))
+        (pick (nat_lt LONGEST_NAME (number_at 4 1 rest)) _ _ (pick (nat_lt (length rest) 5) Cut _ tt tt) (pick (nat_lt (length rest) (5 + number_at 4 1 rest)) Cut _ tt tt)) (pick (nat_lt (length rest) 1) Cut _ tt tt))))
 
     behind_outer : (t : Tail) (m : ℕ) (rest : List ℕ) → Outer (behind_at t m rest)
     unfolding behind_at

@@ -2,6 +2,7 @@
 use Rattle.std.proofs.Common.{◌≡◌, ℕ, zero, suc, ◌+◌, ◌<◌, ◌≤◌, List, [], ◌∷◌, length, get_or, take, drop, Option, Some, None, refl, subst, arith, Bool, true, false, nat_lt, ◌==◌, ◌&&◌, if◌then◌else◌}
 use Rattle.std.proofs.lemmas.Bool.{ltb-false}
 use Rattle.vms_kinds.specs.Codes.{width, value_of}
+use Rattle.vms_spec.specs.declared.TheConstants.{LONGEST_NAME}
 use Rattle.vms_spec.specs.declared.Reason.{Reason}
 use Rattle.vms_spec.specs.declared.Reason.TheVariants as reasons
 use Rattle.vms_spec.specs.Sets.{Set}
@@ -43,7 +44,7 @@ between_stays first m rest =
     choice rest (m == 0x00) _ _ (some_bytes 1 rest End (omega arith))
     (choice rest (m == 0x01) _ _ (some_bytes (6 + get_or rest 5 0) rest _ (omega arith))
     (choice rest (m == 0x04) _ _ (some_bytes (14 + get_or rest 5 0) rest _ (omega arith))
-    (choice rest (m == 0x07 && first) _ _ (text_stays 0x07 255 Configuration rest (number_at 4 1 rest)) (some_bytes 1 rest (Mark m) (omega arith)))))
+    (choice rest (m == 0x07 && first) _ _ (text_stays 0x07 LONGEST_NAME Configuration rest (number_at 4 1 rest)) (some_bytes 1 rest (Mark m) (omega arith)))))
 
 behind_stays : (tail : Tail) (m : ℕ) (rest : List ℕ) → Stays rest (behind_at tail m rest)
 unfolding behind_at

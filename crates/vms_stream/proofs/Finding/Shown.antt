@@ -5,6 +5,7 @@ use Rattle.std.proofs.lemmas.List.{length-take-le, drop-drop, take-append-drop}
 use Rattle.vms_kinds.specs.Codes.{width, code, value_of, InRange}
 use Rattle.vms_kinds.specs.declared.Kind.{Kind}
 use Rattle.vms_kinds.proofs.ByteLemmas.{bytes_first}
+use Rattle.vms_spec.specs.declared.TheConstants.{LONGEST_NAME}
 use Rattle.vms_spec.specs.Layout.{Number as NumberSlot, Constant as ConstantSlot, Filler as FillerSlot, Rule as RuleSlot}
 use Rattle.vms_kinds.specs.Bytes.{IsBytes}
 use Rattle.vms_spec.specs.Streams.{be32, longest_text}
@@ -136,7 +137,7 @@ between_shown : (first after : Bool) (m : ℕ) (rest : List ℕ) → IsBytes res
 unfolding between_at
 between_shown first after m rest ok e =
     let d = Between first after in
-    let named = text_at 0x07 255 Configuration rest (number_at 4 1 rest) in
+    let named = text_at 0x07 LONGEST_NAME Configuration rest (number_at 4 1 rest) in
     let last = needs 1 rest (Mark m) in
     let test = by_test d rest in
     test (m == 0x00) (needs 1 rest End) _ (λ t. mark_shown d rest End 0 (e ∙ eqb-true m 0 t) refl (AtEnd first after))
@@ -146,8 +147,8 @@ between_shown first after m rest ok e =
     (λ f7. mark_shown d rest (Mark m) m e refl
     (AtMark first after m (or_from (m == 0x00 || m == 0x01 || m == 0x04) (m == 0x07 && first) (or_from (m == 0x00 || m == 0x01) (m == 0x04) (or_from (m == 0x00) (m == 0x01) f0 f1) f4) f7))))))
   where
-    named_shown : (first : Bool) → first ≡ true → get_or rest 0 0 ≡ 0x07 → Shows (Between first after) rest (text_at 0x07 255 Configuration rest (number_at 4 1 rest))
-    named_shown true t mark = text_shown (Between true after) rest 0x07 255 Configuration ok mark (λ name. refl) (λ name le. AtConfiguration after name le) (λ n lt f. AtLongName after n lt f)
+    named_shown : (first : Bool) → first ≡ true → get_or rest 0 0 ≡ 0x07 → Shows (Between first after) rest (text_at 0x07 LONGEST_NAME Configuration rest (number_at 4 1 rest))
+    named_shown true t mark = text_shown (Between true after) rest 0x07 LONGEST_NAME Configuration ok mark (λ name. refl) (λ name le. AtConfiguration after name le) (λ n lt f. AtLongName after n lt f)
     named_shown false t mark = cc
 
 -- a unit between sections behind the fields

@@ -6,6 +6,7 @@ use Rattle.byteorder.specs.Endian.{big_number}
 use Rattle.vms_kinds.specs.declared.Kind.{Kind}
 use Rattle.vms_kinds.specs.declared.Kind.TheVariants.{U8, U16, U32, U64, I8, I16, I32, I64, Bool as Truth, Timer}
 use Rattle.vms_kinds.specs.Codes.{width, code, value_of, InRange}
+use Rattle.vms_spec.specs.declared.TheConstants.{LONGEST_NAME}
 use Rattle.vms_spec.specs.Streams.{be32, longest_text}
 use Rattle.vms_spec.specs.Lookup.{number_at, bytes_at}
 use Rattle.vms_spec.specs.Units.{Piece, Magic, Version, Configuration, Long, Head, Number, Constant, Filler, SubHead, Foot, End, Description, Start, Mark, spell}
@@ -113,8 +114,8 @@ pub only : (d : Due) (x : Piece) (more : List ℕ) → May d x → unit_at d (sp
 unfolding between_at behind_at trailer_at
 only _ _ more (AtMagic bytes e) = there 4 (Magic bytes) _ more (ap Magic (front_take 4 bytes more (bytes ++ more) refl e)) (sym e)
 only _ _ more (AtVersion v f) = there 4 (Version v) _ more (ap Version (be32_read v more (omega arith))) refl
-only _ _ more (AtConfiguration after name le) = text_there 0x07 255 Configuration name more (omega arith) le refl
-only _ _ more (AtLongName after n lt f) = long_there 0x07 255 Configuration n more lt f
+only _ _ more (AtConfiguration after name le) = text_there 0x07 LONGEST_NAME Configuration name more (omega arith) le refl
+only _ _ more (AtLongName after n lt f) = long_there 0x07 LONGEST_NAME Configuration n more lt f
 only _ _ more (AtStart directly after id name f) =
     let x = Start id name in
     let n = length name in
@@ -152,7 +153,7 @@ only _ _ more (AtMark directly after b e) =
     let a1 = or_parts (b == 0x00 || b == 0x01) (b == 0x04) a2.0 in
     let a = or_parts (b == 0x00) (b == 0x01) a1.0 in
     if_false (b == 0x00) (needs 1 r End) _ a.0 ∙ if_false (b == 0x01) (start_at r (get_or r 5 0)) _ a.1
-    ∙ if_false (b == 0x04) (head_at r (get_or r 5 0)) _ a1.1 ∙ if_false (b == 0x07 && directly) (text_at 0x07 255 Configuration r (number_at 4 1 r)) (needs 1 r (Mark b)) a2.1
+    ∙ if_false (b == 0x04) (head_at r (get_or r 5 0)) _ a1.1 ∙ if_false (b == 0x07 && directly) (text_at 0x07 LONGEST_NAME Configuration r (number_at 4 1 r)) (needs 1 r (Mark b)) a2.1
     ∙ one b more
 only _ _ more (AtNumber k c kind capacities z r) = there (width kind) (Number c kind z) _ more (ap (Number c kind) (raw_value kind z more r)) (sym (length-code kind z))
 only _ _ more (AtConstant k kind z y r) = there (width kind) (Constant kind y) _ more (ap (Constant kind) (raw_value kind y more r)) (sym (length-code kind y))

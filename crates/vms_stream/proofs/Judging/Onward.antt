@@ -2,6 +2,7 @@
 use Rattle.std.proofs.Common.{◌≡◌, ℕ, ◌+◌, List, ◌∷◌, length, get_or, Option, Some, None, refl, ap, ◌∙◌, Bool, true, false, not, nat_lt, ◌==◌, ◌&&◌, if◌then◌else◌, [], ◌||◌}
 use Rattle.std.proofs.lemmas.Bool.{both_ways, not-true}
 use Rattle.std.proofs.Math.Bool.{or-not_self}
+use Rattle.vms_spec.specs.declared.TheConstants.{LONGEST_NAME}
 use Rattle.vms_spec.specs.declared.Reason.{Reason}
 use Rattle.vms_spec.specs.declared.Reason.TheVariants as reasons
 use Rattle.vms_spec.specs.Sets.{Set}
@@ -101,7 +102,7 @@ module _ (set : Set) (names : List (List ℕ)) (machine : Option (List ℕ)) (im
       (pick t rest (b == 0x01) _ _ (needs_outer t rest (6 + get_or rest 5 0) _ e (start_outer t rest (6 + get_or rest 5 0) (number_at 4 1 rest) (bytes_at (get_or rest 5 0) 6 rest)))
       (pick t rest (b == 0x04) _ _ (needs_outer t rest (14 + get_or rest 5 0) _ e (head_outer t rest (14 + get_or rest 5 0) (number_at 4 1 rest) (bytes_at (get_or rest 5 0) 6 rest) (number_at 4 (6 + get_or rest 5 0) rest) (number_at 4 (10 + get_or rest 5 0) rest)))
       (pick t rest (b == 0x07 && false) _ _
-      (pick t rest (nat_lt 255 size) _ _ (needs_outer t rest 5 _ e (long_outer t rest 5 size)) (needs_outer t rest (5 + size) _ e (name_outer t rest (5 + size) (bytes_at size 5 rest))))
+      (pick t rest (nat_lt LONGEST_NAME size) _ _ (needs_outer t rest 5 _ e (long_outer t rest 5 size)) (needs_outer t rest (5 + size) _ e (name_outer t rest (5 + size) (bytes_at size 5 rest))))
       (needs_outer t rest 1 (Mark b) e (mark_outer t rest 1 b e)))))
 
   unit_is : (t : Tail) (rest : List ℕ) → begins_next t rest ≡ true → unit_at (AfterFields k t) rest ≡ unit_at (Between false false) rest

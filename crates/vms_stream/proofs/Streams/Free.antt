@@ -2,6 +2,7 @@
 use Rattle.std.proofs.Common.{◌≡◌, ℕ, ◌+◌, ◌<◌, ◌≤◌, List, ◌∷◌, ◌++◌, length, slice_set, Option, Some, None, refl, sym, ap, ◌∙◌, Bool, true, false, not, arith}
 use Rattle.std.specs.List.{slice_get}
 use Rattle.vms_kinds.specs.Bytes.{IsBytes}
+use Rattle.vms_spec.specs.declared.TheConstants.{LONGEST_NAME}
 use Rattle.vms_spec.specs.Lists.{at_option, position}
 use Rattle.vms_spec.specs.Sets.{Set, Device}
 use Rattle.vms_spec.specs.Images.{Image, default_image, IsVersionOf}
@@ -42,7 +43,7 @@ pub data Opening (set : Set) (names : List (List ℕ)) (first : Bool) (s : State
       → slice_get set.devices k ≡ Some d → slice_get s.came k ≡ Some false → IsVersionOf d.desc v
       → reading_on (judge (by_state set names)) (opened set s.machine s.images s.came t k id d v) (place + length (section_head id d.desc.name d.instance v)) more ≡ Some (Accepted n end)
       → Opening set names first s t place rest n end
-  Names : (name more : List ℕ) → first ≡ true → rest ≡ configuration name ++ more → is_one_of names name ≡ true → length name ≤ 255
+  Names : (name more : List ℕ) → first ≡ true → rest ≡ configuration name ++ more → is_one_of names name ≡ true → length name ≤ LONGEST_NAME
       → reading_on (judge (by_state set names)) (after set s (Configuration name)) (place + length (configuration name)) more ≡ Some (Accepted n end)
       → Opening set names first s t place rest n end
 

@@ -1,6 +1,11 @@
-use Rattle.std.proofs.Common.{◌≡◌, map}
-use Rattle.vms_analyze.proofs.EachRead.{before, from}
+use Rattle.std.proofs.Common.{◌≡◌, ℕ, length, map}
+use Rattle.vms_json.specs.Nodes.{items_left}
+use Rattle.vms_analyze.specs.Read.{each}
+use Rattle.vms_analyze.proofs.EachRead.{before}
 use Rattle.vms_analyze.proofs.each.each.Given as goal
 
 abbrev pub invariant-loop-item : goal.invariant-loop-item
-invariant-loop-item g l = from g.T.Reads.says l.items 0 ≡ before (map g.T.Reads.means l.list.items) (from g.T.Reads.says l.items l.item-index)
+invariant-loop-item g l = each g.T.Reads.says (items_left l.fn.items) ≡ before (map g.T.Reads.means l.list.items) (each g.T.Reads.says (items_left l.items))
+
+abbrev pub decreases-loop-item : goal.decreases-loop-item
+decreases-loop-item g l = length l.items.rows.now

@@ -25,6 +25,6 @@ returns-in-Some-find_name c =
     let inside : m < length new.machines = subst (λ (o : Option ℕ). IsMachine new.machines o) c.in-Some.is c.requires in
     let named : name ≡ get_or new.machines m [] =
     c.as_bytes.ensures ∙ c.index-names-number.is ∙ ap (λ (l : List (List ℕ)). get_or l m c.index-names-number.result) names ∙ get_or_default new.machines m c.index-names-number.result [] inside in
-    let found : IsNameAt known name (Some own) = subst (λ (o : Option ℕ). IsNameAt known name o) c.in-Some-find_name.is c.find_name.ensures in
+    let found : IsNameAt known name (Some own) = subst (λ (o : Option ℕ). IsNameAt known name o) c.in-Some-find_name.is c.find_name.ensures.one in
     subst (λ (o : Option ℕ). KeepsName to (name_of new o) (Some own)) (sym c.in-Some.is)
     (keeps_machine to new known name m own (c.as_slice.ensures ∙ ap (λ (s : Set). s.machines) c.parts-2.ensures) named found)

@@ -5,7 +5,7 @@ use Rattle.vms_desc.specs.Described.{described}
 use Rattle.vms_counter.specs.Found.{HasRoom}
 use Rattle.vms_counter.proofs.ByteLaws.{read_bytes, sections_are}
 use Rattle.vms_counter.proofs.RoomLaws.{has_room}
-use Rattle.vms_marks.specs.declared.head.TheConstants.{LONGEST_HEAD}
+use Rattle.vms_marks.specs.declared.stream_head.TheConstants.{BESIDE_SECTIONS}
 use Rattle.vms_counter.proofs.room.room.Goals as goal
 
 pub overflow_add-result : goal.overflow_add-result
@@ -19,7 +19,7 @@ overflow_add-result c =
 pub returns-clause-bytes : goal.returns-clause-bytes
 returns-clause-bytes c =
     let set = c.args.set.now in
-    ap (λ (n : ℕ). LONGEST_HEAD + n) (sections_are (described set) set.well_formed c.all_bytes.result
+    ap (λ (n : ℕ). BESIDE_SECTIONS + n) (sections_are (described set) set.well_formed c.all_bytes.result
     (read_bytes (described set) c.as_slice.result.now c.as_slice-2.result.now c.deref.result.now c.in_ok-structs.structs.items c.all_bytes.result c.all_bytes.ensures c.deref.ensures.value c.in_ok-structs.ensures
     (ap (map desc_of) c.as_slice.ensures ∙ ap (λ (s : Set). s.structs) c.parts.ensures) (ap (map device_of) c.as_slice-2.ensures ∙ ap (λ (s : Set). s.devices) c.parts-2.ensures))).0
 

@@ -1,26 +1,33 @@
-use Rattle.std.proofs.Common.{◌≡◌, ◌∙◌, ap, map, List}
+use Rattle.std.proofs.Common.{◌∙◌, ◌≤◌, ℕ, ◌<◌, ℤ, List, sym, ap, subst, arith, length, get_or, replicate, pos}
 use Rattle.vms_kinds.specs.declared.Kind.{Kind}
-use Rattle.vms_spots.specs.Spots.{Held, spots_of}
-use Rattle.vms_desc.proofs.DefaultLaws.{laid_again, kinds_again, same_held}
+use Rattle.vms_kinds.specs.declared.Kind.TheVariants.{U8}
+use Rattle.vms_kinds.specs.Codes.{InRange}
+use Rattle.vms_spec.specs.declared.TheConstants.{MOST_ITEMS}
+use Rattle.vms_spots.specs.Spots.{Held}
+use Rattle.vms_desc.proofs.DefaultLaws.{same_held}
 use Rattle.vms_desc.proofs.defaults.numbers_of.Goals as goal
 
-abbrev kinds_in : goal.After-deref → List Kind
-kinds_in c = map (λ form. form.kind) c.args.forms.now
+pub new-requires : goal.new-requires
+new-requires c = subst (λ (l : List Kind). length l ≤ MOST_ITEMS) (sym c.deref.ensures.value) c.requires.few
 
-laid : (c : goal.After-deref) → c.deref.result.now ≡ spots_of (kinds_in c)
-laid c = c.deref.ensures.value ∙ c.in_ok-lay_out.ensures.spots
+pub put_defaults-requires-clause-few : goal.put_defaults-requires-clause-few
+put_defaults-requires-clause-few c = omega (arith, ap length c.deref-2.ensures.value, c.requires.long, c.requires.few)
 
-pub new-requires-clause-laid : goal.new-requires-clause-laid
-new-requires-clause-laid c = laid_again (kinds_in c) c.deref.result.now (laid c)
+pub put_defaults-requires-clause-zero : goal.put_defaults-requires-clause-zero
+put_defaults-requires-clause-zero c =
+    ap (λ (h : Held). h.numbers) c.in_ok-numbers.ensures
+    ∙ ap (λ (n : ℕ). replicate n (pos 0)) (ap length c.deref.ensures.value ∙ sym c.requires.long ∙ sym (ap length c.deref-2.ensures.value))
 
-pub put_defaults-requires-clause-kinds : goal.put_defaults-requires-clause-kinds
-put_defaults-requires-clause-kinds c =
-    let kinds = map (λ form. form.kind) c.args.forms.now in
-    ap (λ (h : Held). h.kinds) c.in_ok-numbers.ensures ∙ kinds_again kinds c.deref.result.now (c.deref.ensures.value ∙ c.in_ok-lay_out.ensures.spots)
+pub put_defaults-requires-clause-range : goal.put_defaults-requires-clause-range
+put_defaults-requires-clause-range c = λ k lt.
+    let within : k < length c.args.forms.now.kinds.items = omega (arith, lt, ap length c.deref-2.ensures.value, c.requires.long) in
+    let kinds = c.deref.ensures.value in
+    let numbers = ap (λ (h : Held). h.kinds) c.in_ok-numbers.ensures ∙ kinds in
+    subst (λ (l : List ℤ). InRange (get_or c.in_ok-numbers.numbers.kinds k U8) (get_or l k (pos 0))) (sym c.deref-2.ensures.value)
+    (subst (λ (l : List Kind). InRange (get_or l k U8) (get_or c.args.forms.now.defaults.items k (pos 0))) (sym numbers) (c.requires.range k within))
 
 pub returns : goal.returns
 returns c =
-    let kinds = map (λ form. form.kind) c.args.forms.now in
-    same_held c.put_defaults.new.cells kinds (map (λ form. form.default) c.args.forms.now)
-    (ap (λ (h : Held). h.kinds) c.put_defaults.ensures ∙ ap (λ (h : Held). h.kinds) c.in_ok-numbers.ensures ∙ kinds_again kinds c.deref.result.now (c.deref.ensures.value ∙ c.in_ok-lay_out.ensures.spots))
-    (ap (λ (h : Held). h.numbers) c.put_defaults.ensures)
+    same_held c.put_defaults.new.cells c.args.forms.now.kinds.items c.args.forms.now.defaults.items
+    (ap (λ (h : Held). h.kinds) c.put_defaults.ensures ∙ ap (λ (h : Held). h.kinds) c.in_ok-numbers.ensures ∙ c.deref.ensures.value)
+    (ap (λ (h : Held). h.numbers) c.put_defaults.ensures ∙ c.deref-2.ensures.value)

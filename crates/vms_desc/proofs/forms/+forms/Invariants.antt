@@ -1,6 +1,7 @@
-use Rattle.std.proofs.Common.{◌≡◌, ◌++◌, ◌+◌, ◌*◌, length, map, drop}
+use Rattle.std.proofs.Common.{◌+◌, ◌*◌, length, map, drop}
 use Rattle.vms_desc.specs.Forms.{fields_forms, forms_to}
 use Rattle.vms_parts.specs.Views.{desc_of, field_of}
+use Rattle.vms_desc.proofs.FormLaws.{Left}
 use Rattle.vms_desc.proofs.forms.+forms.Given as goal
 
 abbrev pub decreases-put_element : goal.decreases-put_element
@@ -15,4 +16,4 @@ decreases-put_fields l = 3 * length l.structs.now + 2
 abbrev pub invariant-put_fields-loop-field : goal.invariant-put_fields-loop-field
 invariant-put_fields-loop-field l =
     let ts = forms_to (map desc_of l.structs) (length l.structs) in
-    l.forms.items ++ fields_forms ts (map field_of (drop l.field-index l.fields)) ≡ l.initial.forms.items ++ fields_forms ts (map field_of l.fields)
+    Left l.initial.forms l.forms (fields_forms ts (map field_of (drop l.field-index l.fields))) (fields_forms ts (map field_of l.fields))

@@ -1,9 +1,10 @@
-use Rattle.std.proofs.Common.{◌≡◌, ◌++◌, length, map, drop}
+use Rattle.std.proofs.Common.{length, map, drop}
 use Rattle.vms_desc.specs.Forms.{subs_forms, forms_to}
 use Rattle.vms_parts.specs.Views.{desc_of, sub_of}
+use Rattle.vms_desc.proofs.FormLaws.{Left}
 use Rattle.vms_desc.proofs.forms.put_subs.Given as goal
 
 abbrev pub invariant-loop-sub : goal.invariant-loop-sub
 invariant-loop-sub l =
     let ts = forms_to (map desc_of l.structs) (length l.structs) in
-    l.forms.items ++ subs_forms ts (map sub_of (drop l.sub-index l.subs)) ≡ l.initial.forms.items ++ subs_forms ts (map sub_of l.subs)
+    Left l.initial.forms l.forms (subs_forms ts (map sub_of (drop l.sub-index l.subs))) (subs_forms ts (map sub_of l.subs))

@@ -1,6 +1,11 @@
-use Rattle.std.proofs.Common.{◌≡◌, drop}
+use Rattle.std.proofs.Common.{◌≡◌, ℕ, List, drop}
+use Rattle.std.specs.Str.{bytes_eq}
+use Rattle.vms_spec.specs.Lists.{position}
 use Rattle.vms_spec.specs.Streams.{is_one_of}
+use Rattle.vms_desc.specs.Names.{first_named}
 use Rattle.vms_desc.proofs.names.find_name.Given as goal
 
 abbrev pub invariant-loop-number : goal.invariant-loop-number
-invariant-loop-number l = is_one_of (drop l.number l.names) l.name ≡ is_one_of l.names l.name
+invariant-loop-number l =
+    (is_one_of (drop l.number l.names) l.name ≡ is_one_of l.names l.name)
+    × (position (λ (known : List ℕ). bytes_eq known l.name) l.number (drop l.number l.names) ≡ first_named l.names l.name)

@@ -1,5 +1,5 @@
 use Rattle.std.proofs.Common.{Err, sym, subst, ap, ◌∙◌}
-use Rattle.vms_json.specs.Nodes.{view}
+use Rattle.vms_json.specs.Nodes.{view, tree_view}
 use Rattle.vms_descread.specs.Descs.{parts_of}
 use Rattle.vms_descfile.specs.Files.{Said, parts_said}
 use Rattle.vms_descfile.specs.Given.{Gives}
@@ -10,10 +10,11 @@ pub returns-in-Err : goal.returns-in-Err
 returns-in-Err c = no_json c.args.text.now c.in-Err.fault c.in-Err.ensures
 
 pub returns-in-Ok-read_parts : goal.returns-in-Ok-read_parts
-returns-in-Ok-read_parts c = sym (said_by c.args.text.now (view c.in-Ok.value) c.in-Ok.ensures) ∙ ap parts_said c.in-Ok-read_parts.ensures
+returns-in-Ok-read_parts c =
+    sym (said_by c.args.text.now (tree_view c.in-Ok.value) c.in-Ok.ensures) ∙ ap (λ d. parts_said (parts_of d)) (sym c.root.ensures) ∙ ap parts_said c.in-Ok-read_parts.ensures
 
 pub returns : goal.returns
 returns c =
-    let d = view c.in-Ok.value in
-    subst (λ (s : Said). Gives s (Err c.of.result)) (said_by c.args.text.now d c.in-Ok.ensures)
+    let d = view c.root.result in
+    subst (λ (s : Said). Gives s (Err c.of.result)) (ap (λ e. parts_said (parts_of e)) c.root.ensures ∙ said_by c.args.text.now (tree_view c.in-Ok.value) c.in-Ok.ensures)
     (shape_said (parts_of d) c.in-Err-read_parts.fault c.of.result c.in-Err-read_parts.ensures c.of.ensures)

@@ -21,7 +21,7 @@ returns-in-Some t c =
     let inner = test_within (c.args.depth - 1) scope in
     by_form c.args.depth scope (view c.args.value.now) forms.Not c.negated.result (omega (arith, c.if-depth-eq0.false)) c.in-Not.ensures
     (subst (λ o. Answers formula (changed Not (member_of inner (codes "not") o)) c.negated.result) c.in-Some.ensures
-    (c.negated.ensures (inner (view c.in-Some.inner.now)) c.read_test.ensures))
+    (c.negated.ensures (inner (view c.in-Some.inner)) c.read_test.ensures))
 
 pub returns-in-None : goal.returns-in-None
 returns-in-None t c =

@@ -1,6 +1,7 @@
 use Rattle.std.proofs.Common.{rules, arith, ap, sym, ◌∙◌, ◌≡◌, ◌+◌, ◌<◌, ◌≤◌, true, false, ℕ, List, length, drop, length-drop, Ok, Err}
 use Rattle.std.proofs.lemmas.List.{length-take-le}
 use Rattle.std.proofs.lemmas.Result.{err_from_is_err_and}
+use Rattle.vms_spec.specs.declared.TheConstants.{LONGEST_NAME}
 use Rattle.vms_spec.specs.declared.Reason.TheVariants as reasons
 use Rattle.vms_spec.specs.Lookup.{number_at, bytes_at}
 use Rattle.vms_marks.specs.Heads.{configuration_in}
@@ -23,25 +24,25 @@ returns-in_err-grow-2 g c =
     let one = c.in_ok-grow.ensures.grown in
     let unit = c.grow.new.unit.items in
     let same : c.name_length-length.result ≡ number_at 4 1 unit = search rules in
-    let low : c.name_length-length.result ≤ 255 = search rules in
+    let low : c.name_length-length.result ≤ LONGEST_NAME = search rules in
     let p = err_from_is_err_and c.from_residual-in_err-grow-2.result c.from_residual-in_err-grow-2.ensures.1 in
     rw (p.1, p.2) (record {
       reads =
           unit_on (λ _. unit_of_step) step_long LONGEST_HEAD configuration_seen c.args.at (Err c.in_err-grow-2.field-0.0) one
           (unit_short (λ _. unit_of_step) step_long LONGEST_HEAD configuration_seen unit c.args.at c.in_err-grow-2.field-0.0 (omega (arith, c.requires, one.long, low)) c.in_err-grow-2.ensures.cut
-          (λ rest lt. text_cut (IsBetween true false) nothing_known 0x07 255 AUnit unit rest (omega (arith, c.requires, one.long)) (omega (arith, same, low)) (omega (arith, lt, same, c.requires, one.long))));
+          (λ rest lt. text_cut (IsBetween true false) nothing_known 0x07 LONGEST_NAME AUnit unit rest (omega (arith, c.requires, one.long)) (omega (arith, same, low)) (omega (arith, lt, same, c.requires, one.long))));
     })
 
-pub returns-then-length-gt255 : goal.returns-then-length-gt255
-returns-then-length-gt255 g c =
+pub returns-then-length-gt-LONGEST_NAME : goal.returns-then-length-gt-LONGEST_NAME
+returns-then-length-gt-LONGEST_NAME g c =
     let one = c.in_ok-grow.ensures.grown in
     let unit = c.grow.new.unit.items in
     let long : length unit ≡ 5 = omega (arith, c.requires, one.long) in
-    let high : 255 < number_at 4 1 unit = search rules in
+    let high : LONGEST_NAME < number_at 4 1 unit = search rules in
     record {
       reads = unit_on (λ _. unit_of_step) step_long LONGEST_HEAD configuration_seen c.args.at (Err c.refused.result) one
           (unit_refused (λ _. unit_of_step) step_long LONGEST_HEAD configuration_seen unit c.args.at 5 reasons.WrongMachine c.refused.result c.refused.ensures (g.met.S.Source.counted c.grow.new.source) long (omega arith)
-          (λ rest. text_above (IsBetween true false) nothing_known 0x07 255 AUnit unit rest long high));
+          (λ rest. text_above (IsBetween true false) nothing_known 0x07 LONGEST_NAME AUnit unit rest long high));
     }
 
 pub returns : goal.returns
@@ -52,7 +53,7 @@ returns g c =
     let n = c.name_length-length.result in
     let name = c.of.result.machine in
     let same : n ≡ number_at 4 1 unit = search rules in
-    let low : n ≤ 255 = search rules in
+    let low : n ≤ LONGEST_NAME = search rules in
     let long : length unit ≡ 5 + n = omega (arith, c.requires, one.long, two.long) in
     let named : name.items ≡ bytes_at (number_at 4 1 unit) 5 unit = ap (λ (x : AConfiguration). x.machine.items) (c.of.ensures ∙ ap configuration_in c.deref-2.ensures.0) in
     let few : length name.items ≡ n = ap length named ∙ length-take-le (number_at 4 1 unit) (drop 5 unit) (omega (arith, long, same, length-drop 5 unit)) ∙ sym same in
@@ -61,7 +62,7 @@ returns g c =
           (unit_on (λ _. unit_of_step) step_long LONGEST_HEAD configuration_seen c.args.at (Ok (Configuration name)) two
           (unit_whole (λ _. unit_of_step) step_long LONGEST_HEAD configuration_seen unit c.args.at (Configuration name) (g.met.S.Source.counted c.grow-2.new.source) (omega (arith, long, few))
           (λ rest.
-          text_whole (IsBetween true false) nothing_known 0x07 255 AUnit unit rest (omega (arith, long)) (omega (arith, same, low)) (omega (arith, long, same))
+          text_whole (IsBetween true false) nothing_known 0x07 LONGEST_NAME AUnit unit rest (omega (arith, long)) (omega (arith, same, low)) (omega (arith, long, same))
           ∙ ap (λ (l : List ℕ). Good (AUnit l) (5 + number_at 4 1 unit)) (bytes_of_unit (number_at 4 1 unit) 5 unit rest (omega (arith, long, same)) ∙ sym named)
           ∙ ap (λ (k : ℕ). Good (AUnit name.items) (5 + k)) (sym same ∙ sym few))));
     }
@@ -72,5 +73,5 @@ returns-in_err-grow g c =
     rw (p.1, p.2) (record {
       reads =
           unit_short (λ _. unit_of_step) step_long LONGEST_HEAD configuration_seen c.args.unit.items c.args.at c.in_err-grow.field-0.0 (omega (arith, c.requires)) c.in_err-grow.ensures.cut
-          (λ rest lt. text_begins (IsBetween true false) nothing_known 0x07 255 AUnit c.args.unit.items rest (omega (arith, lt, c.requires)));
+          (λ rest lt. text_begins (IsBetween true false) nothing_known 0x07 LONGEST_NAME AUnit c.args.unit.items rest (omega (arith, lt, c.requires)));
     })

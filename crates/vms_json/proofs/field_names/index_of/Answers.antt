@@ -1,13 +1,31 @@
-use Rattle.std.proofs.Common.{ap, sym, ◌∙◌}
+use Rattle.std.proofs.Common.{◌++◌, [], ◌∷◌, refl, ap, sym, subst, ◌∙◌, arith, rules}
+use Rattle.std.proofs.lemmas.List.{length-append}
 use Rattle.vms_spec.specs.Lists.{or_else}
-use Rattle.vms_json.specs.Index.{at_name}
-use Rattle.vms_json.proofs.NameLaws.{one_named}
+use Rattle.vms_json.specs.Nodes.{view, items_left}
+use Rattle.vms_json.specs.Index.{IsIndex, at_name, names_of}
+use Rattle.vms_json.proofs.NameLaws.{one_named, names_on, names_end}
 use Rattle.vms_json.proofs.field_names.index_of.Goals as goal
 
-pub loop-i-preserved : goal.loop-i-preserved
-loop-i-preserved c = record {
-  first = λ q.
-      let name = c.name_of.result.now in
-      c.in_ok-put_first.ensures q ∙ ap (λ o. or_else o (at_name name c.loop-i.i q)) (c.loop-i.invariant.first q)
-      ∙ sym (one_named c.args.fields.now c.loop-i.i c.index-fields-i.result name q c.loop-i-test.true c.index-fields-i.is c.name_of.ensures);
-}
+pub loop-field-init : goal.loop-field-init
+loop-field-init c =
+    let none : IsIndex c.new-first.result [] = search rules in
+    ([], none, refl, refl, omega arith)
+
+pub loop-field-preserved : goal.loop-field-preserved
+loop-field-preserved c =
+    let l = c.loop-field.invariant in
+    let i = c.loop-field.i in
+    let name = c.name_of.result.now in (
+      l.0 ++ name ∷ [],
+      record {
+        first = λ q. c.in_ok-put_first.ensures q ∙ ap (λ o. or_else o (at_name name i q)) (l.1.first q) ∙ sym (one_named l.0 name q i l.3);
+      },
+      names_on l.0 (names_of (items_left c.args.fields)) name (items_left c.loop-field.fields) (items_left c.next.new.self) (view c.in-Some.field) l.2 c.in-Some.ensures.value c.name_of.ensures,
+      omega (arith, length-append l.0 (name ∷ []), l.3),
+      omega (arith, l.4, c.in-Some.ensures.fewer),
+    )
+
+pub returns : goal.returns
+returns c =
+    let l = c.loop-field.invariant in
+    subst (IsIndex c.loop-field.first) (names_end l.0 (names_of (items_left c.args.fields)) (items_left c.loop-field.fields) l.2 c.in_default.ensures.value) l.1

@@ -1,10 +1,12 @@
-use Rattle.std.proofs.Common.{◌≡◌, ◌≤◌, length, take}
+use Rattle.std.proofs.Common.{◌≡◌, length, option_map}
+use Rattle.serde_json.specs.Data.{Members}
 use Rattle.serde_json.specs.Find.{get_member}
-use Rattle.vms_json.specs.Nodes.{members_view}
+use Rattle.vms_json.specs.Nodes.{view, members_left, members_on}
 use Rattle.vms_json.proofs.node.find.Given as goal
 
-abbrev pub invariant-loop-left : goal.invariant-loop-left
-invariant-loop-left l = (get_member l.key (members_view l.members.items) ≡ get_member l.key (members_view (take l.left l.members.items))) × (l.left ≤ length l.members.items)
+abbrev pub invariant-loop-name : goal.invariant-loop-name
+invariant-loop-name l =
+    (before : Members) × (members_left l.fn.members ≡ members_on l.members before) × (get_member l.key before ≡ option_map view l.found)
 
-abbrev pub decreases-loop-left : goal.decreases-loop-left
-decreases-loop-left l = l.left
+abbrev pub decreases-loop-name : goal.decreases-loop-name
+decreases-loop-name l = length l.members.rows.now

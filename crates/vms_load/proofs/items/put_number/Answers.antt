@@ -18,12 +18,12 @@ pub returns-in_err-number-clause-reads : goal.returns-in_err-number-clause-reads
 returns-in_err-number-clause-reads g c =
     let p = err_from_is_err_and c.from_residual.result c.from_residual.ensures.1 in
     rw (p.1, p.2)
-    (reads_as (λ n l. (l, tt)) (λ rest left h. number_err (Some rest) (Some left) c.args.cursor.now.at _ c.args.image.now.numbers c.args.kind (capacities_of c.args.most) c.args.cell _ _ h) c.in_err-number.ensures.reads)
+    (reads_as (λ n l. (l, tt)) (λ rest left h. number_err rest (Some left) c.args.cursor.now.at _ c.args.image.now.numbers c.args.kind (capacities_of c.args.most) c.args.cell _ _ h) c.in_err-number.ensures.reads)
 
 pub returns-clause-reads : goal.returns-clause-reads
 returns-clause-reads g c =
     let f : SFits w128 c.in_ok-number.number = search rules in
     rw (c.set.ensures, to_z-of_z w128 c.in_ok-number.number f)
     (reads_as (λ n l. (omega (arith, l), omega (arith, l, c.in_ok-number.ensures.place)))
-    (λ rest left h. number_ok (Some rest) (Some left) c.args.cursor.now.at c.number.new.cursor.at c.args.image.now.numbers c.args.kind (capacities_of c.args.most) c.args.cell c.in_ok-number.number c.in_ok-number.ensures.place h)
+    (λ rest left h. number_ok rest (Some left) c.args.cursor.now.at c.number.new.cursor.at c.args.image.now.numbers c.args.kind (capacities_of c.args.most) c.args.cell c.in_ok-number.number c.in_ok-number.ensures.place h)
     c.in_ok-number.ensures.reads)

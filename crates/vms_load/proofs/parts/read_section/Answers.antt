@@ -12,6 +12,7 @@ use Rattle.vms_load.specs.Reads.{Onward, reach}
 use Rattle.vms_load.specs.Parts.{IsMoved, part_due, subs_due, bytes_of_part, in_fields, after_fields, after_part}
 use Rattle.vms_load.proofs.GoingLemmas.{goes_here, goes_further, goes_on, goes_still}
 use Rattle.vms_image.specs.Typed.{Typed, state_of as untyped}
+use Rattle.vms_marks.specs.declared.foot.TheConstants.{FOOT_LENGTH}
 use Rattle.vms_marks.specs.declared.sub_head.TheConstants.{LONGEST_SUB_HEAD}
 use Rattle.vms_marks.specs.declared.head.TheConstants.{LONGEST_HEAD}
 use Rattle.vms_load.proofs.parts.read_section.Goals as goal
@@ -119,7 +120,7 @@ loop-next-smaller g c =
     let due = ap (λ (o : Option Open). part_due set d loop.image.came o) c.in-Some.is in
     let same = ap (λ (image : Typed). subs_due set d.subs image.came) c.in_ok-fields.ensures.kept in
     let still = ap (λ (k : ℕ). part_due set (device_at set k) c.after.new.image.came c.in_ok-next.next) c.in_ok-next.ensures.section.0 in
-    let most = subs_due set d.subs c.fields.new.image.came + 5 in
+    let most = subs_due set d.subs c.fields.new.image.came + FOOT_LENGTH in
     let some : 0 < most = omega arith in
     let now = less set d c.after.new.image.came c.in_ok-next.next c.fields.new.cursor c.after.new.cursor most c.in_ok-fields.ensures.held c.in_ok-next.ensures.moved (c.in_ok-next.ensures.moves.2) some in
     omega (arith, due, same, still, now)

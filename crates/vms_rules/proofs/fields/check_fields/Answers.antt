@@ -1,4 +1,4 @@
-use Rattle.std.proofs.Common.{◌≡◌, true, map, ◌<◌, ◌∷◌, List, Bool, None, length, get_or, sym, ap, subst, ◌∙◌, arith}
+use Rattle.std.proofs.Common.{◌≡◌, true, map, ◌<◌, List, Bool, None, length, get_or, sym, ap, subst, ◌∙◌, arith}
 use Rattle.vms_spec.specs.WellFormed.{failing, in_field, fields_fault}
 use Rattle.vms_parts.specs.declared.types.Field.{Field}
 use Rattle.vms_parts.specs.Views.{field_of, desc_of}

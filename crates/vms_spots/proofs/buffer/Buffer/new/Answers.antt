@@ -1,17 +1,27 @@
-use Rattle.std.proofs.Common.{◌≡◌, ◌∙◌, sym, ap, List, subst}
+use Rattle.std.proofs.Common.{◌≡◌, ◌∙◌, List, ap, arith, length}
+use Rattle.std.proofs.lemmas.List.{length-map}
+use Rattle.vms_kinds.specs.declared.Kind.{Kind}
 use Rattle.vms_spots.specs.declared.layout.Spot.{Spot}
-use Rattle.vms_spots.specs.Spots.{held, IsHeld}
-use Rattle.vms_spots.proofs.BufferLaws.{starts}
+use Rattle.vms_spots.specs.Spots.{spots_of, kinds_of, bytes_of}
+use Rattle.vms_spots.proofs.LayoutLaws.{laid_again, kinds_again}
+use Rattle.vms_spots.proofs.BufferLaws.{begun}
 use Rattle.vms_spots.proofs.buffer.Buffer.new.Goals as goal
+
+pub size-requires-clause-few : goal.size-requires-clause-few
+size-requires-clause-few c =
+    let spots = c.deref.result.now in
+    let laid : spots ≡ spots_of c.args.kinds.now = c.deref.ensures.value ∙ c.in_ok-spots.ensures.spots in
+    omega (arith, c.requires, length-map spots (λ s. s.kind), ap length (kinds_again c.args.kinds.now spots laid))
+
+pub size-requires-clause-laid : goal.size-requires-clause-laid
+size-requires-clause-laid c = laid_again c.args.kinds.now c.deref.result.now (c.deref.ensures.value ∙ c.in_ok-spots.ensures.spots)
 
 pub invariant_of-result : goal.invariant_of-result
 invariant_of-result c =
-    let spots : c.in_ok-to_vec.field-0.items ≡ c.args.spots.now = c.in_ok-to_vec.ensures.items_if_clones_equal (λ x y e. e) in
-    let held = (starts c.args.spots.now c.in_ok-vec.field-0.items c.size.result c.requires.few c.requires.laid c.size.ensures.size (c.in_ok-vec.ensures.items_if_clones_equal (λ y e. e))).held_is in
-    subst (λ (l : List Spot). IsHeld l c.in_ok-vec.field-0.items) (sym spots) held
+    (begun c.args.kinds.now c.in_ok-spots.spots.items c.in_ok-bytes.bytes.items c.size.result c.requires c.in_ok-spots.ensures.spots
+    (c.size.ensures.size ∙ ap (λ (l : List Spot). bytes_of (kinds_of l)) c.deref.ensures.value) (c.in_ok-bytes.ensures.items_if_clones_equal (λ y e. e))).0
 
 pub returns : goal.returns
 returns c =
-    let spots : c.in_ok-to_vec.field-0.items ≡ c.args.spots.now = c.in_ok-to_vec.ensures.items_if_clones_equal (λ x y e. e) in
-    ap (λ (l : List Spot). held l c.in_ok-vec.field-0.items) spots
-    ∙ (starts c.args.spots.now c.in_ok-vec.field-0.items c.size.result c.requires.few c.requires.laid c.size.ensures.size (c.in_ok-vec.ensures.items_if_clones_equal (λ y e. e))).seen
+    (begun c.args.kinds.now c.in_ok-spots.spots.items c.in_ok-bytes.bytes.items c.size.result c.requires c.in_ok-spots.ensures.spots
+    (c.size.ensures.size ∙ ap (λ (l : List Spot). bytes_of (kinds_of l)) c.deref.ensures.value) (c.in_ok-bytes.ensures.items_if_clones_equal (λ y e. e))).1

@@ -1,0 +1,270 @@
+-- What is due while a text is read, a token on: with the rows that are laid.
+use Rattle.std.proofs.Common.{◌≡◌, ℕ, suc, ◌-◌, ◌<◌, ◌≤◌, List, [], ◌∷◌, ◌++◌, length, true, false, Option, Some, None, refl, sym, ap, subst, ◌∙◌, arith}
+use Rattle.std.proofs.lemmas.List.{length-append}
+use Rattle.std.specs.Borrow.{Bor}
+use Rattle.json.specs.Token.{Token}
+use Rattle.json.specs.Json.{after_end_array, read_key, value}
+use Rattle.json.specs.Reads.{token_of}
+use Rattle.json.specs.declared.token.Token.{Token as TokenRead}
+use Rattle.json.specs.declared.token.Token.TheVariants as reads
+use Rattle.json.proofs.Grammar.{value_is, read_key-shorter}
+use Rattle.serde_json.specs.Data.{Data, array, object, no_items, no_members}
+use Rattle.serde_json.specs.Read.{of_json, converted, max_depth}
+use Rattle.vms_json.specs.declared.node.Row.{Row}
+use Rattle.vms_json.specs.declared.node.Row.TheVariants as rows
+use Rattle.vms_json.specs.declared.parse.Laid.{Laid}
+use Rattle.vms_json.specs.Nodes.{rows_view}
+use Rattle.vms_json.specs.Frames.{Frame, in_list, in_object, before, room, after, value_due, due}
+use Rattle.vms_json.specs.Laying.{AreBelow, AreEnough, InList, IsLaid, HasValue, IsRowOf, is_in_list, IsUnder, HasEnded}
+use Rattle.vms_json.proofs.FrameLaws.{value_ends, value_refused, list_begins, object_begins, list_ends, item_due, object_ends, no_key, member_due}
+use Rattle.vms_json.proofs.LaidLaws.{no_members_laid, object_laid, value_in_list, list_begun, object_begun, key_laid, run_laid, row_laid, starts_below, below_more}
+
+-- ---- within the frames
+
+pub enough_fewer : (fs : List Frame) (m n : ℕ) → n ≤ m → AreEnough fs m → AreEnough fs n
+enough_fewer [] m n le are = tt
+enough_fewer (in_list k done ∷ fs) m n le are = (omega (arith, le, are.0), enough_fewer fs m n le are.1)
+enough_fewer (in_object k found key ∷ fs) m n le are = (omega (arith, le, are.0), enough_fewer fs m n le are.1)
+
+pub open_count : (fs : List Frame) (rs : List Row) (starts : List ℕ) → IsLaid fs rs starts → length starts ≡ length fs
+open_count [] rs starts laid = ap length laid.1
+open_count (in_list n done ∷ fs) rs starts laid = omega (arith, ap length laid.begins, length-append laid.places (length laid.below ∷ []), open_count fs laid.below laid.places laid.laid)
+open_count (in_object n found k ∷ fs) rs starts laid =
+    let l = laid.laid in
+    omega (arith, ap length l.begins, length-append l.places (length l.below ∷ []), open_count fs l.below l.places l.laid)
+
+pub under_below : (said : Option (Data × List Token)) (laid : Laid) (ts : List Token) → IsUnder said laid ts → AreBelow laid.open.items (length laid.rows.items)
+under_below said laid ts is = starts_below is.frames laid.rows.items laid.open.items is.rows
+
+pub ended_below : (said : Option (Data × List Token)) (laid : Laid) (ts : List Token) → HasEnded said laid ts → AreBelow laid.open.items (length laid.rows.items)
+ended_below said laid ts is =
+    let has = is.rows in
+    below_more laid.open.items (length has.below) (length laid.rows.items) (omega (arith, ap length has.are, length-append has.below has.run))
+    (starts_below is.frames has.below laid.open.items has.laid)
+
+-- ---- a value that begins: in a list one of its items less is left
+
+abbrev lowered : List Frame → List Frame
+lowered [] = []
+lowered (in_list n done ∷ fs) = in_list (n - 1) done ∷ fs
+lowered (in_object n found k ∷ fs) = in_object n found k ∷ fs
+
+record Begins (said : Option (Data × List Token)) (laid : Laid) (t : Token) (ts : List Token) : Type 0 where
+  frames : List Frame
+  says : said ≡ value_due frames (t ∷ ts)
+  rows : IsLaid frames laid.rows.items laid.open.items
+  inner : laid.in_list ≡ is_in_list frames
+  enough : AreEnough frames (length ts)
+
+due_lowered : (fs : List Frame) (t : Token) (ts : List Token) → AreEnough fs (length (t ∷ ts)) → after_end_array (t ∷ ts) ≡ None → due fs (t ∷ ts) ≡ value_due (lowered fs) (t ∷ ts)
+due_lowered [] t ts enough going = refl
+due_lowered (in_list n done ∷ fs) t ts enough going = item_due n done fs (t ∷ ts) enough.0 going
+due_lowered (in_object n found k ∷ fs) t ts enough going = refl
+
+rows_lowered : (fs : List Frame) (rs : List Row) (starts : List ℕ) → IsLaid fs rs starts → IsLaid (lowered fs) rs starts
+rows_lowered [] rs starts laid = laid
+rows_lowered (in_list n done ∷ fs) rs starts laid = laid
+rows_lowered (in_object n found k ∷ fs) rs starts laid = laid
+
+inner_lowered : (fs : List Frame) → is_in_list fs ≡ is_in_list (lowered fs)
+inner_lowered [] = refl
+inner_lowered (in_list n done ∷ fs) = refl
+inner_lowered (in_object n found k ∷ fs) = refl
+
+enough_lowered : (fs : List Frame) (m : ℕ) → AreEnough fs (suc m) → AreEnough (lowered fs) m
+enough_lowered [] m are = tt
+enough_lowered (in_list n done ∷ fs) m are = (omega (arith, are.0), enough_fewer fs (suc m) m (omega arith) are.1)
+enough_lowered (in_object n found k ∷ fs) m are = (omega (arith, are.0), enough_fewer fs (suc m) m (omega arith) are.1)
+
+begins : (said : Option (Data × List Token)) (laid : Laid) (t : Token) (ts : List Token) → after_end_array (t ∷ ts) ≡ None → IsUnder said laid (t ∷ ts) → Begins said laid t ts
+begins said laid t ts going is = record {
+  frames = lowered is.frames;
+  says = is.says ∙ due_lowered is.frames t ts is.enough going;
+  rows = rows_lowered is.frames laid.rows.items laid.open.items is.rows;
+  inner = is.inner ∙ inner_lowered is.frames;
+  enough = enough_lowered is.frames (length ts) is.enough;
+}
+
+-- ---- no token is left, or none of a value
+
+pub none_left : (said : Option (Data × List Token)) (laid : Laid) → IsUnder said laid [] → said ≡ None
+none_left said laid is = is.says ∙ at is.frames is.enough
+  where
+    none : (n : ℕ) → converted of_json (value n []) ≡ None
+    none n = ap (converted of_json) (value_is n [])
+
+    at : (fs : List Frame) → AreEnough fs 0 → due fs [] ≡ None
+    at [] enough = value_refused [] [] (none (room []))
+    at (in_list n done ∷ fs) enough = item_due n done fs [] enough.0 refl ∙ value_refused (in_list (n - 1) done ∷ fs) [] (none (room (in_list (n - 1) done ∷ fs)))
+    at (in_object n found k ∷ fs) enough = value_refused (in_object n found k ∷ fs) [] (none (room (in_object n found k ∷ fs)))
+
+-- ---- a value of one token
+
+pub token_laid : (said : Option (Data × List Token)) (laid now : Laid) (t : Token) (ts : List Token) (r : Row) → after_end_array (t ∷ ts) ≡ None → IsUnder said laid (t ∷ ts) → IsRowOf t r
+    → now.rows.items ≡ laid.rows.items ++ r ∷ [] → now.open.items ≡ laid.open.items → now.in_list ≡ laid.in_list → HasEnded said now ts
+token_laid said laid now t ts r going is row rows_are open_are flag_is =
+    let b = begins said laid t ts going is in
+    record {
+      frames = b.frames;
+      value = rows_view (r ∷ []);
+      says = b.says ∙ value_ends b.frames (t ∷ ts) ts (rows_view (r ∷ [])) (row.says (room b.frames) ts);
+      rows =
+          subst (λ rs. HasValue b.frames rs now.open.items (rows_view (r ∷ []))) (sym rows_are)
+          (subst (λ starts. HasValue b.frames (laid.rows.items ++ r ∷ []) starts (rows_view (r ∷ []))) (sym open_are)
+          (run_laid b.frames laid.rows.items (r ∷ []) laid.open.items (rows_view (r ∷ [])) b.rows (row_laid t r row)));
+      inner = flag_is ∙ b.inner;
+      enough = b.enough;
+    }
+
+pub token_refused : (said : Option (Data × List Token)) (laid : Laid) (t : Token) (ts : List Token) → after_end_array (t ∷ ts) ≡ None → IsUnder said laid (t ∷ ts)
+    → ((n : ℕ) → converted of_json (value n (t ∷ ts)) ≡ None) → said ≡ None
+token_refused said laid t ts going is none =
+    let b = begins said laid t ts going is in
+    b.says ∙ value_refused b.frames (t ∷ ts) (none (room b.frames))
+
+pub no_end : (k : TokenRead) → (k ≡ reads.EndArray → ⊥) → (ts : List Token) → after_end_array (token_of k ∷ ts) ≡ None
+no_end reads.BeginObject not ts = refl
+no_end reads.EndObject not ts = refl
+no_end reads.BeginArray not ts = refl
+no_end reads.EndArray not ts = absurd (not refl)
+no_end (reads.Key k) not ts = refl
+no_end (reads.String k) not ts = refl
+no_end (reads.Number k) not ts = refl
+no_end (reads.Bool b) not ts = refl
+no_end reads.Null not ts = refl
+no_end reads.Bad not ts = refl
+
+-- how deep a value may nest plays no part where none begins
+pub at_any_depth : (k : TokenRead) → (k ≡ reads.BeginObject → ⊥) → (k ≡ reads.BeginArray → ⊥) → (ts : List Token) (n : ℕ) → value n (token_of k ∷ ts) ≡ value 0 (token_of k ∷ ts)
+at_any_depth reads.BeginObject o a ts n = absurd (o refl)
+at_any_depth reads.EndObject o a ts n = value_is n (token_of reads.EndObject ∷ ts) ∙ sym (value_is 0 (token_of reads.EndObject ∷ ts))
+at_any_depth reads.BeginArray o a ts n = absurd (a refl)
+at_any_depth reads.EndArray o a ts n = value_is n (token_of reads.EndArray ∷ ts) ∙ sym (value_is 0 (token_of reads.EndArray ∷ ts))
+at_any_depth (reads.Key k) o a ts n = value_is n (token_of (reads.Key k) ∷ ts) ∙ sym (value_is 0 (token_of (reads.Key k) ∷ ts))
+at_any_depth (reads.String k) o a ts n = value_is n (token_of (reads.String k) ∷ ts) ∙ sym (value_is 0 (token_of (reads.String k) ∷ ts))
+at_any_depth (reads.Number k) o a ts n = value_is n (token_of (reads.Number k) ∷ ts) ∙ sym (value_is 0 (token_of (reads.Number k) ∷ ts))
+at_any_depth (reads.Bool b) o a ts n = value_is n (token_of (reads.Bool b) ∷ ts) ∙ sym (value_is 0 (token_of (reads.Bool b) ∷ ts))
+at_any_depth reads.Null o a ts n = value_is n (token_of reads.Null ∷ ts) ∙ sym (value_is 0 (token_of reads.Null ∷ ts))
+at_any_depth reads.Bad o a ts n = value_is n (token_of reads.Bad ∷ ts) ∙ sym (value_is 0 (token_of reads.Bad ∷ ts))
+
+-- ---- a list
+
+too_deep : (said : Option (Data × List Token)) (laid : Laid) (t : Token) (ts : List Token) → after_end_array (t ∷ ts) ≡ None → IsUnder said laid (t ∷ ts) → max_depth ≤ length laid.open.items
+    → converted of_json (value 0 (t ∷ ts)) ≡ None → said ≡ None
+too_deep said laid t ts going is deep none =
+    let b = begins said laid t ts going is in
+    let no_room : room b.frames ≡ 0 = omega (arith, deep, open_count b.frames laid.rows.items laid.open.items b.rows) in
+    b.says ∙ value_refused b.frames (t ∷ ts) (ap (λ n. converted of_json (value n (t ∷ ts))) no_room ∙ none)
+
+pub list_too_deep : (said : Option (Data × List Token)) (laid : Laid) (ts : List Token) → IsUnder said laid (Token.begin_array ∷ ts) → max_depth ≤ length laid.open.items → said ≡ None
+list_too_deep said laid ts is deep = too_deep said laid Token.begin_array ts refl is deep (ap (converted of_json) (value_is 0 (Token.begin_array ∷ ts)))
+
+pub list_opened : (said : Option (Data × List Token)) (laid now : Laid) (ts : List Token) (n : ℕ) → IsUnder said laid (Token.begin_array ∷ ts) → length laid.open.items < max_depth
+    → now.rows.items ≡ laid.rows.items ++ rows.List n ∷ [] → now.open.items ≡ laid.open.items ++ length laid.rows.items ∷ [] → now.in_list ≡ true → IsUnder said now ts
+list_opened said laid now ts n is deep rows_are open_are flag_is =
+    let b = begins said laid Token.begin_array ts refl is in
+    let fs : List Frame = in_list (length ts) [] ∷ b.frames in
+    record {
+      frames = fs;
+      says = b.says ∙ list_begins b.frames ts (omega (arith, deep, open_count b.frames laid.rows.items laid.open.items b.rows));
+      rows =
+          subst (λ rs. IsLaid fs rs now.open.items) (sym rows_are)
+          (subst (λ starts. IsLaid fs (laid.rows.items ++ rows.List n ∷ []) starts) (sym open_are) (list_begun b.frames laid.rows.items laid.open.items n b.rows));
+      inner = flag_is;
+      enough = (omega arith, b.enough);
+    }
+
+pub list_over : (said : Option (Data × List Token)) (laid now : Laid) (ts : List Token) → IsUnder said laid (Token.end_array ∷ ts) → laid.in_list ≡ true
+    → ((fs : List Frame) (done : List Data) → InList (IsLaid fs) done laid.rows.items laid.open.items → laid.in_list ≡ true
+    → HasValue fs now.rows.items now.open.items (array (before done no_items)) × (now.in_list ≡ is_in_list fs)) → HasEnded said now ts
+list_over said laid now ts is inside closed = at is.frames is.says is.rows (sym inside ∙ is.inner) is.enough
+  where
+    at : (fs : List Frame) → said ≡ due fs (Token.end_array ∷ ts) → IsLaid fs laid.rows.items laid.open.items → true ≡ is_in_list fs → AreEnough fs (suc (length ts)) → HasEnded said now ts
+    at [] says laid_so in_one enough = absurd (cc)
+    at (in_object n found k ∷ fs) says laid_so in_one enough = absurd (cc)
+    at (in_list n done ∷ fs) says laid_so in_one enough =
+        let both = closed fs done laid_so inside in
+        record {
+          frames = fs;
+          value = array (before done no_items);
+          says = says ∙ list_ends n done fs (Token.end_array ∷ ts) ts enough.0 refl;
+          rows = both.0;
+          inner = both.1;
+          enough = enough_fewer fs (suc (length ts)) (length ts) (omega arith) enough.1;
+        }
+
+pub no_list_over : (said : Option (Data × List Token)) (laid : Laid) (ts : List Token) → IsUnder said laid (Token.end_array ∷ ts) → laid.in_list ≡ false → said ≡ None
+no_list_over said laid ts is outside = at is.frames is.says (sym outside ∙ is.inner)
+  where
+    none : (n : ℕ) → converted of_json (value n (Token.end_array ∷ ts)) ≡ None
+    none n = ap (converted of_json) (value_is n (Token.end_array ∷ ts))
+
+    at : (fs : List Frame) → said ≡ due fs (Token.end_array ∷ ts) → false ≡ is_in_list fs → said ≡ None
+    at [] says out = says ∙ value_refused [] (Token.end_array ∷ ts) (none (room []))
+    at (in_object n found k ∷ fs) says out = says ∙ value_refused (in_object n found k ∷ fs) (Token.end_array ∷ ts) (none (room (in_object n found k ∷ fs)))
+    at (in_list n done ∷ fs) says out = absurd (cc)
+
+-- after an item the next is due
+pub item_ended : (said : Option (Data × List Token)) (laid : Laid) (ts : List Token) → HasEnded said laid ts → laid.in_list ≡ true → IsUnder said laid ts
+item_ended said laid ts is inside = at is.frames is.says is.rows (sym inside ∙ is.inner) is.enough
+  where
+    at : (fs : List Frame) → said ≡ after fs is.value ts → HasValue fs laid.rows.items laid.open.items is.value → true ≡ is_in_list fs → AreEnough fs (length ts) → IsUnder said laid ts
+    at [] says has in_one enough = absurd (cc)
+    at (in_object n found k ∷ fs) says has in_one enough = absurd (cc)
+    at (in_list n done ∷ fs) says has in_one enough = record {
+      frames = in_list n (done ++ is.value ∷ []) ∷ fs;
+      says = says;
+      rows = value_in_list n done fs laid.rows.items laid.open.items is.value has;
+      inner = inside;
+      enough = enough;
+    }
+
+-- ---- an object
+
+pub object_too_deep : (said : Option (Data × List Token)) (laid : Laid) (ts : List Token) → IsUnder said laid (Token.begin_object ∷ ts) → max_depth ≤ length laid.open.items → said ≡ None
+object_too_deep said laid ts is deep = too_deep said laid Token.begin_object ts refl is deep (ap (converted of_json) (value_is 0 (Token.begin_object ∷ ts)))
+
+pub object_no_key : (said : Option (Data × List Token)) (laid : Laid) (ts : List Token) → IsUnder said laid (Token.begin_object ∷ ts) → length laid.open.items < max_depth → read_key ts ≡ None → said ≡ None
+object_no_key said laid ts is deep none =
+    let b = begins said laid Token.begin_object ts refl is in
+    b.says ∙ object_begins b.frames ts (omega (arith, deep, open_count b.frames laid.rows.items laid.open.items b.rows)) ∙ no_key (length ts) no_members b.frames ts none
+
+pub object_empty : (said : Option (Data × List Token)) (laid now : Laid) (ts rest : List Token) → IsUnder said laid (Token.begin_object ∷ ts) → length laid.open.items < max_depth
+    → read_key ts ≡ Some (None, rest) → now.rows.items ≡ laid.rows.items ++ rows.Object 1 ∷ [] → now.open.items ≡ laid.open.items → now.in_list ≡ laid.in_list → HasEnded said now rest
+object_empty said laid now ts rest is deep over rows_are open_are flag_is =
+    let b = begins said laid Token.begin_object ts refl is in
+    record {
+      frames = b.frames;
+      value = object no_members;
+      says =
+          b.says ∙ object_begins b.frames ts (omega (arith, deep, open_count b.frames laid.rows.items laid.open.items b.rows))
+          ∙ object_ends (length ts) no_members b.frames ts rest (omega arith) over;
+      rows =
+          subst (λ rs. HasValue b.frames rs now.open.items (object no_members)) (sym rows_are)
+          (subst (λ starts. HasValue b.frames (laid.rows.items ++ rows.Object 1 ∷ []) starts (object no_members)) (sym open_are)
+          (run_laid b.frames laid.rows.items (rows.Object 1 ∷ []) laid.open.items (object no_members) b.rows (object_laid [] no_members no_members_laid)));
+      inner = flag_is ∙ b.inner;
+      enough = enough_fewer b.frames (length ts) (length rest) (omega (arith, read_key-shorter ts None rest over)) b.enough;
+    }
+
+pub object_opened : (said : Option (Data × List Token)) (laid now : Laid) (ts rest : List Token) (k : Bor (List ℕ)) (n : ℕ) → IsUnder said laid (Token.begin_object ∷ ts)
+    → length laid.open.items < max_depth → read_key ts ≡ Some (Some k.now, rest) → now.rows.items ≡ (laid.rows.items ++ rows.Object n ∷ []) ++ rows.Key k ∷ []
+    → now.open.items ≡ laid.open.items ++ length laid.rows.items ∷ [] → now.in_list ≡ false → IsUnder said now rest
+object_opened said laid now ts rest k n is deep named rows_are open_are flag_is =
+    let b = begins said laid Token.begin_object ts refl is in
+    let fewer = read_key-shorter ts (Some k.now) rest named in
+    let fs : List Frame = in_object (length ts - 1) no_members k.now ∷ b.frames in
+    let rs : List Row = laid.rows.items ++ rows.Object n ∷ [] in
+    let starts : List ℕ = laid.open.items ++ length laid.rows.items ∷ [] in
+    record {
+      frames = fs;
+      says =
+          b.says ∙ object_begins b.frames ts (omega (arith, deep, open_count b.frames laid.rows.items laid.open.items b.rows))
+          ∙ member_due (length ts) no_members k.now b.frames ts rest (omega (arith, fewer)) named;
+      rows =
+          subst (λ rs. IsLaid fs rs now.open.items) (sym rows_are)
+          (subst (λ places. IsLaid fs (rs ++ rows.Key k ∷ []) places) (sym open_are)
+          (key_laid (length ts - 1) no_members b.frames rs starts k (object_begun b.frames laid.rows.items laid.open.items n b.rows)));
+      inner = flag_is;
+      enough = (omega (arith, fewer), enough_fewer b.frames (length ts) (length rest) (omega (arith, fewer)) b.enough);
+    }

@@ -1,0 +1,224 @@
+-- Rows that are laid one after the other: of a value, of the items of a list, of the members of an object.
+use Rattle.std.proofs.Common.{◌≡◌, ℕ, suc, ◌+◌, ◌*◌, ◌<◌, ◌≤◌, List, [], ◌∷◌, ◌++◌, length, take, drop, Bool, Some, None, option_map, refl, sym, ap, subst, ◌∙◌, arith, append_assoc}
+use Rattle.std.proofs.lemmas.List.{append-nil, length-append}
+use Rattle.std.proofs.Math.ListN.{set}
+use Rattle.std.proofs.Math.Seq.{take-append_seam, drop-append_seam, set-append_seam}
+use Rattle.std.specs.Borrow.{Bor}
+use Rattle.json.specs.Token.{Token}
+use Rattle.json.specs.Reads.{token_of}
+use Rattle.json.specs.declared.token.Token.{Token as TokenRead}
+use Rattle.json.specs.declared.token.Token.TheVariants as reads
+use Rattle.json.specs.Json.{value}
+use Rattle.json.proofs.Grammar.{value_is}
+use Rattle.serde_json.specs.View.{number_view}
+use Rattle.serde_json.specs.declared.number.Number.{Number}
+use Rattle.serde_json.specs.Read.{number_of, of_json, converted}
+use Rattle.serde_json.specs.Data.{Data, number, array, object, no_items, item, Members, no_members, put}
+use Rattle.vms_json.specs.declared.node.Row.{Row}
+use Rattle.vms_json.specs.declared.node.Row.TheVariants as rows
+use Rattle.vms_json.specs.Nodes.{count_at, front, data_in, rows_view}
+use Rattle.vms_json.proofs.RowLaws.{an_item_left, a_member_left, no_items_left, no_member_left}
+use Rattle.vms_json.specs.Frames.{Frame, in_list, in_object, before}
+use Rattle.vms_json.specs.Laying.{AreBelow, IsRowOf, items_of, members_of, IsRun, AreItems, AreMembers, InList, InObject, IsLaid, HasValue}
+use Rattle.vms_json.proofs.FrameLaws.{before_one}
+
+pub no_items_laid : AreItems [] []
+no_items_laid = record { first = λ more. refl }
+
+pub no_members_laid : AreMembers [] no_members
+no_members_laid = record { first = λ more. refl }
+
+taken : (run more : List Row) (d : Data) → IsRun run d → run ≡ take (front (run ++ more)) (run ++ more)
+taken run more d is = sym (ap (λ n. take n (run ++ more)) (is.all more) ∙ take-append_seam run more)
+
+dropped : (run more : List Row) (d : Data) → IsRun run d → more ≡ drop (front (run ++ more)) (run ++ more)
+dropped run more d is = sym (ap (λ n. drop n (run ++ more)) (is.all more) ∙ drop-append_seam run more)
+
+pub one_item_laid : (rs run : List Row) (done : List Data) (d : Data) → AreItems rs done → IsRun run d → AreItems (rs ++ run) (done ++ d ∷ [])
+one_item_laid rs run done d are is = record {
+  first = λ more.
+      ap items_of (append_assoc rs run more) ∙ are.first (run ++ more)
+      ∙ ap (before done)
+      (an_item_left (run ++ more) run more (omega (arith, is.some, length-append run more)) (taken run more d is) (dropped run more d is)
+      ∙ ap (λ e. item e (items_of more)) is.says)
+      ∙ sym (before_one done d (items_of more));
+}
+
+pub one_member_laid : (rs run : List Row) (k : Bor (List ℕ)) (found : Members) (d : Data) → AreMembers rs found → IsRun run d → AreMembers (rs ++ rows.Key k ∷ run) (put k.now d found)
+one_member_laid rs run k found d are is = record {
+  first = λ more.
+      ap (λ l. members_of l no_members) (append_assoc rs (rows.Key k ∷ run) more) ∙ are.first (rows.Key k ∷ run ++ more)
+      ∙ a_member_left (rows.Key k ∷ run ++ more) (run ++ more) run more k found refl (taken run more d is) (dropped run more d is)
+      ∙ ap (λ e. members_of more (put k.now e found)) is.says;
+}
+
+-- ---- a list and an object that are ended
+
+all_of : (r : Row) (rs : List Row) → count_at r ≡ length (r ∷ rs) → (more : List Row) → front (r ∷ rs ++ more) ≡ length (r ∷ rs)
+all_of r rs count more = omega (arith, count, length-append rs more)
+
+pub list_laid : (rs : List Row) (done : List Data) → AreItems rs done → IsRun (rows.List (length rs + 1) ∷ rs) (array (before done no_items))
+unfolding data_in
+list_laid rs done are =
+    let double : 2 * length (rows.List (length rs + 1) ∷ rs) ≡ suc (2 * length rs + 1) = omega arith in
+    record {
+      some = omega arith;
+      all = all_of (rows.List (length rs + 1)) rs (omega arith);
+      says =
+          ap (λ n. data_in n (rows.List (length rs + 1) ∷ rs)) double
+          ∙ ap array (ap items_of (sym (append-nil rs)) ∙ are.first [] ∙ ap (before done) (no_items_left [] refl));
+    }
+
+pub object_laid : (rs : List Row) (found : Members) → AreMembers rs found → IsRun (rows.Object (length rs + 1) ∷ rs) (object found)
+unfolding data_in
+object_laid rs found are =
+    let double : 2 * length (rows.Object (length rs + 1) ∷ rs) ≡ suc (2 * length rs + 1) = omega arith in
+    record {
+      some = omega arith;
+      all = all_of (rows.Object (length rs + 1)) rs (omega arith);
+      says =
+          ap (λ n. data_in n (rows.Object (length rs + 1) ∷ rs)) double
+          ∙ ap object (ap (λ l. members_of l no_members) (sym (append-nil rs)) ∙ are.first [] ∙ no_member_left [] found refl);
+    }
+
+-- ---- a value that was laid within open ones
+
+pub value_in_list : (n : ℕ) (done : List Data) (fs : List Frame) (rs : List Row) (starts : List ℕ) (d : Data) → HasValue (in_list n done ∷ fs) rs starts d
+    → InList (IsLaid fs) (done ++ d ∷ []) rs starts
+value_in_list n done fs rs starts d has =
+    let l = has.laid in
+    record {
+      below = l.below;
+      own = l.own ++ has.run;
+      places = l.places;
+      count = l.count;
+      are = has.are ∙ ap (λ b. b ++ has.run) l.are ∙ append_assoc l.below (rows.List l.count ∷ l.own) has.run;
+      begins = l.begins;
+      items = one_item_laid l.own has.run done d l.items has.value;
+      laid = l.laid;
+    }
+
+pub value_in_object : (n : ℕ) (found : Members) (k : List ℕ) (fs : List Frame) (rs : List Row) (starts : List ℕ) (d : Data) → HasValue (in_object n found k ∷ fs) rs starts d
+    → InObject (IsLaid fs) (put k d found) rs starts
+value_in_object n found k fs rs starts d has =
+    let at = has.laid in
+    let l = at.laid in
+    record {
+      below = l.below;
+      own = l.own ++ rows.Key at.key ∷ has.run;
+      places = l.places;
+      count = l.count;
+      are =
+          has.are ∙ ap (λ b. b ++ has.run) (at.are ∙ ap (λ b. b ++ rows.Key at.key ∷ []) l.are)
+          ∙ append_assoc (l.below ++ rows.Object l.count ∷ l.own) (rows.Key at.key ∷ []) has.run
+          ∙ append_assoc l.below (rows.Object l.count ∷ l.own) (rows.Key at.key ∷ has.run);
+      begins = l.begins;
+      members = subst (λ q. AreMembers (l.own ++ rows.Key at.key ∷ has.run) (put q d found)) at.name (one_member_laid l.own has.run at.key found d l.members has.value);
+      laid = l.laid;
+    }
+
+-- ---- values of one token
+
+pub text_row : (s : Bor (List ℕ)) → IsRowOf (Token.string s.now) (rows.Text s)
+unfolding data_in
+text_row s = record {
+  says = λ n ts. ap (converted of_json) (value_is n (Token.string s.now ∷ ts));
+  one = refl;
+}
+
+pub flag_row : (b : Bool) → IsRowOf (Token.boolean b) (rows.Bool b)
+unfolding data_in
+flag_row b = record {
+  says = λ n ts. ap (converted of_json) (value_is n (Token.boolean b ∷ ts));
+  one = refl;
+}
+
+pub null_row : IsRowOf Token.null rows.Null
+unfolding data_in
+null_row = record {
+  says = λ n ts. ap (converted of_json) (value_is n (Token.null ∷ ts));
+  one = refl;
+}
+
+pub number_row : (s : List ℕ) (k : Number) → Some (number_view k) ≡ number_of s → IsRowOf (Token.number s) (rows.Number k)
+unfolding data_in
+number_row s k is = record {
+  says = λ n ts. ap (converted of_json) (value_is n (Token.number s ∷ ts)) ∙ ap (λ o. option_map (λ d. (d, ts)) (option_map number o)) (sym is);
+  one = refl;
+}
+
+pub no_number : (s : List ℕ) (n : ℕ) (ts : List Token) → None ≡ number_of s → converted of_json (value n (Token.number s ∷ ts)) ≡ None
+no_number s n ts is = ap (converted of_json) (value_is n (Token.number s ∷ ts)) ∙ ap (λ o. option_map (λ d. (d, ts)) (option_map number o)) (sym is)
+
+pub row_laid : (t : Token) (r : Row) → IsRowOf t r → IsRun (r ∷ []) (rows_view (r ∷ []))
+row_laid t r is = record {
+  some = omega arith;
+  all = all_of r [] is.one;
+  says = refl;
+}
+
+-- ---- a list or an object that begins, a key, and an end
+
+pub list_begun : (fs : List Frame) (rs : List Row) (starts : List ℕ) (n : ℕ) → IsLaid fs rs starts → InList (IsLaid fs) [] (rs ++ rows.List n ∷ []) (starts ++ length rs ∷ [])
+list_begun fs rs starts n laid = record { below = rs; own = []; places = starts; count = n; are = refl; begins = refl; items = no_items_laid; laid = laid }
+
+pub object_begun : (fs : List Frame) (rs : List Row) (starts : List ℕ) (n : ℕ) → IsLaid fs rs starts → InObject (IsLaid fs) no_members (rs ++ rows.Object n ∷ []) (starts ++ length rs ∷ [])
+object_begun fs rs starts n laid = record { below = rs; own = []; places = starts; count = n; are = refl; begins = refl; members = no_members_laid; laid = laid }
+
+pub key_laid : (n : ℕ) (found : Members) (fs : List Frame) (rs : List Row) (starts : List ℕ) (k : Bor (List ℕ)) → InObject (IsLaid fs) found rs starts
+    → IsLaid (in_object n found k.now ∷ fs) (rs ++ rows.Key k ∷ []) starts
+key_laid n found fs rs starts k laid = record { first = rs; key = k; are = refl; name = refl; laid = laid }
+
+pub run_laid : (fs : List Frame) (rs run : List Row) (starts : List ℕ) (d : Data) → IsLaid fs rs starts → IsRun run d → HasValue fs (rs ++ run) starts d
+run_laid fs rs run starts d laid is = record { below = rs; run = run; are = refl; value = is; laid = laid }
+
+pub list_closed : (fs : List Frame) (done : List Data) (rs : List Row) (starts : List ℕ) (l : InList (IsLaid fs) done rs starts)
+    → HasValue fs (l.below ++ rows.List (length l.own + 1) ∷ l.own) l.places (array (before done no_items))
+list_closed fs done rs starts l = run_laid fs l.below (rows.List (length l.own + 1) ∷ l.own) l.places (array (before done no_items)) l.laid (list_laid l.own done l.items)
+
+pub object_closed : (fs : List Frame) (found : Members) (rs : List Row) (starts : List ℕ) (l : InObject (IsLaid fs) found rs starts)
+    → HasValue fs (l.below ++ rows.Object (length l.own + 1) ∷ l.own) l.places (object found)
+object_closed fs found rs starts l = run_laid fs l.below (rows.Object (length l.own + 1) ∷ l.own) l.places (object found) l.laid (object_laid l.own found l.members)
+
+-- the count is put where a list or an object began
+pub ended : (below own : List Row) (r s : Row) → set (below ++ r ∷ own) (length below) s ≡ below ++ s ∷ own
+ended below own r s = set-append_seam below r own s
+
+-- any other token is no value where nothing may nest
+pub no_row : (k : TokenRead) → ((s : Bor (List ℕ)) → k ≡ reads.String s → ⊥) → ((s : Bor (List ℕ)) → k ≡ reads.Number s → ⊥) → ((b : Bool) → k ≡ reads.Bool b → ⊥) → (k ≡ reads.Null → ⊥)
+    → (ts : List Token) → converted of_json (value 0 (token_of k ∷ ts)) ≡ None
+no_row reads.BeginObject s n b u ts = ap (converted of_json) (value_is 0 (token_of reads.BeginObject ∷ ts))
+no_row reads.EndObject s n b u ts = ap (converted of_json) (value_is 0 (token_of reads.EndObject ∷ ts))
+no_row reads.BeginArray s n b u ts = ap (converted of_json) (value_is 0 (token_of reads.BeginArray ∷ ts))
+no_row reads.EndArray s n b u ts = ap (converted of_json) (value_is 0 (token_of reads.EndArray ∷ ts))
+no_row (reads.Key k) s n b u ts = ap (converted of_json) (value_is 0 (token_of (reads.Key k) ∷ ts))
+no_row (reads.String k) s n b u ts = absurd (s k refl)
+no_row (reads.Number k) s n b u ts = absurd (n k refl)
+no_row (reads.Bool k) s n b u ts = absurd (b k refl)
+no_row reads.Null s n b u ts = absurd (u refl)
+no_row reads.Bad s n b u ts = ap (converted of_json) (value_is 0 (token_of reads.Bad ∷ ts))
+
+-- ---- what is open began at a row that is there
+
+pub below_more : (ss : List ℕ) (m n : ℕ) → m ≤ n → AreBelow ss m → AreBelow ss n
+below_more [] m n le are = tt
+below_more (s ∷ ss) m n le are = (omega (arith, le, are.0), below_more ss m n le are.1)
+
+below_push : (ss : List ℕ) (s m : ℕ) → AreBelow ss m → s < m → AreBelow (ss ++ s ∷ []) m
+below_push [] s m are lt = (lt, tt)
+below_push (r ∷ ss) s m are lt = (are.0, below_push ss s m are.1 lt)
+
+one_below : (below own rs : List Row) (r : Row) (places starts : List ℕ) → rs ≡ below ++ r ∷ own → starts ≡ places ++ length below ∷ [] → AreBelow places (length below) → AreBelow starts (length rs)
+one_below below own rs r places starts are begins lower =
+    let long : length rs ≡ length below + length (r ∷ own) = ap length are ∙ length-append below (r ∷ own) in
+    subst (λ s. AreBelow s (length rs)) (sym begins)
+    (below_push places (length below) (length rs) (below_more places (length below) (length rs) (omega (arith, long)) lower) (omega (arith, long)))
+
+pub starts_below : (fs : List Frame) (rs : List Row) (starts : List ℕ) → IsLaid fs rs starts → AreBelow starts (length rs)
+starts_below [] rs starts laid = subst (λ s. AreBelow s (length rs)) (sym laid.1) tt
+starts_below (in_list n done ∷ fs) rs starts laid =
+    one_below laid.below laid.own rs (rows.List laid.count) laid.places starts laid.are laid.begins (starts_below fs laid.below laid.places laid.laid)
+starts_below (in_object n found k ∷ fs) rs starts laid =
+    let l = laid.laid in
+    below_more starts (length laid.first) (length rs) (omega (arith, ap length laid.are, length-append laid.first (rows.Key laid.key ∷ [])))
+    (one_below l.below l.own laid.first (rows.Object l.count) l.places starts l.are l.begins (starts_below fs l.below l.places l.laid))

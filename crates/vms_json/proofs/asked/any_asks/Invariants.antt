@@ -1,0 +1,10 @@
+use Rattle.std.proofs.Common.{◌≡◌, length}
+use Rattle.vms_json.specs.Asked.{some_ask}
+use Rattle.vms_json.specs.Nodes.{items_left}
+use Rattle.vms_json.proofs.asked.any_asks.Given as goal
+
+abbrev pub invariant-loop-field : goal.invariant-loop-field
+invariant-loop-field l = some_ask (items_left l.fn.fields) ≡ some_ask (items_left l.fields)
+
+abbrev pub decreases-loop-field : goal.decreases-loop-field
+decreases-loop-field l = length l.fields.rows.now

@@ -1,0 +1,53 @@
+use Rattle.std.proofs.Common.{◌≡◌, ◌∷◌, Err, refl, ap, subst, ◌∙◌, arith, rules}
+use Rattle.json.specs.Reads.{token_of}
+use Rattle.serde_json.specs.Read.{of_json, converted}
+use Rattle.vms_json.specs.Laying.{IsUnder}
+use Rattle.vms_json.specs.declared.parse.NoNode.TheVariants.{Syntax}
+use Rattle.vms_json.proofs.DueLaws.{list_too_deep, list_opened, list_over, no_list_over, token_laid, token_refused, no_end, at_any_depth}
+use Rattle.vms_json.proofs.parse.lay.Goals as goal
+
+pub returns-in-BeginObject-clause-err : goal.returns-in-BeginObject-clause-err
+returns-in-BeginObject-clause-err c = λ said is why.
+    c.begin_object.ensures.err said (subst (λ t. IsUnder said c.args.laid.now (token_of t ∷ c.args.reader.now)) c.in-BeginObject.is is) why
+
+pub returns-then-not-laid-clause-err : goal.returns-then-not-laid-clause-err
+returns-then-not-laid-clause-err c = λ said is why.
+    no_list_over said c.args.laid.now c.args.reader.now
+    (subst (λ t. IsUnder said c.args.laid.now (token_of t ∷ c.args.reader.now)) c.in-EndArray.is is) (search rules)
+
+pub returns-else-not-laid-clause-ok : goal.returns-else-not-laid-clause-ok
+returns-else-not-laid-clause-ok c = λ said is.
+    list_over said c.args.laid.now c.end.new.self c.args.reader.now
+    (subst (λ t. IsUnder said c.args.laid.now (token_of t ∷ c.args.reader.now)) c.in-EndArray.is is) (search rules) c.end.ensures.list
+
+pub returns-then-len-ge-DEEPEST-clause-err : goal.returns-then-len-ge-DEEPEST-clause-err
+returns-then-len-ge-DEEPEST-clause-err c = λ said is why.
+    list_too_deep said c.args.laid.now c.args.reader.now
+    (subst (λ t. IsUnder said c.args.laid.now (token_of t ∷ c.args.reader.now)) c.in-BeginArray.is is) (omega arith)
+
+pub returns-in_ok-begin-in-BeginArray-clause-ok : goal.returns-in_ok-begin-in-BeginArray-clause-ok
+returns-in_ok-begin-in-BeginArray-clause-ok c = λ said is.
+    let b = c.in_ok-begin-in-BeginArray.ensures in
+    list_opened said c.args.laid.now _ c.args.reader.now 0
+    (subst (λ t. IsUnder said c.args.laid.now (token_of t ∷ c.args.reader.now)) c.in-BeginArray.is is) (omega arith) b.rows b.open refl
+
+pub returns-in_err-row_of-in_default : goal.returns-in_err-row_of-in_default
+returns-in_err-row_of-in_default c = record {
+  ok = λ said is. search rules;
+  fewer = search rules;
+  err = λ said is why.
+      let d = c.in_default in
+      let refused : c.row_of.result ≡ Err Syntax = grind arith in
+      token_refused said c.args.laid.now (token_of c.args.token) c.args.reader.now (no_end c.args.token d.not-EndArray c.args.reader.now) is
+      (λ n. ap (converted of_json) (at_any_depth c.args.token d.not-BeginObject d.not-BeginArray c.args.reader.now n) ∙ c.row_of.ensures.err refused c.args.reader.now);
+}
+
+pub returns-in_ok-push-in_default : goal.returns-in_ok-push-in_default
+returns-in_ok-push-in_default c = record {
+  ok = λ said is.
+      let d = c.in_default in
+      token_laid said c.args.laid.now _ (token_of c.args.token) c.args.reader.now _ (no_end c.args.token d.not-EndArray c.args.reader.now) is
+      c.in_ok-row_of-in_default.ensures.ok c.in_ok-push-in_default.ensures.items refl refl;
+  fewer = omega arith;
+  err = λ said is why. absurd (cc);
+}

@@ -1,0 +1,121 @@
+-- Rows that are laid while a text is read: of a value, of items, of members, and of all lists and objects that are open.
+use Rattle.std.specs.Prelude.{◌≡◌, ℕ, ◌+◌, ◌*◌, ◌<◌, ◌≤◌, List, [], ◌∷◌, ◌++◌, length, Bool, true, false, Option, Some}
+use Rattle.json.specs.Token.{Token}
+use Rattle.json.specs.Json.{value}
+use Rattle.serde_json.specs.Read.{of_json, converted}
+use Rattle.std.specs.Borrow.{Bor}
+use Rattle.serde_json.specs.Data.{Data, Items, Members, no_members}
+use Rattle.vms_json.specs.declared.node.Row.{Row}
+use Rattle.vms_json.specs.declared.node.Row.TheVariants as rows
+use Rattle.vms_json.specs.Nodes.{count_at, front, items_in, members_in, rows_view}
+use Rattle.vms_json.specs.declared.parse.Laid.{Laid}
+use Rattle.vms_json.specs.Frames.{Frame, in_list, in_object, before, after, due}
+
+abbrev pub items_of : List Row → Items
+items_of rs = items_in (2 * length rs + 1) rs
+
+abbrev pub members_of : List Row → Members → Members
+members_of rs found = members_in (2 * length rs + 1) rs found
+
+-- the rows of one value, whatever stands after them
+pub record IsRun (rs : List Row) (d : Data) : Type 0 where
+  pub some : 0 < length rs
+  pub all : (more : List Row) → front (rs ++ more) ≡ length rs
+  pub says : rows_view rs ≡ d
+
+-- the rows of these items, and of these members, whatever stands after them
+pub record AreItems (rs : List Row) (done : List Data) : Type 0 where
+  pub first : (more : List Row) → items_of (rs ++ more) ≡ before done (items_of more)
+
+pub record AreMembers (rs : List Row) (found : Members) : Type 0 where
+  pub first : (more : List Row) → members_of (rs ++ more) no_members ≡ members_of more found
+
+-- an open list with these items, and an open object with these members, over what was laid before; the count of its row isn't known yet
+pub record InList (Below : List Row → List ℕ → Type 0) (done : List Data) (rs : List Row) (starts : List ℕ) : Type 0 where
+  pub below : List Row
+  pub own : List Row
+  pub places : List ℕ
+  pub count : ℕ
+  pub are : rs ≡ below ++ rows.List count ∷ own
+  pub begins : starts ≡ places ++ length below ∷ []
+  pub items : AreItems own done
+  pub laid : Below below places
+
+pub record InObject (Below : List Row → List ℕ → Type 0) (found : Members) (rs : List Row) (starts : List ℕ) : Type 0 where
+  pub below : List Row
+  pub own : List Row
+  pub places : List ℕ
+  pub count : ℕ
+  pub are : rs ≡ below ++ rows.Object count ∷ own
+  pub begins : starts ≡ places ++ length below ∷ []
+  pub members : AreMembers own found
+  pub laid : Below below places
+
+-- the same, with the key whose value is read
+pub record AtKey (Before : List Row → List ℕ → Type 0) (k : List ℕ) (rs : List Row) (starts : List ℕ) : Type 0 where
+  pub first : List Row
+  pub key : Bor (List ℕ)
+  pub are : rs ≡ first ++ rows.Key key ∷ []
+  pub name : key.now ≡ k
+  pub laid : Before first starts
+
+-- the rows of open lists and objects, with the places where they begin, outermost first
+abbrev pub IsLaid : List Frame → List Row → List ℕ → Type 0
+IsLaid [] rs starts = (rs ≡ []) × (starts ≡ [])
+IsLaid (in_list n done ∷ fs) rs starts = InList (IsLaid fs) done rs starts
+IsLaid (in_object n found k ∷ fs) rs starts = AtKey (InObject (IsLaid fs) found) k rs starts
+
+-- a value was laid over them
+pub record HasValue (fs : List Frame) (rs : List Row) (starts : List ℕ) (d : Data) : Type 0 where
+  pub below : List Row
+  pub run : List Row
+  pub are : rs ≡ below ++ run
+  pub value : IsRun run d
+  pub laid : IsLaid fs below starts
+
+-- whether the innermost is a list
+abbrev pub is_in_list : List Frame → Bool
+is_in_list [] = false
+is_in_list (in_list n done ∷ fs) = true
+is_in_list (in_object n found k ∷ fs) = false
+
+-- so many tokens are left at most
+abbrev pub AreEnough : List Frame → ℕ → Type 0
+AreEnough [] m = Unit {0}
+AreEnough (in_list n done ∷ fs) m = (m ≤ n) × AreEnough fs m
+AreEnough (in_object n found k ∷ fs) m = (m ≤ n) × AreEnough fs m
+
+-- the one row of a value that is one token
+pub record IsRowOf (t : Token) (r : Row) : Type 0 where
+  pub says : (n : ℕ) (ts : List Token) → converted of_json (value n (t ∷ ts)) ≡ Some (rows_view (r ∷ []), ts)
+  pub one : count_at r ≡ 1
+
+-- each is below m
+abbrev pub AreBelow : List ℕ → ℕ → Type 0
+AreBelow [] m = Unit {0}
+AreBelow (s ∷ ss) m = (s < m) × AreBelow ss m
+
+-- ---- while a text is read, of which the whole says this
+
+-- the next is due within these frames
+pub record IsUnder (said : Option (Data × List Token)) (laid : Laid) (ts : List Token) : Type 0 where
+  pub frames : List Frame
+  pub says : said ≡ due frames ts
+  pub rows : IsLaid frames laid.rows.items laid.open.items
+  pub inner : laid.in_list ≡ is_in_list frames
+  pub enough : AreEnough frames (length ts)
+
+-- a value ended within these frames
+pub record HasEnded (said : Option (Data × List Token)) (laid : Laid) (ts : List Token) : Type 0 where
+  pub frames : List Frame
+  pub value : Data
+  pub says : said ≡ after frames value ts
+  pub rows : HasValue frames laid.rows.items laid.open.items value
+  pub inner : laid.in_list ≡ is_in_list frames
+  pub enough : AreEnough frames (length ts)
+
+-- the rows are those of the whole, before these tokens
+pub record IsWhole (said : Option (Data × List Token)) (laid : Laid) (ts : List Token) : Type 0 where
+  pub value : Data
+  pub says : said ≡ Some (value, ts)
+  pub run : IsRun laid.rows.items value
