@@ -62,7 +62,7 @@ impl LeanLoader {
         Ok(self.staged.machine)
     }
 
-    /// The images of the stream that was taken. Before the first one they are at their defaults.
+    /// The images of the stream that was taken. They say nothing before the first one and after an error.
     pub fn images(&self) -> &[Image]
         ensures images { map untyped result.now ≡ has self.now }
         ensures of { AreImagesOf (loads self.now) result.now }
