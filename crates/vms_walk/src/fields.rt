@@ -29,6 +29,15 @@ pub struct PartAt {
     pub base: u32,
 }
 
+// Elements in a row, of which the first has the first cell `first`. A number counts `most` at most.
+#[derive(Clone, Copy)]
+struct Elements<'a> {
+    item: &'a Item,
+    most: Option<u32>,
+    count: u32,
+    first: u32,
+}
+
 // How many elements of a field stand in the bytes: none where the field isn't there.
 #[inline(always)]
 fn present<C: Cells>(set: &DescSet, spot: PartAt, field: u32, cells: &C) -> u32
@@ -113,38 +122,34 @@ fn walk_struct<W: Walker>(
     walk(set, spot, walker)
 }
 
-// Elements one after the other, of which the first has the first cell `first`.
+// All elements of a row.
 #[cycle(walk)]
 #[inline(always)]
-fn walk_items<W: Walker>(
-    set: &DescSet,
-    item: &Item,
-    most: Option<u32>,
-    count: u32,
-    first: u32,
-    walker: &mut W,
-) -> Result<(), W::Fault>
-    requires reaches { uses_below (length (described set.now).structs) item.now ≡ true }
-    requires may { let slots = elements_by (described set.now) item.now most count first in
+fn walk_items<W: Walker>(set: &DescSet, row: Elements<'_>, walker: &mut W) -> Result<(), W::Fault>
+    requires reaches { uses_below (length (described set.now).structs) row.item.now ≡ true }
+    requires may { let slots = elements_by (described set.now)
+        row.item.now row.most row.count row.first in
         MayCome W.goes W.numbers W.may slots walker.old }
-    requires small { size_in (described set.now) item.now ≤ MOST_ITEMS }
-    requires room { first + count * size_in (described set.now) item.now
+    requires small { size_in (described set.now) row.item.now ≤ MOST_ITEMS }
+    requires room { row.first + row.count * size_in (described set.now) row.item.now
         ≤ length (W.numbers walker.old) }
     requires few { length (W.numbers walker.old) ≤ MOST_ITEMS }
     ensures ok { let n = W.numbers walker.new in
-        let slots = elements_by (described set.now) item.now most count first n in
+        let slots = elements_by (described set.now)
+        row.entry.item.now row.entry.most row.entry.count row.entry.first n in
         OnOk result (W.goes (steps_of slots) walker.old walker.new) }
     ensures err { let n = W.numbers walker.new in
-        let slots = elements_by (described set.now) item.now most count first n in
+        let slots = elements_by (described set.now)
+        row.entry.item.now row.entry.most row.entry.count row.entry.first n in
         IfErr result (λ fault. W.stops (steps_of slots) walker.old fault walker.new) }
 {
-    if let Some(kind) = run_kind(item, most, count) {
-        return walk_run(first, count, kind, walker);
+    if let Some(kind) = run_kind(row) {
+        return walk_run(row.first, row.count, kind, walker);
     }
-    let size = set.item_cells(*item);
-    let mut cell = first;
-    for _turn in 0..count {
-        walk_item(set, item, most, cell, walker)?;
+    let size = set.item_cells(*row.item);
+    let mut cell = row.first;
+    for _turn in 0..row.count {
+        walk_item(set, row.item, row.most, cell, walker)?;
         cell += size;
     }
     Ok(())
@@ -152,15 +157,15 @@ fn walk_items<W: Walker>(
 
 // The kind of elements that are taken in runs: some numbers which count nothing and have any code of their width.
 #[inline(always)]
-fn run_kind(item: &Item, most: Option<u32>, count: u32) -> Option<Kind>
-    ensures number { IfSome result (λ kind. item.now ≡ items.Num kind) }
-    ensures free { IfSome result (λ kind. most ≡ None) }
+fn run_kind(row: Elements<'_>) -> Option<Kind>
+    ensures number { IfSome result (λ kind. row.entry.item.now ≡ items.Num kind) }
+    ensures free { IfSome result (λ kind. row.entry.most ≡ None) }
     ensures any { IfSome result (λ kind. kind ≡ Kind.Bool → ⊥) }
 {
-    if count < SHORTEST_RUN {
+    if row.count < SHORTEST_RUN {
         return None;
     }
-    match (item, most) {
+    match (row.item, row.most) {
         (Item::Num(kind), None) if *kind != Kind::Bool => Some(*kind),
         _ => None,
     }
@@ -213,7 +218,13 @@ fn walk_field<W: Walker>(
     let count = present(set, spot, field, walker);
     let most = set.most(spot.part, field);
     let described = &set.desc(spot.part).fields.as_slice()[field as usize];
-    walk_items(set, &described.item, most, count, cell, walker)
+    let row = Elements {
+        item: &described.item,
+        most,
+        count,
+        first: cell,
+    };
+    walk_items(set, row, walker)
 }
 
 /// Goes through what stands in the bytes of a part, in order, and then to the end of it.

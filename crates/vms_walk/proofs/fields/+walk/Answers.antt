@@ -43,14 +43,14 @@ pub walk_items-loop-turn-preserved : goal.walk_items-loop-turn-preserved
 walk_items-loop-turn-preserved g t c =
     let laws = laws_of g in
     let set = described c.args.set.now in
-    let item = c.args.item.now in
+    let item = c.args.row.item.now in
     let i = c.loop-turn._turn in
     let b = c.loop-turn.walker in
     let inv = c.loop-turn.invariant in
     let size : size_in set item ≡ c.item_cells-size.result = sym (size_code set item c.item_cells-size.result c.item_cells-size.ensures c.requires.small) in
     let one : (i + 1) * size_in set item ≡ i * size_in set item + size_in set item = grind arith in
     record {
-      way = items_next _ _ _ g.W.Walker.may laws set (good_of set c.args.set.now.well_formed c.args.set.now.heads) item c.args.most c.args.first i c.loop-turn.cell inv.here c.args.walker.now b inv.way c.walk_item.new.walker c.in_ok-walk_item.ensures.ok;
+      way = items_next _ _ _ g.W.Walker.may laws set (good_of set c.args.set.now.well_formed c.args.set.now.heads) item c.args.row.most c.args.row.first i c.loop-turn.cell inv.here c.args.walker.now b inv.way c.walk_item.new.walker c.in_ok-walk_item.ensures.ok;
       long = (laws.keeps _ b c.walk_item.new.walker c.in_ok-walk_item.ensures.ok).long ∙ inv.long;
       here = omega (arith, one, size, inv.here);
     }
@@ -59,23 +59,23 @@ pub walk_items-returns-in_err-walk_item-clause-err : goal.walk_items-returns-in_
 walk_items-returns-in_err-walk_item-clause-err g t c =
     let N = g.W.Cells.numbers in
     let set = described c.args.set.now in
-    let item = c.args.item.now in
-    let most = c.args.most in
-    let first = c.args.first in
+    let item = c.args.row.item.now in
+    let most = c.args.row.most in
+    let first = c.args.row.first in
     let a = c.args.walker.now in
     let inv = c.loop-turn.invariant in
     let d = c.walk_item.new.walker in
     let fault = c.in_err-walk_item.field-0.0 in
-    err_is (λ fault. g.W.Walker.stops (steps_of (elements_slots set item most (N d) c.args.count first)) a fault d) c.from_residual.result fault c.from_residual.ensures.1
-    (items_stop _ _ _ g.W.Walker.may (laws_of g) set (good_of set c.args.set.now.well_formed c.args.set.now.heads) item most first c.loop-turn._turn c.loop-turn.cell inv.here a c.loop-turn.walker inv.way c.args.count (omega arith) d fault c.in_err-walk_item.ensures.err)
+    err_is (λ fault. g.W.Walker.stops (steps_of (elements_slots set item most (N d) c.args.row.count first)) a fault d) c.from_residual.result fault c.from_residual.ensures.1
+    (items_stop _ _ _ g.W.Walker.may (laws_of g) set (good_of set c.args.set.now.well_formed c.args.set.now.heads) item most first c.loop-turn._turn c.loop-turn.cell inv.here a c.loop-turn.walker inv.way c.args.row.count (omega arith) d fault c.in_err-walk_item.ensures.err)
 
 pub walk_items-walk_item-requires : goal.walk_items-walk_item-requires
 walk_items-walk_item-requires g t c =
     let set = described c.args.set.now in
-    let item = c.args.item.now in
+    let item = c.args.row.item.now in
     let cell = c.loop-turn.cell in
     let inv = c.loop-turn.invariant in
-    let room = room_at c.loop-turn._turn c.args.count (size_in set item) c.args.first cell (length (g.W.Cells.numbers c.args.walker.now)) (omega arith) inv.here c.requires.room in
+    let room = room_at c.loop-turn._turn c.args.row.count (size_in set item) c.args.row.first cell (length (g.W.Cells.numbers c.args.walker.now)) (omega arith) inv.here c.requires.room in
     λ κs h. (
       search rules,
       (
@@ -85,7 +85,7 @@ walk_items-walk_item-requires g t c =
           (
             c.requires.reaches,
             (
-              items_may _ _ _ g.W.Walker.may (laws_of g) set (good_of set c.args.set.now.well_formed c.args.set.now.heads) item c.args.most c.args.first c.loop-turn._turn cell inv.here c.args.walker.now c.loop-turn.walker inv.way c.args.count (omega arith) c.requires.may,
+              items_may _ _ _ g.W.Walker.may (laws_of g) set (good_of set c.args.set.now.well_formed c.args.set.now.heads) item c.args.row.most c.args.row.first c.loop-turn._turn cell inv.here c.args.walker.now c.loop-turn.walker inv.way c.args.row.count (omega arith) c.requires.may,
               (subst (λ (x : ℕ). cell + size_in set item ≤ x) (sym inv.long) room, subst (λ (x : ℕ). x ≤ MOST_ITEMS) (sym inv.long) c.requires.few),
             ),
           ),
@@ -96,8 +96,8 @@ walk_items-walk_item-requires g t c =
 pub walk_items-overflow_add-cell : goal.walk_items-overflow_add-cell
 walk_items-overflow_add-cell g t c =
     let set = described c.args.set.now in
-    let item = c.args.item.now in
-    let room = room_at c.loop-turn._turn c.args.count (size_in set item) c.args.first c.loop-turn.cell (length (g.W.Cells.numbers c.args.walker.now)) (omega arith) c.loop-turn.invariant.here c.requires.room in
+    let item = c.args.row.item.now in
+    let room = room_at c.loop-turn._turn c.args.row.count (size_in set item) c.args.row.first c.loop-turn.cell (length (g.W.Cells.numbers c.args.walker.now)) (omega arith) c.loop-turn.invariant.here c.requires.room in
     omega (arith, size_code set item c.item_cells-size.result c.item_cells-size.ensures c.requires.small, room, c.requires.few)
 
 -- numbers that count nothing
@@ -105,13 +105,13 @@ walk_items-overflow_add-cell g t c =
 pub walk_items-walk_run-requires-clause-may : goal.walk_items-walk_run-requires-clause-may
 walk_items-walk_run-requires-clause-may g t c =
     λ xs ys rest x b h e.
-    c.requires.may xs ys rest x b h (run_steps (described c.args.set.now) c.args.item.now c.args.most c.in-Some.kind (search rules) (search rules) (g.W.Cells.numbers b) c.args.first c.args.count ∙ e)
+    c.requires.may xs ys rest x b h (run_steps (described c.args.set.now) c.args.row.item.now c.args.row.most c.in-Some.kind (search rules) (search rules) (g.W.Cells.numbers b) c.args.row.first c.args.row.count ∙ e)
 
 pub walk_items-returns-in-Some-clause-ok : goal.walk_items-returns-in-Some-clause-ok
 walk_items-returns-in-Some-clause-ok g t c =
     let a = c.args.walker.now in
     let b = c.walk_run.new.walker in
-    let same = run_steps (described c.args.set.now) c.args.item.now c.args.most c.in-Some.kind (search rules) (search rules) (g.W.Cells.numbers b) c.args.first c.args.count in
+    let same = run_steps (described c.args.set.now) c.args.row.item.now c.args.row.most c.in-Some.kind (search rules) (search rules) (g.W.Cells.numbers b) c.args.row.first c.args.row.count in
     on_ok_weaker c.walk_run.result (λ h. subst (λ (l : List WalkStep). g.W.Walker.goes l a b) (sym same) h) c.walk_run.ensures.ok
 
 pub walk_items-returns-in-Some-clause-err : goal.walk_items-returns-in-Some-clause-err
@@ -120,9 +120,9 @@ walk_items-returns-in-Some-clause-err g t c =
     let a = c.args.walker.now in
     let b = c.walk_run.new.walker in
     let kind = c.in-Some.kind in
-    let slots = elements_slots set c.args.item.now c.args.most (g.W.Cells.numbers b) c.args.count c.args.first in
-    let same = run_steps set c.args.item.now c.args.most kind (search rules) (search rules) (g.W.Cells.numbers b) c.args.first c.args.count in
-    IfErr-weaker c.walk_run.result (λ fault. g.W.Walker.stops (run_of c.args.first c.args.count kind) a fault b) (λ fault. g.W.Walker.stops (steps_of slots) a fault b)
+    let slots = elements_slots set c.args.row.item.now c.args.row.most (g.W.Cells.numbers b) c.args.row.count c.args.row.first in
+    let same = run_steps set c.args.row.item.now c.args.row.most kind (search rules) (search rules) (g.W.Cells.numbers b) c.args.row.first c.args.row.count in
+    IfErr-weaker c.walk_run.result (λ fault. g.W.Walker.stops (run_of c.args.row.first c.args.row.count kind) a fault b) (λ fault. g.W.Walker.stops (steps_of slots) a fault b)
     (λ fault h. subst (λ (l : List WalkStep). g.W.Walker.stops l a fault b) (sym same) h) c.walk_run.ensures.err
 
 -- ---- one field

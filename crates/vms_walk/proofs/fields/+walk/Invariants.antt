@@ -13,7 +13,7 @@ abbrev pub decreases-walk_struct : goal.decreases-walk_struct
 decreases-walk_struct g l = 5 * l.number + 4
 
 abbrev pub decreases-walk_items : goal.decreases-walk_items
-decreases-walk_items g l = item_rank l.item.now + 1
+decreases-walk_items g l = item_rank l.row.item.now + 1
 
 abbrev pub decreases-walk_field : goal.decreases-walk_field
 decreases-walk_field g l = part_rank (described l.set.now) l.spot.part + 2
@@ -26,9 +26,9 @@ invariant-walk_items-loop-turn g l =
     let set = described l.set in
     let n = g.W.Cells.numbers l.walker in
     record {
-      way : g.W.Walker.goes (steps_of (elements_slots set l.item l.most n l._turn l.first)) l.initial.walker l.walker;
+      way : g.W.Walker.goes (steps_of (elements_slots set l.row.item.now l.row.most n l._turn l.row.first)) l.initial.walker l.walker;
       long : length n ≡ length (g.W.Cells.numbers l.initial.walker);
-      here : l.cell ≡ l.first + l._turn * size_in set l.item;
+      here : l.cell ≡ l.row.first + l._turn * size_in set l.row.item.now;
     }
 
 abbrev pub invariant-walk-loop-field : goal.invariant-walk-loop-field
