@@ -2,7 +2,7 @@
 ghost use Rattle.std.specs.Prelude.{◌≡◌, ◌+◌, ◌≤◌, ◌<◌, Bool, length, IfSome, IsSomeAnd};
 ghost use Rattle.vms_io.specs.Told.{Stock, intake, outlet, stock};
 ghost use Rattle.vms_spec.specs.Values.{values_text};
-ghost use Rattle.vms_load.specs.Kept.{loads, kept};
+ghost use Rattle.vms_load.specs.Lean.{has, loads};
 ghost use Rattle.vms_load.specs.Staging.{most_given};
 ghost use Rattle.vms_values.specs.Printing.{machine_of};
 ghost use Rattle.vms_commands.specs.Asks.{set_asked};
@@ -17,7 +17,7 @@ ghost use Rattle.vms_cli.specs.Show.{GivesWithin, Shows, ShowsBy, ShowsWell, Sho
 use std::alloc::Global;
 use vms_commands::{Ending, SetWord, loader_of, refused_line};
 use vms_io::{Shelf, Sink, Source};
-use vms_load::{LoadFault, Loader};
+use vms_load::{LeanLoader, LoadFault};
 use vms_values::print_values;
 
 pub(crate) fn show<I: Source, O: Sink, H: Shelf>(
@@ -51,7 +51,7 @@ pub(crate) fn show<I: Source, O: Sink, H: Shelf>(
 }
 
 // Once the set is there.
-fn show_stream<I: Source, O: Sink>(loader: &mut Loader, input: &mut I, out: &mut O) -> Ending
+fn show_stream<I: Source, O: Sink>(loader: &mut LeanLoader, input: &mut I, out: &mut O) -> Ending
     ensures content { (shelf shelf' : Stock) (o : Outcome) → shelf'.held ≡ shelf.held
         → IsSomeAnd (I.left input.old) (λ bytes. Shows (loads loader.old) bytes shelf.held o)
         → EndsAs (intake I.Source input.old) (intake I.Source input.new)
@@ -72,10 +72,10 @@ fn show_stream<I: Source, O: Sink>(loader: &mut Loader, input: &mut I, out: &mut
     }
 }
 
-fn write_values<O: Sink>(loader: &Loader, machine: Option<u32>, out: &mut O) -> Ending
+fn write_values<O: Sink>(loader: &LeanLoader, machine: Option<u32>, out: &mut O) -> Ending
     requires { IfSome machine (λ m. m < length (loads loader.now).machines) }
     ensures { let set = loads loader.now in
-        WritesAs (values_text set (machine_of set machine) (kept loader.now))
+        WritesAs (values_text set (machine_of set machine) (has loader.now))
         (outlet O.Sink out.old) (outlet O.Sink out.new) result }
 {
     match print_values(loader.set(), machine, loader.images(), out) {

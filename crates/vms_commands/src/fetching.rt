@@ -5,7 +5,7 @@ ghost use Rattle.vms_desc.specs.Described.{described};
 ghost use Rattle.vms_descfile.specs.Files.{file_said};
 ghost use Rattle.vms_commands.specs.Asks.{set_asked, shipped_asked};
 ghost use Rattle.vms_commands.specs.SetWords.{shipped};
-ghost use Rattle.vms_load.specs.Kept.{loads};
+ghost use Rattle.vms_load.specs.Lean.{loads};
 ghost use Rattle.vms_commands.specs.Fetching.{fetched, fetched_set, is_on_shelf, is_text, said_set, set_in, word_set};
 ghost use Rattle.vms_commands.specs.StepEndings.{Asks, AsksIf, FetchCause, HadCause, ReadCause, StepAs, WordCause, text_of};
 
@@ -17,7 +17,7 @@ use std::alloc::Global;
 use vms_desc::DescSet;
 use vms_descfile::{FileFault, read_set};
 use vms_io::{FetchFault, NoMemory, Shelf};
-use vms_load::Loader;
+use vms_load::LeanLoader;
 
 /// The greatest file on the shelf but a script, in bytes.
 pub const LONGEST_FILE: u32 = 1_048_576;
@@ -106,14 +106,18 @@ pub fn set_of<H: Shelf>(alloc: Global, word: SetWord, shelf: &mut H) -> Result<D
     read_fetched(alloc, &text)
 }
 
-/// A loader of the set that a word names, or how the command ends where it can't be had.
-pub fn loader_of<H: Shelf>(alloc: Global, word: SetWord, shelf: &mut H) -> Result<Loader, Ending>
+/// A loader of one stream of the set that a word names, or how the command ends where it can't be had.
+pub fn loader_of<H: Shelf>(
+    alloc: Global,
+    word: SetWord,
+    shelf: &mut H,
+) -> Result<LeanLoader, Ending>
     ensures had { StepAs loads (word_set (H.held shelf.old) (set_asked word.entry)) result }
     ensures asks { AsksIf HadCause (is_on_shelf (set_asked word.entry))
         (stock H.Shelf shelf.old) (stock H.Shelf shelf.new) result }
 {
     let set = set_of(alloc, word, shelf)?;
-    Ok(Loader::new(alloc, set)?)
+    Ok(LeanLoader::new(alloc, set)?)
 }
 
 // The set that a description file says.

@@ -5,6 +5,7 @@ pub mod Going
 pub mod Good
 pub mod Heads
 pub mod Kept
+pub mod Lean
 pub mod Loads
 pub mod Parts
 pub mod Reading

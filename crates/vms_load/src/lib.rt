@@ -8,12 +8,14 @@ mod fault;
 mod heads;
 mod items;
 pub mod laws;
+mod lean;
 mod loader;
 mod parts;
 mod staged;
 mod stream;
 
 pub use fault::LoadFault;
+pub use lean::LeanLoader;
 pub use loader::Loader;
 pub use staged::default_images;
 pub use vms_frames::Refusal;

@@ -8,13 +8,11 @@ ghost use Rattle.vms_image.specs.Typed.{AreImagesOf, state_of as untyped};
 ghost use Rattle.vms_load.specs.Staging.{AreShaped};
 
 use crate::LoadFault;
-use crate::staged::{Staged, default_images};
+use crate::staged::{Staged, default_images, spare_room};
 use crate::stream::stream;
-use arrayvec::ArrayVec;
 use std::alloc::Global;
 use std::mem::swap;
 use vms_desc::DescSet;
-use vms_frames::Tail;
 use vms_image::Image;
 use vms_io::{NoMemory, Source};
 
@@ -118,11 +116,5 @@ fn room(alloc: Global, set: &DescSet) -> Result<(Vec<Image>, Staged), NoMemory>
     ensures spare { IfOk result (λ room. AreShaped (described set.now) room.1.images.items) }
 {
     let images = default_images(alloc, set)?;
-    let staged = Staged {
-        images: default_images(alloc, set)?,
-        came: ArrayVec::new(),
-        machine: None,
-        tail: Tail::Unknown,
-    };
-    Ok((images, staged))
+    Ok((images, spare_room(alloc, set)?))
 }

@@ -52,6 +52,18 @@ pub fn default_images(alloc: Global, set: &DescSet) -> Result<Vec<Image>, NoMemo
     Ok(images)
 }
 
+/// Room for what is read of a stream.
+pub(crate) fn spare_room(alloc: Global, set: &DescSet) -> Result<Staged, NoMemory>
+    ensures { IfOk result (λ staged. AreShaped (described set.now) staged.images.items) }
+{
+    Ok(Staged {
+        images: default_images(alloc, set)?,
+        came: ArrayVec::new(),
+        machine: None,
+        tail: Tail::Unknown,
+    })
+}
+
 /// Begins anew: nothing has come.
 pub(crate) fn restart(set: &DescSet, staged: &mut Staged)
     requires { AreShaped (described set.now) staged.old.images.items }

@@ -18,6 +18,9 @@ use vms_io::NoMemory;
 // The room for a text at first, enough for that of a small board.
 const FIRST_ROOM: usize = 8192;
 
+// And for each cell, enough for an entry with a short path.
+const ROOM_OF_CELL: usize = 48;
+
 /// The self-description of the stream of these images, one for each device in the set's order: JSON
 /// without blanks, each object's keys in byte order. It says of each device what stands in its
 /// section, element by element with path, size in bytes and type, and the defaults of the cells that
@@ -30,7 +33,7 @@ pub fn describe(alloc: Global, set: &DescSet, images: &[Image]) -> Result<String
         IfOk result (λ s. read (string_bytes s) ≡ Some tree) }
     ensures short { IfOk result (λ s. length (string_bytes s) < longest_text) }
 {
-    let room = String::with_capacity(alloc, FIRST_ROOM)?;
+    let room = String::with_capacity(alloc, room_for(images))?;
     let mut draft = Draft {
         text: room,
         path: String::new(alloc),
@@ -39,6 +42,15 @@ pub fn describe(alloc: Global, set: &DescSet, images: &[Image]) -> Result<String
     write_tree(set, images, &mut draft)?;
     let Draft { text, .. } = draft;
     Ok(text)
+}
+
+// Room that most texts of these images take no more than. A text that grows is copied, and leaves holes behind.
+fn room_for(images: &[Image]) -> usize {
+    let mut room = FIRST_ROOM;
+    for image in images {
+        room = room.saturating_add(image.len() as usize * ROOM_OF_CELL);
+    }
+    room
 }
 
 fn write_tree(set: &DescSet, images: &[Image], draft: &mut Draft) -> Result<(), AllocError>

@@ -1,6 +1,6 @@
 use Rattle.std.proofs.Common.{[], ◌∷◌, refl}
 use Rattle.vms_io.specs.Told.{intake, outlet, stock}
-use Rattle.vms_load.specs.Kept.{loads}
+use Rattle.vms_load.specs.Lean.{loads}
 use Rattle.vms_commands.specs.Asks.{set_asked}
 use Rattle.vms_commands.specs.Fetching.{is_on_shelf, word_set}
 use Rattle.vms_commands.proofs.EndLemmas.{quiet_same}

@@ -5,7 +5,7 @@ use Rattle.vms_spec.specs.Sets.{Set}
 use Rattle.vms_spec.specs.Values.{values_text}
 use Rattle.vms_values.specs.Printing.{machine_of}
 use Rattle.vms_load.proofs.Loaded.{within}
-use Rattle.vms_load.specs.Kept.{loads, kept, taken_by}
+use Rattle.vms_load.specs.Lean.{loads, has, taken_by}
 use Rattle.vms_load.specs.Staging.{accepted_of}
 use Rattle.vms_commands.specs.Endings.{WritesAs}
 use Rattle.vms_commands.specs.Lines.{refused_line}
@@ -26,8 +26,8 @@ returns-in-Ok-clause-content g c = λ shelf shelf' o held shows.
     let out = outlet g.O.Sink c.args.out.now in
     let out' = outlet g.O.Sink c.write_values.new.out in
     content_seen {s = shelf} {s' = shelf'} {P = λ bytes x. Shows set bytes shelf.held x} c.write_values.result o (λ bytes y ok p q. shows_same set fit bytes shelf.held o y ok p q) (g.met.I.Source.octets c.args.input.now)
-    (text_seen set (kept c.load.new.self) (taken_by c.load.new.self) c.in-Ok.machine c.write_values.result held c.in-Ok.ensures.reads
-    (subst (λ (s : Set). WritesAs (values_text s (machine_of s c.in-Ok.machine) (kept c.load.new.self)) out out' c.write_values.result) c.in-Ok.ensures.set c.write_values.ensures)) shows
+    (text_seen set (has c.load.new.self) (taken_by c.load.new.self) c.in-Ok.machine c.write_values.result held c.in-Ok.ensures.reads
+    (subst (λ (s : Set). WritesAs (values_text s (machine_of s c.in-Ok.machine) (has c.load.new.self)) out out' c.write_values.result) c.in-Ok.ensures.set c.write_values.ensures)) shows
 
 pub returns-in-Err-Refused-clause-content : goal.returns-in-Err-Refused-clause-content
 returns-in-Err-Refused-clause-content g c = λ shelf shelf' o held shows.
@@ -36,7 +36,7 @@ returns-in-Err-Refused-clause-content g c = λ shelf shelf' o held shows.
     let r = c.in-Err-Refused.refusal in
     let out = outlet g.O.Sink c.args.out.now in
     content_seen {o = out} {o' = out} {s = shelf} {s' = shelf'} {P = λ bytes x. Shows set bytes shelf.held x} (Refused c.refused_line.result) o (λ bytes y ok p q. shows_same set fit bytes shelf.held o y ok p q) (g.met.I.Source.octets c.args.input.now)
-    (refusal_seen set (kept c.load.new.self) (taken_by c.load.new.self) r c.refused_line.result (rw c.in-Err-Refused.field-0-is at c.in-Err-Refused.ensures.reads)
+    (refusal_seen set (has c.load.new.self) (taken_by c.load.new.self) r c.refused_line.result (rw c.in-Err-Refused.field-0-is at c.in-Err-Refused.ensures.reads)
     (c.refused_line.ensures ∙ ap (λ (s : Set). refused_line s r.at r.section r.reason) (c.set.ensures ∙ c.in-Err-Refused.ensures.set))) shows
 
 pub returns-in-Err-ReadFault-clause-content : goal.returns-in-Err-ReadFault-clause-content
@@ -61,17 +61,17 @@ returns-in-Err-ReadFault-clause-so g c = λ shelf asks.
 pub returns-in-Ok-clause-given : goal.returns-in-Ok-clause-given
 returns-in-Ok-clause-given g c =
     let set = loads c.args.loader.now in
-    within set (accepted_of set None) (kept c.load.new.self) (taken_by c.load.new.self) (Ok c.in-Ok.machine) c.in-Ok.ensures.reads
+    within set (accepted_of set None) (has c.load.new.self) (taken_by c.load.new.self) (Ok c.in-Ok.machine) c.in-Ok.ensures.reads
 
 pub returns-in-Err-Refused-clause-given : goal.returns-in-Err-Refused-clause-given
 returns-in-Err-Refused-clause-given g c =
     let set = loads c.args.loader.now in
-    within set (accepted_of set None) (kept c.load.new.self) (taken_by c.load.new.self) (Err c.in-Err-Refused.field-0) c.in-Err-Refused.ensures.reads
+    within set (accepted_of set None) (has c.load.new.self) (taken_by c.load.new.self) (Err c.in-Err-Refused.field-0) c.in-Err-Refused.ensures.reads
 
 pub returns-in-Err-ReadFault-clause-given : goal.returns-in-Err-ReadFault-clause-given
 returns-in-Err-ReadFault-clause-given g c =
     let set = loads c.args.loader.now in
-    within set (accepted_of set None) (kept c.load.new.self) (taken_by c.load.new.self) (Err c.in-Err-ReadFault.field-0) c.in-Err-ReadFault.ensures.reads
+    within set (accepted_of set None) (has c.load.new.self) (taken_by c.load.new.self) (Err c.in-Err-ReadFault.field-0) c.in-Err-ReadFault.ensures.reads
 
 -- ---- what is seen
 
@@ -81,15 +81,15 @@ returns-in-Ok-clause-seen g c = λ shelf shelf' held among.
     let fit = fit_of set c.args.loader.now.set.well_formed c.args.loader.now.set.heads in
     let out = outlet g.O.Sink c.args.out.now in
     let out' = outlet g.O.Sink c.write_values.new.out in
-    well_seen set fit (text_seen set (kept c.load.new.self) (taken_by c.load.new.self) c.in-Ok.machine c.write_values.result held c.in-Ok.ensures.reads
-    (subst (λ (s : Set). WritesAs (values_text s (machine_of s c.in-Ok.machine) (kept c.load.new.self)) out out' c.write_values.result) c.in-Ok.ensures.set c.write_values.ensures))
+    well_seen set fit (text_seen set (has c.load.new.self) (taken_by c.load.new.self) c.in-Ok.machine c.write_values.result held c.in-Ok.ensures.reads
+    (subst (λ (s : Set). WritesAs (values_text s (machine_of s c.in-Ok.machine) (has c.load.new.self)) out out' c.write_values.result) c.in-Ok.ensures.set c.write_values.ensures))
 
 pub returns-in-Err-Refused-clause-seen : goal.returns-in-Err-Refused-clause-seen
 returns-in-Err-Refused-clause-seen g c = λ shelf shelf' held among.
     let set = loads c.args.loader.now in
     let fit = fit_of set c.args.loader.now.set.well_formed c.args.loader.now.set.heads in
     let r = c.in-Err-Refused.refusal in
-    well_seen set fit (refusal_seen set (kept c.load.new.self) (taken_by c.load.new.self) r c.refused_line.result (rw c.in-Err-Refused.field-0-is at c.in-Err-Refused.ensures.reads)
+    well_seen set fit (refusal_seen set (has c.load.new.self) (taken_by c.load.new.self) r c.refused_line.result (rw c.in-Err-Refused.field-0-is at c.in-Err-Refused.ensures.reads)
     (c.refused_line.ensures ∙ ap (λ (s : Set). refused_line s r.at r.section r.reason) (c.set.ensures ∙ c.in-Err-Refused.ensures.set)))
 
 pub returns-in-Err-ReadFault-clause-seen : goal.returns-in-Err-ReadFault-clause-seen

@@ -1,6 +1,6 @@
 use Rattle.std.proofs.Common.{map, sym, subst}
 use Rattle.vms_spec.specs.Sets.{Set}
-use Rattle.vms_load.specs.Kept.{loads}
+use Rattle.vms_load.specs.Lean.{loads}
 use Rattle.vms_image.specs.Typed.{state_of}
 use Rattle.vms_values.specs.Printing.{AreOf}
 use Rattle.vms_cli.proofs.ShowLemmas.{are_of}

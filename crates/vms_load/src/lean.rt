@@ -1,0 +1,80 @@
+// The loader of one stream.
+ghost use Rattle.std.specs.Prelude.{◌≡◌, map, IfOk, OnOk};
+ghost use Rattle.vms_parts.specs.Views.{set_of};
+ghost use Rattle.vms_load.specs.Good.{AreKept};
+ghost use Rattle.vms_image.specs.Typed.{AreImagesOf, state_of as untyped};
+ghost use Rattle.vms_load.specs.Staging.{AreShaped};
+
+use crate::LoadFault;
+use crate::staged::{Staged, spare_room};
+use crate::stream::stream;
+use std::alloc::Global;
+use vms_desc::DescSet;
+use vms_image::Image;
+use vms_io::{NoMemory, Source};
+
+/// Takes streams of one set in half of the memory of a `Loader`: it keeps no earlier stream, so that after an error its
+/// images say nothing.
+#[derive(Drop)]
+pub struct LeanLoader {
+    set: DescSet,
+    taken: u64,
+    staged: Staged,
+    ghost shaped: { AreShaped (set_of set.parts) staged.images.items },
+}
+
+impl LeanLoader {
+    ghost use Rattle.vms_desc.specs.Described.{described};
+    ghost use Rattle.vms_load.specs.Lean.{loads, has, taken_by};
+    ghost use Rattle.vms_io.specs.Told.{intake};
+    ghost use Rattle.vms_load.specs.Going.{LoadReads};
+    ghost use Rattle.vms_load.specs.Staging.{IsMachine, accepted_of};
+
+    /// A loader that has taken no stream yet. All memory that a load needs is taken here.
+    pub fn new(alloc: Global, set: DescSet) -> Result<LeanLoader, NoMemory>
+        ensures { IfOk result (λ loader. loads loader ≡ described set) }
+    {
+        let staged = spare_room(alloc, &set)?;
+        Ok(LeanLoader {
+            set,
+            taken: 0,
+            staged,
+        })
+    }
+
+    /// Takes one stream from the source, and answers the machine that it names, or none. `only` and the bytes that are
+    /// taken are those of `Loader::load`.
+    pub fn load<S: Source>(
+        &mut self,
+        source: &mut S,
+        only: Option<u32>,
+    ) -> Result<Option<u32>, LoadFault>
+        requires { IsMachine (loads self.old).machines only }
+        ensures reads { LoadReads (intake S.Source source.old) (intake S.Source source.new)
+            (loads self.old) (accepted_of (loads self.old) only) (has self.new)
+            (taken_by self.new) result }
+        ensures machine { IfOk result (IsMachine (loads self.old).machines) }
+        ensures whole { OnOk result (AreKept (loads self.old) (has self.new)) }
+        ensures set { loads self.new ≡ loads self.old }
+    {
+        let taken = stream(&self.set, only, &mut self.staged, source)?;
+        self.taken = taken;
+        Ok(self.staged.machine)
+    }
+
+    /// The images of the stream that was taken. Before the first one they are at their defaults.
+    pub fn images(&self) -> &[Image]
+        ensures images { map untyped result.now ≡ has self.now }
+        ensures of { AreImagesOf (loads self.now) result.now }
+        ensures shape { AreShaped (loads self.now) result.now }
+    {
+        &self.staged.images
+    }
+
+    /// The set whose streams the loader takes.
+    pub fn set(&self) -> &DescSet
+        ensures { described result.now ≡ loads self.now }
+    {
+        &self.set
+    }
+}
