@@ -41,7 +41,7 @@ record HasMachines (s : ℕ) : Type 0 where
   pub count : length (shipped_set s).machines ≡ s
   pub named : are_from 1 (shipped_set s).machines ≡ true
 
-has-machines : (s : ℕ) → 1 ≤ s → s ≤ 4 → HasMachines s
+has-machines : (s : ℕ) → 1 ≤ s → s ≤ NEWEST → HasMachines s
 unfolding are_from
 has-machines zero l h = absurd (omega (arith, l))
 has-machines (suc zero) l h = record { count = refl; named = refl }
@@ -50,7 +50,7 @@ has-machines (suc (suc (suc zero))) l h = record { count = refl; named = refl }
 has-machines (suc (suc (suc (suc zero)))) l h = record { count = refl; named = refl }
 has-machines (suc (suc (suc (suc (suc s))))) l h = absurd (omega (arith, h))
 
-machine_at : (s level : ℕ) → 1 ≤ level → level ≤ s → s ≤ 4 → slice_get (shipped_set s).machines (level - 1) ≡ Some (machine_of level)
+machine_at : (s level : ℕ) → 1 ≤ level → level ≤ s → s ≤ NEWEST → slice_get (shipped_set s).machines (level - 1) ≡ Some (machine_of level)
 machine_at s level l le h =
     let has = has-machines s (omega (arith, l, le)) h in
     let count = has.count in

@@ -8,10 +8,11 @@ use Rattle.vms_script.specs.Lines.{ScriptLine}
 use Rattle.vms_script.specs.Script.{Reading, script_read}
 use Rattle.vms_script.specs.declared.line.ScriptReason.{ScriptReason}
 use Rattle.vms_script.specs.declared.line.ScriptReason.TheVariants as reasons
+use Rattle.vms_board_commands.specs.declared.scripts.TheConstants.{LONGEST_SCRIPT}
 
 -- the greatest script, in bytes
 abbrev pub longest_script : ℕ
-longest_script = 4194304
+longest_script = LONGEST_SCRIPT
 
 abbrev pub script_reason_text : ScriptReason → List ℕ
 script_reason_text reasons.Form = codes "Form"

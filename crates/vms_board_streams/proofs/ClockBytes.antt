@@ -1,5 +1,6 @@
 -- The streams of the boards clk-1 and clk-2 are short, and are bytes.
 use Rattle.std.proofs.Common.{ℕ, zero, suc, ◌<◌, ◌≤◌, arith}
+use Rattle.vms_kinds.specs.declared.TheConstants.{NEWEST_CLOCK_SET}
 use Rattle.dev_clock.specs.Sound.{IsSound}
 use Rattle.vms_desc.proofs.Bounds.{none_is}
 use Rattle.vms_desc.proofs.Formed.{clock_formed}
@@ -21,7 +22,7 @@ sections-short zero = omega arith
 sections-short (suc zero) = omega arith
 sections-short (suc (suc set)) = omega arith
 
-named : (version : ℕ) → version ≤ 2 → IsMachineName (clock_machine version)
+named : (version : ℕ) → version ≤ NEWEST_CLOCK_SET → IsMachineName (clock_machine version)
 named version le = record { short = omega arith; octets = (omega arith, (omega arith, (omega arith, (omega arith, (omega arith, tt))))) }
 
 small : IsSmall clock

@@ -8,6 +8,7 @@ use Rattle.vms_spec.specs.WellFormed.{WellFormed}
 use Rattle.vms_stream.proofs.WrittenBytes.{AreBytes, bytes_at, written_are_bytes}
 use Rattle.vms_board.specs.Family.{Family, MaySaveIn, images_saved}
 use Rattle.vms_board.specs.Saving.{saved_text, saved_stream}
+use Rattle.vms_board_streams.specs.declared.memory.TheConstants.{STREAM_ROOM}
 use Rattle.vms_board_streams.proofs.TextBytes.{text_is_bytes}
 use Rattle.vms_board_streams.specs.Streams.{StreamsAreShort, StreamsAreBytes}
 
@@ -25,13 +26,13 @@ module _ {S : Type 0} (f : Family S) where
     pub machine : (set : ℕ) (m : S) → MaySaveIn f m set → IsMachineName (f.machine (f.number m))
 
   module _ (small : IsSmall) (IsSound : S → Type 0) where
-    set-long : (set : ℕ) (name text : List ℕ) (images : List Image) → set ≤ f.newest → length name ≤ 5 → length text < 60000 → length (written (f.set set) (Some name) images (Some text)) < 65536
+    set-long : (set : ℕ) (name text : List ℕ) (images : List Image) → set ≤ f.newest → length name ≤ 5 → length text < 60000 → length (written (f.set set) (Some name) images (Some text)) < STREAM_ROOM
     set-long set name text images le n t =
         let l = stream_le (f.set set) (Some name) images (Some text) in
         let sections = small.sections set le in
         omega (arith, l, sections, n, t)
 
-    stream-short : (set : ℕ) (m : S) → IsSound m → MaySaveIn f m set → length (saved_stream f set m) < 65536
+    stream-short : (set : ℕ) (m : S) → IsSound m → MaySaveIn f m set → length (saved_stream f set m) < STREAM_ROOM
     unfolding saved_stream
     stream-short set m s may =
         let images = images_saved f set m in

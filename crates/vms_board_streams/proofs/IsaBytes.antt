@@ -1,5 +1,6 @@
 -- The streams of the boards isa-1 to isa-4 are short, and are bytes.
 use Rattle.std.proofs.Common.{ℕ, zero, suc, ◌<◌, ◌≤◌, arith}
+use Rattle.dev_base.specs.declared.limits.TheConstants.{NEWEST}
 use Rattle.dev_board.specs.Sound.{IsSound}
 use Rattle.vms_desc.proofs.Bounds.{none_is}
 use Rattle.vms_desc.proofs.Formed.{formed}
@@ -15,7 +16,7 @@ use Rattle.vms_board_streams.specs.Streams.{StreamsAreShort, StreamsAreBytes}
 pub well : (set : ℕ) → WellFormed (shipped_set set)
 well set = none_is (first_fault (shipped_set set)) (formed set)
 
-sections-short : (set : ℕ) → set ≤ 4 → devices_long (shipped_set set) (shipped_set set).devices < 4096
+sections-short : (set : ℕ) → set ≤ NEWEST → devices_long (shipped_set set) (shipped_set set).devices < 4096
 unfolding first
 sections-short zero le = omega arith
 sections-short (suc zero) le = omega arith
@@ -24,7 +25,7 @@ sections-short (suc (suc (suc zero))) le = omega arith
 sections-short (suc (suc (suc (suc zero)))) le = omega arith
 sections-short (suc (suc (suc (suc (suc set))))) le = absurd (omega (arith, le))
 
-named : (level : ℕ) → level ≤ 4 → IsMachineName (machine_of level)
+named : (level : ℕ) → level ≤ NEWEST → IsMachineName (machine_of level)
 named level le = record { short = omega arith; octets = (omega arith, (omega arith, (omega arith, (omega arith, (omega arith, tt))))) }
 
 small : IsSmall isa

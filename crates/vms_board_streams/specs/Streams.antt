@@ -14,6 +14,7 @@ use Rattle.vms_spec.specs.declared.Reason.{Reason}
 use Rattle.vms_board.specs.Family.{Family, MaySaveIn, images_saved, lists_in}
 use Rattle.vms_board.specs.Restoring.{Restore, Back, Refused, Restores}
 use Rattle.vms_board.specs.Saving.{saved_text, saved_stream}
+use Rattle.vms_board_streams.specs.declared.memory.TheConstants.{STREAM_ROOM}
 
 -- a description section has room for the text
 abbrev pub HasRoomFor : Option (List ℕ) → Type 0
@@ -54,9 +55,9 @@ module _ {S : Type 0} (f : Family S) where
     pub only : (taken : ℕ) (trace : List ℕ) → GoesOn (f.number m) (stream_with set m text) events taken trace
         → (taken ≡ length (stream_with set m text)) × (trace ≡ trace_of (answers_to events m))
 
-  -- the stream that is written of a sound board under any set from its number on has less than 65,536 bytes, and is bytes
+  -- the stream that is written of a sound board under any set from its number on doesn't fill the room for one, and is bytes
   pub record StreamsAreShort (IsSound : S → Type 0) : Type 0 where
-    pub short : (set : ℕ) (m : S) → IsSound m → MaySaveIn f m set → length (saved_stream f set m) < 65536
+    pub short : (set : ℕ) (m : S) → IsSound m → MaySaveIn f m set → length (saved_stream f set m) < STREAM_ROOM
 
   pub record StreamsAreBytes (IsSound : S → Type 0) : Type 0 where
     pub bytes : (set : ℕ) (m : S) → IsSound m → MaySaveIn f m set → IsBytes (saved_stream f set m)

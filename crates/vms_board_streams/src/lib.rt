@@ -9,5 +9,5 @@ pub use laws::{
     bytes_law, clock_bytes_law, clock_continuation_law, clock_octets_law, clock_short_law,
     clock_stream_law, continuation_law, octets_law, short_law, stream_law,
 };
-pub use memory::{restore_from, stream_of};
+pub use memory::{STREAM_ROOM, restore_from, stream_of};
 pub use sets::{KeptSets, stream_by};

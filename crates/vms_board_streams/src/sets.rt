@@ -2,6 +2,7 @@
 ghost use Rattle.std.specs.Prelude.{◌≡◌, ◌<◌, ◌≤◌, length, IfOk, IfSome};
 ghost use Rattle.vms_board.specs.Family.{MaySaveIn};
 ghost use Rattle.vms_board.specs.Saving.{saved_stream};
+ghost use Rattle.vms_board_streams.specs.declared.memory.TheConstants.{STREAM_ROOM};
 ghost use Rattle.vms_board_streams.specs.Sets.{AreOf, IsOf};
 ghost use Rattle.vms_desc.specs.Described.{described};
 
@@ -65,7 +66,7 @@ pub fn stream_by<M: Machine>(
     sets: &mut KeptSets,
 ) -> Result<Vec<u8>, NoMemory>
     requires may { MaySaveIn M.family board.now.state set }
-    requires short { length (saved_stream M.family set board.now.state) < 65536 }
+    requires short { length (saved_stream M.family set board.now.state) < STREAM_ROOM }
     requires sets { AreOf M.family sets.old }
     ensures stream { let bytes = saved_stream M.family set board.now.state in
         IfOk result (λ stream. stream.items ≡ bytes) }

@@ -1,5 +1,6 @@
 -- Packing and showing, one after the other.
 use Rattle.std.proofs.Common.{◌≡◌, ℕ, ◌<◌, ◌≤◌, Bool, true, false, nat_le, if◌then◌else◌, List, [], ◌∷◌, length, Option, Some, None, IfSome, refl, sym, ap, subst, arith, ◌∙◌}
+use Rattle.vms_spec.specs.declared.TheConstants.{LONGEST_TEXT}
 use Rattle.vms_io.specs.Shelves.{Held}
 use Rattle.vms_spec.specs.Images.{Image}
 use Rattle.vms_spec.specs.Sets.{Set}
@@ -64,9 +65,9 @@ module _ (set : Set) (fit : IsFit set) (machine : Option (List ℕ)) (images : L
   shown_listed = shown_listing set fit.well fit.heads machine named images ready
 
 -- a description is short enough for a stream
-pub fits_text : (set : Set) → IsFit set → (images : List Image) → length (described_text set images) ≤ 16777216
+pub fits_text : (set : Set) → IsFit set → (images : List Image) → length (described_text set images) ≤ LONGEST_TEXT
 fits_text set fit images =
-    let short : length (described_text set images) < 16777216 = short_holds.short set fit.well fit.heads images in
+    let short : length (described_text set images) < LONGEST_TEXT = short_holds.short set fit.well fit.heads images in
     omega (arith, short)
 
 module _ (map : Held) (text stream : List ℕ) where

@@ -11,6 +11,7 @@ use Rattle.vms_script.specs.declared.line.ScriptReason.{ScriptReason}
 use Rattle.vms_board.specs.Clock.{clock_machine}
 use Rattle.vms_board.specs.Isa.{machine_of}
 use Rattle.vms_commands.specs.SetWords.{Isa, Clock, ShippedSet, SetWord, Shipped, OnShelf, named_in, set_word, shipped_word}
+use Rattle.vms_cli.specs.declared.board_words.TheConstants.{MOST_EVENTS}
 
 -- a board: one of isa-1 to isa-4, by its level, or clk-1 or clk-2, by its version
 pub data BoardWord : Type 0 where
@@ -110,7 +111,7 @@ number_word word = told (number_read (number_spelled word))
 
 -- how many events a drill may have
 abbrev pub most_events : ℕ
-most_events = 1000000
+most_events = MOST_EVENTS
 
 abbrev pub few_events : Option ℕ → Option ℕ
 few_events None = None

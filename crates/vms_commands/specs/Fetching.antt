@@ -3,6 +3,7 @@ use Rattle.std.specs.Prelude.{ℕ, Bool, true, false, nat_le, if◌then◌else�
 use Rattle.vms_io.specs.Shelves.{Held}
 use Rattle.vms_spec.specs.Sets.{Set}
 use Rattle.vms_descfile.specs.Files.{Said, Parts, Syntax, Shape, IllFormed, file_said}
+use Rattle.vms_commands.specs.declared.fetching.TheConstants.{LONGEST_FILE}
 use Rattle.vms_commands.specs.SetWords.{ShippedSet, shipped, SetWord, Shipped, OnShelf}
 use Rattle.vms_commands.specs.Lines.{not_there_line, too_large_line}
 use Rattle.vms_commands.specs.SetLines.{syntax_line, shape_line, rule_line}
@@ -10,7 +11,7 @@ use Rattle.vms_commands.specs.Steps.{Step, Untold, Gives, Ends, next, Both, both
 
 -- the greatest file but a script, in bytes
 abbrev pub longest_file : ℕ
-longest_file = 1048576
+longest_file = LONGEST_FILE
 
 -- the text under a name, of at most so many bytes
 abbrev pub text_under : ℕ → List ℕ → Option (List ℕ) → Step (List ℕ)

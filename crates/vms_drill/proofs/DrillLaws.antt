@@ -9,6 +9,7 @@ use Rattle.vms_drill.proofs.FoldLaws.{saves_leave_counts, save_may, save-left}
 use Rattle.vms_drill.specs.Events.{next_number, event_of, events_after}
 use Rattle.vms_drill.specs.Fold.{Progress, drilled, is_save_due, saves_of}
 use Rattle.vms_board_streams.proofs.IsaBytes.{streams_are_short}
+use Rattle.vms_board_streams.specs.declared.memory.TheConstants.{STREAM_ROOM}
 use Rattle.vms_drill.specs.Drill.{Drill, drill_begun, bytes_after, stream_long, with_drill_event, drilled_on}
 use Rattle.vms_drill.specs.Laws.{ProgressIsSame, SizesAreSmall}
 
@@ -32,17 +33,17 @@ progress_is_same = record {
 
 -- ---- sizes
 
-due-small : (due : Bool) (bytes long : ℕ) → long < 65536 → (if due then bytes + long else bytes) ≤ bytes + 65536
+due-small : (due : Bool) (bytes long : ℕ) → long < STREAM_ROOM → (if due then bytes + long else bytes) ≤ bytes + STREAM_ROOM
 due-small true bytes long l = omega (arith, l)
 due-small false bytes long l = omega arith
 
-after-small : (events : ℕ) (m : State) (bytes : ℕ) → IsSound m → bytes_after events m bytes ≤ bytes + 65536
+after-small : (events : ℕ) (m : State) (bytes : ℕ) → IsSound m → bytes_after events m bytes ≤ bytes + STREAM_ROOM
 unfolding bytes_after
 after-small events m bytes s =
     due-small (is_save_due events) bytes (stream_long events m)
     (streams_are_short.short _ m s (save_may m.level (saves_of events - 1) s.devices.level.last))
 
-small : (count : ℕ) (drill : Drill) → IsSound drill.progress.board → (drilled_on count drill).bytes ≤ drill.bytes + 65536 * count
+small : (count : ℕ) (drill : Drill) → IsSound drill.progress.board → (drilled_on count drill).bytes ≤ drill.bytes + STREAM_ROOM * count
 small zero drill s = omega arith
 small (suc count) drill s =
     let stepped = sound_stays_on.event (event_of (next_number drill.progress.number)) drill.progress.board (event-is (next_number drill.progress.number)) s in

@@ -5,13 +5,14 @@ use Rattle.dev_board.specs.Step.{step}
 use Rattle.dev_board.specs.declared.event.Answer.{Answer}
 use Rattle.dev_board.specs.declared.event.Event.{Event}
 use Rattle.vms_drill.specs.Events.{next_number, event_of}
+use Rattle.vms_drill.specs.declared.schedule.TheConstants.{BETWEEN_SAVES}
 use Rattle.vms_drill.specs.Fold.{Counts, counted, is_save_due, set_of, saves_of, came_back, after_save}
 use Rattle.vms_board.specs.Isa.{isa}
 use Rattle.vms_board.specs.Saving.{saved_stream}
 use Rattle.vms_drill.specs.Drill.{Drill, bytes_after, taken_after, stream_long, drill_on, drilled_on, with_drill_event}
 
 -- where a save is due there was one
-pub some_saves : (n : ℕ) → is_save_due (n + 1) ≡ true → 1 ≤ (n + 1) / 1000
+pub some_saves : (n : ℕ) → is_save_due (n + 1) ≡ true → 1 ≤ (n + 1) / BETWEEN_SAVES
 unfolding is_save_due
 some_saves n e = omega (arith, eqb-true _ 0 e)
 

@@ -2,6 +2,7 @@
 use Rattle.std.specs.Prelude.{ℕ, zero, suc, ◌+◌, ◌*◌, ◌/◌, ◌%◌, ◌^◌, ◌==◌, List, [], ◌∷◌, get_or}
 use Rattle.dev_board.specs.declared.event.Event.{Event}
 use Rattle.dev_board.specs.declared.event.Event.TheVariants.{Read, Write, Byte, Wait, Wire, Ack}
+use Rattle.vms_drill.specs.declared.events.TheConstants.{WAIT}
 
 -- the number after a number
 unfoldable pub next_number : ℕ → ℕ
@@ -25,7 +26,7 @@ event_by (suc zero) value place = Read (get_or ports (place % 16) 0)
 event_by (suc (suc zero)) value place = Write (get_or ports (place % 16) 0) value
 event_by (suc (suc (suc zero))) value place = Write (get_or ports (place % 16) 0) value
 event_by (suc (suc (suc (suc zero)))) value place = Byte value
-event_by (suc (suc (suc (suc (suc zero))))) value place = Wait (value * 100000)
+event_by (suc (suc (suc (suc (suc zero))))) value place = Wait (value * WAIT)
 event_by (suc (suc (suc (suc (suc (suc zero)))))) value place = Ack
 event_by (suc (suc (suc (suc (suc (suc (suc what))))))) value place =
     Wire (get_or wires (place % 13) 0) (value % 2 == 1)

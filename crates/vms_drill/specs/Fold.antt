@@ -7,6 +7,7 @@ use Rattle.dev_board.specs.Step.{step}
 use Rattle.dev_board.specs.declared.event.Answer.{Answer}
 use Rattle.dev_board.specs.declared.misfit.Misfit.{Misfit}
 use Rattle.vms_drill.specs.Events.{next_number, event_of}
+use Rattle.vms_drill.specs.declared.schedule.TheConstants.{BETWEEN_SAVES}
 
 -- how many bytes left the serial port, and after how many events the interrupt output was high
 pub record Counts : Type 0 where
@@ -33,7 +34,7 @@ counted_all (answer ∷ answers) counts = counted_all answers (counted answer co
 
 -- the board is saved after every thousand events
 unfoldable pub is_save_due : ℕ → Bool
-is_save_due events = events % 1000 == 0
+is_save_due events = events % BETWEEN_SAVES == 0
 
 -- with so many saves done before, the set is the level's and those above it in turn
 unfoldable pub set_of : ℕ → ℕ → ℕ
@@ -60,7 +61,7 @@ begun level seed = record { events = 0; number = seed; board = power_on level; c
 
 -- how many saves there were after so many events
 abbrev pub saves_of : ℕ → ℕ
-saves_of events = events / 1000
+saves_of events = events / BETWEEN_SAVES
 
 -- the board after the last of so many events: the one that comes back where a save is due, whose number is one less than
 -- that of the saves there then are

@@ -1,6 +1,7 @@
 -- Laws of drills that contracts name.
 use Rattle.std.specs.Prelude.{◌≡◌, ℕ, ◌*◌, ◌≤◌}
 use Rattle.dev_base.specs.Levels.{IsLevel}
+use Rattle.vms_board_streams.specs.declared.memory.TheConstants.{STREAM_ROOM}
 use Rattle.vms_drill.specs.Fold.{begun, drilled, counted_all, nothing}
 use Rattle.vms_drill.specs.Events.{events_after}
 use Rattle.dev_board.specs.Sound.{IsSound, Alike}
@@ -20,7 +21,7 @@ pub record IsAsUnsaved (level seed count : ℕ) : Type 0 where
 pub record ProgressIsSame : Type 0 where
   pub same : (level seed count : ℕ) → IsLevel level → IsAsUnsaved level seed count
 
--- the streams of a drill have less than 65,536 bytes each, so that together they have at most so many
+-- the streams of a drill don't fill the room for one, so that together they have at most so many
 pub record SizesAreSmall : Type 0 where
   pub bytes : (level seed count : ℕ) → IsLevel level
-      → (drilled_on count (drill_begun level seed)).bytes ≤ 65536 * count
+      → (drilled_on count (drill_begun level seed)).bytes ≤ STREAM_ROOM * count

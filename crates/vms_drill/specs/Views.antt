@@ -4,6 +4,7 @@ use Rattle.dev_board.specs.Sound.{IsSound}
 use Rattle.dev_serial.specs.declared.transmitter.TheConstants.{MOST_SENT}
 use Rattle.vms_board.specs.Isa.{isa}
 use Rattle.vms_board_streams.specs.Sets.{AreOf}
+use Rattle.vms_board_streams.specs.declared.memory.TheConstants.{STREAM_ROOM}
 use Rattle.vms_drill.specs.Tallies.{tally_view}
 use Rattle.vms_drill.specs.Drill.{Drill, Summary}
 use Rattle.vms_drill.specs.declared.progress.Progress.{Progress}
@@ -22,7 +23,7 @@ pub record IsInProgress (c : Progress) : Type 0 where
   pub sets : AreOf isa c.sets
   pub sent : c.tally.sent ≤ MOST_SENT * c.done
   pub raised : c.tally.raised ≤ c.done
-  pub bytes : c.bytes ≤ 65536 * c.done
+  pub bytes : c.bytes ≤ STREAM_ROOM * c.done
 
 abbrev pub summary_view : declared.Summary → Summary
 summary_view s = record { events = s.events; sent = s.sent; raised = s.raised; saves = s.saves; bytes = s.bytes }

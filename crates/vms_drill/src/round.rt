@@ -5,6 +5,7 @@ ghost use Rattle.vms_drill.specs.Fold.{came_back, set_of};
 ghost use Rattle.vms_board.specs.Isa.{isa};
 ghost use Rattle.vms_board.specs.Saving.{saved_stream};
 ghost use Rattle.vms_board_streams.specs.Sets.{AreOf};
+ghost use Rattle.vms_board_streams.specs.declared.memory.TheConstants.{STREAM_ROOM};
 
 use crate::set_of;
 use std::alloc::Global;
@@ -26,7 +27,7 @@ pub(crate) fn come_back(
     ensures long { let set = set_of board.old.state.level saves in
         IfOk result (λ n. n ≡ length (saved_stream isa set board.old.state)) }
     ensures taken { IfOk result (λ n. board.new.taken ≡ n) }
-    ensures short { IfOk result (λ n. n < 65536) }
+    ensures short { IfOk result (λ n. n < STREAM_ROOM) }
     ensures sound { IsSound board.new.state }
     ensures sets { AreOf isa sets.new }
 {

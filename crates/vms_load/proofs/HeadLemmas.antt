@@ -54,9 +54,9 @@ module _ (k : ℕ) (d : Device) (came : List (Option ℕ)) (name : List ℕ) (v 
       ∙ ap (λ (o : Option Sub). sub_opened_at k v (Some j) o (slice_get came j)) (slice_get-get_or d.subs j _ lt)
       ∙ ap (λ (o : Option (Option ℕ)). sub_opened_at k v (Some j) (Some (sub_at d j)) o) (slice_get-get_or came j None (omega (arith, lt, long)))
 
-  pub opens_sub : (place j : ℕ) (reason : Option Reason) → length came ≡ length d.subs → find_sub 0 d.subs name ≡ Some j → reason ≡ reason_against_sub (sub_at d j) (get_or came j None) v
-      → opened_at place (opened_unless (Some k) j reason) ≡ opened_at place (sub_opened k d came name v)
-  opens_sub place j reason long e is = ap (opened_at place) (ap (opened_unless (Some k) j) is ∙ sym (known_sub j long e))
+  pub opens_sub : (j : ℕ) (reason : Option Reason) → length came ≡ length d.subs → find_sub 0 d.subs name ≡ Some j → reason ≡ reason_against_sub (sub_at d j) (get_or came j None) v
+      → opened_unless (Some k) j reason ≡ sub_opened k d came name v
+  opens_sub j reason long e is = ap (opened_unless (Some k) j) is ∙ sym (known_sub j long e)
 
 -- ---- what was opened is what was found
 

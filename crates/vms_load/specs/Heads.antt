@@ -64,6 +64,11 @@ sub_opened k d came name v =
     let found = find_sub 0 d.subs name in
     sub_opened_at k v found (slice_get d.subs (index found)) (slice_get came (index found))
 
+-- what is unfit in the section of device k
+abbrev pub in_section : ℕ → Result ℕ Reason → Result ℕ Unfit
+in_section k (Ok j) = Ok j
+in_section k (Err reason) = unfit (Some k) reason
+
 -- the answer of a call that opens what a head at this place names
 abbrev pub opened_at : ℕ → Result ℕ Unfit → Result ℕ LoadFault
 opened_at place (Ok k) = Ok k

@@ -11,7 +11,7 @@ ghost use Rattle.vms_load.specs.Bodies.{IsOfKind, AreOfKinds};
 ghost use Rattle.vms_load.specs.Parts.{bytes_of};
 ghost use Rattle.vms_load.specs.Reading.{slot_of, step_long, told, Took, Failed};
 
-use crate::items::{constant, put_number, rule};
+use crate::items::{constant, number, rule};
 use vms_desc::{Cells, DescSet};
 use vms_frames::{Cursor, FrameFault};
 use vms_image::Image;
@@ -161,9 +161,11 @@ fn read_step<S: Source>(
     ensures stopped { OnErr result (image.new ≡ image.old) }
 {
     match step {
-        WalkStep::Number { cell, kind, most } => put_number(
-            cursor, source, kind, most, image, cell,
-        ),
+        WalkStep::Number { cell, kind, most } => {
+            let number = number(cursor, source, kind, most)?;
+            image.set(cell, number);
+            Ok(())
+        }
         WalkStep::Constant { kind, value } => constant(cursor, source, kind, value),
         WalkStep::Filler { bytes } => cursor.skip(source, bytes),
         WalkStep::Rule { holds } => rule(holds, cursor),

@@ -1,12 +1,12 @@
 // What the heads of sections and subsections open.
 ghost use Rattle.std.specs.List.{slice_get};
-ghost use Rattle.std.specs.Prelude.{◌≡◌, ◌<◌, ◌≤◌, ◌^◌, length, false, Some, IfOk, IfErr};
+ghost use Rattle.std.specs.Prelude.{◌≡◌, ℕ, ◌<◌, ◌≤◌, ◌^◌, length, false, Some, IfOk, IfErr};
 ghost use Rattle.vms_spec.specs.declared.TheConstants.{LONGEST_NAME};
 ghost use Rattle.vms_spec.specs.Lookup.{find_sub};
 ghost use Rattle.vms_desc.specs.Described.{described};
 ghost use Rattle.vms_parts.specs.Views.{desc_of, device_of, sub_of};
 ghost use Rattle.vms_load.specs.Reads.{IsRefused};
-ghost use Rattle.vms_load.specs.Heads.{section_opened, sub_opened, opened_at, reason_against, reason_against_version, reason_against_sub};
+ghost use Rattle.vms_load.specs.Heads.{section_opened, sub_opened, in_section, opened_at, reason_against, reason_against_version, reason_against_sub};
 
 use crate::LoadFault;
 use crate::fault::refused;
@@ -64,24 +64,21 @@ fn against_version(desc: &Desc, version: u32) -> Option<Reason>
     }
 }
 
-/// The subsection that a subsection head at this place opens in an image of a device.
+/// The subsection that a subsection head opens in an image of a device, or the reason against it.
 pub(crate) fn open_sub(
-    number: u32,
     device: &Device,
     image: &Image,
     name: &Name,
     version: u32,
-    at: u64,
-) -> Result<u32, LoadFault>
+) -> Result<u32, Reason>
     requires long { length image.now.came ≡ length (device_of device.now).subs }
     requires few { length (device_of device.now).subs < 2 ^ 32 }
     ensures short { length name.now.items ≤ LONGEST_NAME }
-    ensures refused { IfErr result IsRefused }
-    ensures opened { result ≡ opened_at at
-        (sub_opened number (device_of device.now) image.now.came name.now.items version) }
+    ensures opened { (k : ℕ) → in_section k result
+        ≡ sub_opened k (device_of device.now) image.now.came name.now.items version }
 {
     let sub = match find_sub(device.subs.as_slice(), name) {
-        None => return Err(refused(Some(number), at, Reason::UnknownSubsection)),
+        None => return Err(Reason::UnknownSubsection),
         Some(sub) => sub,
     };
     match against_sub(
@@ -90,7 +87,7 @@ pub(crate) fn open_sub(
         version,
     ) {
         None => Ok(sub),
-        Some(reason) => Err(refused(Some(number), at, reason)),
+        Some(reason) => Err(reason),
     }
 }
 

@@ -1,54 +1,20 @@
 // Numbers that count arrays, constants and unused bytes.
-ghost use Rattle.std.specs.Prelude.{◌≡◌, ◌+◌, ◌≤◌, ◌<◌, ◌^◌, true, false, OnOk, OnErr, IfOk, IfErr, ℤ, get_or, slice_set, length, None};
+ghost use Rattle.std.specs.Prelude.{◌≡◌, ◌+◌, ◌≤◌, ◌^◌, true, false, OnOk, IfOk, IfErr, None};
 ghost use Rattle.vms_kinds.specs.Codes.{InRange, width};
-ghost use Rattle.vms_kinds.specs.declared.Kind.TheVariants.{U8};
 ghost use Rattle.vms_spec.specs.Numbers.{exceeds, is_above};
-ghost use Rattle.vms_spec.specs.Layout.{Number};
-ghost use Rattle.vms_spec.specs.Taking.{take_slot};
 ghost use Rattle.vms_io.specs.Told.{intake};
 ghost use Rattle.vms_frames.specs.Reads.{ReadsAs};
-ghost use Rattle.vms_load.specs.Bodies.{ReadsCapped, ReadsConstant, TakesOn, progress};
+ghost use Rattle.vms_load.specs.Bodies.{ReadsCapped, ReadsConstant};
 ghost use Rattle.vms_walk.specs.Steps.{capacities_of};
 
 use vms_frames::{Cursor, FrameFault};
-use vms_image::Image;
 use vms_io::Source;
 use vms_kinds::Kind;
 use vms_spec::Reason;
 
-/// The number of a cell, which is put there. It is at most `most`, where one is given.
+/// A number. It is at most `most`: the least of the capacities of the arrays that it counts, whether or not they are there.
 #[inline(always)]
-pub(crate) fn put_number<S: Source>(
-    cursor: &mut Cursor,
-    source: &mut S,
-    kind: Kind,
-    most: Option<u32>,
-    image: &mut Image,
-    cell: u32,
-) -> Result<(), FrameFault>
-    requires place { cursor.old.at ≤ 2 ^ 63 }
-    requires held { cursor.old.held ≡ None }
-    requires within { cell < length image.old.numbers }
-    requires of_kind { get_or image.old.kinds cell U8 ≡ kind }
-    ensures reads { TakesOn (intake S.Source source.old) (intake S.Source source.new) (width kind)
-        cursor.old.at cursor.new.at
-        (λ rest.
-        take_slot (Number cell kind (capacities_of most))
-        (progress image.old.numbers cursor.old.at rest))
-        image.new.numbers result }
-    ensures kept { image.new ≡ record image.old { numbers = image.new.numbers } }
-    ensures held { OnOk result (cursor.new.held ≡ None) }
-    ensures put { OnOk result ((z : ℤ) × (image.new.numbers ≡ slice_set image.old.numbers cell z)) }
-    ensures stopped { OnErr result (image.new ≡ image.old) }
-{
-    let number = number(cursor, source, kind, most)?;
-    image.set(cell, number);
-    Ok(())
-}
-
-// A number. It is at most `most`: the least of the capacities of the arrays that it counts, whether or not they are there.
-#[inline(always)]
-fn number<S: Source>(
+pub(crate) fn number<S: Source>(
     cursor: &mut Cursor,
     source: &mut S,
     kind: Kind,

@@ -6,7 +6,7 @@ ghost use Rattle.vms_image.specs.Typed.{AreImagesOf, state_of as untyped};
 ghost use Rattle.vms_load.specs.Staging.{AreShaped};
 
 use crate::LoadFault;
-use crate::staged::{Staged, staged};
+use crate::staged::{Staged, spare_room};
 use crate::stream::stream;
 use std::alloc::Global;
 use vms_desc::DescSet;
@@ -34,7 +34,7 @@ impl LeanLoader {
     pub fn new(alloc: Global, set: DescSet) -> Result<LeanLoader, NoMemory>
         ensures { IfOk result (λ loader. loads loader ≡ described set) }
     {
-        let staged = staged(alloc, &set)?;
+        let staged = spare_room(alloc, &set)?;
         Ok(LeanLoader {
             set,
             taken: 0,
@@ -57,11 +57,12 @@ impl LeanLoader {
         ensures whole { OnOk result (AreKept (loads self.old) (has self.new)) }
         ensures set { loads self.new ≡ loads self.old }
     {
-        self.taken = stream(&self.set, only, &mut self.staged, source)?;
+        let taken = stream(&self.set, only, &mut self.staged, source)?;
+        self.taken = taken;
         Ok(self.staged.machine)
     }
 
-    /// The images of the stream that was taken. Before the first one they are at their defaults.
+    /// The images of the stream that was taken. They say nothing before the first one and after an error.
     pub fn images(&self) -> &[Image]
         ensures images { map untyped result.now ≡ has self.now }
         ensures of { AreImagesOf (loads self.now) result.now }

@@ -8,7 +8,7 @@ ghost use Rattle.vms_image.specs.Typed.{AreImagesOf, state_of as untyped};
 ghost use Rattle.vms_load.specs.Staging.{AreShaped};
 
 use crate::LoadFault;
-use crate::staged::{Staged, default_images, staged};
+use crate::staged::{Staged, default_images, spare_room};
 use crate::stream::stream;
 use std::alloc::Global;
 use std::mem::swap;
@@ -116,5 +116,5 @@ fn room(alloc: Global, set: &DescSet) -> Result<(Vec<Image>, Staged), NoMemory>
     ensures spare { IfOk result (λ room. AreShaped (described set.now) room.1.images.items) }
 {
     let images = default_images(alloc, set)?;
-    Ok((images, staged(alloc, set)?))
+    Ok((images, spare_room(alloc, set)?))
 }

@@ -13,6 +13,7 @@ ghost use Rattle.vms_marks.specs.declared.sub_head.TheConstants.{LONGEST_SUB_HEA
 
 use crate::LoadFault;
 use crate::body::read_part;
+use crate::fault::refused;
 use crate::heads::open_sub;
 use vms_desc::{DescSet, Part};
 use vms_frames::{After, Cursor, Tail};
@@ -132,14 +133,10 @@ fn after<S: Source>(
             Ok(None)
         }
         Ok(After::Sub { name, version }) => {
-            let sub = open_sub(
-                section.device,
-                set.device(section.device),
-                image,
-                &name,
-                version,
-                at,
-            )?;
+            let sub = match open_sub(set.device(section.device), image, &name, version) {
+                Ok(sub) => sub,
+                Err(reason) => return Err(refused(Some(section.device), at, reason)),
+            };
             image.mark(sub, Some(version));
             Ok(Some(Open {
                 sub: Some(sub),

@@ -53,7 +53,7 @@ pub fn default_images(alloc: Global, set: &DescSet) -> Result<Vec<Image>, NoMemo
 }
 
 /// Room for what is read of a stream.
-pub(crate) fn staged(alloc: Global, set: &DescSet) -> Result<Staged, NoMemory>
+pub(crate) fn spare_room(alloc: Global, set: &DescSet) -> Result<Staged, NoMemory>
     ensures { IfOk result (λ staged. AreShaped (described set.now) staged.images.items) }
 {
     Ok(Staged {

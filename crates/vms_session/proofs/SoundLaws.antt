@@ -2,6 +2,7 @@
 use Rattle.std.proofs.Common.{◌≡◌, ◌⊎◌, inl, inr, ℕ, zero, suc, ◌∙◌, Bool, true, false, List, ◌∷◌, map, Option, Some, None, refl, sym, ap, subst, []}
 use Rattle.std.specs.Prelude.{slice_set}
 use Rattle.std.specs.List.{slice_get}
+use Rattle.dev_base.specs.declared.limits.TheConstants.{NEWEST}
 use Rattle.dev_base.specs.Levels.{IsLevel}
 use Rattle.dev_board.proofs.RestoredLaws.{restored_is_sound}
 use Rattle.dev_board.proofs.SoundLaws.{sound_stays_on}
@@ -66,8 +67,8 @@ pub taken_may_be_restored : (level : ℕ) (bytes : List ℕ) (taken : ℕ) (imag
 taken_may_be_restored level bytes taken images t =
     let stream = t.1.stream in
     normal_may_be_restored.cells images stream.one_each (λ k d image here there.
-    normal-in (shipped_set 4) stream.footed images stream.order (map (λ (e : Device). false) (shipped_set 4).devices) stream.sections
-    stream.each_once stream.spelled k d image (not-yet (shipped_set 4).devices k d here) here there)
+    normal-in (shipped_set NEWEST) stream.footed images stream.order (map (λ (e : Device). false) (shipped_set NEWEST).devices) stream.sections
+    stream.each_once stream.spelled k d image (not-yet (shipped_set NEWEST).devices k d here) here there)
 
 pub back_is_sound : (level : ℕ) (bytes : List ℕ) (m : State) (taken : ℕ) → IsLevel level → Restores isa level bytes (Back m taken) → IsSound m
 back_is_sound level bytes m taken l r =

@@ -1,16 +1,20 @@
 use Rattle.std.specs.Int.{w128}
 use Rattle.std.proofs.lemmas.Int.{to_z-of_z}
+use Rattle.std.proofs.lemmas.Result.{err_from_is_err_and}
 use Rattle.std.proofs.Common.{rules, SFits, ◌≡◌, ℕ, ◌+◌, Some, Result, Ok, Err, OnOk, sym, subst, arith}
+use Rattle.vms_kinds.specs.declared.Kind.{Kind}
+use Rattle.vms_kinds.specs.Codes.{InRange}
 use Rattle.vms_walk.specs.declared.step.WalkStep.{WalkStep}
+use Rattle.vms_walk.specs.Steps.{capacities_of}
 use Rattle.vms_spec.specs.Taking.{take_slot}
 use Rattle.vms_io.specs.Told.{intake}
 use Rattle.vms_io.proofs.ReadingLemmas.{reads_as}
 use Rattle.vms_frames.specs.Reads.{IsLong}
 use Rattle.vms_frames.specs.declared.fault.FrameFault.{FrameFault}
-use Rattle.vms_load.specs.Bodies.{TakesOn, HasMoved, progress}
+use Rattle.vms_load.specs.Bodies.{IsOfKind, TakesOn, HasMoved, progress}
 use Rattle.vms_load.proofs.ItemsRead.{reads_rule}
 use Rattle.vms_load.specs.Reading.{slot_of, step_long}
-use Rattle.vms_load.proofs.BodyLemmas.{constant_taken, filler_taken}
+use Rattle.vms_load.proofs.BodyLemmas.{number_ok, number_err, constant_taken, filler_taken}
 use Rattle.vms_load.proofs.body.read_step.Goals as goal
 
 -- all bytes of an item, which moves the cursor by so many
@@ -18,11 +22,37 @@ moved : (most at to : ℕ) (result : Result (Unit {0}) FrameFault) (n : ℕ) →
 moved most at to (Ok x) n far l = (omega (arith, l), omega (arith, l, far))
 moved most at to (Err e) n far l = (l, tt)
 
-pub returns-in-Number-clause-reads : goal.returns-in-Number-clause-reads
-returns-in-Number-clause-reads g c =
-    let P : WalkStep → Type 0 = λ x. TakesOn (intake g.S.Source c.args.source.now) (intake g.S.Source c.put_number.new.source) (step_long x) c.args.cursor.now.at c.put_number.new.cursor.at
-    (λ rest. take_slot (slot_of x) (progress c.args.image.now.numbers c.args.cursor.now.at rest)) c.put_number.new.image.numbers c.put_number.result in
-    subst P (sym c.in-Number.is) c.put_number.ensures.reads
+pub set-requires-clause-range : goal.set-requires-clause-range
+set-requires-clause-range g c =
+    let f : SFits w128 c.in_ok-number-in-Number.number = search rules in
+    let of_kind = subst (IsOfKind c.args.image.now.kinds) c.in-Number.is c.requires.of_kind in
+    rw (to_z-of_z w128 c.in_ok-number-in-Number.number f) (subst (λ (k : Kind). InRange k c.in_ok-number-in-Number.number) (sym of_kind) c.in_ok-number-in-Number.ensures.range)
+
+pub returns-in_err-number-in-Number-clause-reads : goal.returns-in_err-number-in-Number-clause-reads
+returns-in_err-number-in-Number-clause-reads g c =
+    let numbers = c.args.image.now.numbers in
+    let at = c.args.cursor.now.at in
+    let p = err_from_is_err_and c.from_residual.result c.from_residual.ensures.1 in
+    let P : WalkStep → Type 0 = λ x. TakesOn (intake g.S.Source c.args.source.now) (intake g.S.Source c.number.new.source) (step_long x) at c.number.new.cursor.at
+    (λ rest. take_slot (slot_of x) (progress numbers at rest)) numbers c.from_residual.result in
+    subst P (sym c.in-Number.is)
+    (rw (p.1, p.2)
+    (reads_as (λ n l. (l, tt)) (λ rest left h. number_err rest (Some left) at _ numbers c.in-Number.kind (capacities_of c.in-Number.most) c.in-Number.cell _ _ h) c.in_err-number-in-Number.ensures.reads))
+
+pub returns-in_ok-number-in-Number-clause-reads : goal.returns-in_ok-number-in-Number-clause-reads
+returns-in_ok-number-in-Number-clause-reads g c =
+    let numbers = c.args.image.now.numbers in
+    let at = c.args.cursor.now.at in
+    let to = c.number.new.cursor.at in
+    let z = c.in_ok-number-in-Number.number in
+    let f : SFits w128 z = search rules in
+    let P : WalkStep → Type 0 = λ x. TakesOn (intake g.S.Source c.args.source.now) (intake g.S.Source c.number.new.source) (step_long x) at to
+    (λ rest. take_slot (slot_of x) (progress numbers at rest)) c.set.new.self.numbers (Ok tt) in
+    subst P (sym c.in-Number.is)
+    (rw (c.set.ensures, to_z-of_z w128 z f)
+    (reads_as (λ n l. (omega (arith, l), omega (arith, l, c.in_ok-number-in-Number.ensures.place)))
+    (λ rest left h. number_ok rest (Some left) at to numbers c.in-Number.kind (capacities_of c.in-Number.most) c.in-Number.cell z c.in_ok-number-in-Number.ensures.place h)
+    c.in_ok-number-in-Number.ensures.reads))
 
 pub returns-in-Constant-clause-reads : goal.returns-in-Constant-clause-reads
 returns-in-Constant-clause-reads g c =

@@ -1,4 +1,4 @@
-use Rattle.std.proofs.Common.{◌≡◌, ◌<◌, sym, ap, ◌∙◌, arith, length, get_or, Option, Some, None, ℕ, Err, List, map}
+use Rattle.std.proofs.Common.{◌≡◌, ◌<◌, sym, ap, ◌∙◌, arith, length, get_or, Option, Some, None, ℕ, List, map}
 use Rattle.std.proofs.lemmas.List.{length-map}
 use Rattle.vms_spec.specs.Sets.{Sub}
 use Rattle.vms_spec.specs.Lookup.{find_sub}
@@ -7,7 +7,7 @@ use Rattle.vms_parts.specs.declared.types.Sub.{Sub as CodeSub}
 use Rattle.vms_parts.proofs.Items.{get_map_at}
 use Rattle.vms_desc.specs.Parts.{sub_at}
 use Rattle.vms_load.specs.Heads.{reason_against_sub}
-use Rattle.vms_load.proofs.HeadLemmas.{opens_sub, sub_below}
+use Rattle.vms_load.proofs.HeadLemmas.{unknown_sub, opens_sub, sub_below}
 use Rattle.vms_load.proofs.heads.open_sub.Goals as goal
 use Rattle.vms_load.proofs.heads.open_sub.Goals.{After-against_sub, In-Some}
 
@@ -46,14 +46,19 @@ came-requires c =
     omega (arith, below, length-map c.args.device.now.subs sub_of, c.requires.long)
 
 pub returns-in-None-against_sub-clause-opened : goal.returns-in-None-against_sub-clause-opened
-returns-in-None-against_sub-clause-opened c =
+returns-in-None-against_sub-clause-opened c = λ k.
     let h = goal.at.returns-in-None-against_sub-clause-opened c in
-    opens_sub c.args.number (device_of c.args.device.now) c.args.image.now.came c.args.name.now.items c.args.version c.args.at c.in-Some.sub None c.requires.long (found h.In-Some)
+    opens_sub k (device_of c.args.device.now) c.args.image.now.came c.args.name.now.items c.args.version c.in-Some.sub None c.requires.long (found h.In-Some)
     (sym c.in-None-against_sub.is ∙ judged h.After-against_sub (found h.In-Some))
 
 pub returns-in-Some-against_sub-clause-opened : goal.returns-in-Some-against_sub-clause-opened
-returns-in-Some-against_sub-clause-opened c =
+returns-in-Some-against_sub-clause-opened c = λ k.
     let h = goal.at.returns-in-Some-against_sub-clause-opened c in
-    ap (λ x. Err x) c.refused-in-Some-against_sub.ensures
-    ∙ opens_sub c.args.number (device_of c.args.device.now) c.args.image.now.came c.args.name.now.items c.args.version c.args.at c.in-Some.sub (Some c.in-Some-against_sub.reason) c.requires.long (found h.In-Some)
+    opens_sub k (device_of c.args.device.now) c.args.image.now.came c.args.name.now.items c.args.version c.in-Some.sub (Some c.in-Some-against_sub.reason) c.requires.long (found h.In-Some)
     (sym c.in-Some-against_sub.is ∙ judged h.After-against_sub (found h.In-Some))
+
+pub returns-in-None-clause-opened : goal.returns-in-None-clause-opened
+returns-in-None-clause-opened c = λ k.
+    let subs = c.args.device.now.subs in
+    let none = ap (λ (n : List ℕ). find_sub 0 (map sub_of subs) n) (sym c.deref.ensures.0) ∙ ap (λ (s : List CodeSub). find_sub 0 (map sub_of s) c.deref.result.now) (sym c.as_slice.ensures) ∙ sym c.find_sub.ensures ∙ c.in-None.is in
+    sym (unknown_sub k (device_of c.args.device.now) c.args.image.now.came c.args.name.now.items c.args.version none)

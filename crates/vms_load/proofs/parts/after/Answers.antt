@@ -1,20 +1,21 @@
-use Rattle.std.proofs.Common.{ℕ, ◌+◌, Some, None, Ok, Err, length, slice_set, sym, subst, ap, ◌∙◌, arith}
+use Rattle.std.proofs.Common.{◌≡◌, ℕ, ◌+◌, List, Option, Some, None, Result, Ok, Err, length, slice_set, sym, subst, ap, ◌∙◌, arith}
 use Rattle.std.specs.List.{slice_get}
-use Rattle.std.proofs.lemmas.Result.{err_from_is_err_and}
+use Rattle.vms_spec.specs.declared.Reason.{Reason}
 use Rattle.vms_spec.specs.Sets.{Device, AtLeast}
 use Rattle.vms_spec.specs.Layout.{no_desc}
 use Rattle.vms_desc.specs.Described.{described}
 use Rattle.vms_bodies.proofs.BodyLaws.{at_set}
 use Rattle.vms_parts.specs.Devices.{device_at}
-use Rattle.vms_parts.specs.Views.{device_of}
 use Rattle.vms_frames.specs.Calls.{held_long}
 use Rattle.vms_frames.specs.declared.units.Tail.TheVariants as tails
 use Rattle.vms_spec.specs.Units.{SubHead, Foot}
-use Rattle.vms_load.specs.Heads.{opened_at, sub_opened}
+use Rattle.vms_load.specs.Heads.{in_section, opened_at, sub_opened}
 use Rattle.vms_io.specs.Told.{intake}
 use Rattle.vms_io.proofs.ReadingLemmas.{reads_as}
 use Rattle.vms_load.specs.Going.{GoesOn}
 use Rattle.vms_load.specs.Parts.{subs_due, after_fields, after_part, state_in, spot_in}
+use Rattle.vms_load.specs.declared.fault.LoadFault.{LoadFault}
+use Rattle.vms_load.specs.declared.fault.LoadFault.TheVariants.{Refused}
 use Rattle.vms_load.specs.declared.parts.Open.{Open}
 use Rattle.vms_load.proofs.GoingLemmas.{goes_refused, same_course}
 use Rattle.vms_load.proofs.AfterReads.{after_fault, after_settled, after_next, foot_settled, sub_settled, sub_refused, sub_new, subs_taken}
@@ -22,6 +23,12 @@ use Rattle.vms_load.proofs.SetFacts.{few_subs}
 use Rattle.vms_image.specs.Typed.{Typed, state_of as untyped}
 use Rattle.vms_marks.specs.declared.sub_head.TheConstants.{LONGEST_SUB_HEAD}
 use Rattle.vms_load.proofs.parts.after.Goals as goal
+
+-- what a subsection head opens, as the call tells it
+opened : (k place : ℕ) (came : List (Option ℕ)) (name : List ℕ) (v : ℕ) (d there : Device) (result is : Result ℕ Reason) → there ≡ d → in_section k result ≡ sub_opened k there came name v → result ≡ is
+    → opened_at place (in_section k is) ≡ opened_at place (sub_opened k d came name v)
+opened k place came name v d there result is same e r =
+    ap (λ (o : Result ℕ Reason). opened_at place (in_section k o)) (sym r) ∙ ap (opened_at place) e ∙ ap (λ (x : Device). opened_at place (sub_opened k x came name v)) same
 
 pub open_sub-requires-clause-few : goal.open_sub-requires-clause-few
 open_sub-requires-clause-few g c =
@@ -53,20 +60,18 @@ returns-in-Ok-Next-clause-reads g c = λ names state part room.
     (λ rest left h. after_next (described c.args.set.now) names state c.args.section.now part (untyped c.args.image.now) c.requires.device room c.args.cursor.now c.after_fields.new.self
     (Some rest) (Some left) c.requires.held (omega (arith, place)) h) reads
 
-pub returns-in_err-sub-in-Ok-Sub-clause-reads : goal.returns-in_err-sub-in-Ok-Sub-clause-reads
-returns-in_err-sub-in-Ok-Sub-clause-reads g c = λ names state part room.
+pub returns-in-Err-open_sub-clause-reads : goal.returns-in-Err-open_sub-clause-reads
+returns-in-Err-open_sub-clause-reads g c = λ names state part room.
     let set = described c.args.set.now in
     let name = c.in-Ok-Sub.name.items in
     let reads = rw c.in-Ok-Sub.field-0-is at c.in-Ok-Sub.ensures.reads in
     let place = rw c.in-Ok-Sub.field-0-is at c.in-Ok-Sub.ensures.place in
     let held = rw c.in-Ok-Sub.field-0-is at c.in-Ok-Sub.ensures.held in
-    let e = c.in_err-sub-in-Ok-Sub.field-0.0 in
-    let p = err_from_is_err_and c.from_residual.result c.from_residual.ensures.1 in
-    let is = sym (c.in_err-sub-in-Ok-Sub.was) ∙ c.open_sub.ensures.opened
-    ∙ ap (λ (n : ℕ). opened_at n (sub_opened c.args.section.now.device (device_of c.device.result.now) c.args.image.now.came name c.in-Ok-Sub.version)) c.at-at.ensures
-    ∙ ap (λ (d : Device). opened_at c.args.cursor.now.at (sub_opened c.args.section.now.device d c.args.image.now.came name c.in-Ok-Sub.version)) c.device.ensures in
-    rw (p.1, p.2)
-    (goes_refused e c.in_err-sub-in-Ok-Sub.ensures.refused (reads_as (λ n l. omega (arith, l, c.open_sub.ensures.short))
+    let e : LoadFault = Refused (record { section = Some c.args.section.now.device; at = c.at-at.result; reason = c.in-Err-open_sub.reason }) in
+    let is = opened c.args.section.now.device c.at-at.result c.args.image.now.came name c.in-Ok-Sub.version _ _ c.open_sub.result (Err c.in-Err-open_sub.reason) c.device.ensures (c.open_sub.ensures.opened c.args.section.now.device) c.in-Err-open_sub.is
+    ∙ ap (λ (n : ℕ). opened_at n (sub_opened c.args.section.now.device (device_at set c.args.section.now.device) c.args.image.now.came name c.in-Ok-Sub.version)) c.at-at.ensures in
+    rw c.refused.ensures
+    (goes_refused e tt (reads_as (λ n l. omega (arith, l, c.open_sub.ensures.short))
     (λ rest left h. after_settled set names state c.args.section.now part (untyped c.args.image.now) c.requires.device room c.args.cursor.now c.after_fields.new.self
     (Some rest) (Some left) (SubHead name c.in-Ok-Sub.version) (6 + length name) c.args.section.now (untyped c.args.image.now) (Err e) c.requires.held held h place
     (sub_refused set names state c.args.section.now part (untyped c.args.image.now) c.requires.device room c.args.cursor.now.at name c.in-Ok-Sub.version c.requires.shaped.subs e
@@ -75,25 +80,23 @@ returns-in_err-sub-in-Ok-Sub-clause-reads g c = λ names state part room.
 pub mark-requires : goal.mark-requires
 mark-requires g c =
     let set = described c.args.set.now in
-    let is = sym (c.in_ok-sub-in-Ok-Sub.was) ∙ c.open_sub.ensures.opened
-    ∙ ap (λ (d : Device). opened_at c.at-at.result (sub_opened c.args.section.now.device d c.args.image.now.came c.in-Ok-Sub.name.items c.in-Ok-Sub.version)) c.device.ensures in
-    let new = sub_new c.args.section.now.device (device_at set c.args.section.now.device) c.args.image.now.came c.in-Ok-Sub.name.items c.in-Ok-Sub.version c.in_ok-sub-in-Ok-Sub.sub c.at-at.result c.requires.shaped.subs is in
+    let is = opened c.args.section.now.device c.at-at.result c.args.image.now.came c.in-Ok-Sub.name.items c.in-Ok-Sub.version _ _ c.open_sub.result (Ok c.in-Ok.sub) c.device.ensures (c.open_sub.ensures.opened c.args.section.now.device) c.in-Ok.is in
+    let new = sub_new c.args.section.now.device (device_at set c.args.section.now.device) c.args.image.now.came c.in-Ok-Sub.name.items c.in-Ok-Sub.version c.in-Ok.sub c.at-at.result c.requires.shaped.subs is in
     omega (arith, new.0, c.requires.shaped.subs)
 
-pub returns-in_ok-sub-in-Ok-Sub-clause-reads : goal.returns-in_ok-sub-in-Ok-Sub-clause-reads
-returns-in_ok-sub-in-Ok-Sub-clause-reads g c = λ names state part room.
+pub returns-in-Ok-clause-reads : goal.returns-in-Ok-clause-reads
+returns-in-Ok-clause-reads g c = λ names state part room.
     let set = described c.args.set.now in
     let name = c.in-Ok-Sub.name.items in
-    let j = c.in_ok-sub-in-Ok-Sub.sub in
+    let j = c.in-Ok.sub in
     let v = c.in-Ok-Sub.version in
     let reads = rw c.in-Ok-Sub.field-0-is at c.in-Ok-Sub.ensures.reads in
     let place = rw c.in-Ok-Sub.field-0-is at c.in-Ok-Sub.ensures.place in
     let held = rw c.in-Ok-Sub.field-0-is at c.in-Ok-Sub.ensures.held in
     let before = ap held_long c.requires.held in
     let now = ap held_long held in
-    let is = sym (c.in_ok-sub-in-Ok-Sub.was) ∙ c.open_sub.ensures.opened
-    ∙ ap (λ (n : ℕ). opened_at n (sub_opened c.args.section.now.device (device_of c.device.result.now) c.args.image.now.came name v)) c.at-at.ensures
-    ∙ ap (λ (d : Device). opened_at c.args.cursor.now.at (sub_opened c.args.section.now.device d c.args.image.now.came name v)) c.device.ensures in
+    let is = opened c.args.section.now.device c.at-at.result c.args.image.now.came name v _ _ c.open_sub.result (Ok c.in-Ok.sub) c.device.ensures (c.open_sub.ensures.opened c.args.section.now.device) c.in-Ok.is
+    ∙ ap (λ (n : ℕ). opened_at n (sub_opened c.args.section.now.device (device_at set c.args.section.now.device) c.args.image.now.came name v)) c.at-at.ensures in
     let from = c.args.cursor.now in
     let to = c.after_fields.new.self in
     let begun : Open = record { sub = Some j; version = v } in
@@ -105,24 +108,22 @@ returns-in_ok-sub-in-Ok-Sub-clause-reads g c = λ names state part room.
     (record (untyped c.args.image.now) { came = slice_set c.args.image.now.came j (Some v) }) (Ok (Some begun)) c.requires.held held h place
     (sub_settled set names state c.args.section.now part (untyped c.args.image.now) c.requires.device room from.at name v c.requires.shaped.subs j is)) reads)
 
-pub returns-in_ok-sub-in-Ok-Sub-clause-open : goal.returns-in_ok-sub-in-Ok-Sub-clause-open
-returns-in_ok-sub-in-Ok-Sub-clause-open g c =
+pub returns-in-Ok-clause-open : goal.returns-in-Ok-clause-open
+returns-in-Ok-clause-open g c =
     let set = described c.args.set.now in
-    let j = c.in_ok-sub-in-Ok-Sub.sub in
-    let is = sym (c.in_ok-sub-in-Ok-Sub.was) ∙ c.open_sub.ensures.opened
-    ∙ ap (λ (d : Device). opened_at c.at-at.result (sub_opened c.args.section.now.device d c.args.image.now.came c.in-Ok-Sub.name.items c.in-Ok-Sub.version)) c.device.ensures in
+    let j = c.in-Ok.sub in
+    let is = opened c.args.section.now.device c.at-at.result c.args.image.now.came c.in-Ok-Sub.name.items c.in-Ok-Sub.version _ _ c.open_sub.result (Ok c.in-Ok.sub) c.device.ensures (c.open_sub.ensures.opened c.args.section.now.device) c.in-Ok.is in
     let new = sub_new c.args.section.now.device (device_at set c.args.section.now.device) c.args.image.now.came c.in-Ok-Sub.name.items c.in-Ok-Sub.version j c.at-at.result c.requires.shaped.subs is in
     (new.0, ap (λ (image : Typed). slice_get image.came j) c.mark.ensures ∙ at_set c.args.image.now.came j (Some c.in-Ok-Sub.version) (omega (arith, new.0, c.requires.shaped.subs)))
 
-pub returns-in_ok-sub-in-Ok-Sub-clause-moves : goal.returns-in_ok-sub-in-Ok-Sub-clause-moves
-returns-in_ok-sub-in-Ok-Sub-clause-moves g c =
+pub returns-in-Ok-clause-moves : goal.returns-in-Ok-clause-moves
+returns-in-Ok-clause-moves g c =
     let set = described c.args.set.now in
     let d = device_at set c.args.section.now.device in
-    let j = c.in_ok-sub-in-Ok-Sub.sub in
+    let j = c.in-Ok.sub in
     let v = c.in-Ok-Sub.version in
     let place = rw c.in-Ok-Sub.field-0-is at c.in-Ok-Sub.ensures.place in
-    let is = sym (c.in_ok-sub-in-Ok-Sub.was) ∙ c.open_sub.ensures.opened
-    ∙ ap (λ (d : Device). opened_at c.at-at.result (sub_opened c.args.section.now.device d c.args.image.now.came c.in-Ok-Sub.name.items v)) c.device.ensures in
+    let is = opened c.args.section.now.device c.at-at.result c.args.image.now.came c.in-Ok-Sub.name.items v _ _ c.open_sub.result (Ok c.in-Ok.sub) c.device.ensures (c.open_sub.ensures.opened c.args.section.now.device) c.in-Ok.is in
     let new = sub_new c.args.section.now.device d c.args.image.now.came c.in-Ok-Sub.name.items v j c.at-at.result c.requires.shaped.subs is in
     let due = subs_taken set d.subs c.args.image.now.came j v (record { desc = no_desc; needed = AtLeast 0 }) c.requires.shaped.subs new.1 in
     let same = ap (λ (image : Typed). subs_due set d.subs image.came) c.mark.ensures in

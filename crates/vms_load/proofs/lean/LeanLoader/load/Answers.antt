@@ -7,20 +7,20 @@ use Rattle.vms_load.proofs.SetFacts.{well_of}
 use Rattle.vms_load.proofs.LoadReads.{loads_taken, loads_refused, loads_kept}
 use Rattle.vms_load.proofs.lean.LeanLoader.load.Goals as goal
 
-pub returns-in_err-stream-clause-reads : goal.returns-in_err-stream-clause-reads
-returns-in_err-stream-clause-reads g c =
+pub returns-in_err-taken-clause-reads : goal.returns-in_err-taken-clause-reads
+returns-in_err-taken-clause-reads g c =
     let set = described c.args.self.now.set in
     let p = err_from_is_err_and c.from_residual.result c.from_residual.ensures.1 in
     rw (p.1, p.2)
     (loads_refused set (accepted_of set c.args.only) (well_of set c.args.self.now.set.well_formed) c.args.self.now.set.heads c.stream.new.staged (g.met.S.Source.octets c.stream.new.source)
-    (map untyped c.stream.new.staged.images.items) c.args.self.now.taken c.in_err-stream.field-0.0 c.in_err-stream.ensures.reads)
+    (map untyped c.stream.new.staged.images.items) c.args.self.now.taken c.in_err-taken.field-0.0 c.in_err-taken.ensures.reads)
 
 pub returns-clause-reads : goal.returns-clause-reads
 returns-clause-reads g c =
     let set = described c.args.self.now.set in
-    loads_taken set (accepted_of set c.args.only) (well_of set c.args.self.now.set.well_formed) c.args.self.now.set.heads c.stream.new.staged (g.met.S.Source.octets c.stream.new.source) c.in_ok-stream.field-0 c.in_ok-stream.ensures.reads
+    loads_taken set (accepted_of set c.args.only) (well_of set c.args.self.now.set.well_formed) c.args.self.now.set.heads c.stream.new.staged (g.met.S.Source.octets c.stream.new.source) c.in_ok-taken.taken c.in_ok-taken.ensures.reads
 
 pub returns-clause-whole : goal.returns-clause-whole
 returns-clause-whole g c =
     let set = described c.args.self.now.set in
-    loads_kept set (accepted_of set c.args.only) (map untyped c.stream.new.staged.images.items) c.in_ok-stream.field-0 c.stream.new.staged.machine (returns-clause-reads g c)
+    loads_kept set (accepted_of set c.args.only) (map untyped c.stream.new.staged.images.items) c.in_ok-taken.taken c.stream.new.staged.machine (returns-clause-reads g c)
