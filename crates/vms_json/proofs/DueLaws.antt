@@ -16,7 +16,7 @@ use Rattle.vms_json.specs.declared.parse.Laid.{Laid}
 use Rattle.vms_json.specs.Nodes.{rows_view}
 use Rattle.vms_json.specs.Frames.{Frame, in_list, in_object, before, room, after, value_due, due}
 use Rattle.vms_json.specs.Laying.{AreBelow, AreEnough, InList, IsLaid, HasValue, IsRowOf, is_in_list, IsUnder, HasEnded}
-use Rattle.vms_json.proofs.FrameLaws.{value_ends, value_refused, list_begins, object_begins, list_ends, item_due, object_ends, no_key, member_due}
+use Rattle.vms_json.proofs.FrameLaws.{value_ends, value_refused, list_begins, object_begins, list_ends, no_tokens, item_due, object_ends, no_key, member_due}
 use Rattle.vms_json.proofs.LaidLaws.{no_members_laid, object_laid, value_in_list, list_begun, object_begun, key_laid, run_laid, row_laid, starts_below, below_more}
 
 -- ---- within the frames
@@ -90,13 +90,10 @@ begins said laid t ts going is = record {
 pub none_left : (said : Option (Data × List Token)) (laid : Laid) → IsUnder said laid [] → said ≡ None
 none_left said laid is = is.says ∙ at is.frames is.enough
   where
-    none : (n : ℕ) → converted of_json (value n []) ≡ None
-    none n = ap (converted of_json) (value_is n [])
-
     at : (fs : List Frame) → AreEnough fs 0 → due fs [] ≡ None
-    at [] enough = value_refused [] [] (none (room []))
-    at (in_list n done ∷ fs) enough = item_due n done fs [] enough.0 refl ∙ value_refused (in_list (n - 1) done ∷ fs) [] (none (room (in_list (n - 1) done ∷ fs)))
-    at (in_object n found k ∷ fs) enough = value_refused (in_object n found k ∷ fs) [] (none (room (in_object n found k ∷ fs)))
+    at [] enough = value_refused [] [] (no_tokens (room []))
+    at (in_list n done ∷ fs) enough = item_due n done fs [] enough.0 refl ∙ value_refused (in_list (n - 1) done ∷ fs) [] (no_tokens (room (in_list (n - 1) done ∷ fs)))
+    at (in_object n found k ∷ fs) enough = value_refused (in_object n found k ∷ fs) [] (no_tokens (room (in_object n found k ∷ fs)))
 
 -- ---- a value of one token
 

@@ -43,7 +43,7 @@ pub list_ends : (n : ℕ) (done : List Data) (fs : List Frame) (ts rest : List T
     → items_due n done fs ts ≡ after fs (array (before done no_items)) rest
 list_ends n done fs ts rest enough e = ap (option_and_then (λ p. after fs (array (before done p.0)) p.1)) (items_over (inside fs) n ts rest enough e)
 
-no_tokens : (n : ℕ) → converted of_json (value n []) ≡ None
+pub no_tokens : (n : ℕ) → converted of_json (value n []) ≡ None
 no_tokens n = ap (converted of_json) (value_is n [])
 
 some_tokens : (n m : ℕ) (ts r : List Token) (d : Data) → length ts ≤ n → converted of_json (value m ts) ≡ Some (d, r) → 0 < n

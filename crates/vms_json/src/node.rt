@@ -246,7 +246,8 @@ impl<'t, 'a> Members<'t, 'a> {
     /// The next, with its key.
     #[inline(always)]
     pub fn next(&mut self) -> Option<(&'a str, Node<'t, 'a>)>
-        ensures value { (found : Data.Members) → MatchOption result (members_on self.old found ≡ found)
+        ensures value { (found : Data.Members)
+            → MatchOption result (members_on self.old found ≡ found)
             (λ m. members_on self.old found
             ≡ members_on self.new (put m.0.now (view m.1) found)) }
         ensures fewer { OnSome result (length self.new.rows.now < length self.old.rows.now) }
