@@ -1,8 +1,7 @@
 -- What the whole text says, a token on.
 use Rattle.std.proofs.Common.{◌≡◌, ℕ, suc, ◌-◌, ◌<◌, ◌≤◌, List, [], ◌∷◌, ◌++◌, length, Option, Some, None, option_and_then, refl, sym, ap, ◌∙◌, arith}
 use Rattle.json.specs.Token.{Token}
-use Rattle.json.specs.Json as json
-use Rattle.json.specs.Json.{Parse, parse_map, after_end_array, read_key, items, members, value}
+use Rattle.json.specs.Json.{parse_map, after_end_array, read_key, items, members, value}
 use Rattle.json.proofs.Grammar.{value_is, value-begin_array, value-begin_object}
 use Rattle.serde_json.specs.Data.{Data, array, object, Items, no_items, item, Members, no_members}
 use Rattle.serde_json.specs.Read.{of_json, of_items, of_members, converted, max_depth}
@@ -53,24 +52,22 @@ some_tokens n m [] r d enough e = absurd (no_value (sym (no_tokens m) ∙ e))
     no_value e = absurd (cc)
 some_tokens n m (t ∷ ts) r d enough e = omega arith
 
+-- what nests in a list or an object has a level less
+a_level : (fs : List Frame) → max_depth - length fs - 1 ≡ max_depth - suc (length fs)
+a_level fs = omega arith
+
 pub item_due : (n : ℕ) (done : List Data) (fs : List Frame) (ts : List Token) → length ts ≤ n → after_end_array ts ≡ None
     → items_due n done fs ts ≡ value_due (in_list (n - 1) done ∷ fs) ts
 item_due n done fs ts enough going = by_value (converted of_json (value (room (in_list (n - 1) done ∷ fs)) ts)) refl
   where
-    p : Parse json.Json
-    p = inside fs
-
-    fewer : max_depth - length fs - 1 ≡ max_depth - suc (length fs)
-    fewer = omega arith
-
     by_value : (o : Option (Data × List Token)) → converted of_json (value (max_depth - suc (length fs)) ts) ≡ o
         → items_due n done fs ts ≡ option_and_then (λ p. after (in_list (n - 1) done ∷ fs) p.0 p.1) o
-    by_value None e = ap (option_and_then (λ p. after fs (array (before done p.0)) p.1)) (item_refused p n ts going (ap (λ m. converted of_json (value m ts)) fewer ∙ e))
+    by_value None e = ap (option_and_then (λ p. after fs (array (before done p.0)) p.1)) (item_refused (inside fs) n ts going (ap (λ m. converted of_json (value m ts)) (a_level fs) ∙ e))
     by_value (Some (d, r)) e =
         ap (option_and_then (λ p. after fs (array (before done p.0)) p.1))
-        (item_read p n ts r d (some_tokens n (max_depth - suc (length fs)) ts r d enough e) going (ap (λ m. converted of_json (value m ts)) fewer ∙ e))
-        ∙ mapped (item d) (λ is. after fs (array (before done is))) (converted of_items (items p (n - 1) r))
-        ∙ again (converted of_items (items p (n - 1) r))
+        (item_read (inside fs) n ts r d (some_tokens n (max_depth - suc (length fs)) ts r d enough e) going (ap (λ m. converted of_json (value m ts)) (a_level fs) ∙ e))
+        ∙ mapped (item d) (λ is. after fs (array (before done is))) (converted of_items (items (inside fs) (n - 1) r))
+        ∙ again (converted of_items (items (inside fs) (n - 1) r))
       where
         again : (o : Option (Items × List Token)) → option_and_then (λ q. after fs (array (before done (item d q.0))) q.1) o ≡ option_and_then (λ q. after fs (array (before (done ++ d ∷ []) q.0)) q.1) o
         again None = refl
@@ -89,14 +86,8 @@ pub member_due : (n : ℕ) (found : Members) (k : List ℕ) (fs : List Frame) (t
     → members_due n found fs ts ≡ value_due (in_object (n - 1) found k ∷ fs) s
 member_due n found k fs ts s some key = by_value (converted of_json (value (room (in_object (n - 1) found k ∷ fs)) s)) refl
   where
-    p : Parse json.Json
-    p = inside fs
-
-    fewer : max_depth - length fs - 1 ≡ max_depth - suc (length fs)
-    fewer = omega arith
-
     by_value : (o : Option (Data × List Token)) → converted of_json (value (max_depth - suc (length fs)) s) ≡ o
         → members_due n found fs ts ≡ option_and_then (λ p. after (in_object (n - 1) found k ∷ fs) p.0 p.1) o
-    by_value None e = ap (option_and_then (λ p. after fs (object p.0) p.1)) (member_refused p found n k ts s key (ap (λ m. converted of_json (value m s)) fewer ∙ e))
+    by_value None e = ap (option_and_then (λ p. after fs (object p.0) p.1)) (member_refused (inside fs) found n k ts s key (ap (λ m. converted of_json (value m s)) (a_level fs) ∙ e))
     by_value (Some (d, r)) e =
-        ap (option_and_then (λ p. after fs (object p.0) p.1)) (member_read p found n k ts s r d some key (ap (λ m. converted of_json (value m s)) fewer ∙ e))
+        ap (option_and_then (λ p. after fs (object p.0) p.1)) (member_read (inside fs) found n k ts s r d some key (ap (λ m. converted of_json (value m s)) (a_level fs) ∙ e))

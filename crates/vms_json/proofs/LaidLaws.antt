@@ -57,29 +57,23 @@ one_member_laid rs run k found d are is = record {
 all_of : (r : Row) (rs : List Row) → count_at r ≡ length (r ∷ rs) → (more : List Row) → front (r ∷ rs ++ more) ≡ length (r ∷ rs)
 all_of r rs count more = omega (arith, count, length-append rs more)
 
+-- a row that has the count of them all, before the rows of what is in it
+counted_run : (r : Row) (rs : List Row) (d : Data) → count_at r ≡ length rs + 1 → data_in (suc (2 * length rs + 1)) (r ∷ rs) ≡ d → IsRun (r ∷ rs) d
+counted_run r rs d count says =
+    let double : 2 * length (r ∷ rs) ≡ suc (2 * length rs + 1) = omega arith in
+    record { some = omega arith; all = all_of r rs (omega (arith, count)); says = ap (λ n. data_in n (r ∷ rs)) double ∙ says }
+
 pub list_laid : (rs : List Row) (done : List Data) → AreItems rs done → IsRun (rows.List (length rs + 1) ∷ rs) (array (before done no_items))
 unfolding data_in
 list_laid rs done are =
-    let double : 2 * length (rows.List (length rs + 1) ∷ rs) ≡ suc (2 * length rs + 1) = omega arith in
-    record {
-      some = omega arith;
-      all = all_of (rows.List (length rs + 1)) rs (omega arith);
-      says =
-          ap (λ n. data_in n (rows.List (length rs + 1) ∷ rs)) double
-          ∙ ap array (ap items_of (sym (append-nil rs)) ∙ are.first [] ∙ ap (before done) (no_items_left [] refl));
-    }
+    counted_run (rows.List (length rs + 1)) rs (array (before done no_items)) refl
+    (ap array (ap items_of (sym (append-nil rs)) ∙ are.first [] ∙ ap (before done) (no_items_left [] refl)))
 
 pub object_laid : (rs : List Row) (found : Members) → AreMembers rs found → IsRun (rows.Object (length rs + 1) ∷ rs) (object found)
 unfolding data_in
 object_laid rs found are =
-    let double : 2 * length (rows.Object (length rs + 1) ∷ rs) ≡ suc (2 * length rs + 1) = omega arith in
-    record {
-      some = omega arith;
-      all = all_of (rows.Object (length rs + 1)) rs (omega arith);
-      says =
-          ap (λ n. data_in n (rows.Object (length rs + 1) ∷ rs)) double
-          ∙ ap object (ap (λ l. members_of l no_members) (sym (append-nil rs)) ∙ are.first [] ∙ no_member_left [] found refl);
-    }
+    counted_run (rows.Object (length rs + 1)) rs (object found) refl
+    (ap object (ap (λ l. members_of l no_members) (sym (append-nil rs)) ∙ are.first [] ∙ no_member_left [] found refl))
 
 -- ---- a value that was laid within open ones
 

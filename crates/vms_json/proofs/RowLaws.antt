@@ -1,5 +1,5 @@
 -- Rows, looked at as far as is enough.
-use Rattle.std.proofs.Common.{◌≡◌, Bool, true, false, cond, if◌then◌else◌, Option, Some, None, ℕ, zero, suc, ◌+◌, ◌*◌, ◌<◌, ◌≤◌, List, [], ◌∷◌, length, take, drop, refl, sym, ap, ap₂, ◌∙◌, arith, length-take, length-drop}
+use Rattle.std.proofs.Common.{◌≡◌, Bool, true, false, cond, if◌then◌else◌, Option, Some, None, ℕ, zero, suc, ◌+◌, ◌*◌, ◌<◌, ◌≤◌, List, [], ◌∷◌, length, take, drop, refl, sym, ap, ap₂, subst, ◌∙◌, arith, length-take, length-drop}
 use Rattle.std.specs.Borrow.{Bor}
 use Rattle.serde_json.specs.Data.{Data, null, array, object, Members, no_members, put, no_items, item}
 use Rattle.std.specs.Str.{bytes_eq}
@@ -134,70 +134,29 @@ unfolding data_in
 none_in f [] none is = is
 none_in f (r ∷ rs) none is = let never : ⊥ = omega arith in absurd never
 
-pub as_number-at : (r : Row) (rs : List Row) → as_number (rows_view (r ∷ rs)) ≡ number_at r
-unfolding data_in
-as_number-at r rs = ap (λ n. as_number (data_in n (r ∷ rs))) (two_more r rs) ∙ at r
-  where
-    at : (r : Row) → as_number (data_in (suc (2 * length rs + 1)) (r ∷ rs)) ≡ number_at r
-    at rows.Null = refl
-    at (rows.Bool x) = refl
-    at (rows.Number x) = refl
-    at (rows.Text x) = refl
-    at (rows.Key x) = refl
-    at (rows.List x) = refl
-    at (rows.Object x) = refl
+-- what a value says, by its first row and those after it
+pub record SaysAt (r : Row) (rs : List Row) (d : Data) : Type 0 where
+  pub number : as_number d ≡ number_at r
+  pub text : as_str d ≡ text_at r
+  pub flag : as_bool d ≡ flag_at r
+  pub items : as_array d ≡ (if is_list r then Some (items_in (2 * length rs + 1) rs) else None)
+  pub members : as_object d ≡ (if is_object r then Some (members_in (2 * length rs + 1) rs no_members) else None)
 
-pub as_str-at : (r : Row) (rs : List Row) → as_str (rows_view (r ∷ rs)) ≡ text_at r
+says_at : (r : Row) (rs : List Row) → SaysAt r rs (rows_view (r ∷ rs))
 unfolding data_in
-as_str-at r rs = ap (λ n. as_str (data_in n (r ∷ rs))) (two_more r rs) ∙ at r
+says_at r rs = subst (λ n. SaysAt r rs (data_in n (r ∷ rs))) (sym (two_more r rs)) (at r)
   where
-    at : (r : Row) → as_str (data_in (suc (2 * length rs + 1)) (r ∷ rs)) ≡ text_at r
-    at rows.Null = refl
-    at (rows.Bool x) = refl
-    at (rows.Number x) = refl
-    at (rows.Text x) = refl
-    at (rows.Key x) = refl
-    at (rows.List x) = refl
-    at (rows.Object x) = refl
+    at : (r : Row) → SaysAt r rs (data_in (suc (2 * length rs + 1)) (r ∷ rs))
+    at rows.Null = record { number = refl; text = refl; flag = refl; items = refl; members = refl }
+    at (rows.Bool x) = record { number = refl; text = refl; flag = refl; items = refl; members = refl }
+    at (rows.Number x) = record { number = refl; text = refl; flag = refl; items = refl; members = refl }
+    at (rows.Text x) = record { number = refl; text = refl; flag = refl; items = refl; members = refl }
+    at (rows.Key x) = record { number = refl; text = refl; flag = refl; items = refl; members = refl }
+    at (rows.List x) = record { number = refl; text = refl; flag = refl; items = refl; members = refl }
+    at (rows.Object x) = record { number = refl; text = refl; flag = refl; items = refl; members = refl }
 
-pub as_bool-at : (r : Row) (rs : List Row) → as_bool (rows_view (r ∷ rs)) ≡ flag_at r
-unfolding data_in
-as_bool-at r rs = ap (λ n. as_bool (data_in n (r ∷ rs))) (two_more r rs) ∙ at r
-  where
-    at : (r : Row) → as_bool (data_in (suc (2 * length rs + 1)) (r ∷ rs)) ≡ flag_at r
-    at rows.Null = refl
-    at (rows.Bool x) = refl
-    at (rows.Number x) = refl
-    at (rows.Text x) = refl
-    at (rows.Key x) = refl
-    at (rows.List x) = refl
-    at (rows.Object x) = refl
-
-pub as_array-at : (r : Row) (rs : List Row) → as_array (rows_view (r ∷ rs)) ≡ (if is_list r then Some (items_in (2 * length rs + 1) rs) else None)
-unfolding data_in
-as_array-at r rs = ap (λ n. as_array (data_in n (r ∷ rs))) (two_more r rs) ∙ at r
-  where
-    at : (r : Row) → as_array (data_in (suc (2 * length rs + 1)) (r ∷ rs)) ≡ (if is_list r then Some (items_in (2 * length rs + 1) rs) else None)
-    at rows.Null = refl
-    at (rows.Bool x) = refl
-    at (rows.Number x) = refl
-    at (rows.Text x) = refl
-    at (rows.Key x) = refl
-    at (rows.List x) = refl
-    at (rows.Object x) = refl
-
-pub as_object-at : (r : Row) (rs : List Row) → as_object (rows_view (r ∷ rs)) ≡ (if is_object r then Some (members_in (2 * length rs + 1) rs no_members) else None)
-unfolding data_in
-as_object-at r rs = ap (λ n. as_object (data_in n (r ∷ rs))) (two_more r rs) ∙ at r
-  where
-    at : (r : Row) → as_object (data_in (suc (2 * length rs + 1)) (r ∷ rs)) ≡ (if is_object r then Some (members_in (2 * length rs + 1) rs no_members) else None)
-    at rows.Null = refl
-    at (rows.Bool x) = refl
-    at (rows.Number x) = refl
-    at (rows.Text x) = refl
-    at (rows.Key x) = refl
-    at (rows.List x) = refl
-    at (rows.Object x) = refl
+pub says : (rs inside : List Row) (r : Row) → rs ≡ r ∷ inside → SaysAt r inside (rows_view rs)
+says rs inside r is = subst (λ l. SaysAt r inside (rows_view l)) (sym is) (says_at r inside)
 
 -- ---- what stands under a key
 

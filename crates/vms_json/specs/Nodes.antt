@@ -14,67 +14,33 @@ use Rattle.vms_json.specs.declared.node.Members.{Members as MembersLeft}
 
 -- how many rows begin with this one
 abbrev pub count_at : Row → ℕ
-count_at rows.Null = 1
-count_at (rows.Bool b) = 1
-count_at (rows.Number n) = 1
-count_at (rows.Text s) = 1
-count_at (rows.Key s) = 1
 count_at (rows.List n) = n
 count_at (rows.Object n) = n
+count_at _ = 1
 
 abbrev pub number_at : Row → Option Num
-number_at rows.Null = None
-number_at (rows.Bool b) = None
 number_at (rows.Number n) = Some (number_view n)
-number_at (rows.Text s) = None
-number_at (rows.Key s) = None
-number_at (rows.List n) = None
-number_at (rows.Object n) = None
+number_at _ = None
 
 abbrev pub text_at : Row → Option (List ℕ)
-text_at rows.Null = None
-text_at (rows.Bool b) = None
-text_at (rows.Number n) = None
 text_at (rows.Text s) = Some s.now
-text_at (rows.Key s) = None
-text_at (rows.List n) = None
-text_at (rows.Object n) = None
+text_at _ = None
 
 abbrev pub flag_at : Row → Option Bool
-flag_at rows.Null = None
 flag_at (rows.Bool b) = Some b
-flag_at (rows.Number n) = None
-flag_at (rows.Text s) = None
-flag_at (rows.Key s) = None
-flag_at (rows.List n) = None
-flag_at (rows.Object n) = None
+flag_at _ = None
 
 abbrev pub is_list : Row → Bool
-is_list rows.Null = false
-is_list (rows.Bool b) = false
-is_list (rows.Number n) = false
-is_list (rows.Text s) = false
-is_list (rows.Key s) = false
 is_list (rows.List n) = true
-is_list (rows.Object n) = false
+is_list _ = false
 
 abbrev pub is_object : Row → Bool
-is_object rows.Null = false
-is_object (rows.Bool b) = false
-is_object (rows.Number n) = false
-is_object (rows.Text s) = false
-is_object (rows.Key s) = false
-is_object (rows.List n) = false
 is_object (rows.Object n) = true
+is_object _ = false
 
 abbrev pub key_at : Row → Option (Bor (List ℕ))
-key_at rows.Null = None
-key_at (rows.Bool b) = None
-key_at (rows.Number n) = None
-key_at (rows.Text s) = None
 key_at (rows.Key s) = Some s
-key_at (rows.List n) = None
-key_at (rows.Object n) = None
+key_at _ = None
 
 -- how many rows the first value has
 abbrev pub front : List Row → ℕ

@@ -25,17 +25,15 @@ returns-in_err-token-clause-err c why =
 
 pub lay-requires : goal.lay-requires
 lay-requires c =
-    let said = said_by c.args.text.now in
     let l = c.loop-is_done in
     let going : l.is_done ≡ false = search rules in
-    let under : IsUnder said l.laid l.reader = MatchBool-at_false _ _ going l.invariant in
-    under_below said l.laid l.reader under
+    under_below (said_by c.args.text.now) l.laid l.reader (MatchBool-at_false _ _ going l.invariant)
 
 pub go_on-requires : goal.go_on-requires
 go_on-requires c =
-    let said = said_by c.args.text.now in
     let l = c.loop-is_done in
     let going : l.is_done ≡ false = search rules in
+    let said = said_by c.args.text.now in
     let under : IsUnder said l.laid l.reader = MatchBool-at_false _ _ going l.invariant in
     let first : l.reader ≡ token_of c.in_ok-token.token ∷ c.next.new.self = grind arith in
     let one : c.in_ok-is_value.is_value ≡ true = search rules in

@@ -1,25 +1,19 @@
-use Rattle.std.proofs.Common.{◌≡◌, true, false, ◌∷◌, refl, sym, ap, ◌∙◌, arith}
+use Rattle.std.proofs.Common.{◌≡◌, true, false, refl, sym, ◌∙◌, arith}
 use Rattle.serde_json.specs.Find.{as_object}
-use Rattle.vms_json.specs.Nodes.{rows_view, is_object}
-use Rattle.vms_json.proofs.RowLaws.{none_in, as_object-at}
+use Rattle.vms_json.specs.Nodes.{is_object}
+use Rattle.vms_json.proofs.RowLaws.{none_in, says}
 use Rattle.vms_json.proofs.node.Node.as_members.Goals as goal
 use Rattle.vms_json.proofs.node.Node.as_members.Goals.{in_default-via-in-Some+else-is_object, in_default-via-in_default}
 
 pub returns-in-Some : goal.returns-in-Some
 returns-in-Some c =
-    let r = c.in-Some.row.now in
-    let rs = c.in-Some.rows.now in
-    let at : c.args.self.rows.now ≡ r ∷ rs = grind arith in
-    let is : is_object r ≡ true = sym c.is_object.ensures ∙ c.if-is_object.true in
-    sym (ap (λ l. as_object (rows_view l)) at ∙ as_object-at r rs ∙ rw is)
+    let is : is_object c.in-Some.row.now ≡ true = sym c.is_object.ensures ∙ c.if-is_object.true in
+    sym ((says c.args.self.rows.now c.in-Some.rows.now c.in-Some.row.now (grind arith)).members ∙ rw is)
 
 pub returns-in_default : goal.returns-in_default
 returns-in_default c = elim c.in_default.branch [
   | in_default-via-in-Some+else-is_object w ↦
-      let r = w.in-Some.row.now in
-      let rs = w.in-Some.rows.now in
-      let at : c.args.self.rows.now ≡ r ∷ rs = grind arith in
-      let no : is_object r ≡ false = sym w.is_object.ensures ∙ w.if-is_object.false in
-      sym (ap (λ l. as_object (rows_view l)) at ∙ as_object-at r rs ∙ rw no)
+      let no : is_object w.in-Some.row.now ≡ false = sym w.is_object.ensures ∙ w.if-is_object.false in
+      sym ((says c.args.self.rows.now w.in-Some.rows.now w.in-Some.row.now (grind arith)).members ∙ rw no)
   | in_default-via-in_default w ↦ sym (none_in as_object c.args.self.rows.now (grind arith) refl)
 ]

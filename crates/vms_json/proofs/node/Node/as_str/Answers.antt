@@ -1,13 +1,10 @@
-use Rattle.std.proofs.Common.{◌≡◌, ◌∷◌, refl, sym, ap, ◌∙◌, arith}
+use Rattle.std.proofs.Common.{refl, sym, ◌∙◌, arith}
 use Rattle.serde_json.specs.Find.{as_str}
-use Rattle.vms_json.specs.Nodes.{rows_view}
-use Rattle.vms_json.proofs.RowLaws.{none_in, as_str-at}
+use Rattle.vms_json.proofs.RowLaws.{none_in, says}
 use Rattle.vms_json.proofs.node.Node.as_str.Goals as goal
 
 pub returns-in-Some : goal.returns-in-Some
-returns-in-Some c =
-    let at : c.args.self.rows.now ≡ c.in-Some.row.now ∷ c.in-Some._inside.now = grind arith in
-    c.text.ensures ∙ sym (ap (λ l. as_str (rows_view l)) at ∙ as_str-at c.in-Some.row.now c.in-Some._inside.now)
+returns-in-Some c = c.text.ensures ∙ sym (says c.args.self.rows.now c.in-Some._inside.now c.in-Some.row.now (grind arith)).text
 
 pub returns-in-None : goal.returns-in-None
 returns-in-None c = sym (none_in as_str c.args.self.rows.now (grind arith) refl)
