@@ -192,14 +192,6 @@ pub struct Items<'t, 'a> {
 }
 
 impl<'t, 'a> Items<'t, 'a> {
-    // Goes on after the first value.
-    #[inline(always)]
-    fn pass(&mut self, parted: Parted<'t, 'a>)
-        ensures { self.new.rows.now ≡ parted.entry.rest.now }
-    {
-        self.rows = parted.rest;
-    }
-
     /// How many there are.
     pub fn count(self) -> usize
         ensures { result ≡ items_len (items_left self.entry) }
@@ -223,7 +215,7 @@ impl<'t, 'a> Items<'t, 'a> {
             return None;
         }
         let parted = cut(self.rows);
-        self.pass(parted);
+        *self = Items { rows: parted.rest };
         Some(Node { rows: parted.first })
     }
 }
@@ -235,14 +227,6 @@ pub struct Members<'t, 'a> {
 }
 
 impl<'t, 'a> Members<'t, 'a> {
-    // Goes on after the first value.
-    #[inline(always)]
-    fn pass(&mut self, parted: Parted<'t, 'a>)
-        ensures { self.new.rows.now ≡ parted.entry.rest.now }
-    {
-        self.rows = parted.rest;
-    }
-
     /// The next, with its key.
     #[inline(always)]
     pub fn next(&mut self) -> Option<(&'a str, Node<'t, 'a>)>
@@ -259,7 +243,7 @@ impl<'t, 'a> Members<'t, 'a> {
             return None;
         };
         let parted = cut(rows);
-        self.pass(parted);
+        *self = Members { rows: parted.rest };
         Some((key, Node { rows: parted.first }))
     }
 }

@@ -1,4 +1,4 @@
-use Rattle.std.proofs.Common.{◌∙◌, arith}
+use Rattle.std.proofs.Common.{arith}
 use Rattle.vms_json.proofs.RowLaws.{no_items_left, an_item_left}
 use Rattle.vms_json.proofs.node.Items.next.Goals as goal
 
@@ -8,4 +8,4 @@ returns-then-is_empty-clause-value c = no_items_left c.args.self.now.rows.now (g
 pub returns-clause-value : goal.returns-clause-value
 returns-clause-value c =
     let cut = c.cut-parted.ensures in
-    an_item_left c.args.self.now.rows.now c.cut-parted.result.first.now c.pass.new.self.rows.now (grind arith) cut.first (c.pass.ensures ∙ cut.rest)
+    an_item_left c.args.self.now.rows.now c.cut-parted.result.first.now c.cut-parted.result.rest.now (grind arith) cut.first cut.rest
