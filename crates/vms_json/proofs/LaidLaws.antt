@@ -88,7 +88,7 @@ value_in_list n done fs rs starts d has =
       count = l.count;
       are = has.are ∙ ap (λ b. b ++ has.run) l.are ∙ append_assoc l.below (rows.List l.count ∷ l.own) has.run;
       begins = l.begins;
-      items = one_item_laid l.own has.run done d l.items has.value;
+      inside = one_item_laid l.own has.run done d l.inside has.value;
       laid = l.laid;
     }
 
@@ -107,7 +107,7 @@ value_in_object n found k fs rs starts d has =
           ∙ append_assoc (l.below ++ rows.Object l.count ∷ l.own) (rows.Key at.key ∷ []) has.run
           ∙ append_assoc l.below (rows.Object l.count ∷ l.own) (rows.Key at.key ∷ has.run);
       begins = l.begins;
-      members = subst (λ q. AreMembers (l.own ++ rows.Key at.key ∷ has.run) (put q d found)) at.name (one_member_laid l.own has.run at.key found d l.members has.value);
+      inside = subst (λ q. AreMembers (l.own ++ rows.Key at.key ∷ has.run) (put q d found)) at.name (one_member_laid l.own has.run at.key found d l.inside has.value);
       laid = l.laid;
     }
 
@@ -154,10 +154,10 @@ row_laid t r is = record {
 -- ---- a list or an object that begins, a key, and an end
 
 pub list_begun : (fs : List Frame) (rs : List Row) (starts : List ℕ) (n : ℕ) → IsLaid fs rs starts → InList (IsLaid fs) [] (rs ++ rows.List n ∷ []) (starts ++ length rs ∷ [])
-list_begun fs rs starts n laid = record { below = rs; own = []; places = starts; count = n; are = refl; begins = refl; items = no_items_laid; laid = laid }
+list_begun fs rs starts n laid = record { below = rs; own = []; places = starts; count = n; are = refl; begins = refl; inside = no_items_laid; laid = laid }
 
 pub object_begun : (fs : List Frame) (rs : List Row) (starts : List ℕ) (n : ℕ) → IsLaid fs rs starts → InObject (IsLaid fs) no_members (rs ++ rows.Object n ∷ []) (starts ++ length rs ∷ [])
-object_begun fs rs starts n laid = record { below = rs; own = []; places = starts; count = n; are = refl; begins = refl; members = no_members_laid; laid = laid }
+object_begun fs rs starts n laid = record { below = rs; own = []; places = starts; count = n; are = refl; begins = refl; inside = no_members_laid; laid = laid }
 
 pub key_laid : (n : ℕ) (found : Members) (fs : List Frame) (rs : List Row) (starts : List ℕ) (k : Bor (List ℕ)) → InObject (IsLaid fs) found rs starts
     → IsLaid (in_object n found k.now ∷ fs) (rs ++ rows.Key k ∷ []) starts
@@ -168,11 +168,11 @@ run_laid fs rs run starts d laid is = record { below = rs; run = run; are = refl
 
 pub list_closed : (fs : List Frame) (done : List Data) (rs : List Row) (starts : List ℕ) (l : InList (IsLaid fs) done rs starts)
     → HasValue fs (l.below ++ rows.List (length l.own + 1) ∷ l.own) l.places (array (before done no_items))
-list_closed fs done rs starts l = run_laid fs l.below (rows.List (length l.own + 1) ∷ l.own) l.places (array (before done no_items)) l.laid (list_laid l.own done l.items)
+list_closed fs done rs starts l = run_laid fs l.below (rows.List (length l.own + 1) ∷ l.own) l.places (array (before done no_items)) l.laid (list_laid l.own done l.inside)
 
 pub object_closed : (fs : List Frame) (found : Members) (rs : List Row) (starts : List ℕ) (l : InObject (IsLaid fs) found rs starts)
     → HasValue fs (l.below ++ rows.Object (length l.own + 1) ∷ l.own) l.places (object found)
-object_closed fs found rs starts l = run_laid fs l.below (rows.Object (length l.own + 1) ∷ l.own) l.places (object found) l.laid (object_laid l.own found l.members)
+object_closed fs found rs starts l = run_laid fs l.below (rows.Object (length l.own + 1) ∷ l.own) l.places (object found) l.laid (object_laid l.own found l.inside)
 
 -- the count is put where a list or an object began
 pub ended : (below own : List Row) (r s : Row) → set (below ++ r ∷ own) (length below) s ≡ below ++ s ∷ own

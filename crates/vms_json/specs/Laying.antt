@@ -30,26 +30,23 @@ pub record AreItems (rs : List Row) (done : List Data) : Type 0 where
 pub record AreMembers (rs : List Row) (found : Members) : Type 0 where
   pub first : (more : List Row) → members_of (rs ++ more) no_members ≡ members_of more found
 
--- an open list with these items, and an open object with these members, over what was laid before; the count of its row isn't known yet
-pub record InList (Below : List Row → List ℕ → Type 0) (done : List Data) (rs : List Row) (starts : List ℕ) : Type 0 where
+-- what is open, with its own rows like these, over what was laid before; the count of its row isn't known yet
+pub record IsOpen (Below : List Row → List ℕ → Type 0) (row : ℕ → Row) (Own : List Row → Type 0) (rs : List Row) (starts : List ℕ) : Type 0 where
   pub below : List Row
   pub own : List Row
   pub places : List ℕ
   pub count : ℕ
-  pub are : rs ≡ below ++ rows.List count ∷ own
+  pub are : rs ≡ below ++ row count ∷ own
   pub begins : starts ≡ places ++ length below ∷ []
-  pub items : AreItems own done
+  pub inside : Own own
   pub laid : Below below places
 
-pub record InObject (Below : List Row → List ℕ → Type 0) (found : Members) (rs : List Row) (starts : List ℕ) : Type 0 where
-  pub below : List Row
-  pub own : List Row
-  pub places : List ℕ
-  pub count : ℕ
-  pub are : rs ≡ below ++ rows.Object count ∷ own
-  pub begins : starts ≡ places ++ length below ∷ []
-  pub members : AreMembers own found
-  pub laid : Below below places
+-- an open list with these items, and an open object with these members
+abbrev pub InList : (List Row → List ℕ → Type 0) → List Data → List Row → List ℕ → Type 0
+InList Below done = IsOpen Below rows.List (λ own. AreItems own done)
+
+abbrev pub InObject : (List Row → List ℕ → Type 0) → Members → List Row → List ℕ → Type 0
+InObject Below found = IsOpen Below rows.Object (λ own. AreMembers own found)
 
 -- the same, with the key whose value is read
 pub record AtKey (Before : List Row → List ℕ → Type 0) (k : List ℕ) (rs : List Row) (starts : List ℕ) : Type 0 where
