@@ -42,8 +42,7 @@ pub fn load_board<M: Machine, I: Source, O: Sink, H: Shelf>(
         (stock H.Shelf shelf.old) (stock H.Shelf shelf.new) (ending_of result) o }
     ensures so { EndsSo (intake I.Source input.old) (intake I.Source input.new)
         (outlet O.Sink out.old) (outlet O.Sink out.new)
-        (stock H.Shelf shelf.old) (stock H.Shelf shelf.new) load_course
-        (ending_of result) }
+        (stock H.Shelf shelf.old) (stock H.Shelf shelf.new) load_course (ending_of result) }
     ensures given { LoadGives M.family (scripted None (H.held shelf.old) asked.entry.script.now)
         (intake I.Source input.old) (intake I.Source input.new) }
     ensures seen { let held = H.held shelf.old in
@@ -73,8 +72,7 @@ fn load_events<M: Machine, I: Source, O: Sink>(
         → EndsAs (intake I.Source input.old) (intake I.Source input.new)
         (outlet O.Sink out.old) (outlet O.Sink out.new) shelf shelf' (ending_of result) o }
     ensures so { (shelf : Stock) → EndsSo (intake I.Source input.old) (intake I.Source input.new)
-        (outlet O.Sink out.old) (outlet O.Sink out.new) shelf shelf load_course
-        (ending_of result) }
+        (outlet O.Sink out.old) (outlet O.Sink out.new) shelf shelf load_course (ending_of result) }
     ensures given { let most = most_given (M.family.set M.family.newest) in
         I.given input.new ≤ I.given input.old + most }
     ensures seen { (shelf shelf' : Stock) → shelf'.held ≡ shelf.held
@@ -101,8 +99,7 @@ fn load_on<M: Machine, I: Source, O: Sink>(
         → EndsAs (intake I.Source input.old) (intake I.Source input.new)
         (outlet O.Sink out.old) (outlet O.Sink out.new) shelf shelf' (ending_of result) o }
     ensures so { (shelf : Stock) → EndsSo (intake I.Source input.old) (intake I.Source input.new)
-        (outlet O.Sink out.old) (outlet O.Sink out.new) shelf shelf load_course
-        (ending_of result) }
+        (outlet O.Sink out.old) (outlet O.Sink out.new) shelf shelf load_course (ending_of result) }
     ensures given { let most = most_given (M.family.set M.family.newest) in
         I.given input.new ≤ I.given input.old + most }
     ensures seen { (shelf shelf' : Stock) → shelf'.held ≡ shelf.held

@@ -36,8 +36,7 @@ pub fn play_board<O: Sink, H: Shelf>(
         (stock H.Shelf shelf.old) (stock H.Shelf shelf.new) (ending_of result) o }
     ensures so { (input : Intake) → EndsSo input input
         (outlet O.Sink out.old) (outlet O.Sink out.new)
-        (stock H.Shelf shelf.old) (stock H.Shelf shelf.new) play_course
-        (ending_of result) }
+        (stock H.Shelf shelf.old) (stock H.Shelf shelf.new) play_course (ending_of result) }
 {
     let lines = session_of(alloc, asked.script, asked.number, shelf)?;
     play_lines(alloc, asked.number, &lines, out, shelf)
@@ -59,8 +58,7 @@ fn play_lines<O: Sink, H: Shelf>(
         (stock H.Shelf shelf.old) (stock H.Shelf shelf.new) (ending_of result) o }
     ensures so { (input : Intake) → EndsSo input input
         (outlet O.Sink out.old) (outlet O.Sink out.new)
-        (stock H.Shelf shelf.old) (stock H.Shelf shelf.new) play_course
-        (ending_of result) }
+        (stock H.Shelf shelf.old) (stock H.Shelf shelf.new) play_course (ending_of result) }
 {
     let mut board = Board::new(alloc, level)?;
     play(alloc, lines, &mut board, out, shelf).map_err(fault_ending)

@@ -39,8 +39,7 @@ pub fn save_board<M: Machine, O: Sink, H: Shelf>(
         (stock H.Shelf shelf.old) (stock H.Shelf shelf.new) (ending_of result) }
     ensures so { (input : Intake) → EndsSo input input
         (outlet O.Sink out.old) (outlet O.Sink out.new)
-        (stock H.Shelf shelf.old) (stock H.Shelf shelf.new) save_course
-        (ending_of result) }
+        (stock H.Shelf shelf.old) (stock H.Shelf shelf.new) save_course (ending_of result) }
 {
     let events = events_of(alloc, asked.script, shelf)?;
     save_after::<M, O>(alloc, asked.number, asked.set, &events, out)

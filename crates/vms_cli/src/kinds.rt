@@ -71,8 +71,7 @@ pub(crate) fn load<I: Source, O: Sink, H: Shelf>(
         (stock H.Shelf shelf.old) (stock H.Shelf shelf.new) (ending_of result) o }
     ensures so { EndsSo (intake I.Source input.old) (intake I.Source input.new)
         (outlet O.Sink out.old) (outlet O.Sink out.new)
-        (stock H.Shelf shelf.old) (stock H.Shelf shelf.new) load_course
-        (ending_of result) }
+        (stock H.Shelf shelf.old) (stock H.Shelf shelf.new) load_course (ending_of result) }
     ensures given { Gives (Some (Load (board_asked loading.entry.board) loading.entry.script.now))
         (H.held shelf.old) (intake I.Source input.old) (intake I.Source input.new) }
     ensures seen { let asked = Load (board_asked loading.entry.board) loading.entry.script.now in

@@ -42,14 +42,6 @@ impl From<NoMemory> for Ending {
     }
 }
 
-impl From<WriteFault> for Ending {
-    ghost from_gives = { λ _ ending. ending ≡ endings.WriteFault };
-
-    fn from(_: WriteFault) -> Self {
-        Ending::WriteFault
-    }
-}
-
 impl Ending {
     ghost use Rattle.vms_commands.specs.Endings.{ending_of, line_of, status_of};
 
@@ -101,5 +93,13 @@ impl Ending {
             Ending::TooLarge(line) => line.as_bytes(),
             Ending::WouldLose(line) => line.as_slice(),
         }
+    }
+}
+
+impl From<WriteFault> for Ending {
+    ghost from_gives = { λ _ ending. ending ≡ endings.WriteFault };
+
+    fn from(_: WriteFault) -> Self {
+        Ending::WriteFault
     }
 }
