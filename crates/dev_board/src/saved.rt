@@ -1,7 +1,7 @@
 // Saving and restoring a board's devices.
 ghost use Rattle.std.specs.Prelude.{◌≡◌, ◌+◌, ◌/◌, ◌≤◌, ◌++◌, [], ◌∷◌, pos, length, take, drop, IfOk};
 ghost use Rattle.dev_base.specs.Levels.{IsLevel, MayRestore};
-ghost use Rattle.dev_base.specs.declared.limits.TheConstants.{LAST_MOMENT as last_moment, NEWEST as newest};
+ghost use Rattle.dev_base.specs.declared.limits.TheConstants.{LAST_MOMENT as last_moment};
 ghost use Rattle.dev_pic.specs.Cells.{IsChipCells};
 ghost use Rattle.dev_pit.specs.Cells.{IsPitCells};
 ghost use Rattle.dev_serial.specs.Cells.{IsPortCells};

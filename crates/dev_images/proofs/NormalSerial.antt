@@ -1,5 +1,5 @@
 -- A normal image of the newest set's serial port has the cells that a port may be restored from.
-use Rattle.std.proofs.Common.{◌≡◌, ℕ, zero, suc, ◌+◌, ◌<◌, ◌≤◌, Bool, true, false, ◌&&◌, ◌==◌, List, ◌∷◌, ◌++◌, length, get_or, take, drop, min, map, Option, Some, None, ℤ, pos, negsuc, ◌≤ℤ◌, refl, sym, ◌∙◌, subst, arith, []}
+use Rattle.std.proofs.Common.{◌≡◌, ℕ, zero, suc, ◌+◌, ◌<◌, ◌≤◌, true, false, ◌&&◌, ◌==◌, List, ◌∷◌, ◌++◌, length, get_or, take, drop, min, map, Option, Some, None, ℤ, pos, negsuc, ◌≤ℤ◌, refl, sym, ◌∙◌, subst, arith, []}
 use Rattle.std.proofs.lemmas.Bool.{and_parts, ltb-true, or_from}
 use Rattle.vms_spec.specs.Numbers.{same_number}
 use Rattle.vms_spec.specs.Sets.{Set, Device, Sub}

@@ -1,5 +1,5 @@
 // The rules at two fields of the same position.
-ghost use Rattle.std.specs.Prelude.{◌≡◌, length};
+ghost use Rattle.std.specs.Prelude.{◌≡◌};
 ghost use Rattle.vms_spec.specs.Layout.{counted};
 ghost use Rattle.vms_check.specs.Comparing.{same_count, same_reduced, same_rest, absent_hold, bound};
 ghost use Rattle.vms_check.specs.Pairs.{IsOn, entry, failing_number, rules_on, uncovered_on};

@@ -1,6 +1,5 @@
 // The state of a device.
-ghost use Rattle.vms_spec.specs.declared.TheConstants.{MOST_ITEMS};
-ghost use Rattle.std.specs.Prelude.{◌≡◌, ◌+◌, ◌*◌, ◌<◌, ◌≤◌, ◌↔◌, IsTrue, ℕ, Option, None, pos, length, get_or, slice_set, map, replicate, take, drop, IfOk};
+ghost use Rattle.std.specs.Prelude.{◌≡◌, ◌+◌, ◌*◌, ◌<◌, ◌≤◌, ◌↔◌, IsTrue, Option, None, pos, length, get_or, slice_set, replicate, take, drop, IfOk};
 ghost use Rattle.vms_desc.specs.Described.{described, device_at};
 ghost use Rattle.vms_desc.specs.Spots.{kinds_at};
 ghost use Rattle.vms_image.specs.Typed.{default_at, IsImageOf};

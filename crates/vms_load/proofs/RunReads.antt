@@ -20,7 +20,7 @@ use Rattle.vms_walk.specs.Runs.{run_of}
 use Rattle.vms_walk.proofs.Kept.{keeps_same}
 use Rattle.vms_frames.specs.declared.fault.FrameFault.TheVariants as faults
 use Rattle.vms_load.specs.Bodies.{TakesAs, progress}
-use Rattle.vms_load.specs.Reading.{Told, told, from, Took, Failed, IsStopped}
+use Rattle.vms_load.specs.Reading.{Told, told, Took, Failed, IsStopped}
 use Rattle.vms_load.proofs.RunTaken.{run_long, run_keeps, values_long, run_taken, run_cut, cut_numbers}
 
 -- the first of them

@@ -1,5 +1,5 @@
 -- How long the streams of a set are at most.
-use Rattle.std.proofs.Common.{◌≡◌, ℕ, zero, suc, ◌+◌, ◌*◌, ◌<◌, ◌≤◌, Bool, true, false, if◌then◌else◌, List, [], ◌∷◌, ◌++◌, length, map, get_or, Option, Some, None, ℤ, sym, ◌∙◌, arith, length-append}
+use Rattle.std.proofs.Common.{◌≡◌, ℕ, zero, suc, ◌+◌, ◌*◌, ◌≤◌, Bool, true, false, if◌then◌else◌, List, [], ◌∷◌, ◌++◌, length, map, get_or, Option, Some, None, ℤ, sym, ◌∙◌, arith, length-append}
 use Rattle.std.specs.Prelude.{replicate}
 use Rattle.std.proofs.Math.Nat.{suc-mul}
 use Rattle.std.proofs.lemmas.List.{length-replicate}
@@ -10,8 +10,6 @@ use Rattle.vms_kinds.specs.declared.Item.TheVariants.{Num, Equal, Unused, Struct
 use Rattle.vms_kinds.specs.declared.Kind.{Kind}
 use Rattle.vms_spec.proofs.KindLaws.{length-code}
 use Rattle.vms_spec.proofs.Tables.{first_long}
-use Rattle.vms_spec.specs.declared.Count.{Count}
-use Rattle.vms_spec.specs.declared.Count.TheVariants.{One, Fixed, Counted}
 use Rattle.vms_spec.specs.Images.{Image, zeroed, own_cells, own_slots, sub_slots}
 use Rattle.vms_spec.specs.Layout.{Slot, Number, Constant, Filler, Rule, Meaning, no_meaning, no_desc, meaning, first, times, capacity_of, elements_of, item_slots, item_size, field_cells, counted, no_parent, numbers_of, all_hold, field_slots, slots_from, desc_slots, meanings, desc_cells, struct_cells}
 use Rattle.vms_spec.specs.Sets.{Field, Desc, Sub, Device, Set}

@@ -7,9 +7,9 @@ use Rattle.vms_spec.specs.declared.Count.{Count}
 use Rattle.vms_spec.specs.declared.Count.TheVariants.{One, Fixed, Counted}
 use Rattle.vms_spec.specs.Sets.{Field, Desc, Set}
 use Rattle.vms_spec.specs.Tests.{is_there}
-use Rattle.vms_spec.specs.Layout.{Cell, no_desc, no_parent, first, item_size, desc_cells, field_cells, numbers_of, elements_of, counted}
+use Rattle.vms_spec.specs.Layout.{Cell, no_desc, no_parent, first, item_size, field_cells, numbers_of, elements_of, counted}
 use Rattle.vms_spec.specs.ValuesReading.{Reader, Standing, Read, ◌>>=◌, no_reader, reader, readers, cells_of, read_item, read_elements, read_array, read_field, read_fields, read_desc}
-use Rattle.vms_spec.proofs.Prefixes.{ItemBelow, FieldsBelow, all_below, item_cells_same, field_cells_same, own_same, row_same, first_cells, first_same, readers_cells}
+use Rattle.vms_spec.proofs.Prefixes.{ItemBelow, FieldsBelow, all_below, item_cells_same, field_cells_same, own_same, row_same, first_same}
 use Rattle.vms_spec.proofs.Tables.{first_at}
 use Rattle.vms_desc.specs.Formed.{is_well_formed}
 use Rattle.vms_desc.proofs.Clean.{struct_clean}

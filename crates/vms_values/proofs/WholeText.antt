@@ -1,13 +1,6 @@
 -- What the whole text says, by its devices and their second pass.
-use Rattle.std.proofs.Common.{◌≡◌, ℕ, ◌<◌, ◌≤◌, true, ◌&&◌, nat_le, List, [], ◌∷◌, length, map, Option, Some, None, Result, Ok, Err, refl, sym, ap, ◌∙◌, subst}
+use Rattle.std.proofs.Common.{◌≡◌, ℕ, ◌<◌, List, [], ◌∷◌, length, map, Option, Some, None, Result, Ok, Err, refl, sym, ap, ◌∙◌, subst}
 use Rattle.std.specs.Option.{ForSome}
-use Rattle.std.proofs.lemmas.Bool.{and_parts, leb-true}
-use Rattle.vms_spec.specs.declared.Part.TheVariants as parts
-use Rattle.vms_spec.specs.Lists.{or_else, first_answer}
-use Rattle.vms_spec.specs.WellFormed.{failing, here, set_rules, size_rules, struct_fault, device_fault, first_fault}
-use Rattle.vms_desc.specs.Formed.{is_well_formed}
-use Rattle.vms_spec.proofs.Faultless.{all_true, or_else_none}
-use Rattle.vms_desc.proofs.Bounds.{none_is}
 use Rattle.vms_spec.specs.declared.ValuesReason.TheVariants as reasons
 use Rattle.vms_spec.specs.Sets.{Set}
 use Rattle.vms_spec.specs.Images.{Image}

@@ -1,5 +1,4 @@
 // Pieces of text, written one after the other.
-ghost use Rattle.std.specs.Prelude.{◌≡◌};
 ghost use Rattle.vms_io.specs.Told.{outlet};
 ghost use Rattle.vms_io.specs.Writing.{Wrote};
 ghost use Rattle.vms_values.specs.Written.{joined};

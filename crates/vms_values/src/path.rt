@@ -1,5 +1,4 @@
 // Where a cell stands in a device.
-ghost use Rattle.std.specs.Prelude.{◌≡◌};
 ghost use Rattle.vms_io.specs.Told.{outlet};
 ghost use Rattle.vms_io.specs.Writing.{Wrote};
 ghost use Rattle.vms_values.specs.Paths.{path_text};

@@ -1,5 +1,5 @@
 // Prints the values text.
-ghost use Rattle.std.specs.Prelude.{◌≡◌, ◌<◌, length, get_or, None, map};
+ghost use Rattle.std.specs.Prelude.{◌<◌, length, get_or, None, map};
 ghost use Rattle.std.specs.Option.{ForSome};
 ghost use Rattle.vms_io.specs.Told.{outlet};
 ghost use Rattle.vms_io.specs.Writing.{Wrote};

@@ -1,6 +1,5 @@
 -- What is fine of slots that are joined.
-use Rattle.std.proofs.Common.{◌≡◌, ℕ, zero, suc, ◌+◌, ◌*◌, ◌<◌, ◌≤◌, List, [], ◌∷◌, ◌++◌, length, length-append, get_or, drop, replicate, ℤ, pos, refl, sym, ap, ◌∙◌, subst, arith, append-nil, Bool, true, false, ◌&&◌, ◌||◌}
-use Rattle.std.proofs.Math.Seq.{drop-append_seam}
+use Rattle.std.proofs.Common.{◌≡◌, ℕ, zero, suc, ◌+◌, ◌*◌, ◌<◌, ◌≤◌, List, [], ◌∷◌, ◌++◌, length, length-append, get_or, replicate, ℤ, pos, refl, sym, ap, ◌∙◌, subst, arith, Bool, true, false, ◌&&◌, ◌||◌}
 use Rattle.std.proofs.lemmas.List.{length-replicate}
 use Rattle.std.proofs.lemmas.Bool.{ne_eqb}
 use Rattle.std.proofs.Math.Bool.{and-true, and_assoc}
@@ -12,7 +11,7 @@ use Rattle.vms_spec.specs.Layout.{Cell, no_cell, Slot, Number, Constant, Filler,
 use Rattle.vms_spec.specs.Images.{has_cell}
 use Rattle.vms_bodies.specs.Cells.{AreCells}
 use Rattle.vms_bodies.proofs.AboveLaws.{IsAbove}
-use Rattle.vms_bodies.proofs.CellLaws.{Stands, MeanCells, item_are, items_are, field_are, desc_are}
+use Rattle.vms_bodies.proofs.CellLaws.{MeanCells, item_are, items_are, field_are, desc_are}
 use Rattle.vms_bodies.proofs.Names.{names_append}
 use Rattle.vms_spec.proofs.Sizes.{length-times, size_same, field_size}
 use Rattle.vms_spec.proofs.ListLaws.{and_swap}

@@ -1,5 +1,5 @@
 // The bytes of a part, step by step.
-ghost use Rattle.std.specs.Prelude.{◌≡◌, OnOk, OnErr};
+ghost use Rattle.std.specs.Prelude.{◌≡◌};
 ghost use Rattle.vms_io.specs.Told.{outlet};
 ghost use Rattle.vms_io.specs.Writing.{Wrote};
 ghost use Rattle.vms_spec.specs.Images.{zeroed};
