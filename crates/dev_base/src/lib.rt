@@ -11,5 +11,5 @@ mod rules;
 pub use bits::{bits_where, has};
 pub use cells::{append, are_of, byte_at, flag_at, moment_at, signed_at, word_at};
 pub use hooks::{HasHooks, load_device, save_device};
-pub use limits::{LAST_MOMENT, NEWEST, is_level};
+pub use limits::{LAST_MOMENT, NANOSECONDS, NEWEST, is_level};
 pub use rules::{first_failing, first_failing_law, hook_result};

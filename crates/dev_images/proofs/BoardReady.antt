@@ -1,6 +1,7 @@
 -- What is saved of a sound board are ready images.
 use Rattle.std.proofs.Common.{◌≡◌, ℕ, zero, suc, ◌≤◌, List, [], ◌∷◌, length, Some, ℤ, refl, ap, subst, arith}
 use Rattle.std.specs.List.{slice_get}
+use Rattle.dev_base.specs.declared.limits.TheConstants.{NEWEST}
 use Rattle.dev_board.proofs.SavedLaws.{saved_are_cells}
 use Rattle.dev_board.specs.Saved.{saved, AreSavedCells}
 use Rattle.dev_board.specs.State.{State}
@@ -43,7 +44,7 @@ all-ready set (first ∷ devices) (numbers ∷ lists) h (suc k) d image e f = al
 are-ready : (set : Set) (lists : List (List ℤ)) → AllReady set set.devices lists → AreReady set (images_of set set.devices lists)
 are-ready set lists h = record { one_each = counts set set.devices lists h; ready = all-ready set set.devices lists h }
 
-each : (set : ℕ) (m : State) → AreSavedCells set (saved set m) → 1 ≤ set → set ≤ 4 → AllReady (shipped_set set) (shipped_set set).devices (lists_of (saved set m))
+each : (set : ℕ) (m : State) → AreSavedCells set (saved set m) → 1 ≤ set → set ≤ NEWEST → AllReady (shipped_set set) (shipped_set set).devices (lists_of (saved set m))
 unfolding AllReady
 each zero m a l h = absurd (omega (arith, l))
 each (suc zero) m a l h = (timer_is_ready.first _ a.timer, ((chip_is_ready.chip 0).first _ a.master, ((chip_is_ready.chip 1).first _ a.slave, (pit_is_ready.first _ a.pit, (serial_is_ready.first _ a.serial, tt)))))

@@ -1,6 +1,7 @@
 -- What a counter shows after a number of ticks.
 use Rattle.std.specs.Prelude.{ℕ, ◌+◌, ◌-◌, ◌*◌, ◌/◌, ◌%◌, ◌==◌, Bool, true, false, not, ◌&&◌, ◌||◌, nat_lt, nat_le, if◌then◌else◌}
-use Rattle.dev_pit.specs.declared.limits.TheConstants.{CLOCK_HERTZ, NANOSECONDS}
+use Rattle.dev_base.specs.declared.limits.TheConstants.{NANOSECONDS}
+use Rattle.dev_pit.specs.declared.limits.TheConstants.{CLOCK_HERTZ}
 use Rattle.dev_pit.specs.declared.mode.Mode.{Mode}
 use Rattle.dev_pit.specs.declared.mode.Mode.TheVariants.{TerminalCount, OneShot, RateGenerator, SquareWave, SoftwareStrobe, HardwareStrobe}
 

@@ -14,6 +14,3 @@ pub(crate) const CHANNEL_CELLS: usize = 11;
 
 /// The ticks of the clock input in a second.
 pub(crate) const CLOCK_HERTZ: u64 = 1_193_182;
-
-/// The nanoseconds in a second.
-pub(crate) const NANOSECONDS: u64 = 1_000_000_000;

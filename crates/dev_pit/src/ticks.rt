@@ -2,8 +2,8 @@
 ghost use Rattle.std.specs.Prelude.{◌≡◌, ◌<◌, ◌≤◌};
 ghost use Rattle.dev_pit.specs.Count.{ticks as ticks_of, period as period_of};
 
-use crate::limits::{CLOCK_HERTZ, NANOSECONDS};
-use dev_base::LAST_MOMENT;
+use crate::limits::CLOCK_HERTZ;
+use dev_base::{LAST_MOMENT, NANOSECONDS};
 
 /// The whole ticks between two moments, which are given in nanoseconds.
 #[tactic(auto, unfolding(crate::specs::Count::ticks))]

@@ -2,6 +2,7 @@
 use Rattle.std.proofs.Common.{◌≡◌, ℕ, ◌<◌, ◌≤◌, ◌&&◌, not, true, Option, Some, None, refl, sym, subst, arith, ⊎_elim}
 use Rattle.std.proofs.lemmas.Bool.{cases_lt, leb-true, and_parts}
 use Rattle.std.specs.Prelude.{nat_le, is_some}
+use Rattle.dev_base.specs.declared.limits.TheConstants.{NEWEST}
 use Rattle.dev_serial.specs.Access.{is_empty}
 use Rattle.dev_serial.specs.Cells.{field_cells, array_cells, ring_cells, cells_of, carried, numbers_of}
 use Rattle.dev_serial.specs.Port.{Port}
@@ -45,7 +46,7 @@ no-timeout now port s early = none_at port.receiver.timeout s.receiver.timeout w
   none_at (Some moment) t = let h = leb-true 3 port.level (and_parts _ _ t.runs_now).0 in absurd (omega arith)
 
 -- a number from 1 to 4 is one of these
-pub each_set : (P : ℕ → Type 0) (set : ℕ) → 1 ≤ set → set ≤ 4 → (set ≡ 1 → P 1) → (set ≡ 2 → P 2) → (set ≡ 3 → P 3) → (set ≡ 4 → P 4) → P set
+pub each_set : (P : ℕ → Type 0) (set : ℕ) → 1 ≤ set → set ≤ NEWEST → (set ≡ 1 → P 1) → (set ≡ 2 → P 2) → (set ≡ 3 → P 3) → (set ≡ 4 → P 4) → P set
 each_set P set low high a b c d =
     ⊎_elim (λ below. let e : set ≡ 1 = omega arith in subst P (sym e) (a e)) (λ from2.
     ⊎_elim (λ below. let e : set ≡ 2 = omega arith in subst P (sym e) (b e)) (λ from3.
@@ -53,7 +54,7 @@ each_set P set low high a b c d =
     (cases_lt set 4)) (cases_lt set 3)) (cases_lt set 2)
 
 -- under every set from the port's level on, the cells are carried to those of the newest set
-pub carried-saved : (set now : ℕ) (port : Port) → IsSound now port → port.level ≤ set → set ≤ 4 → carried set (cells_of set (saved set now port)) ≡ cells_of 4 (saved set now port)
+pub carried-saved : (set now : ℕ) (port : Port) → IsSound now port → port.level ≤ set → set ≤ NEWEST → carried set (cells_of set (saved set now port)) ≡ cells_of 4 (saved set now port)
 carried-saved set now port s low high =
     let first = s.registers.is_level.first in
     each_set (λ (n : ℕ). carried n (cells_of n (saved n now port)) ≡ cells_of 4 (saved n now port)) set (omega arith) high

@@ -5,6 +5,7 @@ use Rattle.std.proofs.lemmas.List.{get_or-append-add, get_or_append_left, get_or
 use Rattle.std.proofs.lemmas.Nat.{and_le_r}
 use Rattle.std.specs.List.{range_with_len}
 use Rattle.std.specs.Prelude.{nat_le, is_some}
+use Rattle.dev_base.specs.declared.limits.TheConstants.{NEWEST}
 use Rattle.vms_kinds.specs.Codes.{InRange}
 use Rattle.vms_kinds.specs.declared.Kind.{Kind}
 use Rattle.vms_kinds.specs.declared.Kind.TheVariants.{U8, U16, I8, Timer}
@@ -221,7 +222,7 @@ module _ (now : ℕ) (port : Port) (early : now ≤ LAST_MOMENT) (sound : IsSoun
         tx = record { fits = array-short set port.fifos port.transmitter.waiting sound.transmitter.short; zeros = zero-from (take 31 all) (drop 47 all) (second set) };
       }
 
-  pub are-saved : (set : ℕ) → 1 ≤ set → set ≤ 4 → AreSaved set (cells set)
+  pub are-saved : (set : ℕ) → 1 ≤ set → set ≤ NEWEST → AreSaved set (cells set)
   are-saved set low high = each_set (λ n. AreSaved n (cells n)) set low high (λ e. saved-1) (λ e. saved-2) (λ e. saved-3) (λ e. saved-4)
 
 pub saved_are_cells : SavedAreCells

@@ -1,6 +1,8 @@
 -- Characters on the line.
 use Rattle.std.specs.Prelude.{ℕ, ◌+◌, ◌*◌, ◌/◌, ◌%◌, max}
 use Rattle.dev_base.specs.Bits.{has, bits_where}
+use Rattle.dev_base.specs.declared.limits.TheConstants.{NANOSECONDS}
+use Rattle.dev_serial.specs.declared.mode.TheConstants.{LINE_RATE}
 
 -- the bits of a character: a start bit, 5 to 8 data bits, parity, one stop bit and a second one
 abbrev pub character_bits : ℕ → ℕ
@@ -8,4 +10,4 @@ character_bits lcr = 1 + (5 + lcr % 4) + bits_where (has lcr 3) 1 + 1 + bits_whe
 
 -- the time of a character in nanoseconds, rounded down
 unfoldable pub character_time : ℕ → ℕ → ℕ
-character_time divisor lcr = character_bits lcr * max divisor 1 * 1000000000 / 115200
+character_time divisor lcr = character_bits lcr * max divisor 1 * NANOSECONDS / LINE_RATE

@@ -3,7 +3,7 @@ ghost use Rattle.std.specs.Prelude.{◌≡◌, ◌≤◌};
 ghost use Rattle.dev_serial.specs.Line.{character_time as character_time_of};
 
 use crate::registers::{PEN, STB};
-use dev_base::has;
+use dev_base::{NANOSECONDS, has};
 
 /// How characters go over the line, as the registers have it.
 #[derive(Clone, Copy)]
@@ -18,11 +18,14 @@ pub(crate) struct Mode {
     pub is_looped: bool,
 }
 
+/// How many bits go over the line in a second at divisor 1.
+pub(crate) const LINE_RATE: u64 = 115_200;
+
 /// The longest time of a character, in nanoseconds: 12 bits at divisor 65,535.
 pub(crate) const LONGEST_CHARACTER: u64 = 6_826_562_500;
 
 /// The time of one character in nanoseconds: a start bit, 5 to 8 data bits, a parity bit where there
-/// is one, and 1 or 2 stop bits ("Line Control Register"), at 115,200 bits a second over the divisor.
+/// is one, and 1 or 2 stop bits ("Line Control Register"), at the line's rate over the divisor.
 /// A divisor of 0 counts as 1.
 #[tactic(auto, unfolding(crate::specs::Line::character_time))]
 pub(crate) fn character_time(divisor: u16, lcr: u8) -> u64
@@ -31,5 +34,5 @@ pub(crate) fn character_time(divisor: u16, lcr: u8) -> u64
 {
     let data_bits = 5 + u64::from(lcr % 4);
     let bits = 1 + data_bits + u64::from(has(lcr, PEN)) + 1 + u64::from(has(lcr, STB));
-    bits * u64::from(divisor.max(1)) * 1_000_000_000 / 115_200
+    bits * u64::from(divisor.max(1)) * NANOSECONDS / LINE_RATE
 }

@@ -6,12 +6,13 @@ use Rattle.vms_spec.specs.Lookup.{number_at}
 use Rattle.vms_elements.specs.Lines.{text_of}
 use Rattle.vms_analyze.specs.declared.fault.AnalyzeReason.{AnalyzeReason}
 use Rattle.vms_analyze.specs.declared.fault.AnalyzeReason.TheVariants as reasons
+use Rattle.vms_analyze.specs.declared.input.TheConstants.{LONGEST}
 use Rattle.vms_analyze.specs.Told.{ToldDevice, told_tree, is_good_device}
 use Rattle.vms_analyze.specs.Wanted.{Found, Lines, Differs, wants, found}
 
 -- an input has at most so many bytes
 abbrev pub longest_input : ℕ
-longest_input = 100000000
+longest_input = LONGEST
 
 -- a description may stand here: mark 06, and the length of all that is left
 pub record IsPlace (input : List ℕ) (p : ℕ) : Type 0 where

@@ -1,7 +1,8 @@
 -- The chip: its state, and what each call does.
 use Rattle.std.specs.Prelude.{ℕ, ◌-◌, ◌*◌, ◌/◌, ◌%◌, ◌^◌, ◌==◌, Bool, false, ◌&&◌, ◌||◌, nat_le, nat_lt, if◌then◌else◌, bit_or, slice_index_or, slice_set, replicate, Option, Some, None}
 use Rattle.dev_base.specs.Bits.{has, bits_where}
-use Rattle.vms_rtc.specs.declared.limits.TheConstants.{NMI_SINCE, INDEX_PORT, DATA_PORT, REGISTER_A, REGISTER_B, REGISTER_C, REGISTER_D, CRYSTAL_HERTZ, NANOSECONDS, REGISTERS}
+use Rattle.dev_base.specs.declared.limits.TheConstants.{NANOSECONDS}
+use Rattle.vms_rtc.specs.declared.limits.TheConstants.{NMI_SINCE, INDEX_PORT, DATA_PORT, REGISTER_A, REGISTER_B, REGISTER_C, REGISTER_D, CRYSTAL_HERTZ, REGISTERS}
 use Rattle.vms_rtc.specs.declared.rtc.Rtc.{Rtc}
 
 -- the chip's two ports

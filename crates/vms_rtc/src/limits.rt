@@ -29,8 +29,5 @@ pub(crate) const REGISTER_D: u8 = 0x0d;
 /// The ticks of the crystal in a second.
 pub(crate) const CRYSTAL_HERTZ: u64 = 32_768;
 
-/// The nanoseconds in a second.
-pub(crate) const NANOSECONDS: u64 = 1_000_000_000;
-
 /// The number of registers.
 pub(crate) const REGISTERS: usize = 64;

@@ -2,7 +2,8 @@
 ghost use Rattle.std.specs.Prelude.{◌≡◌, ◌<◌, IfSome};
 ghost use Rattle.vms_rtc.specs.Chip.{ends_within as ends_within_of, period_of as period_by, period_of_rate as period_by_rate, ticks as ticks_of};
 
-use crate::limits::{CRYSTAL_HERTZ, NANOSECONDS};
+use crate::limits::CRYSTAL_HERTZ;
+use dev_base::NANOSECONDS;
 
 // The whole ticks from power on to a moment in nanoseconds.
 #[tactic(auto, unfolding(crate::specs::Chip::ticks))]

@@ -10,6 +10,10 @@ use dev_board::Answer;
 use vms_io::{Sink, WriteFault, write_all_of};
 use vms_words::append;
 
+// The line of an answer has at most so many bytes: value and output with their blanks, 17 sent bytes of two digits each
+// behind a blank, and a line feed.
+const LONGEST_LINE: usize = 40;
+
 /// Appends the line of an answer: the value as two hexadecimal digits or `--`, a blank, `1` or `0` for the
 /// interrupt output, where bytes were sent a blank and their digits, and a line feed. After an error a prefix
 /// of it was appended.
@@ -40,10 +44,10 @@ fn short_line(answer: &Answer) -> [u8; 5]
     [high, low, b' ', int, b'\n']
 }
 
-// The line of an answer, which has at most 40 bytes.
+// The line of an answer.
 #[inline(never)]
 #[tactic(auto, unfolding(crate::specs::Trace::trace_line))]
-fn long_line(answer: &Answer) -> ArrayVec<u8, 40>
+fn long_line(answer: &Answer) -> ArrayVec<u8, LONGEST_LINE>
     ensures { result.items ≡ trace_line answer.now }
 {
     let mut line = ArrayVec::new();
@@ -65,8 +69,8 @@ fn value_digits(value: Option<u8>) -> [u8; 2]
 }
 
 // Where bytes were sent, appends a blank and their digits.
-fn append_sent(line: &mut ArrayVec<u8, 40>, sent: &[u8])
-    requires { length line.old.items + 2 * length sent.now + 1 ≤ 40 }
+fn append_sent(line: &mut ArrayVec<u8, LONGEST_LINE>, sent: &[u8])
+    requires { length line.old.items + 2 * length sent.now + 1 ≤ LONGEST_LINE }
     ensures items { line.new.items ≡ line.old.items ++ sent_text sent.now }
     ensures few { length line.new.items ≤ length line.old.items + 2 * length sent.now + 1 }
 {
@@ -77,8 +81,8 @@ fn append_sent(line: &mut ArrayVec<u8, 40>, sent: &[u8])
 }
 
 // Appends the digits of bytes.
-fn append_digits(line: &mut ArrayVec<u8, 40>, bytes: &[u8])
-    requires { length line.old.items + 2 * length bytes.now ≤ 40 }
+fn append_digits(line: &mut ArrayVec<u8, LONGEST_LINE>, bytes: &[u8])
+    requires { length line.old.items + 2 * length bytes.now ≤ LONGEST_LINE }
     ensures items { line.new.items ≡ line.old.items ++ bytes_text bytes.now }
     ensures count { length line.new.items ≡ length line.old.items + 2 * length bytes.now }
 {
