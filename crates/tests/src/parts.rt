@@ -67,7 +67,7 @@ fn said_field(alloc: Global, said: Said) -> Result<Field, Fail> {
             field.item = item;
             field.default = default;
         }
-        Said::Test(asks) => field.test = Some(test(alloc, asks)?),
+        Said::Test(asks) => field.test = Some(Box::new(alloc, test(alloc, asks)?)?),
         _ => {}
     }
     Ok(field)

@@ -2,7 +2,7 @@
 ghost use Rattle.std.specs.Prelude.{◌≡◌, ◌≤◌, true, not};
 ghost use Rattle.std.specs.Option.{option_map};
 ghost use Rattle.vms_spec.specs.Rules.{nodes};
-ghost use Rattle.vms_parts.specs.Views.{formula, field_of};
+ghost use Rattle.vms_parts.specs.Views.{formula, formula_in, field_of};
 ghost use Rattle.vms_check.specs.Comparing.{is_absent};
 ghost use Rattle.vms_check.specs.Reducing.{reduced};
 ghost use Rattle.vms_check.specs.Sides.{as_reduced, is_whole_left, left_nodes, field_reduced};
@@ -46,7 +46,7 @@ pub(crate) fn reduce(test: &Test, version: u32) -> Left<'_>
 // Whether a field is there, or what is left of its test.
 pub(crate) fn presence(field: &Field, version: u32) -> Left<'_>
     ensures same { as_reduced version result ≡ field_reduced version
-        (option_map formula field.now.test) field.now.since }
+        (option_map formula_in field.now.test) field.now.since }
     ensures whole { is_whole_left version result ≡ true }
 {
     match &field.test {

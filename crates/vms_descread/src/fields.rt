@@ -4,7 +4,7 @@ ghost use Rattle.std.specs.Option.{option_map};
 ghost use Rattle.serde_json.specs.Find.{get, as_str};
 ghost use Rattle.vms_json.specs.Nodes.{view};
 ghost use Rattle.vms_spec.specs.Sets as sets;
-ghost use Rattle.vms_parts.specs.Views.{field_of as field_seen, formula};
+ghost use Rattle.vms_parts.specs.Views.{field_of as field_seen, formula_in};
 ghost use Rattle.vms_descread.specs.declared.sort.Sort.{Sort as TheSort};
 ghost use Rattle.vms_descread.specs.declared.sort.Sort.TheVariants.{Number};
 ghost use Rattle.vms_json.specs.Answers.{Answers, good};
@@ -12,7 +12,7 @@ ghost use Rattle.vms_json.specs.Names.{names_seen};
 ghost use Rattle.vms_descread.specs.Fields.{sort_named, sort_of, counts_fit, values_fit, sort_fits, field_fits, count_as, count_of, item_as, front_seen, front_of, presence_of, field_after, field_in, field_of, plain_field, kind_and_name, IsPlain};
 
 use crate::sort::Sort;
-use crate::tests::TestIn;
+use crate::tests::BoxedTestIn;
 use std::alloc::Global;
 use vms_json::{
     Fault, Integer, ListOf, NameIn, Names, Node, Reads, Scope, TextOf, U16, U32, at, at_or, fits,
@@ -188,15 +188,15 @@ fn read_front(alloc: Global, names: Names, value: &Node) -> Result<Front, Fault>
 
 // Where a field is there.
 #[inline(always)]
-fn read_presence(alloc: Global, names: Names, value: &Node) -> Result<Option<Test>, Fault>
-    ensures { Answers (option_map formula) (presence_of (names_seen names.entry) (view value.now))
-        result }
+fn read_presence(alloc: Global, names: Names, value: &Node) -> Result<Option<Box<Test>>, Fault>
+    ensures { Answers (option_map formula_in)
+        (presence_of (names_seen names.entry) (view value.now)) result }
 {
     let scope = Scope {
         own: names,
         parent: None,
     };
-    maybe_at(alloc, &TestIn(scope), "test", value)
+    maybe_at(alloc, &BoxedTestIn(scope), "test", value)
 }
 
 // The kind and what comes after it.

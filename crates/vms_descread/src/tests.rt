@@ -3,7 +3,7 @@ ghost use Rattle.std.specs.Prelude.{◌≡◌, IfOk, IfErr, Some, codes};
 ghost use Rattle.serde_json.specs.Find.{get};
 ghost use Rattle.vms_json.specs.Nodes.{view, items_left};
 ghost use Rattle.vms_spec.specs.Sets.{Formula, Not};
-ghost use Rattle.vms_parts.specs.Views.{formula};
+ghost use Rattle.vms_parts.specs.Views.{formula, formula_in};
 ghost use Rattle.vms_json.specs.Answers.{Answer, Answers, under, changed};
 ghost use Rattle.vms_json.specs.declared.fault.Fault.TheVariants as faults;
 ghost use Rattle.vms_json.specs.Members.{at as said_at};
@@ -33,6 +33,25 @@ impl<'a> Reads for TestIn<'a> {
 
     fn read(&self, alloc: Global, value: &Node) -> Result<Test, Fault> {
         read_test(alloc, DEEPEST, self.0, value)
+    }
+}
+
+// The same in a box, as fields keep theirs: most have none.
+#[derive(Clone, Copy)]
+pub(crate) struct BoxedTestIn<'a>(pub(crate) Scope<'a>);
+
+impl<'a> Reads for BoxedTestIn<'a> {
+    type Out = Box<Test>;
+
+    ghost Meaning = { Formula };
+
+    ghost means = { formula_in };
+
+    ghost says = { λ s. test_of (scope_seen s.0) };
+
+    fn read(&self, alloc: Global, value: &Node) -> Result<Box<Test>, Fault> {
+        let test = read_test(alloc, DEEPEST, self.0, value)?;
+        Ok(Box::new(alloc, test)?)
     }
 }
 

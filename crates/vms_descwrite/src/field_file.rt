@@ -2,7 +2,7 @@
 ghost use Rattle.std.specs.Prelude.{◌≡◌, [], map, get_or, codes, option_map, ◌≤◌, IfOk, OnOk, IfSome};
 ghost use Rattle.serde_json.specs.View.{view, members_view};
 ghost use Rattle.serde_json.specs.Data.{no_members, string};
-ghost use Rattle.vms_parts.specs.Views.{field_of as field_seen, formula};
+ghost use Rattle.vms_parts.specs.Views.{field_of as field_seen, formula_in};
 ghost use Rattle.vms_descwrite.specs.Fitting.{FitsCount, FitsField, FitsOptional};
 ghost use Rattle.vms_descwrite.specs.Written.{own_names, item_word, capacity_in, length_in, counter_in, equal_in, size_in, struct_in, is_zero, front_file, field_file, integer_file, given_as, test_file};
 
@@ -119,12 +119,12 @@ fn put_test(
     alloc: Global,
     members: &mut Members,
     own: &[Field],
-    test: &Option<Test>,
+    test: &Option<Box<Test>>,
 ) -> Result<(), AllocError>
     ensures file { OnOk result (members_view members.new.entries
         ≡ given_as (codes "test") (test_file (own_names (map field_seen own.now)) [])
-        (option_map formula test.now) (members_view members.old.entries)) }
-    ensures fits { OnOk result (FitsOptional (option_map formula test.now)) }
+        (option_map formula_in test.now) (members_view members.old.entries)) }
+    ensures fits { OnOk result (FitsOptional (option_map formula_in test.now)) }
 {
     match test {
         Some(test) => {

@@ -1,5 +1,5 @@
 -- Description sets as plain data: what is in memory, without where it lies.
-use Rattle.std.specs.Prelude.{List, map}
+use Rattle.std.specs.Prelude.{List, map, Box, box_value}
 use Rattle.std.specs.Option.{option_map}
 use Rattle.vms_spec.specs.Sets as sets
 use Rattle.vms_spec.specs.Layout.{Cell, device_cells}
@@ -19,8 +19,13 @@ formula (Not' p t) = sets.Not (formula t)
 formula (And' p s q t) = sets.And (formula s) (formula t)
 formula (Or' p s q t) = sets.Or (formula s) (formula t)
 
+-- of a test in a box
+module _ {Z : Type 0} where
+  abbrev pub formula_in : Box Test Z → sets.Formula
+  formula_in b = formula (box_value b)
+
 abbrev pub field_of : Field → sets.Field
-field_of f = record { name = f.name; former = f.former; item = f.item; count = f.count; since = f.since; test = option_map formula f.test; default = f.default }
+field_of f = record { name = f.name; former = f.former; item = f.item; count = f.count; since = f.since; test = option_map formula_in f.test; default = f.default }
 
 abbrev pub desc_of : Desc → sets.Desc
 desc_of d = record { name = d.name; version = d.version; minimum = d.minimum; fields = map field_of d.fields; validate = map formula d.validate }

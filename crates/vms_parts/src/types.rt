@@ -34,7 +34,7 @@ pub struct Field {
     /// The first version that has the field; a field with a test never asks it.
     pub since: u32,
     /// Where it is there, as VMState's `field_exists`.
-    pub test: Option<Test>,
+    pub test: Option<Box<Test>>,
     /// The number of each of its cells that doesn't stand in the bytes.
     pub default: i128,
 }

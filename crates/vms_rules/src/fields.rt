@@ -9,7 +9,7 @@ ghost use Rattle.vms_spec.specs.Names.{is_name};
 ghost use Rattle.vms_spec.specs.WellFormed.{fields_fault};
 ghost use Rattle.vms_spec.specs.Streams.{is_one_of};
 ghost use Rattle.vms_parts.specs.Capacities.{AreLeast};
-ghost use Rattle.vms_parts.specs.Views.{formula, field_of, desc_of};
+ghost use Rattle.vms_parts.specs.Views.{formula_in, field_of, desc_of};
 ghost use Rattle.vms_rules.specs.Capacities.{fits};
 ghost use Rattle.vms_rules.specs.Judged.{Judges};
 ghost use Rattle.vms_rules.specs.NameSets.{has_name, are_new_to};
@@ -48,9 +48,9 @@ fn has_good_names(field: &Field) -> bool
 }
 
 #[tactic(auto, using(crate::proofs::FieldLaws::named_in))]
-fn test_names_well(desc: &Desc, number: usize, test: &Option<Test>) -> bool
+fn test_names_well(desc: &Desc, number: usize, test: &Option<Box<Test>>) -> bool
     requires { number ≤ length desc.now.fields }
-    ensures { result ≡ test_names_well (desc_of desc.now) number (option_map formula test.now) }
+    ensures { result ≡ test_names_well (desc_of desc.now) number (option_map formula_in test.now) }
 {
     match test {
         Some(test) => names_well(test, earlier(desc, number), None),
@@ -119,7 +119,7 @@ fn is_small_item(item: Item) -> bool
 // Whether a field is within its limits.
 fn is_small(field: &Field) -> bool
     ensures { result ≡ (nat_le (length field.now.former) 8
-        && is_small_optional (option_map formula field.now.test)
+        && is_small_optional (option_map formula_in field.now.test)
         && is_small_item field.now.item) }
 {
     field.former.as_slice().len() <= 8 && is_small_if_any(&field.test) && is_small_item(field.item)

@@ -4,7 +4,7 @@ ghost use Rattle.std.specs.Prelude.{◌≡◌, Option, map};
 ghost use Rattle.std.specs.Option.{option_map};
 ghost use Rattle.vms_spec.specs.Rules.{is_small_test, is_small_optional, nodes, depth, names_well};
 ghost use Rattle.vms_parts.specs.Sizes.{in_u32};
-ghost use Rattle.vms_parts.specs.Views.{formula, field_of};
+ghost use Rattle.vms_parts.specs.Views.{formula, formula_in, field_of};
 ghost use Rattle.vms_rules.specs.Naming.{is_single, may_name, may_name_in};
 
 use vms_kinds::Item;
@@ -106,8 +106,8 @@ pub(crate) fn is_small(test: &Test) -> bool
     nodes(test) <= 64 && depth(test) <= 16
 }
 
-pub(crate) fn is_small_if_any(test: &Option<Test>) -> bool
-    ensures { result ≡ is_small_optional (option_map formula test.now) }
+pub(crate) fn is_small_if_any(test: &Option<Box<Test>>) -> bool
+    ensures { result ≡ is_small_optional (option_map formula_in test.now) }
 {
     match test {
         Some(test) => is_small(test),

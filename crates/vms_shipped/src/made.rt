@@ -1,7 +1,7 @@
 // The parts that rows of tables stand for.
-ghost use Rattle.std.specs.Prelude.{◌≡◌, ◌++◌, map, IfOk, OnOk};
+ghost use Rattle.std.specs.Prelude.{◌≡◌, ◌++◌, map, option_map, IfOk, OnOk};
 ghost use Rattle.vms_spec.specs.Shipped.{numbers};
-ghost use Rattle.vms_parts.specs.Views.{formula, field_of, desc_of, device_of, sub_of, set_of};
+ghost use Rattle.vms_parts.specs.Views.{formula, formula_in, field_of, desc_of, device_of, sub_of, set_of};
 ghost use Rattle.vms_shipped.specs.Rows.{field_in, fields_in, all_in, desc_in, asked_in, needed_in, sub_in, device_in, set_in};
 
 use crate::rows::{Asked, BYTE, DescRow, DeviceRow, FieldRow, Needed, Rows, SetRow, SubRow};
@@ -40,6 +40,15 @@ fn test(asked: Asked) -> Test
     }
 }
 
+fn boxed(alloc: Global, asked: Option<Asked>) -> Result<Option<Box<Test>>, NoMemory>
+    ensures { IfOk result (λ made. option_map formula_in made ≡ option_map asked_in asked) }
+{
+    match asked {
+        Some(asked) => Ok(Some(Box::new(alloc, test(asked))?)),
+        None => Ok(None),
+    }
+}
+
 fn field(alloc: Global, row: &FieldRow) -> Result<Field, NoMemory>
     ensures { IfOk result (λ f. field_of f ≡ field_in row.now) }
 {
@@ -49,7 +58,7 @@ fn field(alloc: Global, row: &FieldRow) -> Result<Field, NoMemory>
         item: row.item,
         count: row.count,
         since: row.since,
-        test: row.asked.map(test),
+        test: boxed(alloc, row.asked)?,
         default: row.default,
     })
 }

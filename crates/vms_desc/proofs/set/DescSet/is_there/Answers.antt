@@ -3,7 +3,7 @@ use Rattle.std.specs.Option.{option_map}
 use Rattle.vms_spec.specs.Sets.{Field, Formula}
 use Rattle.vms_spec.specs.Tests.{is_there}
 use Rattle.vms_spec.specs.Layout.{no_parent}
-use Rattle.vms_parts.specs.Views.{field_of, formula}
+use Rattle.vms_parts.specs.Views.{field_of, formula, formula_in}
 use Rattle.vms_desc.specs.Asks.{field_at, own_numbers}
 use Rattle.vms_desc.specs.Described.{described}
 use Rattle.vms_desc.specs.Parts.{desc_at}
@@ -17,9 +17,8 @@ holds-requires-clause-names g c =
     let own = c.scope.result in
     let f = c.index-as_slice-field.result in
     let found = found_field c.as_slice.result.now (desc_at set c.args.part).fields c.args.field f (here_fields set c.args.part c.desc.result.now c.as_slice.result.now c.desc.ensures c.as_slice.ensures) c.requires.field c.index-as_slice-field.is in
-    let test : f.test ≡ Some c.in-Some.test = c.in-Some.is in
-    field_names set c.args.self.now.well_formed c.args.part c.requires.part c.args.field c.requires.field (field_of f) found (formula c.in-Some.test)
-    (ap (option_map formula) test) own c.scope.ensures.fields
+    let test : option_map formula_in f.test ≡ Some (formula c.deref.result.now) = ap (option_map formula_in) c.in-Some.is ∙ ap (λ t. Some (formula t)) (sym c.deref.ensures) in
+    field_names set c.args.self.now.well_formed c.args.part c.requires.part c.args.field c.requires.field (field_of f) found (formula c.deref.result.now) test own c.scope.ensures.fields
 
 pub holds-requires-clause-own : goal.holds-requires-clause-own
 holds-requires-clause-own g c =
@@ -33,7 +32,7 @@ returns-in-Some g c =
     let own = c.scope.result in
     let f = c.index-as_slice-field.result in
     let found = found_field c.as_slice.result.now (desc_at set c.args.part).fields c.args.field f (here_fields set c.args.part c.desc.result.now c.as_slice.result.now c.desc.ensures c.as_slice.ensures) c.requires.field c.index-as_slice-field.is in
-    let test : f.test ≡ Some c.in-Some.test = c.in-Some.is in
-    let formulas : Some (formula c.in-Some.test) ≡ (field_at set c.args.part c.args.field).test = sym (ap (option_map formula) test) ∙ ap (λ (x : Field). x.test) found in
-    c.holds.ensures ∙ same_truth set c.args.part c.args.base own numbers c.scope.ensures c.requires.few c.requires.own (formula c.in-Some.test) c.args.version
+    let test : option_map formula_in f.test ≡ Some (formula c.deref.result.now) = ap (option_map formula_in) c.in-Some.is ∙ ap (λ t. Some (formula t)) (sym c.deref.ensures) in
+    let formulas : Some (formula c.deref.result.now) ≡ (field_at set c.args.part c.args.field).test = sym test ∙ ap (λ (x : Field). x.test) found in
+    c.holds.ensures ∙ same_truth set c.args.part c.args.base own numbers c.scope.ensures c.requires.few c.requires.own (formula c.deref.result.now) c.args.version
     ∙ ap (λ (t : Option Formula). is_there t (field_at set c.args.part c.args.field).since c.args.version (own_numbers set c.args.part numbers c.args.base) no_parent) formulas
