@@ -1,5 +1,6 @@
 // Lists.
-ghost use Rattle.std.specs.Prelude.{◌≡◌, ◌++◌, ◌∷◌, [], List, map, OnOk, IfErr};
+ghost use Rattle.std.specs.Prelude.{◌≡◌, ◌++◌, ◌∷◌, [], List, map, min, OnOk, IfErr};
+ghost use Rattle.serde_json.specs.Events.{items_len};
 ghost use Rattle.vms_json.specs.Nodes.{items_left};
 ghost use Rattle.vms_json.specs.Answers.{Answers, list_of, each_from};
 ghost use Rattle.vms_json.specs.declared.fault.Fault.TheVariants as faults;
@@ -44,7 +45,7 @@ where
     ensures { Answers (λ v. map R.means v.items)
         (each_from (R.says reader.now) 0 (items_left items.entry)) result }
 {
-    let mut list = Vec::with_capacity(alloc, items.count().min(LONGEST))?;
+    let mut list = Vec::with_capacity(alloc, room_for(items))?;
     let mut i = 0;
     while let Some(item) = items.next() {
         match reader.read(alloc, &item) {
@@ -54,6 +55,20 @@ where
         i += 1;
     }
     Ok(list)
+}
+
+// How many items there are, where they are no more than the longest list has.
+fn room_for(mut items: Items) -> usize
+    ensures { result ≡ min (items_len (items_left items.entry)) 256 }
+{
+    let mut room: usize = 0;
+    while room < LONGEST {
+        let Some(_item) = items.next() else {
+            return room;
+        };
+        room += 1;
+    }
+    room
 }
 
 fn put<T: Drop>(list: &mut Vec<T>, item: T) -> Result<(), Fault>
