@@ -15,7 +15,7 @@ pub fn fits(value: &Node, needed: &[&str], allowed: &[&str]) -> bool
         ≡ fits (map (λ k. k.now) needed.now) (map (λ k. k.now) allowed.now) (view value.now) }
 {
     match value.as_members() {
-        Some(members) => has_all(value, needed) && has_no_others(members, needed, allowed),
+        Some(members) => has_no_others(members, needed, allowed) && has_all(value, needed),
         None => false,
     }
 }
