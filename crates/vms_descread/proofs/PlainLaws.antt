@@ -6,7 +6,7 @@ use Rattle.serde_json.specs.Data.{Data, null, boolean, number, string, array, ob
 use Rattle.serde_json.specs.Find.{as_object}
 use Rattle.vms_descread.specs.Fields.{kind_and_name}
 
-object_is : (d : Data) (ms : Members) → Some ms ≡ as_object d → d ≡ object ms
+pub object_is : (d : Data) (ms : Members) → Some ms ≡ as_object d → d ≡ object ms
 object_is null ms e = absurd (cc)
 object_is (boolean b) ms e = absurd (cc)
 object_is (number n) ms e = absurd (cc)

@@ -1,7 +1,7 @@
 -- What the tests of a file say.
 use Rattle.std.specs.Prelude.{ℕ, zero, suc, Bool, if◌then◌else◌, List, [], ◌∷◌, Option, Some, None, codes}
 use Rattle.std.specs.Str.{bytes_eq}
-use Rattle.serde_json.specs.Data.{Data, Items, no_items, item}
+use Rattle.serde_json.specs.Data.{Data, object, Items, no_items, item, no_members, member}
 use Rattle.serde_json.specs.Find.{as_array}
 use Rattle.vms_json.specs.Nodes.{view}
 use Rattle.vms_json.specs.declared.node.Node.{Node}
@@ -14,6 +14,7 @@ use Rattle.vms_descread.specs.declared.cells.Form.{Form}
 use Rattle.vms_descread.specs.declared.cells.Form.TheVariants as forms
 use Rattle.vms_descread.specs.declared.cells.Leaf.{Leaf}
 use Rattle.vms_descread.specs.declared.cells.Leaf.TheVariants as leaves
+use Rattle.vms_descread.specs.declared.cells.OwnCell.{OwnCell}
 use Rattle.vms_descread.specs.declared.cells.Join.{Join}
 use Rattle.vms_descread.specs.declared.cells.Join.TheVariants as joins
 use Rattle.vms_descread.specs.declared.tests.TheConstants.{DEEPEST}
@@ -48,6 +49,20 @@ own_cell scope d =
     next (at rel_of (codes "is") d) (λ rel.
     next (at u64_of (codes "mask") d) (λ mask.
     next (at u64_of (codes "value") d) (λ value.
+    good (Cell Own k mask rel value)))))
+
+-- the object of these members, and what it says
+abbrev pub own_seen : OwnCell → Data
+own_seen own =
+    object (member (codes "field") (view own.field) (member (codes "is") (view own.rel)
+    (member (codes "mask") (view own.mask) (member (codes "value") (view own.value) no_members))))
+
+abbrev pub own_said : Scope → OwnCell → Answer Formula
+own_said scope own =
+    next (under (codes "field") (name_in scope.own (view own.field))) (λ k.
+    next (under (codes "is") (rel_of (view own.rel))) (λ rel.
+    next (under (codes "mask") (u64_of (view own.mask))) (λ mask.
+    next (under (codes "value") (u64_of (view own.value))) (λ value.
     good (Cell Own k mask rel value)))))
 
 abbrev pub parent_cell : Names → Data → Answer Formula

@@ -1,15 +1,17 @@
 // The forms of tests, and tests on numbers.
-ghost use Rattle.std.specs.Prelude.{◌≡◌, Option, Some, None};
-ghost use Rattle.vms_json.specs.Nodes.{view};
+ghost use Rattle.std.specs.Prelude.{◌≡◌, Option, Some, None, IfSome};
+ghost use Rattle.serde_json.specs.Data as Data;
+ghost use Rattle.serde_json.specs.Data.{put};
+ghost use Rattle.vms_json.specs.Nodes.{view, members_on};
 ghost use Rattle.vms_spec.specs.Sets as sets;
 ghost use Rattle.vms_spec.specs.declared.Rel.{Rel as TheRel};
 ghost use Rattle.vms_parts.specs.Views.{formula};
 ghost use Rattle.vms_json.specs.Answers.{Answers};
 ghost use Rattle.vms_json.specs.Names.{scope_seen, names_seen};
-ghost use Rattle.vms_descread.specs.Tests.{form_of, key_of, rel_named, rel_of, own_cell, parent_cell};
+ghost use Rattle.vms_descread.specs.Tests.{form_of, key_of, rel_named, rel_of, own_cell, own_seen, own_said, parent_cell};
 
 use std::alloc::Global;
-use vms_json::{Fault, NameIn, Names, Node, Reads, Scope, U32, U64, at, fits};
+use vms_json::{Fault, Members, NameIn, Names, Node, Reads, Scope, U64, at, fits, said};
 use vms_parts::{Rel, Test, Whose};
 
 // The forms of tests, by their keys.
@@ -107,7 +109,70 @@ impl Reads for RelOf {
     }
 }
 
-// A number of the description.
+// The members of a test of a number of the description.
+#[derive(Clone, Copy)]
+pub(crate) struct OwnCell<'t, 'a> {
+    field: Node<'t, 'a>,
+    rel: Node<'t, 'a>,
+    mask: Node<'t, 'a>,
+    value: Node<'t, 'a>,
+}
+
+// Where each of its keys stands once and in their order, as a file is written.
+pub(crate) fn own_in<'t, 'a>(value: &Node<'t, 'a>) -> Option<OwnCell<'t, 'a>>
+    ensures { IfSome result (λ own. view value.now ≡ own_seen own) }
+{
+    let mut members = value.as_members()?;
+    let field = next_of(&mut members, "field")?;
+    let rel = next_of(&mut members, "is")?;
+    let mask = next_of(&mut members, "mask")?;
+    let number = next_of(&mut members, "value")?;
+    if members.next().is_some() {
+        return None;
+    }
+    Some(OwnCell {
+        field,
+        rel,
+        mask,
+        value: number,
+    })
+}
+
+// The next member, where it is of this key.
+#[inline(always)]
+fn next_of<'t, 'a>(members: &mut Members<'t, 'a>, key: &str) -> Option<Node<'t, 'a>>
+    ensures { IfSome result (λ v. (found : Data.Members)
+        → members_on members.old found ≡ members_on members.new (put key.now (view v) found)) }
+{
+    let (name, value) = members.next()?;
+    if name == key { Some(value) } else { None }
+}
+
+#[inline(always)]
+fn test_on(whose: Whose, field: u32, rel: Rel, mask: u64, value: u64) -> Test
+    ensures { formula result ≡ sets.Cell whose field mask rel value }
+{
+    Test::Cell {
+        whose,
+        field,
+        mask,
+        rel,
+        value,
+    }
+}
+
+// A number of the description, by its members.
+pub(crate) fn read_own_cell(alloc: Global, scope: Scope, own: OwnCell) -> Result<Test, Fault>
+    ensures { Answers formula (own_said (scope_seen scope.entry) own.entry) result }
+{
+    let field = said(alloc, &NameIn(scope.own), "field", &own.field)?;
+    let rel = said(alloc, &RelOf, "is", &own.rel)?;
+    let mask = said(alloc, &U64, "mask", &own.mask)?;
+    let number = said(alloc, &U64, "value", &own.value)?;
+    Ok(test_on(Whose::Own, field, rel, mask, number))
+}
+
+// The same by its keys, in any order.
 pub(crate) fn read_own(alloc: Global, scope: Scope, value: &Node) -> Result<Test, Fault>
     ensures { Answers formula (own_cell (scope_seen scope.entry) (view value.now)) result }
 {
@@ -115,13 +180,7 @@ pub(crate) fn read_own(alloc: Global, scope: Scope, value: &Node) -> Result<Test
     let rel = at(alloc, &RelOf, "is", value)?;
     let mask = at(alloc, &U64, "mask", value)?;
     let number = at(alloc, &U64, "value", value)?;
-    Ok(Test::Cell {
-        whose: Whose::Own,
-        field,
-        mask,
-        rel,
-        value: number,
-    })
+    Ok(test_on(Whose::Own, field, rel, mask, number))
 }
 
 // A number of the device.
@@ -132,11 +191,5 @@ pub(crate) fn read_parent(alloc: Global, names: Names, value: &Node) -> Result<T
     let mask = at(alloc, &U64, "mask", value)?;
     let field = at(alloc, &NameIn(names), "parent", value)?;
     let number = at(alloc, &U64, "value", value)?;
-    Ok(Test::Cell {
-        whose: Whose::Parent,
-        field,
-        mask,
-        rel,
-        value: number,
-    })
+    Ok(test_on(Whose::Parent, field, rel, mask, number))
 }

@@ -10,7 +10,7 @@ ghost use Rattle.vms_json.specs.Members.{at as said_at};
 ghost use Rattle.vms_json.specs.Names.{scope_seen};
 ghost use Rattle.vms_descread.specs.Tests.{test_within, test_of, leaf_as, pair_seen, two_of, two_in, both, joined, key_of};
 
-use crate::cells::{Form, Join, Leaf, form_of, read_own, read_parent};
+use crate::cells::{Form, Join, Leaf, form_of, own_in, read_own, read_own_cell, read_parent};
 use std::alloc::Global;
 use vms_json::{Fault, Items, Node, Reads, Scope, U32, at};
 use vms_parts::Test;
@@ -61,6 +61,9 @@ fn read_test(alloc: Global, depth: u8, scope: Scope, value: &Node) -> Result<Tes
 {
     if depth == 0 {
         return Err(Fault::here(alloc));
+    }
+    if let Some(own) = own_in(value) {
+        return read_own_cell(alloc, scope, own);
     }
     match form_of(value) {
         Form::Leaf(leaf) => read_leaf(alloc, leaf, scope, value),

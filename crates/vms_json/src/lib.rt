@@ -22,7 +22,7 @@ pub use fault::Fault;
 pub use field_names::FieldNames;
 pub use keys::{fits, has};
 pub use lists::ListOf;
-pub use members::{at, at_or, maybe_at};
+pub use members::{at, at_or, maybe_at, said};
 pub use names::{NameIn, Names, Scope};
 pub use node::{Items, Members, Node, Tree};
 pub use parse::{NoNode, read_node};

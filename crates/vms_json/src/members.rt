@@ -1,7 +1,7 @@
 // The members of objects.
 ghost use Rattle.std.specs.Prelude.{None, option_map};
 ghost use Rattle.vms_json.specs.Nodes.{view};
-ghost use Rattle.vms_json.specs.Answers.{Answers};
+ghost use Rattle.vms_json.specs.Answers.{Answers, under};
 ghost use Rattle.vms_json.specs.Members.{at, at_or, maybe_at};
 
 use crate::Node;
@@ -9,16 +9,24 @@ use crate::fault::Fault;
 use crate::words::Reads;
 use std::alloc::Global;
 
+/// What a member of this key says.
+#[inline(always)]
+pub fn said<R: Reads>(alloc: Global, reader: &R, key: &str, member: &Node) -> Result<R::Out, Fault>
+    ensures { Answers R.means (under key.now (R.says reader.now (view member.now))) result }
+{
+    match reader.read(alloc, member) {
+        Ok(out) => Ok(out),
+        Err(fault) => Err(fault.under(alloc, key)),
+    }
+}
+
 /// What the member of a key says.
 #[inline(always)]
 pub fn at<R: Reads>(alloc: Global, reader: &R, key: &str, value: &Node) -> Result<R::Out, Fault>
     ensures { Answers R.means (at (R.says reader.now) key.now (view value.now)) result }
 {
     match value.get(key) {
-        Some(member) => match reader.read(alloc, &member) {
-            Ok(out) => Ok(out),
-            Err(fault) => Err(fault.under(alloc, key)),
-        },
+        Some(member) => said(alloc, reader, key, &member),
         None => Err(Fault::here(alloc)),
     }
 }
@@ -37,10 +45,7 @@ where
         (view value.now)) result }
 {
     match value.get(key) {
-        Some(member) => match reader.read(alloc, &member) {
-            Ok(out) => Ok(out),
-            Err(fault) => Err(fault.under(alloc, key)),
-        },
+        Some(member) => said(alloc, reader, key, &member),
         None => Ok(default),
     }
 }

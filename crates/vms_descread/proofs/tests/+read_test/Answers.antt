@@ -3,25 +3,33 @@ use Rattle.vms_json.specs.Nodes.{view}
 use Rattle.vms_spec.specs.Sets.{Not}
 use Rattle.vms_parts.specs.Views.{formula}
 use Rattle.vms_descread.specs.declared.cells.Form.TheVariants as forms
+use Rattle.vms_descread.specs.declared.cells.Leaf.TheVariants as leaves
 use Rattle.vms_json.specs.Answers.{Answers, good, bad, next, changed, under, Refuses}
 use Rattle.vms_json.specs.Members.{at, member_of}
 use Rattle.vms_json.specs.Names.{scope_seen}
-use Rattle.vms_descread.specs.Tests.{test_within, two_of, key_of, joined, both, pair_seen}
+use Rattle.vms_descread.specs.Tests.{form_of, test_within, own_cell, two_of, key_of, joined, both, pair_seen}
 use Rattle.vms_descread.proofs.TestLaws.{by_form, refused_next}
 use Rattle.vms_descread.proofs.tests.+read_test.Goals as goal
+
+pub returns-in-Some : goal.returns-in-Some
+returns-in-Some t c =
+    let scope = scope_seen c.args.scope in
+    by_form c.args.depth scope (view c.args.value.now) (forms.Leaf leaves.Own) c.read_own_cell.result (omega (arith, c.if-depth-eq0.false))
+    (sym (ap form_of c.in-Some.ensures))
+    (subst (λ d. Answers formula (own_cell scope d) c.read_own_cell.result) (sym c.in-Some.ensures) c.read_own_cell.ensures)
 
 pub returns-in-Leaf : goal.returns-in-Leaf
 returns-in-Leaf t c =
     by_form c.args.depth (scope_seen c.args.scope) (view c.args.value.now) (forms.Leaf c.in-Leaf.leaf) c.read_leaf.result (omega (arith, c.if-depth-eq0.false))
     c.in-Leaf.ensures c.read_leaf.ensures
 
-pub returns-in-Some : goal.returns-in-Some
-returns-in-Some t c =
+pub returns-in-Some-get : goal.returns-in-Some-get
+returns-in-Some-get t c =
     let scope = scope_seen c.args.scope in
     let inner = test_within (c.args.depth - 1) scope in
     by_form c.args.depth scope (view c.args.value.now) forms.Not c.negated.result (omega (arith, c.if-depth-eq0.false)) c.in-Not.ensures
-    (subst (λ o. Answers formula (changed Not (member_of inner (codes "not") o)) c.negated.result) c.in-Some.ensures
-    (c.negated.ensures (inner (view c.in-Some.inner)) c.read_test.ensures))
+    (subst (λ o. Answers formula (changed Not (member_of inner (codes "not") o)) c.negated.result) c.in-Some-get.ensures
+    (c.negated.ensures (inner (view c.in-Some-get.inner)) c.read_test.ensures))
 
 pub returns-in-None : goal.returns-in-None
 returns-in-None t c =
