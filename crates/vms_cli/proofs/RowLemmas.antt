@@ -12,7 +12,7 @@ use Rattle.vms_commands.specs.Outcomes.{Does, DoesOrStops, Outcome, Outside}
 use Rattle.vms_commands.proofs.CourseLemmas.{wrong}
 use Rattle.vms_commands.proofs.EndLemmas.{around, kept_none, outcome_so, same_keeps}
 use Rattle.vms_cli.specs.Commands.{Asked}
-use Rattle.vms_cli.specs.Rows.{CanAnswer, DoesSeen, Gives, HasCause, OutcomeWith}
+use Rattle.vms_cli.specs.Rows.{CanAnswer, ComesSeen, DoesSeen, Gives, HasCause, OutcomeWith}
 use Rattle.vms_cli.specs.Statuses.{course_of, reads, statuses_of, stores_at, takes_at, writes_at}
 use Rattle.vms_cli.proofs.EndsSo.{caused_so}
 use Rattle.vms_cli.proofs.VerdictLaws.{StopsAt}
@@ -170,6 +170,18 @@ module _ (i i' : Intake) (o o' n n' : Outlet) (s s' : Stock) where
         does = does_so status v.outcome (outcome_so i i' o o' n n' s s' e status v.outcome v.ends cause t) which;
       }
 
+  stopped_so : (P : List ℕ → Outcome → Type 0) (e : Ending) (status : ℕ) → SeenAs P i i' o o' s s' e → Caused i i' o o' s s' e → Tells n n' e status → status ≡ 6
+      → ComesSeen P status old new ⊎ Rose old.notes.faults new.notes.faults
+  stopped_so P Done status seen cause t six = absurd (omega (arith, t.0, six))
+  stopped_so P e status seen cause (inr t) six = inr t.1
+  stopped_so P e status seen cause (inl t) six =
+      let v = seen (ap (is_among (0 ∷ 1 ∷ 6 ∷ 11 ∷ [])) (sym t.0 ∙ six)) in
+      inl (record {
+        outcome = v.outcome;
+        sees = v.sees;
+        comes = outcome_so i i' o o' n n' s s' e status v.outcome v.ends cause (inl t);
+      })
+
   -- ---- the row
 
   pub row_so : (asked : Option Asked) (e : Ending) (status : ℕ) → RunsSo i i' o o' s s' asked e → Tells n n' e status → CanAnswer asked status old new
@@ -188,4 +200,5 @@ module _ (i i' : Intake) (o o' n n' : Outlet) (s s' : Stock) where
         unnamed = c.unnamed;
         given = c.given;
         seen = λ is which. seen_so (OutcomeWith asked s.held) e status (c.seen is) (caused_so i i' o o' s s' asked e h) t which;
+        stopped = λ is six. stopped_so (OutcomeWith asked s.held) e status (c.seen is) (caused_so i i' o o' s s' asked e h) t six;
       }

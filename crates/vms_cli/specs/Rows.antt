@@ -7,7 +7,7 @@ use Rattle.vms_io.specs.Told.{Intake}
 use Rattle.vms_commands.specs.Courses.{is_among}
 use Rattle.vms_commands.specs.Fetching.{word_set}
 use Rattle.vms_commands.specs.Lines.{bad_words, out_of_memory, read_fault, shelf_fault, write_fault}
-use Rattle.vms_commands.specs.Outcomes.{Does, Outcome, Outside}
+use Rattle.vms_commands.specs.Outcomes.{Does, DoesOrStops, Outcome, Outside}
 use Rattle.vms_board.specs.Clock.{clock}
 use Rattle.vms_board.specs.Isa.{isa}
 use Rattle.vms_board_commands.specs.Load.{LoadGives, LoadsWith}
@@ -43,6 +43,12 @@ pub record DoesSeen (IsOutcome : List ℕ → Outcome → Type 0) (status : ℕ)
   pub sees : Sees IsOutcome old.input new.input outcome
   pub does : Does status old new outcome
 
+-- the same where the call may have stopped on the way to it
+pub record ComesSeen (IsOutcome : List ℕ → Outcome → Type 0) (status : ℕ) (old new : Outside) : Type 0 where
+  pub outcome : Outcome
+  pub sees : Sees IsOutcome old.input new.input outcome
+  pub comes : DoesOrStops status old new outcome
+
 -- how many bytes the input gives at most
 abbrev pub Gives : Option Asked → Option Held → Intake → Intake → Type 0
 Gives (Some (Show word)) held input input' = GivesWithin (word_set held word) input input'
@@ -65,3 +71,5 @@ pub record CanAnswer (asked : Option Asked) (status : ℕ) (old new : Outside) :
   -- of the input no more is given than may be, and what is done, refused or would lose something is done of all that was taken
   pub given : Gives asked old.shelf.held old.input new.input
   pub seen : reads asked ≡ true → (status ≡ 0) ⊎ (status ≡ 1) ⊎ (status ≡ 11) → DoesSeen (OutcomeWith asked old.shelf.held) status old new
+  -- where out failed, what stands on it is the beginning of an outcome's text that is seen so
+  pub stopped : reads asked ≡ true → status ≡ 6 → ComesSeen (OutcomeWith asked old.shelf.held) status old new ⊎ Rose old.notes.faults new.notes.faults
