@@ -158,7 +158,7 @@ alike_back port other a =
     record { same = ap (λ (p : Port). record p { thr_empty = port.thr_empty }) (sym a.same); enabled = enabled }
 
 pub alike_on : AlikeOn
-alike_on port other third a b = record {
+alike_on port _ third a b = record {
   same = b.same ∙ ap (λ (p : Port). record p { thr_empty = third.thr_empty }) a.same;
   enabled = λ e. b.enabled (ap (λ (p : Port). has p.ier 1) a.same ∙ e) ∙ a.enabled e;
 }

@@ -6,6 +6,7 @@ use Rattle.vms_kinds.specs.declared.Kind.TheVariants.{U8, U16, I8, Timer}
 use Rattle.dev_base.specs.Cells.{cell_at, number_at, AreOf, firsts}
 use Rattle.dev_base.specs.Tables.{Origin, default_of, places, where_had, since, carried_by}
 use Rattle.dev_base.specs.declared.limits.TheConstants.{NEWEST}
+use Rattle.dev_serial.specs.declared.fifo.TheConstants.{FIFO_BYTES}
 use Rattle.dev_serial.specs.declared.levels.TheConstants.{FIFOS_SINCE, TIMEOUT_SINCE, RINGS_SINCE}
 use Rattle.dev_serial.specs.declared.numbers.PortNumbers.{PortNumbers}
 use Rattle.dev_serial.specs.declared.stored.Counted.{Counted}
@@ -65,7 +66,7 @@ AreBytesIn cells place count = (k : ℕ) → place ≤ k → k < place + count �
 
 -- sixteen numbers from a place on
 abbrev pub bytes_at : List ℤ → ℕ → List ℕ
-bytes_at cells place = firsts 16 (λ i. number_at cells (place + i))
+bytes_at cells place = firsts FIFO_BYTES (λ i. number_at cells (place + i))
 
 -- a counted array by the place of its count, and a ring by that of its first element
 abbrev pub array_at : List ℤ → ℕ → Counted
@@ -74,7 +75,7 @@ array_at cells place = record { count = number_at cells place; bytes = bytes_at 
 abbrev pub ring_at : List ℤ → ℕ → Ring
 ring_at cells place = record {
   elements = bytes_at cells place;
-  head = number_at cells (place + 16);
+  head = number_at cells (place + FIFO_BYTES);
   number = number_at cells (place + 17);
 }
 
@@ -103,8 +104,8 @@ numbers_of cells = record {
 
 -- the array behind a count is at most its capacity long, and zero past the count
 pub record IsArray (cells : List ℤ) (place : ℕ) : Type 0 where
-  pub fits : number_at cells place ≤ 16
-  pub zeros : (i : ℕ) → number_at cells place ≤ i → i < 16 → cell_at cells (place + 1 + i) ≡ pos 0
+  pub fits : number_at cells place ≤ FIFO_BYTES
+  pub zeros : (i : ℕ) → number_at cells place ≤ i → i < FIFO_BYTES → cell_at cells (place + 1 + i) ≡ pos 0
 
 -- cells of the newest set: each of its kind, with both arrays as their counts say
 pub record IsPortCells (cells : List ℤ) : Type 0 where

@@ -4,6 +4,7 @@ use Rattle.vms_hooks.specs.Numbers.{Numbers}
 use Rattle.dev_base.specs.Cells.{number_at, AreOf}
 use Rattle.dev_base.specs.Levels.{IsLevel}
 use Rattle.dev_base.specs.declared.limits.TheConstants.{NEWEST, LAST_MOMENT}
+use Rattle.dev_serial.specs.declared.fifo.TheConstants.{FIFO_BYTES}
 use Rattle.dev_serial.specs.Access.{read_of, written, came_in, advanced}
 use Rattle.dev_serial.specs.Cells.{IsArray, kinds, carried}
 use Rattle.dev_serial.specs.Port.{Port, power_on, line_of}
@@ -74,14 +75,14 @@ pub record ListComesBack (bytes : List ℕ) : Type 0 where
   pub array : counted_bytes (counted_of bytes) ≡ bytes
 
 abbrev pub ListsComeBack : Type 0
-ListsComeBack = (bytes : List ℕ) → length bytes ≤ 16 → ListComesBack bytes
+ListsComeBack = (bytes : List ℕ) → length bytes ≤ FIFO_BYTES → ListComesBack bytes
 
 -- the elements that a ring holds, by their distance from the head, are those of which it gives the bytes
 abbrev pub HoldsWhatItGives : Type 0
 HoldsWhatItGives =
-    (ring : Ring) (place : ℕ) → ring.head ≤ 15 → ring.number ≤ 16 → place < 16
+    (ring : Ring) (place : ℕ) → ring.head ≤ 15 → ring.number ≤ FIFO_BYTES → place < FIFO_BYTES
     → behind_head ring place < ring.number
-    ↔ ((i : ℕ) × (i < ring.number) × ((ring.head + i) % 16 ≡ place))
+    ↔ ((i : ℕ) × (i < ring.number) × ((ring.head + i) % FIFO_BYTES ≡ place))
 
 -- to be alike is an equivalence
 abbrev pub AlikeItself : Type 0

@@ -1,5 +1,6 @@
 -- What contracts see of a port's two parts.
 use Rattle.std.specs.Prelude.{◌≡◌, ℕ, ◌≤◌, Bool, false, List, length, Option}
+use Rattle.dev_serial.specs.declared.fifo.TheConstants.{FIFO_BYTES}
 use Rattle.dev_serial.specs.declared.shift.Shift.{Shift}
 
 -- the receiver: the bytes held, first in first, the overrun flag, and the moment of the timeout
@@ -15,5 +16,5 @@ pub record TransmitterState : Type 0 where
 
 -- a list has at most sixteen bytes, and at most one without FIFOs
 pub record IsShort (has_fifos : Bool) (bytes : List ℕ) : Type 0 where
-  pub short : length bytes ≤ 16
+  pub short : length bytes ≤ FIFO_BYTES
   pub one : has_fifos ≡ false → length bytes ≤ 1

@@ -1,5 +1,6 @@
 -- The receiver's steps.
 use Rattle.std.specs.Prelude.{ℕ, ◌+◌, ◌*◌, ◌==◌, true, false, nat_lt, if◌then◌else◌, List, [], ◌∷◌, ◌++◌, length, Some, None}
+use Rattle.dev_serial.specs.declared.fifo.TheConstants.{FIFO_BYTES}
 use Rattle.dev_serial.specs.Parts.{ReceiverState}
 use Rattle.dev_serial.specs.declared.mode.Mode.{Mode}
 
@@ -13,7 +14,7 @@ unfoldable pub received : Mode → ℕ → ℕ → ReceiverState → ReceiverSta
 received mode byte at receiver =
     if mode.has_fifos then (
     let timeout = if mode.times_out then Some (timeout_after mode at) else receiver.timeout in
-    if nat_lt (length receiver.held) 16 then record receiver { held = receiver.held ++ byte ∷ []; timeout = timeout }
+    if nat_lt (length receiver.held) FIFO_BYTES then record receiver { held = receiver.held ++ byte ∷ []; timeout = timeout }
     else record receiver { overrun = true; timeout = timeout }
     ) else (
     if length receiver.held == 0 then record receiver { held = byte ∷ [] } else record receiver { held = byte ∷ []; overrun = true }

@@ -1,5 +1,6 @@
 -- Runs of writes and of time, and the laws of what leaves.
 use Rattle.std.specs.Prelude.{◌≡◌, ℕ, ◌≤◌, ◌<◌, ◌&&◌, Bool, true, false, not, nat_lt, if◌then◌else◌, List, [], ◌∷◌, ◌++◌, length, Some, is_some}
+use Rattle.dev_serial.specs.declared.fifo.TheConstants.{FIFO_BYTES}
 use Rattle.dev_serial.specs.Access.{is_empty, thr_written, advanced, leaving}
 use Rattle.dev_base.specs.Bits.{has}
 use Rattle.dev_serial.specs.Line.{character_time}
@@ -35,7 +36,7 @@ left_in_all (event ∷ events) port = left_in event port ++ left_in_all events (
 -- the bytes that are accepted: a byte that is written, but where FIFOs are on and sixteen wait
 abbrev pub accepted_in : Event → Port → List ℕ
 accepted_in (Writes byte now) port =
-    if is_some port.fifos && not (nat_lt (length port.transmitter.waiting) 16) then [] else byte ∷ []
+    if is_some port.fifos && not (nat_lt (length port.transmitter.waiting) FIFO_BYTES) then [] else byte ∷ []
 accepted_in (Advances to) port = []
 
 unfoldable pub accepted_in_all : List Event → Port → List ℕ

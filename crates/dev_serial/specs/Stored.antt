@@ -2,6 +2,7 @@
 use Rattle.std.specs.Prelude.{ℕ, ◌+◌, ◌-◌, ◌%◌, ◌==◌, Bool, nat_le, nat_lt, ◌&&◌, ◌||◌, not, List, length, min, slice_index_or}
 use Rattle.std.specs.List.{range_with_len, list_all}
 use Rattle.dev_base.specs.Cells.{firsts}
+use Rattle.dev_serial.specs.declared.fifo.TheConstants.{FIFO_BYTES}
 use Rattle.dev_serial.specs.declared.stored.Counted.{Counted}
 use Rattle.dev_serial.specs.declared.stored.Ring.{Ring}
 
@@ -11,14 +12,14 @@ byte_of bytes place = slice_index_or bytes place 0
 
 -- sixteen bytes: those of a list, and then zeros
 abbrev pub padded : List ℕ → List ℕ
-padded bytes = firsts 16 (byte_of bytes)
+padded bytes = firsts FIFO_BYTES (byte_of bytes)
 
 -- a list as a counted array, and the bytes that one holds
 abbrev pub counted_of : List ℕ → Counted
 counted_of bytes = record { count = length bytes; bytes = padded bytes }
 
 abbrev pub counted_bytes : Counted → List ℕ
-counted_bytes array = firsts (min array.count 16) (byte_of array.bytes)
+counted_bytes array = firsts (min array.count FIFO_BYTES) (byte_of array.bytes)
 
 -- a list as a ring, from element 0 on
 abbrev pub ring_of : List ℕ → Ring
@@ -27,11 +28,11 @@ ring_of bytes = record { elements = padded bytes; head = 0; number = length byte
 -- the bytes that a ring holds: the i-th is the data at (head + i) modulo 16, for i below the lesser of its
 -- number and 16
 abbrev pub ring_bytes : Ring → List ℕ
-ring_bytes ring = firsts (min ring.number 16) (λ i. byte_of ring.elements ((ring.head + i) % 16))
+ring_bytes ring = firsts (min ring.number FIFO_BYTES) (λ i. byte_of ring.elements ((ring.head + i) % FIFO_BYTES))
 
 -- how many places an element stands behind the head, going round
 abbrev pub behind_head : Ring → ℕ → ℕ
-behind_head ring place = (place + 16 - ring.head) % 16
+behind_head ring place = (place + FIFO_BYTES - ring.head) % FIFO_BYTES
 
 -- an element is held, or it is 0
 abbrev pub is_held_or_zero : Ring → ℕ → Bool
@@ -41,4 +42,4 @@ is_held_or_zero ring place = nat_lt (behind_head ring place) ring.number || (byt
 -- are 0
 unfoldable pub ring_holds : Ring → Bool
 ring_holds ring =
-    nat_le ring.head 15 && (nat_le ring.number 16 && ((not (ring.number == 0) || (ring.head == 0)) && list_all (is_held_or_zero ring) (range_with_len 0 16)))
+    nat_le ring.head 15 && (nat_le ring.number FIFO_BYTES && ((not (ring.number == 0) || (ring.head == 0)) && list_all (is_held_or_zero ring) (range_with_len 0 FIFO_BYTES)))

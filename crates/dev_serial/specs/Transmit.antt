@@ -1,5 +1,6 @@
 -- The transmitter's steps, and the timetable by which bytes leave.
 use Rattle.std.specs.Prelude.{ℕ, ◌+◌, ◌<◌, Bool, nat_le, nat_lt, if◌then◌else◌, List, [], ◌∷◌, ◌++◌, length, map, Option, Some, None}
+use Rattle.dev_serial.specs.declared.fifo.TheConstants.{FIFO_BYTES}
 use Rattle.dev_serial.specs.Parts.{ReceiverState, TransmitterState}
 use Rattle.dev_serial.specs.Receive.{received}
 use Rattle.dev_serial.specs.declared.mode.Mode.{Mode}
@@ -9,7 +10,7 @@ use Rattle.dev_serial.specs.declared.shift.Shift.{Shift}
 -- lost where sixteen wait
 unfoldable pub queued : Bool → ℕ → List ℕ → List ℕ
 queued has_fifos byte waiting =
-    if has_fifos then (if nat_lt (length waiting) 16 then waiting ++ byte ∷ [] else waiting) else byte ∷ []
+    if has_fifos then (if nat_lt (length waiting) FIFO_BYTES then waiting ++ byte ∷ [] else waiting) else byte ∷ []
 
 -- an idle shift register takes the first byte that waits, to be sent at a moment
 unfoldable pub loaded : ℕ → Option Shift → List ℕ → TransmitterState

@@ -5,6 +5,7 @@
 //! nanoseconds from power on.
 #![tactic(auto)]
 
+mod fifo;
 mod interrupt;
 mod laws;
 mod levels;

@@ -1,6 +1,8 @@
 // The receiving part of a port.
 ghost use Rattle.std.specs.Prelude.{◌≡◌, ◌≤◌, length, false};
+ghost use Rattle.dev_serial.specs.declared.fifo.TheConstants.{FIFO_BYTES};
 
+use crate::fifo::FIFO_BYTES;
 use crate::mode::{LONGEST_CHARACTER, Mode};
 use arrayvec::ArrayVec;
 use dev_base::LAST_MOMENT;
@@ -9,7 +11,7 @@ use std::marker::Model;
 /// The Receiver Buffer Register or, with FIFOs, the receive FIFO, and what belongs to it.
 #[derive(Drop)]
 pub(crate) struct Receiver {
-    held: ArrayVec<u8, 16>,
+    held: ArrayVec<u8, FIFO_BYTES>,
     overrun: bool,
     timeout: Option<u64>,
 }
@@ -28,7 +30,7 @@ impl Receiver {
     ghost use Rattle.dev_serial.specs.Receive.{received, taken, taken_at, emptied, without_overrun};
 
     /// A receiver of these bytes, first in first.
-    pub fn new(held: ArrayVec<u8, 16>, overrun: bool, timeout: Option<u64>) -> Receiver
+    pub fn new(held: ArrayVec<u8, FIFO_BYTES>, overrun: bool, timeout: Option<u64>) -> Receiver
         ensures { result ≡ record { held = held.items; overrun = overrun; timeout = timeout } }
     {
         Receiver {
@@ -44,7 +46,7 @@ impl Receiver {
         requires longest { mode.character ≤ LONGEST_CHARACTER }
         requires moment { at ≤ LAST_MOMENT }
         ensures state { self.new ≡ received mode byte at self.old }
-        ensures short { length self.old.held ≤ 16 → length self.new.held ≤ 16 }
+        ensures short { length self.old.held ≤ FIFO_BYTES → length self.new.held ≤ FIFO_BYTES }
         ensures one { mode.has_fifos ≡ false → length self.new.held ≤ 1 }
     {
         if mode.has_fifos {
@@ -96,7 +98,7 @@ impl Receiver {
     }
 
     /// The bytes held, first in first, at most 16.
-    pub fn held(&self) -> &ArrayVec<u8, 16>
+    pub fn held(&self) -> &ArrayVec<u8, FIFO_BYTES>
         ensures items { result.now.items ≡ self.now.held }
     {
         &self.held

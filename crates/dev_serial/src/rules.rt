@@ -2,7 +2,9 @@
 ghost use Rattle.std.specs.Prelude.{◌≡◌, ◌≤◌, length, IfErr};
 ghost use Rattle.dev_serial.specs.PortNumbers.{bytes_held as bytes_held_of, stored_bytes as stored_bytes_of, fifos_of as fifos_of_number, moment_of as moment_of_number, shift_of as shift_of_numbers};
 ghost use Rattle.dev_serial.specs.Rules.{is_unused as is_unused_of, is_stored_once as is_stored_once_of};
+ghost use Rattle.dev_serial.specs.declared.fifo.TheConstants.{FIFO_BYTES};
 
+use crate::fifo::FIFO_BYTES;
 use crate::interrupt::Interrupt;
 use crate::levels::{FIFOS_SINCE, TIMEOUT_SINCE};
 use crate::mode::LONGEST_CHARACTER;
@@ -191,9 +193,9 @@ fn is_stored_once(array: Counted, ring: Ring) -> bool
 }
 
 // The bytes of a FIFO: those of the counted array where there are any, else those of the ring.
-fn stored_bytes(array: Counted, ring: Ring) -> ArrayVec<u8, 16>
+fn stored_bytes(array: Counted, ring: Ring) -> ArrayVec<u8, FIFO_BYTES>
     ensures items { result.items ≡ stored_bytes_of array ring }
-    ensures few { length result.items ≤ 16 }
+    ensures few { length result.items ≤ FIFO_BYTES }
 {
     if array.count == 0 {
         ring.list()
@@ -203,7 +205,12 @@ fn stored_bytes(array: Counted, ring: Ring) -> ArrayVec<u8, 16>
 }
 
 // The bytes of a list: without FIFOs one byte where there is one.
-fn bytes_held(fcr: u8, is_held: bool, byte: u8, bytes: ArrayVec<u8, 16>) -> ArrayVec<u8, 16>
+fn bytes_held(
+    fcr: u8,
+    is_held: bool,
+    byte: u8,
+    bytes: ArrayVec<u8, FIFO_BYTES>,
+) -> ArrayVec<u8, FIFO_BYTES>
     ensures items { result.items ≡ bytes_held_of fcr is_held byte bytes.items }
 {
     if fcr != 0 {

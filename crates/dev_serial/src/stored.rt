@@ -5,16 +5,18 @@ ghost use Rattle.dev_serial.specs.Stored.{byte_of, padded as padded_of, is_held_
 ghost use Rattle.dev_serial.specs.Cells.{AreBytesIn, bytes_at as bytes_at_of};
 ghost use Rattle.vms_kinds.specs.declared.TheConstants.{MOST_CELLS};
 ghost use Rattle.dev_serial.specs.declared.stored.TheConstants.{ARRAY_CELLS, RING_CELLS};
+ghost use Rattle.dev_serial.specs.declared.fifo.TheConstants.{FIFO_BYTES};
 
+use crate::fifo::FIFO_BYTES;
 use arrayvec::ArrayVec;
 use dev_base::byte_at;
 use vms_kinds::DevCells;
 
 /// The cells of a counted array: the count, and sixteen bytes.
-pub(crate) const ARRAY_CELLS: usize = 17;
+pub(crate) const ARRAY_CELLS: usize = FIFO_BYTES + 1;
 
 /// The cells of a ring: sixteen bytes, the place of the first that is held, and how many are held.
-pub(crate) const RING_CELLS: usize = 18;
+pub(crate) const RING_CELLS: usize = FIFO_BYTES + 2;
 
 /// The cells of a port in the newest set, of which older sets have fewer.
 pub const PORT_CELLS: usize = 84;
@@ -23,7 +25,7 @@ pub const PORT_CELLS: usize = 84;
 #[derive(Clone, Copy)]
 pub(crate) struct Counted {
     pub count: u8,
-    pub bytes: [u8; 16],
+    pub bytes: [u8; FIFO_BYTES],
 }
 
 impl Counted {
@@ -32,7 +34,7 @@ impl Counted {
 
     /// The array of at most sixteen bytes, with zeros behind them.
     pub fn of(bytes: &[u8]) -> Counted
-        requires { length bytes.now ≤ 16 }
+        requires { length bytes.now ≤ FIFO_BYTES }
         ensures { result ≡ counted_of bytes.now }
     {
         Counted {
@@ -42,12 +44,12 @@ impl Counted {
     }
 
     /// The bytes that it holds.
-    pub fn list(&self) -> ArrayVec<u8, 16>
+    pub fn list(&self) -> ArrayVec<u8, FIFO_BYTES>
         ensures items { result.items ≡ counted_bytes self.now }
-        ensures few { length result.items ≤ 16 }
+        ensures few { length result.items ≤ FIFO_BYTES }
     {
         let mut list = ArrayVec::new();
-        for i in 0..usize::from(self.count.min(16)) {
+        for i in 0..usize::from(self.count.min(FIFO_BYTES as u8)) {
             list.push(self.bytes[i]);
         }
         list
@@ -84,7 +86,7 @@ impl Counted {
 /// A list of bytes as a ring: the list begins at `head` and goes on round the sixteen elements.
 #[derive(Clone, Copy)]
 pub(crate) struct Ring {
-    pub elements: [u8; 16],
+    pub elements: [u8; FIFO_BYTES],
     pub head: u8,
     pub number: u8,
 }
@@ -95,7 +97,7 @@ impl Ring {
 
     /// The ring of at most sixteen bytes, from element 0 on.
     pub fn of(bytes: &[u8]) -> Ring
-        requires { length bytes.now ≤ 16 }
+        requires { length bytes.now ≤ FIFO_BYTES }
         ensures { result ≡ ring_of bytes.now }
     {
         Ring {
@@ -106,13 +108,13 @@ impl Ring {
     }
 
     /// The bytes that it holds, the first at `head`. A ring that breaks its rule holds bytes too.
-    pub fn list(&self) -> ArrayVec<u8, 16>
+    pub fn list(&self) -> ArrayVec<u8, FIFO_BYTES>
         ensures items { result.items ≡ ring_bytes self.now }
-        ensures few { length result.items ≤ 16 }
+        ensures few { length result.items ≤ FIFO_BYTES }
     {
         let mut list = ArrayVec::new();
-        for i in 0..usize::from(self.number.min(16)) {
-            list.push(self.elements[(self.head as usize + i) % 16]);
+        for i in 0..usize::from(self.number.min(FIFO_BYTES as u8)) {
+            list.push(self.elements[(self.head as usize + i) % FIFO_BYTES]);
         }
         list
     }
@@ -123,7 +125,7 @@ impl Ring {
         ensures { result ≡ ring_holds self.now }
     {
         self.head <= 15
-            && self.number <= 16
+            && self.number <= FIFO_BYTES as u8
             && (self.number != 0 || self.head == 0)
             && self.is_zero_outside()
     }
@@ -131,9 +133,9 @@ impl Ring {
     // Whether each element outside of the bytes held is 0.
     fn is_zero_outside(&self) -> bool
         requires { self.now.head ≤ 15 }
-        ensures { result ≡ list_all (is_held_or_zero_of self.now) (range_with_len 0 16) }
+        ensures { result ≡ list_all (is_held_or_zero_of self.now) (range_with_len 0 FIFO_BYTES) }
     {
-        for place in 0..16 {
+        for place in 0..FIFO_BYTES {
             if !self.is_held_or_zero(place) {
                 return false;
             }
@@ -144,10 +146,10 @@ impl Ring {
     // Whether an element is one of the bytes held, or 0.
     fn is_held_or_zero(&self, place: usize) -> bool
         requires head { self.now.head ≤ 15 }
-        requires place { place < 16 }
+        requires place { place < FIFO_BYTES }
         ensures { result ≡ is_held_or_zero_of self.now place }
     {
-        let behind_head = (place + 16 - self.head as usize) % 16;
+        let behind_head = (place + FIFO_BYTES - self.head as usize) % FIFO_BYTES;
         behind_head < self.number as usize || self.elements[place] == 0
     }
 
@@ -175,18 +177,18 @@ impl Ring {
     {
         Ring {
             elements: bytes_at(cells, place),
-            head: byte_at(cells, place + 16),
-            number: byte_at(cells, place + 17),
+            head: byte_at(cells, place + FIFO_BYTES),
+            number: byte_at(cells, place + FIFO_BYTES + 1),
         }
     }
 }
 
 // Sixteen bytes: those given, and then zeros.
-fn padded(bytes: &[u8]) -> [u8; 16]
+fn padded(bytes: &[u8]) -> [u8; FIFO_BYTES]
     ensures { result ≡ padded_of bytes.now }
 {
-    let mut sixteen = [0; 16];
-    for place in 0..16 {
+    let mut sixteen = [0; FIFO_BYTES];
+    for place in 0..FIFO_BYTES {
         sixteen[place] = byte_or_zero(bytes, place);
     }
     sixteen
@@ -203,14 +205,14 @@ fn byte_or_zero(bytes: &[u8], place: usize) -> u8
 }
 
 // Sixteen bytes of cells from a place on.
-fn bytes_at(cells: &DevCells, place: usize) -> [u8; 16]
+fn bytes_at(cells: &DevCells, place: usize) -> [u8; FIFO_BYTES]
     requires small { place ≤ MOST_CELLS }
-    requires within { place + 16 ≤ length cells.now.items }
-    requires in_range { AreBytesIn cells.now.items place 16 }
+    requires within { place + FIFO_BYTES ≤ length cells.now.items }
+    requires in_range { AreBytesIn cells.now.items place FIFO_BYTES }
     ensures { result ≡ bytes_at_of cells.now.items place }
 {
-    let mut bytes = [0; 16];
-    for i in 0..16 {
+    let mut bytes = [0; FIFO_BYTES];
+    for i in 0..FIFO_BYTES {
         bytes[i] = byte_at(cells, place + i);
     }
     bytes

@@ -3,7 +3,9 @@ ghost use Rattle.std.specs.Prelude.{◌≡◌, ◌≤◌, ◌+◌, ◌++◌, len
 ghost use Rattle.dev_serial.specs.Transmit.{on_line, looped_in, gone_of, still_of, transmitter_of, IsSentAfter};
 ghost use Rattle.dev_serial.specs.Parts.{IsShort};
 ghost use Rattle.dev_serial.specs.declared.transmitter.TheConstants.{MOST_SENT};
+ghost use Rattle.dev_serial.specs.declared.fifo.TheConstants.{FIFO_BYTES};
 
+use crate::fifo::FIFO_BYTES;
 use crate::mode::{LONGEST_CHARACTER, Mode};
 use crate::receiver::Receiver;
 use crate::shift::Shift;
@@ -12,13 +14,13 @@ use dev_base::LAST_MOMENT;
 use std::marker::Model;
 
 /// The most bytes that leave a port while time passes: those of a full FIFO and of the shift register.
-pub const MOST_SENT: usize = 17;
+pub const MOST_SENT: usize = FIFO_BYTES + 1;
 
 /// The Transmitter Holding Register or, with FIFOs, the transmit FIFO, and the shift register behind
 /// it, which may be idle.
 #[derive(Drop)]
 pub(crate) struct Transmitter {
-    waiting: ArrayVec<u8, 16>,
+    waiting: ArrayVec<u8, FIFO_BYTES>,
     shift: Option<Shift>,
 }
 
@@ -36,7 +38,7 @@ impl Transmitter {
     ghost use Rattle.dev_serial.specs.Transmit.{after_write, run_until, gone_from};
 
     /// A transmitter of these bytes, first in first, and this shift register.
-    pub fn new(waiting: ArrayVec<u8, 16>, shift: Option<Shift>) -> Transmitter
+    pub fn new(waiting: ArrayVec<u8, FIFO_BYTES>, shift: Option<Shift>) -> Transmitter
         ensures { result ≡ record { waiting = waiting.items; shift = shift } }
     {
         Transmitter { waiting, shift }
@@ -47,7 +49,8 @@ impl Transmitter {
     #[tactic(auto, unfolding(crate::specs::Transmit::queued, crate::specs::Transmit::loaded))]
     pub fn write(&mut self, has_fifos: bool, byte: u8, due: u64)
         ensures state { self.new ≡ after_write has_fifos byte due self.old }
-        ensures short { length self.old.waiting ≤ 16 → length self.new.waiting ≤ 16 }
+        ensures short { length self.old.waiting ≤ FIFO_BYTES
+            → length self.new.waiting ≤ FIFO_BYTES }
         ensures one { has_fifos ≡ false → length self.new.waiting ≤ 1 }
     {
         if !has_fifos {
@@ -70,7 +73,7 @@ impl Transmitter {
     }
 
     /// The bytes that wait behind the shift register, first in first, at most 16.
-    pub fn waiting(&self) -> &ArrayVec<u8, 16>
+    pub fn waiting(&self) -> &ArrayVec<u8, FIFO_BYTES>
         ensures items { result.now.items ≡ self.now.waiting }
     {
         &self.waiting
@@ -94,7 +97,7 @@ impl Transmitter {
     ) -> ArrayVec<u8, MOST_SENT>
         requires longest { mode.character ≤ LONGEST_CHARACTER }
         requires moment { to ≤ LAST_MOMENT }
-        requires few { length self.old.waiting ≤ 16 }
+        requires few { length self.old.waiting ≤ FIFO_BYTES }
         requires few_held { IsShort mode.has_fifos receiver.old.held }
         ensures state { self.new ≡ run_until mode.character to self.old.shift self.old.waiting }
         ensures line { result.items ≡ on_line mode (gone_from mode to self.old) }
@@ -118,12 +121,12 @@ fn send_due(
     mode: Mode,
     to: u64,
     first: Shift,
-    waiting: &mut ArrayVec<u8, 16>,
+    waiting: &mut ArrayVec<u8, FIFO_BYTES>,
     receiver: &mut Receiver,
 ) -> (ArrayVec<u8, MOST_SENT>, Option<Shift>)
     requires longest { mode.character ≤ LONGEST_CHARACTER }
     requires moment { to ≤ LAST_MOMENT }
-    requires few { length waiting.old.items ≤ 16 }
+    requires few { length waiting.old.items ≤ FIFO_BYTES }
     requires few_held { IsShort mode.has_fifos receiver.old.held }
     ensures left { transmitter_of waiting.new.items result.1
         ≡ still_of mode to first waiting.old.items }
@@ -157,7 +160,7 @@ fn send_due(
 fn leave(mode: Mode, shift: Shift, line: &mut ArrayVec<u8, MOST_SENT>, receiver: &mut Receiver)
     requires longest { mode.character ≤ LONGEST_CHARACTER }
     requires moment { shift.due ≤ LAST_MOMENT }
-    requires room { length line.old.items ≤ 16 }
+    requires room { length line.old.items ≤ FIFO_BYTES }
     requires few_held { IsShort mode.has_fifos receiver.old.held }
     ensures line { line.new.items ≡ line.old.items ++ on_line mode (shift ∷ []) }
     ensures looped { receiver.new ≡ looped_in mode (shift ∷ []) receiver.old }
