@@ -18,6 +18,7 @@ use Rattle.vms_json.specs.Index.{first_of, names_of, names_of_list, text_or_none
 use Rattle.vms_json.specs.Keys.{fits as keys_fit}
 use Rattle.vms_json.specs.Members.{member_or, at, at_or, maybe_at, u32_of, text_of}
 use Rattle.vms_json.specs.Names.{Names, Scope, names_if, number_in}
+use Rattle.vms_json.specs.declared.parse.TheConstants.{DEEPEST}
 use Rattle.vms_descread.specs.Tests.{test_of}
 use Rattle.vms_descread.specs.Fields.{field_of}
 use Rattle.vms_descread.specs.Descs.{desc_needs, desc_allows, Head, head_of, minimum_or, rest_of, struct_in, struct_of}
@@ -35,14 +36,14 @@ own_scope asks names = record { own = asked asks names; parent = None }
 
 -- ---- tests that name fields of their own description alone
 
-shallow : (t : Formula) → is_small_test t ≡ true → depth t ≤ 127
+shallow : (t : Formula) → is_small_test t ≡ true → depth t ≤ DEEPEST
 shallow t small = omega (arith, leb-true (depth t) 16 (and_parts (nat_le (nodes t) 64) (nat_le (depth t) 16) small).1)
 
 own_test_back : (asks : Bool) (names : List (List ℕ)) (may : ℕ → Bool) → ((k : ℕ) → may k ≡ true → number_in (asked asks names) (get_or names k []) ≡ good (number_shown asks k))
     → (t : Formula) → is_small_test t ≡ true → FitsTest t → names_well may nobody t ≡ true
     → test_of (own_scope asks names) (test_file names [] t) ≡ good (test_shown asks t)
 own_test_back asks names may found t small fits well =
-    test_back asks names [] may nobody (own_scope asks names) (record { found = found; found_above = λ k e. absurd (false≢true e) }) 127 t (shallow t small) fits well
+    test_back asks names [] may nobody (own_scope asks names) (record { found = found; found_above = λ k e. absurd (false≢true e) }) DEEPEST t (shallow t small) fits well
 
 -- ---- the fields of a description
 

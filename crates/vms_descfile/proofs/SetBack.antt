@@ -11,6 +11,7 @@ use Rattle.vms_json.specs.Answers.{good, changed, list_of}
 use Rattle.vms_json.specs.Keys.{fits as keys_fit}
 use Rattle.vms_json.specs.Members.{at, at_or, u32_of, text_of}
 use Rattle.vms_json.specs.Names.{Names, Scope}
+use Rattle.vms_json.specs.declared.parse.TheConstants.{DEEPEST}
 use Rattle.vms_descread.specs.Tests.{test_of}
 use Rattle.vms_descread.specs.Descs.{desc_needs, desc_allows, head_of, struct_of, sub_in, sub_of, Whole, whole_in, whole_of, device_of, set_of, parts_of}
 use Rattle.vms_descwrite.specs.Fitting.{FitsTest, FitsSub, FitsWhole, FitsDevice, FitsSet}
@@ -44,7 +45,7 @@ needed_back : (asks : Bool) (d e : Desc) (t : Formula) → Found asks d → Foun
     → test_of (sub_scope asks (own_names d.fields) (own_names e.fields)) (test_file (own_names d.fields) (own_names e.fields) t) ≡ good (test_shown asks t)
 needed_back asks d e t found found_above small fits well =
     test_back asks (own_names d.fields) (own_names e.fields) (is_steady_in d) (is_steady_in e) (sub_scope asks (own_names d.fields) (own_names e.fields))
-    (record { found = found.number; found_above = found_above.number }) 127 t
+    (record { found = found.number; found_above = found_above.number }) DEEPEST t
     (omega (arith, leb-true (depth t) 16 (and_parts (nat_le (nodes t) 64) (nat_le (depth t) 16) small).1)) fits well
 
 -- subsection j of a device

@@ -4,7 +4,7 @@ use Rattle.std.specs.Option.{option_map}
 use Rattle.serde_json.specs.Data.{Data, Items, no_items, item}
 use Rattle.serde_json.specs.Find.{get, as_array}
 use Rattle.vms_spec.specs.Sets.{Formula, Set}
-use Rattle.vms_descread.specs.declared.tests.TheConstants.{DEEPEST}
+use Rattle.vms_json.specs.declared.parse.TheConstants.{DEEPEST}
 use Rattle.vms_descread.specs.declared.cells.Form.{Form}
 use Rattle.vms_descread.specs.declared.cells.Form.TheVariants as forms
 use Rattle.vms_descread.specs.declared.cells.Leaf.{Leaf}

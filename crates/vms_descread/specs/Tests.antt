@@ -17,7 +17,7 @@ use Rattle.vms_descread.specs.declared.cells.Leaf.TheVariants as leaves
 use Rattle.vms_descread.specs.declared.cells.OwnCell.{OwnCell}
 use Rattle.vms_descread.specs.declared.cells.Join.{Join}
 use Rattle.vms_descread.specs.declared.cells.Join.TheVariants as joins
-use Rattle.vms_descread.specs.declared.tests.TheConstants.{DEEPEST}
+use Rattle.vms_json.specs.declared.parse.TheConstants.{DEEPEST}
 use Rattle.vms_json.specs.Answers.{Answer, good, bad, under, next, changed, given}
 use Rattle.vms_json.specs.Members.{at, u32_of, u64_of, text_of}
 use Rattle.vms_json.specs.Names.{Names, Scope, name_in}

@@ -12,11 +12,8 @@ ghost use Rattle.vms_descread.specs.Tests.{test_within, test_of, leaf_as, pair_s
 
 use crate::cells::{Form, Join, Leaf, form_of, own_in, read_own, read_own_cell, read_parent};
 use std::alloc::Global;
-use vms_json::{Fault, Items, Node, Reads, Scope, U32, at};
+use vms_json::{DEEPEST, Fault, Items, Node, Reads, Scope, U32, at};
 use vms_parts::Test;
-
-// No value that is read nests deeper.
-pub(crate) const DEEPEST: u8 = 127;
 
 // A test of the description, or a needed test.
 #[derive(Clone, Copy)]
@@ -56,7 +53,7 @@ impl<'a> Reads for BoxedTestIn<'a> {
 }
 
 // A test that nests at most so deep.
-fn read_test(alloc: Global, depth: u8, scope: Scope, value: &Node) -> Result<Test, Fault>
+fn read_test(alloc: Global, depth: usize, scope: Scope, value: &Node) -> Result<Test, Fault>
     ensures { Answers formula (test_within depth (scope_seen scope.entry) (view value.now)) result }
 {
     if depth == 0 {

@@ -6,6 +6,7 @@ use Rattle.std.specs.Cmp.Lexicographic.{slice_cmp}
 use Rattle.std.proofs.lemmas.Bool.{and_parts, leb-true}
 use Rattle.serde_json.specs.Data.{Data, Members, no_members, member, put, string, number, null, depth, items_depth, members_depth}
 use Rattle.serde_json.specs.Find.{of_integer}
+use Rattle.serde_json.specs.Read.{max_depth}
 use Rattle.serde_json.specs.View.{items_of}
 use Rattle.vms_spec.specs.Sets.{Formula, AtLeast, Below, Cell, Not, And, Or, Field, Desc, Sub, Device, Set}
 use Rattle.vms_spec.specs.declared.Whose.TheVariants.{Own, Parent}
@@ -157,7 +158,7 @@ module _ (set : Set) (well : WellFormed set) where
   device_nests : (i : ℕ) (d : Device) → slice_get set.devices i ≡ Some d → depth (device_file d) ≤ 38
   device_nests i d there = let whole = whole_nests i d there in omega arith
 
-  pub set_nests : depth (set_file set) ≤ 127
+  pub set_nests : depth (set_file set) ≤ max_depth
   set_nests =
       let devices = items_nest 38 device_file set.devices device_nests in
       let machines = items_nest 38 string set.machines (λ i t e. omega arith) in

@@ -33,14 +33,14 @@ open_count (in_object n found k ∷ fs) rs starts laid =
     let l = laid.laid in
     omega (arith, ap length l.begins, length-append l.places (length l.below ∷ []), open_count fs l.below l.places l.laid)
 
-pub under_below : (said : Option (Data × List Token)) (laid : Laid) (ts : List Token) → IsUnder said laid ts → AreBelow laid.open.items (length laid.rows.items)
-under_below said laid ts is = starts_below is.frames laid.rows.items laid.open.items is.rows
+pub under_below : (said : Option (Data × List Token)) (laid : Laid) (ts : List Token) → IsUnder said laid ts → AreBelow laid.begun.items (length laid.rows.items)
+under_below said laid ts is = starts_below is.frames laid.rows.items laid.begun.items is.rows
 
-pub ended_below : (said : Option (Data × List Token)) (laid : Laid) (ts : List Token) → HasEnded said laid ts → AreBelow laid.open.items (length laid.rows.items)
+pub ended_below : (said : Option (Data × List Token)) (laid : Laid) (ts : List Token) → HasEnded said laid ts → AreBelow laid.begun.items (length laid.rows.items)
 ended_below said laid ts is =
     let has = is.rows in
-    below_more laid.open.items (length has.below) (length laid.rows.items) (omega (arith, ap length has.are, length-append has.below has.run))
-    (starts_below is.frames has.below laid.open.items has.laid)
+    below_more laid.begun.items (length has.below) (length laid.rows.items) (omega (arith, ap length has.are, length-append has.below has.run))
+    (starts_below is.frames has.below laid.begun.items has.laid)
 
 -- ---- a value that begins: in a list one of its items less is left
 
@@ -52,7 +52,7 @@ lowered (in_object n found k ∷ fs) = in_object n found k ∷ fs
 record Begins (said : Option (Data × List Token)) (laid : Laid) (t : Token) (ts : List Token) : Type 0 where
   frames : List Frame
   says : said ≡ value_due frames (t ∷ ts)
-  rows : IsLaid frames laid.rows.items laid.open.items
+  rows : IsLaid frames laid.rows.items laid.begun.items
   inner : laid.in_list ≡ is_in_list frames
   enough : AreEnough frames (length ts)
 
@@ -80,7 +80,7 @@ begins : (said : Option (Data × List Token)) (laid : Laid) (t : Token) (ts : Li
 begins said laid t ts going is = record {
   frames = lowered is.frames;
   says = is.says ∙ due_lowered is.frames t ts is.enough going;
-  rows = rows_lowered is.frames laid.rows.items laid.open.items is.rows;
+  rows = rows_lowered is.frames laid.rows.items laid.begun.items is.rows;
   inner = is.inner ∙ inner_lowered is.frames;
   enough = enough_lowered is.frames (length ts) is.enough;
 }
@@ -98,7 +98,7 @@ none_left said laid is = is.says ∙ at is.frames is.enough
 -- ---- a value of one token
 
 pub token_laid : (said : Option (Data × List Token)) (laid now : Laid) (t : Token) (ts : List Token) (r : Row) → after_end_array (t ∷ ts) ≡ None → IsUnder said laid (t ∷ ts) → IsRowOf t r
-    → now.rows.items ≡ laid.rows.items ++ r ∷ [] → now.open.items ≡ laid.open.items → now.in_list ≡ laid.in_list → HasEnded said now ts
+    → now.rows.items ≡ laid.rows.items ++ r ∷ [] → now.begun.items ≡ laid.begun.items → now.in_list ≡ laid.in_list → HasEnded said now ts
 token_laid said laid now t ts r going is row rows_are open_are flag_is =
     let b = begins said laid t ts going is in
     record {
@@ -106,9 +106,9 @@ token_laid said laid now t ts r going is row rows_are open_are flag_is =
       value = rows_view (r ∷ []);
       says = b.says ∙ value_ends b.frames (t ∷ ts) ts (rows_view (r ∷ [])) (row.says (room b.frames) ts);
       rows =
-          subst (λ rs. HasValue b.frames rs now.open.items (rows_view (r ∷ []))) (sym rows_are)
+          subst (λ rs. HasValue b.frames rs now.begun.items (rows_view (r ∷ []))) (sym rows_are)
           (subst (λ starts. HasValue b.frames (laid.rows.items ++ r ∷ []) starts (rows_view (r ∷ []))) (sym open_are)
-          (run_laid b.frames laid.rows.items (r ∷ []) laid.open.items (rows_view (r ∷ [])) b.rows (row_laid t r row)));
+          (run_laid b.frames laid.rows.items (r ∷ []) laid.begun.items (rows_view (r ∷ [])) b.rows (row_laid t r row)));
       inner = flag_is ∙ b.inner;
       enough = b.enough;
     }
@@ -146,37 +146,37 @@ at_any_depth reads.Bad o a ts n = value_is n (token_of reads.Bad ∷ ts) ∙ sym
 
 -- ---- a list
 
-too_deep : (said : Option (Data × List Token)) (laid : Laid) (t : Token) (ts : List Token) → after_end_array (t ∷ ts) ≡ None → IsUnder said laid (t ∷ ts) → max_depth ≤ length laid.open.items
+too_deep : (said : Option (Data × List Token)) (laid : Laid) (t : Token) (ts : List Token) → after_end_array (t ∷ ts) ≡ None → IsUnder said laid (t ∷ ts) → max_depth ≤ length laid.begun.items
     → converted of_json (value 0 (t ∷ ts)) ≡ None → said ≡ None
 too_deep said laid t ts going is deep none =
     let b = begins said laid t ts going is in
-    let no_room : room b.frames ≡ 0 = omega (arith, deep, open_count b.frames laid.rows.items laid.open.items b.rows) in
+    let no_room : room b.frames ≡ 0 = omega (arith, deep, open_count b.frames laid.rows.items laid.begun.items b.rows) in
     b.says ∙ value_refused b.frames (t ∷ ts) (ap (λ n. converted of_json (value n (t ∷ ts))) no_room ∙ none)
 
-pub list_too_deep : (said : Option (Data × List Token)) (laid : Laid) (ts : List Token) → IsUnder said laid (Token.begin_array ∷ ts) → max_depth ≤ length laid.open.items → said ≡ None
+pub list_too_deep : (said : Option (Data × List Token)) (laid : Laid) (ts : List Token) → IsUnder said laid (Token.begin_array ∷ ts) → max_depth ≤ length laid.begun.items → said ≡ None
 list_too_deep said laid ts is deep = too_deep said laid Token.begin_array ts refl is deep (ap (converted of_json) (value_is 0 (Token.begin_array ∷ ts)))
 
-pub list_opened : (said : Option (Data × List Token)) (laid now : Laid) (ts : List Token) (n : ℕ) → IsUnder said laid (Token.begin_array ∷ ts) → length laid.open.items < max_depth
-    → now.rows.items ≡ laid.rows.items ++ rows.List n ∷ [] → now.open.items ≡ laid.open.items ++ length laid.rows.items ∷ [] → now.in_list ≡ true → IsUnder said now ts
+pub list_opened : (said : Option (Data × List Token)) (laid now : Laid) (ts : List Token) (n : ℕ) → IsUnder said laid (Token.begin_array ∷ ts) → length laid.begun.items < max_depth
+    → now.rows.items ≡ laid.rows.items ++ rows.List n ∷ [] → now.begun.items ≡ laid.begun.items ++ length laid.rows.items ∷ [] → now.in_list ≡ true → IsUnder said now ts
 list_opened said laid now ts n is deep rows_are open_are flag_is =
     let b = begins said laid Token.begin_array ts refl is in
     let fs : List Frame = in_list (length ts) [] ∷ b.frames in
     record {
       frames = fs;
-      says = b.says ∙ list_begins b.frames ts (omega (arith, deep, open_count b.frames laid.rows.items laid.open.items b.rows));
+      says = b.says ∙ list_begins b.frames ts (omega (arith, deep, open_count b.frames laid.rows.items laid.begun.items b.rows));
       rows =
-          subst (λ rs. IsLaid fs rs now.open.items) (sym rows_are)
-          (subst (λ starts. IsLaid fs (laid.rows.items ++ rows.List n ∷ []) starts) (sym open_are) (list_begun b.frames laid.rows.items laid.open.items n b.rows));
+          subst (λ rs. IsLaid fs rs now.begun.items) (sym rows_are)
+          (subst (λ starts. IsLaid fs (laid.rows.items ++ rows.List n ∷ []) starts) (sym open_are) (list_begun b.frames laid.rows.items laid.begun.items n b.rows));
       inner = flag_is;
       enough = (omega arith, b.enough);
     }
 
 pub list_over : (said : Option (Data × List Token)) (laid now : Laid) (ts : List Token) → IsUnder said laid (Token.end_array ∷ ts) → laid.in_list ≡ true
-    → ((fs : List Frame) (done : List Data) → InList (IsLaid fs) done laid.rows.items laid.open.items → laid.in_list ≡ true
-    → HasValue fs now.rows.items now.open.items (array (before done no_items)) × (now.in_list ≡ is_in_list fs)) → HasEnded said now ts
+    → ((fs : List Frame) (done : List Data) → InList (IsLaid fs) done laid.rows.items laid.begun.items → laid.in_list ≡ true
+    → HasValue fs now.rows.items now.begun.items (array (before done no_items)) × (now.in_list ≡ is_in_list fs)) → HasEnded said now ts
 list_over said laid now ts is inside closed = at is.frames is.says is.rows (sym inside ∙ is.inner) is.enough
   where
-    at : (fs : List Frame) → said ≡ due fs (Token.end_array ∷ ts) → IsLaid fs laid.rows.items laid.open.items → true ≡ is_in_list fs → AreEnough fs (suc (length ts)) → HasEnded said now ts
+    at : (fs : List Frame) → said ≡ due fs (Token.end_array ∷ ts) → IsLaid fs laid.rows.items laid.begun.items → true ≡ is_in_list fs → AreEnough fs (suc (length ts)) → HasEnded said now ts
     at [] says laid_so in_one enough = absurd (cc)
     at (in_object n found k ∷ fs) says laid_so in_one enough = absurd (cc)
     at (in_list n done ∷ fs) says laid_so in_one enough =
@@ -205,63 +205,63 @@ no_list_over said laid ts is outside = at is.frames is.says (sym outside ∙ is.
 pub item_ended : (said : Option (Data × List Token)) (laid : Laid) (ts : List Token) → HasEnded said laid ts → laid.in_list ≡ true → IsUnder said laid ts
 item_ended said laid ts is inside = at is.frames is.says is.rows (sym inside ∙ is.inner) is.enough
   where
-    at : (fs : List Frame) → said ≡ after fs is.value ts → HasValue fs laid.rows.items laid.open.items is.value → true ≡ is_in_list fs → AreEnough fs (length ts) → IsUnder said laid ts
+    at : (fs : List Frame) → said ≡ after fs is.value ts → HasValue fs laid.rows.items laid.begun.items is.value → true ≡ is_in_list fs → AreEnough fs (length ts) → IsUnder said laid ts
     at [] says has in_one enough = absurd (cc)
     at (in_object n found k ∷ fs) says has in_one enough = absurd (cc)
     at (in_list n done ∷ fs) says has in_one enough = record {
       frames = in_list n (done ++ is.value ∷ []) ∷ fs;
       says = says;
-      rows = value_in_list n done fs laid.rows.items laid.open.items is.value has;
+      rows = value_in_list n done fs laid.rows.items laid.begun.items is.value has;
       inner = inside;
       enough = enough;
     }
 
 -- ---- an object
 
-pub object_too_deep : (said : Option (Data × List Token)) (laid : Laid) (ts : List Token) → IsUnder said laid (Token.begin_object ∷ ts) → max_depth ≤ length laid.open.items → said ≡ None
+pub object_too_deep : (said : Option (Data × List Token)) (laid : Laid) (ts : List Token) → IsUnder said laid (Token.begin_object ∷ ts) → max_depth ≤ length laid.begun.items → said ≡ None
 object_too_deep said laid ts is deep = too_deep said laid Token.begin_object ts refl is deep (ap (converted of_json) (value_is 0 (Token.begin_object ∷ ts)))
 
-pub object_no_key : (said : Option (Data × List Token)) (laid : Laid) (ts : List Token) → IsUnder said laid (Token.begin_object ∷ ts) → length laid.open.items < max_depth → read_key ts ≡ None → said ≡ None
+pub object_no_key : (said : Option (Data × List Token)) (laid : Laid) (ts : List Token) → IsUnder said laid (Token.begin_object ∷ ts) → length laid.begun.items < max_depth → read_key ts ≡ None → said ≡ None
 object_no_key said laid ts is deep none =
     let b = begins said laid Token.begin_object ts refl is in
-    b.says ∙ object_begins b.frames ts (omega (arith, deep, open_count b.frames laid.rows.items laid.open.items b.rows)) ∙ no_key (length ts) no_members b.frames ts none
+    b.says ∙ object_begins b.frames ts (omega (arith, deep, open_count b.frames laid.rows.items laid.begun.items b.rows)) ∙ no_key (length ts) no_members b.frames ts none
 
-pub object_empty : (said : Option (Data × List Token)) (laid now : Laid) (ts rest : List Token) → IsUnder said laid (Token.begin_object ∷ ts) → length laid.open.items < max_depth
-    → read_key ts ≡ Some (None, rest) → now.rows.items ≡ laid.rows.items ++ rows.Object 1 ∷ [] → now.open.items ≡ laid.open.items → now.in_list ≡ laid.in_list → HasEnded said now rest
+pub object_empty : (said : Option (Data × List Token)) (laid now : Laid) (ts rest : List Token) → IsUnder said laid (Token.begin_object ∷ ts) → length laid.begun.items < max_depth
+    → read_key ts ≡ Some (None, rest) → now.rows.items ≡ laid.rows.items ++ rows.Object 1 ∷ [] → now.begun.items ≡ laid.begun.items → now.in_list ≡ laid.in_list → HasEnded said now rest
 object_empty said laid now ts rest is deep over rows_are open_are flag_is =
     let b = begins said laid Token.begin_object ts refl is in
     record {
       frames = b.frames;
       value = object no_members;
       says =
-          b.says ∙ object_begins b.frames ts (omega (arith, deep, open_count b.frames laid.rows.items laid.open.items b.rows))
+          b.says ∙ object_begins b.frames ts (omega (arith, deep, open_count b.frames laid.rows.items laid.begun.items b.rows))
           ∙ object_ends (length ts) no_members b.frames ts rest (omega arith) over;
       rows =
-          subst (λ rs. HasValue b.frames rs now.open.items (object no_members)) (sym rows_are)
+          subst (λ rs. HasValue b.frames rs now.begun.items (object no_members)) (sym rows_are)
           (subst (λ starts. HasValue b.frames (laid.rows.items ++ rows.Object 1 ∷ []) starts (object no_members)) (sym open_are)
-          (run_laid b.frames laid.rows.items (rows.Object 1 ∷ []) laid.open.items (object no_members) b.rows (object_laid [] no_members no_members_laid)));
+          (run_laid b.frames laid.rows.items (rows.Object 1 ∷ []) laid.begun.items (object no_members) b.rows (object_laid [] no_members no_members_laid)));
       inner = flag_is ∙ b.inner;
       enough = enough_fewer b.frames (length ts) (length rest) (omega (arith, read_key-shorter ts None rest over)) b.enough;
     }
 
 pub object_opened : (said : Option (Data × List Token)) (laid now : Laid) (ts rest : List Token) (k : Bor (List ℕ)) (n : ℕ) → IsUnder said laid (Token.begin_object ∷ ts)
-    → length laid.open.items < max_depth → read_key ts ≡ Some (Some k.now, rest) → now.rows.items ≡ (laid.rows.items ++ rows.Object n ∷ []) ++ rows.Key k ∷ []
-    → now.open.items ≡ laid.open.items ++ length laid.rows.items ∷ [] → now.in_list ≡ false → IsUnder said now rest
+    → length laid.begun.items < max_depth → read_key ts ≡ Some (Some k.now, rest) → now.rows.items ≡ (laid.rows.items ++ rows.Object n ∷ []) ++ rows.Key k ∷ []
+    → now.begun.items ≡ laid.begun.items ++ length laid.rows.items ∷ [] → now.in_list ≡ false → IsUnder said now rest
 object_opened said laid now ts rest k n is deep named rows_are open_are flag_is =
     let b = begins said laid Token.begin_object ts refl is in
     let fewer = read_key-shorter ts (Some k.now) rest named in
     let fs : List Frame = in_object (length ts - 1) no_members k.now ∷ b.frames in
     let rs : List Row = laid.rows.items ++ rows.Object n ∷ [] in
-    let starts : List ℕ = laid.open.items ++ length laid.rows.items ∷ [] in
+    let starts : List ℕ = laid.begun.items ++ length laid.rows.items ∷ [] in
     record {
       frames = fs;
       says =
-          b.says ∙ object_begins b.frames ts (omega (arith, deep, open_count b.frames laid.rows.items laid.open.items b.rows))
+          b.says ∙ object_begins b.frames ts (omega (arith, deep, open_count b.frames laid.rows.items laid.begun.items b.rows))
           ∙ member_due (length ts) no_members k.now b.frames ts rest (omega (arith, fewer)) named;
       rows =
-          subst (λ rs. IsLaid fs rs now.open.items) (sym rows_are)
+          subst (λ rs. IsLaid fs rs now.begun.items) (sym rows_are)
           (subst (λ places. IsLaid fs (rs ++ rows.Key k ∷ []) places) (sym open_are)
-          (key_laid (length ts - 1) no_members b.frames rs starts k (object_begun b.frames laid.rows.items laid.open.items n b.rows)));
+          (key_laid (length ts - 1) no_members b.frames rs starts k (object_begun b.frames laid.rows.items laid.begun.items n b.rows)));
       inner = flag_is;
       enough = (omega (arith, fewer), enough_fewer b.frames (length ts) (length rest) (omega (arith, fewer)) b.enough);
     }

@@ -18,10 +18,10 @@ none_open : (places : List ℕ) (at : ℕ) → places ++ at ∷ [] ≡ [] → �
 none_open places at e = let never : ⊥ = omega (arith, ap length e, length-append places (at ∷ [])) in never
 
 -- nothing is open: the value is the whole
-pub whole_ended : (said : Option (Data × List Token)) (laid : Laid) (ts : List Token) → HasEnded said laid ts → laid.open.items ≡ [] → IsWhole said laid ts
+pub whole_ended : (said : Option (Data × List Token)) (laid : Laid) (ts : List Token) → HasEnded said laid ts → laid.begun.items ≡ [] → IsWhole said laid ts
 whole_ended said laid ts is none = at is.frames is.says is.rows
   where
-    at : (fs : List Frame) → said ≡ after fs is.value ts → HasValue fs laid.rows.items laid.open.items is.value → IsWhole said laid ts
+    at : (fs : List Frame) → said ≡ after fs is.value ts → HasValue fs laid.rows.items laid.begun.items is.value → IsWhole said laid ts
     at [] says has = record { value = is.value; says = says; run = subst (λ rs. IsRun rs is.value) (sym (has.are ∙ ap (λ b. b ++ has.run) has.laid.0)) has.value }
     at (in_list n done ∷ fs) says has = let l = has.laid in absurd (none_open l.places (length l.below) (sym l.begins ∙ none))
     at (in_object n found k ∷ fs) says has = let l = has.laid.laid in absurd (none_open l.places (length l.below) (sym l.begins ∙ none))
@@ -32,25 +32,25 @@ pub record Member (said : Option (Data × List Token)) (laid : Laid) (ts : List 
   pub turns : ℕ
   pub found : Members
   pub says : said ≡ members_due turns found around ts
-  pub rows : InObject (IsLaid around) found laid.rows.items laid.open.items
+  pub rows : InObject (IsLaid around) found laid.rows.items laid.begun.items
   pub enough : length ts ≤ turns
   pub more : AreEnough around (length ts)
 
 some_open : {P : Type 0} (open_are : List ℕ) → 0 < length open_are → open_are ≡ [] → P
 some_open starts some none = let never : ⊥ = omega (arith, some, ap length none) in absurd never
 
-pub member_ended : (said : Option (Data × List Token)) (laid : Laid) (ts : List Token) → HasEnded said laid ts → laid.in_list ≡ false → 0 < length laid.open.items → Member said laid ts
+pub member_ended : (said : Option (Data × List Token)) (laid : Laid) (ts : List Token) → HasEnded said laid ts → laid.in_list ≡ false → 0 < length laid.begun.items → Member said laid ts
 member_ended said laid ts is outside some = at is.frames is.says is.rows (sym outside ∙ is.inner) is.enough
   where
-    at : (fs : List Frame) → said ≡ after fs is.value ts → HasValue fs laid.rows.items laid.open.items is.value → false ≡ is_in_list fs → AreEnough fs (length ts) → Member said laid ts
-    at [] says has out enough = some_open laid.open.items some has.laid.1
+    at : (fs : List Frame) → said ≡ after fs is.value ts → HasValue fs laid.rows.items laid.begun.items is.value → false ≡ is_in_list fs → AreEnough fs (length ts) → Member said laid ts
+    at [] says has out enough = some_open laid.begun.items some has.laid.1
     at (in_list n done ∷ fs) says has out enough = absurd (cc)
     at (in_object n found k ∷ fs) says has out enough = record {
       around = fs;
       turns = n;
       found = put k is.value found;
       says = says;
-      rows = value_in_object n found k fs laid.rows.items laid.open.items is.value has;
+      rows = value_in_object n found k fs laid.rows.items laid.begun.items is.value has;
       enough = enough.0;
       more = enough.1;
     }
@@ -60,7 +60,7 @@ member_no_key said laid ts m none = m.says ∙ no_key m.turns m.found m.around t
 
 -- the next key: its value is due
 pub member_goes_on : (said : Option (Data × List Token)) (laid now : Laid) (ts rest : List Token) (k : Bor (List ℕ)) → Member said laid ts → read_key ts ≡ Some (Some k.now, rest)
-    → now.rows.items ≡ laid.rows.items ++ rows.Key k ∷ [] → now.open.items ≡ laid.open.items → now.in_list ≡ false → IsUnder said now rest
+    → now.rows.items ≡ laid.rows.items ++ rows.Key k ∷ [] → now.begun.items ≡ laid.begun.items → now.in_list ≡ false → IsUnder said now rest
 member_goes_on said laid now ts rest k m named rows_are open_are flag_is =
     let fewer = read_key-shorter ts (Some k.now) rest named in
     let fs : List Frame = in_object (m.turns - 1) m.found k.now ∷ m.around in
@@ -68,17 +68,17 @@ member_goes_on said laid now ts rest k m named rows_are open_are flag_is =
       frames = fs;
       says = m.says ∙ member_due m.turns m.found k.now m.around ts rest (omega (arith, fewer, m.enough)) named;
       rows =
-          subst (λ rs. IsLaid fs rs now.open.items) (sym rows_are)
+          subst (λ rs. IsLaid fs rs now.begun.items) (sym rows_are)
           (subst (λ starts. IsLaid fs (laid.rows.items ++ rows.Key k ∷ []) starts) (sym open_are)
-          (key_laid (m.turns - 1) m.found m.around laid.rows.items laid.open.items k m.rows));
+          (key_laid (m.turns - 1) m.found m.around laid.rows.items laid.begun.items k m.rows));
       inner = flag_is;
       enough = (omega (arith, fewer, m.enough), enough_fewer m.around (length ts) (length rest) (omega (arith, fewer)) m.more);
     }
 
 -- the object ends, and is a value itself
 pub member_was_last : (said : Option (Data × List Token)) (laid now : Laid) (ts rest : List Token) → Member said laid ts → read_key ts ≡ Some (None, rest) → laid.in_list ≡ false
-    → ((fs : List Frame) (found : Members) → InObject (IsLaid fs) found laid.rows.items laid.open.items → laid.in_list ≡ false
-    → HasValue fs now.rows.items now.open.items (object found) × (now.in_list ≡ is_in_list fs)) → HasEnded said now rest
+    → ((fs : List Frame) (found : Members) → InObject (IsLaid fs) found laid.rows.items laid.begun.items → laid.in_list ≡ false
+    → HasValue fs now.rows.items now.begun.items (object found) × (now.in_list ≡ is_in_list fs)) → HasEnded said now rest
 member_was_last said laid now ts rest m over outside closed =
     let both = closed m.around m.found m.rows outside in
     record {

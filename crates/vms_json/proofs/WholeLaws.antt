@@ -18,7 +18,7 @@ same_after None = refl
 same_after (Some p) = refl
 
 -- before the first token nothing is laid
-pub whole_due : (text : List ℕ) (laid : Laid) (ts : List Token) → ts ≡ tokens text → laid.rows.items ≡ [] → laid.open.items ≡ [] → laid.in_list ≡ false → IsUnder (said_by text) laid ts
+pub whole_due : (text : List ℕ) (laid : Laid) (ts : List Token) → ts ≡ tokens text → laid.rows.items ≡ [] → laid.begun.items ≡ [] → laid.in_list ≡ false → IsUnder (said_by text) laid ts
 whole_due text laid ts all no_rows none_open outside = record {
   frames = [];
   says = same_after (said_by text) ∙ ap (λ l. option_and_then (λ p. after [] p.0 p.1) (converted of_json (value max_depth l))) (sym all);

@@ -98,7 +98,7 @@ AreBelow (s ∷ ss) m = (s < m) × AreBelow ss m
 pub record IsUnder (said : Option (Data × List Token)) (laid : Laid) (ts : List Token) : Type 0 where
   pub frames : List Frame
   pub says : said ≡ due frames ts
-  pub rows : IsLaid frames laid.rows.items laid.open.items
+  pub rows : IsLaid frames laid.rows.items laid.begun.items
   pub inner : laid.in_list ≡ is_in_list frames
   pub enough : AreEnough frames (length ts)
 
@@ -107,7 +107,7 @@ pub record HasEnded (said : Option (Data × List Token)) (laid : Laid) (ts : Lis
   pub frames : List Frame
   pub value : Data
   pub says : said ≡ after frames value ts
-  pub rows : HasValue frames laid.rows.items laid.open.items value
+  pub rows : HasValue frames laid.rows.items laid.begun.items value
   pub inner : laid.in_list ≡ is_in_list frames
   pub enough : AreEnough frames (length ts)
 

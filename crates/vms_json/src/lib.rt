@@ -25,5 +25,5 @@ pub use lists::ListOf;
 pub use members::{at, at_or, maybe_at, said};
 pub use names::{NameIn, Names, Scope};
 pub use node::{Items, Members, Node, Tree};
-pub use parse::{NoNode, read_node};
+pub use parse::{DEEPEST, NoNode, read_node};
 pub use words::{Integer, Reads, TextOf, U16, U32, U64};

@@ -15,8 +15,8 @@ use crate::number::number_of;
 use json::{Invalid, Reader, Scratch, Token};
 use std::alloc::{AllocError, AllocFailed, Global};
 
-// No value that is read nests deeper.
-const DEEPEST: usize = 127;
+/// No value that is read nests deeper, as `serde_json` reads none that does.
+pub const DEEPEST: usize = 127;
 
 /// Why a text gives no tree.
 #[derive(Clone, Copy, Drop)]
@@ -70,7 +70,7 @@ pub fn read_node<'a>(
     let mut reader = Reader::new(text, scratch)?;
     let mut laid = Laid {
         rows: Vec::new(alloc),
-        open: Vec::new(alloc),
+        begun: Vec::new(alloc),
         in_list: false,
     };
     let mut is_done = false;
@@ -90,7 +90,7 @@ pub fn read_node<'a>(
 // Lays what a token is where the next is due. Whether a value ends with it.
 #[inline(always)]
 fn lay<'a>(token: Token<'a>, reader: &mut Reader<'a>, laid: &mut Laid<'a>) -> Result<bool, NoNode>
-    requires { AreBelow laid.old.open.items (length laid.old.rows.items) }
+    requires { AreBelow laid.old.begun.items (length laid.old.rows.items) }
     ensures ok { (said : Option (Data × List TokenRead))
         → IsUnder said laid.old (token_of token.entry ∷ reader.old)
         → IfOk result (λ is_value. MatchBool is_value
@@ -110,7 +110,7 @@ fn lay<'a>(token: Token<'a>, reader: &mut Reader<'a>, laid: &mut Laid<'a>) -> Re
             Ok(true)
         }
         Token::BeginArray => {
-            if laid.open.len() >= DEEPEST {
+            if laid.begun.len() >= DEEPEST {
                 return Err(NoNode::Syntax);
             }
             laid.begin(Row::List(0))?;
@@ -136,7 +136,7 @@ fn begin_object<'a>(reader: &mut Reader<'a>, laid: &mut Laid<'a>) -> Result<bool
         → IsUnder said laid.old (TokenRead.begin_object ∷ reader.old)
         → result ≡ Err NoNode.Syntax → said ≡ None }
 {
-    if laid.open.len() >= DEEPEST {
+    if laid.begun.len() >= DEEPEST {
         return Err(NoNode::Syntax);
     }
     match reader.next_key()? {
@@ -156,7 +156,7 @@ fn begin_object<'a>(reader: &mut Reader<'a>, laid: &mut Laid<'a>) -> Result<bool
 // After a value: the next key of an object, or the ends of objects. Whether the value is the whole.
 #[inline(always)]
 fn go_on<'a>(reader: &mut Reader<'a>, laid: &mut Laid<'a>) -> Result<bool, NoNode>
-    requires { AreBelow laid.old.open.items (length laid.old.rows.items) }
+    requires { AreBelow laid.old.begun.items (length laid.old.rows.items) }
     ensures ok { (said : Option (Data × List TokenRead)) → HasEnded said laid.old reader.old
         → IfOk result (λ is_whole. MatchBool is_whole
         (IsWhole said laid.new reader.new) (IsUnder said laid.new reader.new)) }
@@ -165,7 +165,7 @@ fn go_on<'a>(reader: &mut Reader<'a>, laid: &mut Laid<'a>) -> Result<bool, NoNod
         → result ≡ Err NoNode.Syntax → said ≡ None }
 {
     while !laid.in_list {
-        if laid.open.is_empty() {
+        if laid.begun.is_empty() {
             return Ok(true);
         }
         match reader.next_key()? {
@@ -202,7 +202,7 @@ fn row_of<'a>(token: Token<'a>) -> Result<Row<'a>, NoNode>
 #[derive(Drop)]
 struct Laid<'a> {
     rows: Vec<Row<'a>>,
-    open: Vec<usize>,
+    begun: Vec<usize>,
     in_list: bool,
 }
 
@@ -211,11 +211,11 @@ impl<'a> Laid<'a> {
     #[inline(always)]
     fn begin(&mut self, row: Row<'a>) -> Result<(), NoNode>
         ensures rows { OnOk result (self.new.rows.items ≡ self.old.rows.items ++ row.entry ∷ []) }
-        ensures open { OnOk result (self.new.open.items
-            ≡ self.old.open.items ++ length self.old.rows.items ∷ []) }
+        ensures begun { OnOk result (self.new.begun.items
+            ≡ self.old.begun.items ++ length self.old.rows.items ∷ []) }
         ensures err { IfErr result (λ why. why ≡ NoNode.NoMemory) }
     {
-        self.open.push(self.rows.len())?;
+        self.begun.push(self.rows.len())?;
         self.rows.push(row)?;
         Ok(())
     }
@@ -223,20 +223,20 @@ impl<'a> Laid<'a> {
     // Ends the innermost.
     #[inline(always)]
     fn end(&mut self)
-        requires { AreBelow self.old.open.items (length self.old.rows.items) }
+        requires { AreBelow self.old.begun.items (length self.old.rows.items) }
         ensures list { (fs : List Frame) (done : List Data)
-            → InList (IsLaid fs) done self.old.rows.items self.old.open.items
+            → InList (IsLaid fs) done self.old.rows.items self.old.begun.items
             → self.old.in_list ≡ true
-            → HasValue fs self.new.rows.items self.new.open.items (array (before done no_items))
+            → HasValue fs self.new.rows.items self.new.begun.items (array (before done no_items))
             × (self.new.in_list ≡ is_in_list fs) }
         ensures object { (fs : List Frame) (found : Members)
-            → InObject (IsLaid fs) found self.old.rows.items self.old.open.items
+            → InObject (IsLaid fs) found self.old.rows.items self.old.begun.items
             → self.old.in_list ≡ false
-            → HasValue fs self.new.rows.items self.new.open.items (object found)
+            → HasValue fs self.new.rows.items self.new.begun.items (object found)
             × (self.new.in_list ≡ is_in_list fs) }
-        ensures within { AreBelow self.new.open.items (length self.new.rows.items) }
+        ensures within { AreBelow self.new.begun.items (length self.new.rows.items) }
     {
-        let Some(at) = self.open.pop() else {
+        let Some(at) = self.begun.pop() else {
             return;
         };
         let count = self.rows.len() - at;
@@ -252,13 +252,13 @@ impl<'a> Laid<'a> {
     // Whether the innermost is a list, by its row.
     #[inline(always)]
     fn is_in_list(&self) -> bool
-        requires { AreBelow self.now.open.items (length self.now.rows.items) }
-        ensures none { self.now.open.items ≡ [] → result ≡ false }
+        requires { AreBelow self.now.begun.items (length self.now.rows.items) }
+        ensures none { self.now.begun.items ≡ [] → result ≡ false }
         ensures some { (places : List ℕ) (at : ℕ) (none : RowRead)
-            → self.now.open.items ≡ places ++ at ∷ []
+            → self.now.begun.items ≡ places ++ at ∷ []
             → result ≡ is_list (get_or self.now.rows.items at none) }
     {
-        match self.open.last() {
+        match self.begun.last() {
             Some(at) => self.rows[*at].is_list(),
             None => false,
         }

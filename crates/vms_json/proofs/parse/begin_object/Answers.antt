@@ -17,4 +17,4 @@ pub returns-in_ok-push-in-Some-clause-ok : goal.returns-in_ok-push-in-Some-claus
 returns-in_ok-push-in-Some-clause-ok c = λ said is.
     let b = c.in_ok-begin-in-Some.ensures in
     object_opened said c.args.laid.now _ c.args.reader.now c.next_key.new.self c.in-Some.name 0 is (omega arith) (grind arith)
-    (c.in_ok-push-in-Some.ensures.items ∙ ap (λ rs. rs ++ rows.Key c.in-Some.name ∷ []) b.rows) b.open refl
+    (c.in_ok-push-in-Some.ensures.items ∙ ap (λ rs. rs ++ rows.Key c.in-Some.name ∷ []) b.rows) b.begun refl

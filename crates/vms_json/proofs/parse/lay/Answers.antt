@@ -29,7 +29,7 @@ pub returns-in_ok-begin-in-BeginArray-clause-ok : goal.returns-in_ok-begin-in-Be
 returns-in_ok-begin-in-BeginArray-clause-ok c = λ said is.
     let b = c.in_ok-begin-in-BeginArray.ensures in
     list_opened said c.args.laid.now _ c.args.reader.now 0
-    (subst (λ t. IsUnder said c.args.laid.now (token_of t ∷ c.args.reader.now)) c.in-BeginArray.is is) (omega arith) b.rows b.open refl
+    (subst (λ t. IsUnder said c.args.laid.now (token_of t ∷ c.args.reader.now)) c.in-BeginArray.is is) (omega arith) b.rows b.begun refl
 
 pub returns-in_err-row_of-in_default : goal.returns-in_err-row_of-in_default
 returns-in_err-row_of-in_default c = record {
