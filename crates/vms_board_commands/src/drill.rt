@@ -17,6 +17,7 @@ use vms_io::{NoMemory, Sink};
 
 /// Writes what so many events that a seed chooses come to, on a board of a level at power on that is saved and
 /// restored after every thousand of them.
+#[inline(never)]
 pub fn drill_board<O: Sink>(
     alloc: Global,
     level: u8,

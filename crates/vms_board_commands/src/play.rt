@@ -21,6 +21,7 @@ use vms_script::Line;
 use vms_session::{PlayFault, play};
 
 /// Plays a session on a board at power on and the shelf, and writes its trace.
+#[inline(never)]
 pub fn play_board<O: Sink, H: Shelf>(
     alloc: Global,
     asked: OnBoard,

@@ -20,6 +20,8 @@ use vms_commands::Ending;
 use vms_io::{Shelf, Sink, Source};
 
 /// Writes the stream of a board after a script, under a set of its kind.
+// Not inlined, as `load`, `play_board` and `drill_board` aren't: the other commands' stack has no board.
+#[inline(never)]
 pub(crate) fn save<O: Sink, H: Shelf>(
     alloc: Global,
     board: SavedBoard,
@@ -56,6 +58,7 @@ pub(crate) fn save<O: Sink, H: Shelf>(
 }
 
 /// Lets a script go on from the board that the input's stream restores.
+#[inline(never)]
 pub(crate) fn load<I: Source, O: Sink, H: Shelf>(
     alloc: Global,
     loading: Loading,

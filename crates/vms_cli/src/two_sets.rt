@@ -30,9 +30,10 @@ pub(crate) fn two_sets<H: Shelf>(
     ensures asks { AsksIf HadCause (asks_shelf (set_asked old.entry) (set_asked new.entry))
         (stock H.Shelf shelf.old) (stock H.Shelf shelf.new) result }
 {
-    let old = fetch_set(alloc, old, shelf)?;
-    let new = fetch_set(alloc, new, shelf)?;
-    let old = read_fetched(alloc, &old)?;
-    let new = read_fetched(alloc, &new)?;
+    let old_text = fetch_set(alloc, old, shelf)?;
+    let new_text = fetch_set(alloc, new, shelf)?;
+    let old = read_fetched(alloc, &old_text)?;
+    drop(old_text);
+    let new = read_fetched(alloc, &new_text)?;
     Ok(TwoSets { old, new })
 }

@@ -45,7 +45,11 @@ pub fn fetch<H: Shelf>(
     ensures asks { Asks FetchCause (stock H.Shelf shelf.old) (stock H.Shelf shelf.new) result }
 {
     match shelf.fetch(alloc, name, limit) {
-        Ok(text) => Ok(text),
+        Ok(mut text) => {
+            // Its room grew by doubling.
+            text.shrink_to_fit();
+            Ok(text)
+        }
         Err(FetchFault::NotThere) => Err(Ending::NotThere(not_there_line(alloc, name)?)),
         Err(FetchFault::TooLarge) => Err(Ending::TooLarge(too_large_line(alloc, name)?)),
         Err(FetchFault::Failed) => Err(Ending::ShelfFault),

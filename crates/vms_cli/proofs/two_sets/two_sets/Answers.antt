@@ -13,35 +13,35 @@ use Rattle.vms_cli.specs.TwoSets.{sets_of}
 use Rattle.vms_cli.specs.declared.two_sets.TwoSets.{TwoSets}
 use Rattle.vms_cli.proofs.StepsOfTwo.{second_of, two_of}
 use Rattle.vms_cli.proofs.two_sets.two_sets.Given.{Over}
-use Rattle.vms_cli.proofs.two_sets.two_sets.Goals.{In_ok-new}
+use Rattle.vms_cli.proofs.two_sets.two_sets.Goals.{In_ok-new_text}
 use Rattle.vms_cli.proofs.two_sets.two_sets.Goals as goal
 
 abbrev texts_of : Both Fetched → Both SetText
 texts_of texts = record { old = text_of texts.old; new = text_of texts.new }
 
 -- both are fetched from the same shelf, and what is read of both is what the words name
-named : (g : Over) (c : In_ok-new g) (r : Result TwoSets Ending) → StepAs sets_of (sets_in (record { old = text_of c.in_ok-old.old; new = text_of c.in_ok-new.new })) r
+named : (g : Over) (c : In_ok-new_text g) (r : Result TwoSets Ending) → StepAs sets_of (sets_in (record { old = text_of c.in_ok-old_text.old_text; new = text_of c.in_ok-new_text.new_text })) r
     → StepAs sets_of (named_sets (g.H.Shelf.held c.args.shelf.now) (set_asked c.args.old) (set_asked c.args.new)) r
 named g c r h =
     let held = g.H.Shelf.held c.args.shelf.now in
     let old = fetched_set held (set_asked c.args.old) in
     let new = fetched_set held (set_asked c.args.new) in
-    let texts : Both Fetched = record { old = c.in_ok-old.old; new = c.in_ok-new.new } in
-    let second : StepAs text_of new (Ok c.in_ok-new.new) =
-    subst (λ (h : Option Held). StepAs text_of (fetched_set h (set_asked c.args.new)) (Ok c.in_ok-new.new)) c.in_ok-old.ensures.asks.looks.held c.in_ok-new.ensures.fetched in
-    then_as texts_of sets_of sets_in (both old new) texts r (two_of text_of texts_of old new c.in_ok-old.old c.in_ok-new.new texts refl c.in_ok-old.ensures.fetched second) h
+    let texts : Both Fetched = record { old = c.in_ok-old_text.old_text; new = c.in_ok-new_text.new_text } in
+    let second : StepAs text_of new (Ok c.in_ok-new_text.new_text) =
+    subst (λ (h : Option Held). StepAs text_of (fetched_set h (set_asked c.args.new)) (Ok c.in_ok-new_text.new_text)) c.in_ok-old_text.ensures.asks.looks.held c.in_ok-new_text.ensures.fetched in
+    then_as texts_of sets_of sets_in (both old new) texts r (two_of text_of texts_of old new c.in_ok-old_text.old_text c.in_ok-new_text.new_text texts refl c.in_ok-old_text.ensures.fetched second) h
 
-pub returns-in_err-new-2-clause-had : goal.returns-in_err-new-2-clause-had
-returns-in_err-new-2-clause-had g c =
-    let p = err_from_is_err_and c.from_residual-in_err-new-2.result c.from_residual-in_err-new-2.ensures.1 in
-    let e = c.in_err-new-2.field-0.0 in
-    let failed : StepAs sets_of (sets_in (record { old = text_of c.in_ok-old.old; new = text_of c.in_ok-new.new })) (Err e) =
-    second_of described sets_of (set_in (text_of c.in_ok-old.old)) (set_in (text_of c.in_ok-new.new)) c.in_ok-old-2.old e c.in_ok-old-2.ensures.read c.in_err-new-2.ensures.read in
-    named g (goal.at.returns-in_err-new-2-clause-had g c).In_ok-new c.from_residual-in_err-new-2.result
-    (subst (λ (r : Result TwoSets Ending). StepAs sets_of (sets_in (record { old = text_of c.in_ok-old.old; new = text_of c.in_ok-new.new })) r) (sym (p.1 ∙ ap Err p.2)) failed)
+pub returns-in_err-new-clause-had : goal.returns-in_err-new-clause-had
+returns-in_err-new-clause-had g c =
+    let p = err_from_is_err_and c.from_residual-in_err-new.result c.from_residual-in_err-new.ensures.1 in
+    let e = c.in_err-new.field-0.0 in
+    let failed : StepAs sets_of (sets_in (record { old = text_of c.in_ok-old_text.old_text; new = text_of c.in_ok-new_text.new_text })) (Err e) =
+    second_of described sets_of (set_in (text_of c.in_ok-old_text.old_text)) (set_in (text_of c.in_ok-new_text.new_text)) c.in_ok-old.old e c.in_ok-old.ensures.read c.in_err-new.ensures.read in
+    named g (goal.at.returns-in_err-new-clause-had g c).In_ok-new_text c.from_residual-in_err-new.result
+    (subst (λ (r : Result TwoSets Ending). StepAs sets_of (sets_in (record { old = text_of c.in_ok-old_text.old_text; new = text_of c.in_ok-new_text.new_text })) r) (sym (p.1 ∙ ap Err p.2)) failed)
 
 pub returns-clause-had : goal.returns-clause-had
 returns-clause-had g c =
-    let sets : TwoSets = record { old = c.in_ok-old-2.old; new = c.in_ok-new-2.new } in
-    named g (goal.at.returns-clause-had g c).In_ok-new (Ok sets)
-    (two_of described sets_of (set_in (text_of c.in_ok-old.old)) (set_in (text_of c.in_ok-new.new)) c.in_ok-old-2.old c.in_ok-new-2.new sets refl c.in_ok-old-2.ensures.read c.in_ok-new-2.ensures.read)
+    let sets : TwoSets = record { old = c.in_ok-old.old; new = c.in_ok-new.new } in
+    named g (goal.at.returns-clause-had g c).In_ok-new_text (Ok sets)
+    (two_of described sets_of (set_in (text_of c.in_ok-old_text.old_text)) (set_in (text_of c.in_ok-new_text.new_text)) c.in_ok-old.old c.in_ok-new.new sets refl c.in_ok-old.ensures.read c.in_ok-new.ensures.read)
