@@ -24,8 +24,9 @@ mod transmitter;
 mod trigger;
 
 pub use laws::{
-    alike_law, cells_law, fifo_control_law, interrupt_law, level_law, likeness_law, recast_law,
-    restored_law, ring_law, rules_law, saved_law, sending_law, sound_law, time_law,
+    alike_law, cells_law, divisor_law, fifo_control_law, interrupt_law, level_law, likeness_law,
+    modem_law, recast_law, restored_law, ring_law, rules_law, saved_law, sending_law, sound_law,
+    time_law,
 };
 pub use rings::recast;
 pub use serial::Serial;
