@@ -49,4 +49,4 @@ unfolding step
 step-clock event m = after_act-clock _ _ _ (acted event m) (acted-clock m event)
 
 pub clock_goes_on : ClockGoesOn
-clock_goes_on = record { moment = λ event m. (step-clock event m).moment_is; level = λ event m. (step-clock event m).level_is }
+clock_goes_on = record { moment = λ event m. (step-clock event m).moment_is; level = λ event m. (step-clock event m).level_is; last = refl }

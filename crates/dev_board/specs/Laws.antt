@@ -1,5 +1,5 @@
 -- Laws of the board that contracts name.
-use Rattle.std.specs.Prelude.{◌≡◌, ℕ, ◌+◌, ◌<◌, ◌==◌, ◌⊎◌, Bool, true, false, List, [], ◌∷◌, if◌then◌else◌, min}
+use Rattle.std.specs.Prelude.{◌≡◌, ℕ, ◌+◌, ◌*◌, ◌<◌, ◌==◌, ◌⊎◌, Bool, true, false, List, [], ◌∷◌, if◌then◌else◌, min}
 use Rattle.dev_base.specs.declared.limits.TheConstants.{LAST_MOMENT}
 use Rattle.dev_base.specs.Bits.{has}
 use Rattle.dev_base.specs.Levels.{IsLevel}
@@ -45,7 +45,8 @@ wire_left wire Ack was = was
 pub record WiresStay : Type 0 where
   pub wire : (event : Event) (m : State) (wire : ℕ) → is_wire wire ≡ true → IsEvent event → has (lines_of (step event m).1.pair) wire ≡ wire_left wire event (has (lines_of m.pair) wire)
 
--- the moment moves in a wait alone, by its nanoseconds, and not beyond the last moment; and no event changes the level
+-- the moment moves in a wait alone, by its nanoseconds, and not beyond the last moment, that of 4,000,000,000 seconds; and no
+-- event changes the level
 abbrev pub moment_left : Event → ℕ → ℕ
 moment_left (Read port) moment = moment
 moment_left (Write port value) moment = moment
@@ -57,6 +58,7 @@ moment_left Ack moment = moment
 pub record ClockGoesOn : Type 0 where
   pub moment : (event : Event) (m : State) → (step event m).1.moment ≡ moment_left event m.moment
   pub level : (event : Event) (m : State) → (step event m).1.level ≡ m.level
+  pub last : LAST_MOMENT ≡ 4000000000 * 1000000000
 
 -- two answers are equal, and what gave them is alike after them
 pub record AnswersAlike {A S : Type 0} (AreAlike : S → S → Type 0) (first second : A × S) : Type 0 where

@@ -21,8 +21,8 @@ pub fn wires_law()
     ensures { WiresStay }
 {}
 
-/// A wait alone moves the moment, by its nanoseconds and not beyond the last moment, and no event changes
-/// the level.
+/// A wait alone moves the moment, by its nanoseconds and not beyond the last moment, which is that of 4,000,000,000 seconds,
+/// and no event changes the level.
 #[tactic(auto, using(crate::proofs::ClockLaws::clock_goes_on))]
 pub fn clock_law()
     ensures { ClockGoesOn }

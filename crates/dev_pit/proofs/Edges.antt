@@ -5,7 +5,7 @@ use Rattle.std.specs.Prelude.{nat_lt, nat_le}
 use Rattle.dev_base.proofs.Quotients.{grown, quotient_mono}
 use Rattle.dev_pit.specs.Count.{rises, ticks, period}
 use Rattle.dev_pit.specs.Counter.{edge_of, edge_since}
-use Rattle.dev_pit.specs.Laws.{TicksGoOn, EdgeInParts}
+use Rattle.dev_pit.specs.Laws.{TicksGoOn, SecondsHaveTicks, EdgeInParts}
 use Rattle.dev_pit.specs.declared.mode.Mode.{Mode}
 use Rattle.dev_pit.specs.declared.mode.Mode.TheVariants.{TerminalCount, OneShot, RateGenerator, SquareWave, SoftwareStrobe, HardwareStrobe}
 
@@ -16,6 +16,10 @@ ticks-mono load now later h = omega arith
 
 pub ticks_go_on : TicksGoOn
 ticks_go_on = ticks-mono
+
+pub seconds_have_ticks : SecondsHaveTicks
+unfolding ticks
+seconds_have_ticks load seconds = omega arith
 
 pub period-pos : (count : ℕ) → 0 < period count
 period-pos count = grind (arith, nat_tests)

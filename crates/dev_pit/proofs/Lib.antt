@@ -8,6 +8,7 @@ pub mod Edges
 pub mod LatchLaws
 pub mod Moments
 pub mod PlainSound
+pub mod ReadBackLaw
 pub mod RestoredLaw
 pub mod SavedLaw
 pub mod SoundLaws

@@ -1,5 +1,5 @@
 -- Laws of the chip that contracts name.
-use Rattle.std.specs.Prelude.{◌≡◌, ℕ, ◌-◌, ◌/◌, ◌%◌, ◌<◌, ◌≤◌, true, false, ◌||◌, Some, None, Ok, List, ℤ, length, ◌↔◌}
+use Rattle.std.specs.Prelude.{◌≡◌, ℕ, ◌+◌, ◌-◌, ◌*◌, ◌/◌, ◌%◌, ◌<◌, ◌≤◌, Bool, true, false, ◌&&◌, ◌||◌, Some, None, Ok, List, ℤ, length, ◌↔◌}
 use Rattle.vms_hooks.specs.Numbers.{Numbers}
 use Rattle.dev_base.specs.Bits.{has}
 use Rattle.dev_base.specs.Levels.{IsLevel, MayRestore}
@@ -7,13 +7,16 @@ use Rattle.dev_base.specs.Rules.{first_failing}
 use Rattle.dev_base.specs.declared.limits.TheConstants.{NEWEST, LAST_MOMENT}
 use Rattle.dev_pit.specs.Calls.{Call, IsCall, called, programs, loads, reads_latch}
 use Rattle.dev_pit.specs.Cells.{pit_cells, carried, AreCellsOf, IsPitCells}
+use Rattle.dev_pit.specs.Channel.{status_holds}
 use Rattle.dev_pit.specs.Count.{ticks, out_at}
 use Rattle.dev_pit.specs.Counter.{edge_of, out_of, status_of}
 use Rattle.dev_pit.specs.GoesOn.{GoesOn}
 use Rattle.dev_pit.specs.Mode.{mode_number, access_number}
-use Rattle.dev_pit.specs.Pit.{IsLoadedBy, counter_of, new_pit, pit_read, pit_written, pit_out}
+use Rattle.dev_pit.specs.Pit.{IsLoadedBy, asked_back, controlled, counter_of, new_pit, pit_read, pit_written, pit_out}
 use Rattle.dev_pit.specs.Saved.{CanSave, CanRestore, rules, hook_restored}
 use Rattle.dev_pit.specs.Sound.{IsSoundPit}
+use Rattle.dev_pit.specs.declared.channel.Channel.{Channel}
+use Rattle.dev_pit.specs.declared.control.ControlWord.TheVariants.{ReadBack}
 use Rattle.dev_pit.specs.declared.counter.Counter.{Counter}
 use Rattle.dev_pit.specs.declared.mode.Mode.TheVariants.{TerminalCount}
 use Rattle.dev_pit.specs.declared.pit.Pit.{Pit}
@@ -21,6 +24,10 @@ use Rattle.dev_pit.specs.declared.pit.Pit.{Pit}
 -- ticks never go back
 abbrev pub TicksGoOn : Type 0
 TicksGoOn = (load now later : ℕ) → now ≤ later → ticks load now ≤ ticks load later
+
+-- each second has 1,193,182 ticks, at whichever moment the count was loaded
+abbrev pub SecondsHaveTicks : Type 0
+SecondsHaveTicks = (load seconds : ℕ) → ticks load (load + seconds * 1000000000) ≡ seconds * 1193182
 
 -- an edge comes in a span just where it comes in one of its two parts
 abbrev pub EdgeInParts : Type 0
@@ -77,6 +84,16 @@ pub record LatchStays : Type 0 where
       → (counter_of k (called call now pit)).latch ≡ Some held
   pub in_time : (k now later held : ℕ) (pit : Pit) → (counter_of k pit).latch ≡ Some held
       → pit_read k now pit ≡ pit_read k later pit
+
+-- an 8253, at level 1, does nothing at a read-back command and may have no status latched; an 8254, from level 2 on, asks the
+-- chosen counters one after the other
+pub record ReadBackByLevel : Type 0 where
+  pub none : (count status first second third : Bool) (now : ℕ) (pit : Pit) → pit.level ≡ 1
+      → controlled (ReadBack count status first second third) now pit ≡ pit
+  pub asks : (count status first second third : Bool) (now : ℕ) (pit : Pit) → 2 ≤ pit.level
+      → controlled (ReadBack count status first second third) now pit
+      ≡ asked_back (count && third) (status && third) 2 now (asked_back (count && second) (status && second) 1 now (asked_back (count && first) (status && first) 0 now pit))
+  pub rule : (channel : Channel) → status_holds 1 channel ≡ true → channel.status_latched ≡ false
 
 -- a chip at power on is sound; time, every read and every write keep it so; and a sound chip was loaded by its moment
 pub record SoundStays : Type 0 where

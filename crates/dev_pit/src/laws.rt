@@ -1,10 +1,11 @@
 // Laws of the definitions, each stated by a function without a body.
-ghost use Rattle.dev_pit.specs.Laws.{TicksGoOn, EdgeInParts, EdgeTurnsHigh, CountingGoesOn, TerminalCountStays, StatusTells, LatchStays, SoundStays, StepsKeepLevel, SoundMeetsRules, SavedAreCells, SavedIsRestored, RestoredIsSound};
+ghost use Rattle.dev_pit.specs.Laws.{TicksGoOn, SecondsHaveTicks, EdgeInParts, EdgeTurnsHigh, CountingGoesOn, TerminalCountStays, StatusTells, LatchStays, ReadBackByLevel, SoundStays, StepsKeepLevel, SoundMeetsRules, SavedAreCells, SavedIsRestored, RestoredIsSound};
 
-/// Ticks never go back.
-#[tactic(auto, using(crate::proofs::Edges::ticks_go_on))]
+/// Ticks never go back, and each second has 1,193,182 of them.
+#[tactic(auto, using(crate::proofs::Edges::ticks_go_on, crate::proofs::Edges::seconds_have_ticks))]
 pub fn ticks_law()
-    ensures { TicksGoOn }
+    ensures order { TicksGoOn }
+    ensures rate { SecondsHaveTicks }
 {}
 
 /// An edge comes in a span of time just where it comes in one of the span's two parts, in every mode.
@@ -43,6 +44,13 @@ pub fn status_law()
 #[tactic(auto, using(crate::proofs::LatchLaws::latch_stays))]
 pub fn latch_law()
     ensures { LatchStays }
+{}
+
+/// The read-back command does nothing at level 1, on an 8253; from level 2 on, on an 8254, it asks each chosen counter for
+/// its count, its status or both.
+#[tactic(auto, using(crate::proofs::ReadBackLaw::read_back_by_level))]
+pub fn read_back_law()
+    ensures { ReadBackByLevel }
 {}
 
 /// A chip is sound at power on, and time and every call keep it so.

@@ -2,5 +2,6 @@ pub mod CallLaws
 pub mod CellPlaces
 pub mod RestoredLaws
 pub mod SavedLaws
+pub mod SheetNumbers
 pub mod SoundLaws
 pub mod TimeLaws

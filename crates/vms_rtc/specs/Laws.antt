@@ -1,14 +1,26 @@
 -- Laws of the chip that contracts name.
-use Rattle.std.specs.Prelude.{◌≡◌, ◌≢◌, ℕ, ℤ, ◌*◌, ◌<◌, ◌≤◌, ◌↔◌, ◌⊎◌, true, false, List, Option, Some, None, Ok}
+use Rattle.std.specs.Prelude.{◌≡◌, ◌≢◌, ℕ, ℤ, ◌*◌, ◌<◌, ◌≤◌, ◌==◌, ◌&&◌, ◌||◌, ◌↔◌, ◌⊎◌, true, false, List, Option, Some, None, Ok}
 use Rattle.vms_hooks.specs.Numbers.{Numbers}
+use Rattle.dev_base.specs.Bits.{has}
 use Rattle.dev_base.specs.Cells.{AreOf}
 use Rattle.dev_base.specs.Levels.{IsUpTo}
 use Rattle.vms_rtc.specs.Cells.{kinds, saved_cells, carried}
-use Rattle.vms_rtc.specs.Chip.{register, power_on, data_read, read_of, data_written, written, ticks, period_of, passed}
+use Rattle.vms_rtc.specs.Chip.{is_port, register, power_on, line_of, index_read, data_read, read_of, index_written, data_written, written, ticks, period_of, passed}
 use Rattle.vms_rtc.specs.Saved.{CanSave, CanRestore, MayRestore, hook_restored}
 use Rattle.vms_rtc.specs.Sound.{IsSound}
 use Rattle.vms_rtc.specs.declared.limits.TheConstants.{NEWEST_CLOCK, REGISTER_A, REGISTER_C, REGISTER_D}
 use Rattle.vms_rtc.specs.declared.rtc.Rtc.{Rtc}
+
+-- the numbers of the data sheet: 0x70 is the port of the index and 0x71 that of the register that it names, bit 6 of register
+-- 0x0b enables the interrupt, and the crystal has 32,768 ticks in each second
+pub record NumbersAre : Type 0 where
+  pub ports : (port : ℕ) → is_port port ≡ ((port == 0x70) || (port == 0x71))
+  pub reads_index : (chip : Rtc) → read_of 0x70 chip ≡ (index_read chip, chip)
+  pub reads_data : (chip : Rtc) → read_of 0x71 chip ≡ data_read chip
+  pub writes_index : (value : ℕ) (chip : Rtc) → written 0x70 value chip ≡ index_written value chip
+  pub writes_data : (value : ℕ) (chip : Rtc) → written 0x71 value chip ≡ data_written value chip
+  pub enables : (chip : Rtc) → line_of chip ≡ (chip.pf && has (register 0x0b chip) 6)
+  pub seconds : (seconds : ℕ) → ticks (seconds * 1000000000) ≡ seconds * 32768
 
 -- time in two parts is time at once
 pub record PartsAreWhole : Type 0 where

@@ -1,6 +1,13 @@
 // Laws of the chip, each in a clause of a function that does nothing.
-ghost use Rattle.vms_rtc.specs.Laws.{PartsAreWhole, FlagIsSetAtMultiples, ReadsClearFlag, FlagsAreKept, VersionStays};
+ghost use Rattle.vms_rtc.specs.Laws.{NumbersAre, PartsAreWhole, FlagIsSetAtMultiples, ReadsClearFlag, FlagsAreKept, VersionStays};
 ghost use Rattle.vms_rtc.specs.Laws.{CallsKeepSound, SavedAreCells, SavedIsRestored, RestoredIsSound};
+
+/// Port 0x70 reads and writes the index, and port 0x71 the register that it names; the line asks bit 6 of register 0x0b;
+/// each second has 32,768 ticks.
+#[tactic(auto, using(crate::proofs::SheetNumbers::numbers_are))]
+pub fn numbers_law()
+    ensures { NumbersAre }
+{}
 
 /// Time in two parts is time at once.
 #[tactic(auto, using(crate::proofs::TimeLaws::parts_are_whole))]

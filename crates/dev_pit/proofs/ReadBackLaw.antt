@@ -1,0 +1,37 @@
+-- The read-back command by the chip's level.
+use Rattle.std.proofs.Common.{◌≡◌, ℕ, ◌≤◌, ◌==◌, ◌&&◌, ◌||◌, not, nat_le, Bool, true, false, cond, refl, sym, ap, arith}
+use Rattle.std.proofs.lemmas.Bool.Decides.{nat_tests}
+use Rattle.dev_pit.specs.Channel.{status_holds}
+use Rattle.dev_pit.specs.Laws.{ReadBackByLevel}
+use Rattle.dev_pit.specs.Pit.{asked_back, controlled}
+use Rattle.dev_pit.specs.declared.channel.Channel.{Channel}
+use Rattle.dev_pit.specs.declared.control.ControlWord.TheVariants.{ReadBack}
+use Rattle.dev_pit.specs.declared.limits.TheConstants.{READ_BACK_LEVEL}
+use Rattle.dev_pit.specs.declared.pit.Pit.{Pit}
+
+-- the chip with each of the chosen counters asked
+abbrev all-asked : Bool → Bool → Bool → Bool → Bool → ℕ → Pit → Pit
+all-asked count status first second third now pit =
+    asked_back (count && third) (status && third) 2 now (asked_back (count && second) (status && second) 1 now (asked_back (count && first) (status && first) 0 now pit))
+
+none-asked : (count status first second third : Bool) (now : ℕ) (pit : Pit) → pit.level ≡ 1 → controlled (ReadBack count status first second third) now pit ≡ pit
+unfolding controlled
+none-asked count status first second third now pit e = ap (λ (l : ℕ). cond (nat_le READ_BACK_LEVEL l) (all-asked count status first second third now pit) pit) e
+
+asked : (count status first second third : Bool) (now : ℕ) (pit : Pit) → 2 ≤ pit.level
+    → controlled (ReadBack count status first second third) now pit ≡ all-asked count status first second third now pit
+unfolding controlled
+asked count status first second third now pit h =
+    let has : nat_le READ_BACK_LEVEL pit.level ≡ true = grind (arith, nat_tests, h) in
+    ap (λ (b : Bool). cond b (all-asked count status first second third now pit) pit) has
+
+unlatched : (latched zero : Bool) → ((latched || zero) && not latched) ≡ true → latched ≡ false
+unlatched false zero h = refl
+unlatched true zero h = sym h
+
+not-latched : (channel : Channel) → status_holds 1 channel ≡ true → channel.status_latched ≡ false
+unfolding status_holds
+not-latched channel h = unlatched channel.status_latched (channel.status == 0) h
+
+pub read_back_by_level : ReadBackByLevel
+read_back_by_level = record { none = none-asked; asks = asked; rule = not-latched }
