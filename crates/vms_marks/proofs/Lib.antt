@@ -1,2 +1,3 @@
 pub mod HeadBack
 pub mod HeadLemmas
+pub mod LengthLaws

@@ -1,11 +1,17 @@
 -- What has bytes, and what these bytes say.
-use Rattle.std.specs.Prelude.{◌≡◌, ℕ, ◌<◌, ◌≤◌, ◌^◌, List, ◌++◌, length}
+use Rattle.std.specs.Prelude.{◌≡◌, ℕ, ◌+◌, ◌<◌, ◌≤◌, ◌^◌, List, ◌++◌, length}
 use Rattle.vms_spec.specs.declared.TheConstants.{LONGEST_NAME}
 use Rattle.vms_spec.specs.Streams.{configuration, sub_head, foot}
 use Rattle.vms_marks.specs.declared.head.Head.{Head}
 use Rattle.vms_marks.specs.declared.sub_head.SubHead.{SubHead}
 use Rattle.vms_marks.specs.declared.configuration.Configuration.{Configuration}
 use Rattle.vms_marks.specs.declared.foot.Foot.{Foot}
+use Rattle.vms_marks.specs.declared.configuration.TheConstants.{LONGEST_CONFIGURATION}
+use Rattle.vms_marks.specs.declared.description.TheConstants.{LONGEST_DESCRIPTION}
+use Rattle.vms_marks.specs.declared.foot.TheConstants.{FOOT_LENGTH}
+use Rattle.vms_marks.specs.declared.head.TheConstants.{LONGEST_HEAD}
+use Rattle.vms_marks.specs.declared.stream_head.TheConstants.{BESIDE_SECTIONS}
+use Rattle.vms_marks.specs.declared.sub_head.TheConstants.{LONGEST_SUB_HEAD}
 use Rattle.vms_marks.specs.Heads.{head_bytes, head_in, sub_head_in, configuration_in, foot_in}
 
 -- the numbers are of four bytes
@@ -25,3 +31,12 @@ ConfigurationLaw = (c : Configuration) → length c.machine.items ≤ LONGEST_NA
 
 abbrev pub FootLaw : Type 0
 FootLaw = (f : Foot) → f.id < 2 ^ 32 → (rest : List ℕ) → foot_in (foot f.id ++ rest) ≡ f
+
+-- how many bytes the units have at most, a section's head and footer together, and what a load takes besides the sections of
+-- the devices: all that belongs to none, and one head more, which is refused
+pub record LengthsAre : Type 0 where
+  pub of_configuration : LONGEST_CONFIGURATION ≡ 260
+  pub of_section : LONGEST_HEAD + FOOT_LENGTH ≡ 274
+  pub of_sub : LONGEST_SUB_HEAD ≡ 261
+  pub of_description : LONGEST_DESCRIPTION ≡ 16777221
+  pub of_load : BESIDE_SECTIONS + LONGEST_HEAD + LONGEST_DESCRIPTION ≡ 16777759

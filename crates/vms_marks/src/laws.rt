@@ -1,5 +1,5 @@
 //! Each law is the contract of a function without a body. The statements stand in `specs/Laws.antt`.
-ghost use Rattle.vms_marks.specs.Laws.{HeadLaw, SubHeadLaw, ConfigurationLaw, FootLaw};
+ghost use Rattle.vms_marks.specs.Laws.{HeadLaw, SubHeadLaw, ConfigurationLaw, FootLaw, LengthsAre};
 
 /// The bytes of a head say that head again, whatever follows them.
 #[tactic(auto, using(crate::proofs::HeadBack::head_holds))]
@@ -23,4 +23,11 @@ pub fn configuration_law()
 #[tactic(auto, using(crate::proofs::HeadBack::foot_holds))]
 pub fn foot_law()
     ensures { FootLaw }
+{}
+
+/// A configuration has at most 260 bytes, the head and the footer of a section together 274, the head of a subsection 261,
+/// and a description section 16,777,221.
+#[tactic(auto, using(crate::proofs::LengthLaws::lengths_are))]
+pub fn lengths_law()
+    ensures { LengthsAre }
 {}
