@@ -31,3 +31,4 @@ pub mod Total
 pub mod Listed
 pub mod Pieces
 pub mod Sourced
+pub mod Longest

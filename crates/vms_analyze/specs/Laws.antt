@@ -9,7 +9,8 @@ use Rattle.vms_spec.specs.Values.{values_text}
 use Rattle.vms_spec.specs.WellFormed.{WellFormed}
 use Rattle.vms_elements.specs.Reading.{IsMachineOf}
 use Rattle.vms_selfdesc.specs.Tree.{described_text, described_tree}
-use Rattle.vms_analyze.specs.Listing.{Listing, Text, Lists}
+use Rattle.vms_analyze.specs.Listing.{Listing, Text, Lists, longest_input}
+use Rattle.vms_analyze.specs.declared.elements.TheConstants.{LONGEST_PATH}
 
 -- the self-description of any images of a well-formed set is read back as its tree
 abbrev pub ReadBackLaw : Type 0
@@ -32,3 +33,8 @@ TotalLaw = (input : List ℕ) → HasListing input
 abbrev pub ShownLaw : Type 0
 ShownLaw = (set : Set) → WellFormed set → FitsHeads set → (machine : Option (List ℕ)) → IsMachineOf set machine → (images : List Image) → AreReady set images
     → Lists (written set machine images (Some (described_text set images))) (Text (values_text set machine images))
+
+-- how many bytes an input that is listed has at most, and a path
+pub record LongestLaw : Type 0 where
+  pub input : longest_input ≡ 100000000
+  pub path : LONGEST_PATH ≡ 300

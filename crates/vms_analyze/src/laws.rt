@@ -1,5 +1,5 @@
 //! Laws of listings, each the contract of a function without a body. The statements stand in `specs/Laws.antt`.
-ghost use Rattle.vms_analyze.specs.Laws.{OneLaw, ReadBackLaw, ShownLaw, TotalLaw};
+ghost use Rattle.vms_analyze.specs.Laws.{LongestLaw, OneLaw, ReadBackLaw, ShownLaw, TotalLaw};
 
 /// An input has one listing at most.
 #[tactic(auto, using(crate::proofs::One::one_holds))]
@@ -24,4 +24,10 @@ pub fn read_back_law()
 #[tactic(auto, using(crate::proofs::Shown::shown_holds))]
 pub fn shown_law()
     ensures { ShownLaw }
+{}
+
+/// An input that is listed has at most 100,000,000 bytes, and a path 300.
+#[tactic(auto, using(crate::proofs::Longest::longest_are))]
+pub fn longest_law()
+    ensures { LongestLaw }
 {}

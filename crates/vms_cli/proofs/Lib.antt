@@ -12,6 +12,7 @@ pub mod ConvertSteps
 pub mod CounterLemmas
 pub mod EndLemmas
 pub mod EndsSo
+pub mod Limits
 pub mod OutcomeLaws
 pub mod PackLemmas
 pub mod PathRoom

@@ -11,6 +11,7 @@ pub mod Convert
 pub mod ConvertLaws
 pub mod Counter
 pub mod Laws
+pub mod Limits
 pub mod Pack
 pub mod Rows
 pub mod Show

@@ -1,7 +1,8 @@
-//! Each law is the contract of a function without a body. The statements stand in `specs/Laws.antt`, `specs/AnalyzeLaws.antt`, `specs/ClockSets.antt`, `specs/ConvertLaws.antt` and `specs/States.antt`.
+//! Each law is the contract of a function without a body. The statements stand in `specs/Laws.antt`, `specs/AnalyzeLaws.antt`, `specs/ClockSets.antt`, `specs/ConvertLaws.antt`, `specs/Limits.antt` and `specs/States.antt`.
 ghost use Rattle.vms_cli.specs.AnalyzeLaws.{PackThenAnalyzeLaw, SaveThenAnalyzeLaw, ShowThenAnalyzeLaw};
 ghost use Rattle.vms_cli.specs.ClockSets.{ClockSetsLaw};
 ghost use Rattle.vms_cli.specs.ConvertLaws.{ConvertAgainLaw, ConvertThenAnalyzeLaw, ConvertThenLoadLaw};
+ghost use Rattle.vms_cli.specs.Limits.{LimitsLaw};
 ghost use Rattle.vms_cli.specs.States.{AlwaysNamedLaw, StateLaw};
 ghost use Rattle.vms_cli.specs.Laws.{AskedLaw, CheckThenShowLaw, OutcomeLaw, CompleteLaw, AmpleLaw, PackThenShowLaw, ShowThenPackLaw};
 
@@ -95,4 +96,11 @@ pub fn always_named_law()
 #[tactic(auto, using(crate::proofs::ClockSets::clock_sets_hold))]
 pub fn clock_sets_law()
     ensures { ClockSetsLaw }
+{}
+
+/// The numbers that the definitions cite by the names of constants: limits of files, scripts, drills, names and sets, the newest
+/// shipped sets, and moments.
+#[tactic(auto, using(crate::proofs::Limits::limits_hold))]
+pub fn limits_law()
+    ensures { LimitsLaw }
 {}

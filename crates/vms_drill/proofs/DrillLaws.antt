@@ -11,7 +11,7 @@ use Rattle.vms_drill.specs.Fold.{Progress, drilled, is_save_due, saves_of}
 use Rattle.vms_board_streams.proofs.IsaBytes.{streams_are_short}
 use Rattle.vms_board_streams.specs.declared.memory.TheConstants.{STREAM_ROOM}
 use Rattle.vms_drill.specs.Drill.{Drill, drill_begun, bytes_after, stream_long, with_drill_event, drilled_on}
-use Rattle.vms_drill.specs.Laws.{ProgressIsSame, SizesAreSmall}
+use Rattle.vms_drill.specs.Laws.{ProgressIsSame, SizesAreSmall, NumbersAre}
 
 progress-same : (count : ℕ) (drill : Drill) → (drilled_on count drill).progress ≡ drilled count drill.progress
 progress-same zero drill = refl
@@ -58,3 +58,8 @@ sizes_are_small = record {
       let e = small count (drill_begun level seed) (sound_stays_on.power_on level l) in
       omega (arith, e);
 }
+
+-- ---- numbers
+
+pub numbers_are : NumbersAre
+numbers_are = record { wait = refl; saves = refl; room = refl }

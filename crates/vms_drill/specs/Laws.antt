@@ -8,6 +8,8 @@ use Rattle.dev_board.specs.Sound.{IsSound, Alike}
 use Rattle.dev_board.specs.State.{power_on}
 use Rattle.dev_board.specs.Step.{observe, after_all}
 use Rattle.vms_drill.specs.Drill.{drill_begun, drilled_on}
+use Rattle.vms_drill.specs.declared.events.TheConstants.{WAIT}
+use Rattle.vms_drill.specs.declared.schedule.TheConstants.{BETWEEN_SAVES}
 
 -- a drill of a level and a seed beside the same events without any save
 pub record IsAsUnsaved (level seed count : ℕ) : Type 0 where
@@ -25,3 +27,10 @@ pub record ProgressIsSame : Type 0 where
 pub record SizesAreSmall : Type 0 where
   pub bytes : (level seed count : ℕ) → IsLevel level
       → (drilled_on count (drill_begun level seed)).bytes ≤ STREAM_ROOM * count
+
+-- how many nanoseconds a wait has for each one that its byte counts, how many events there are from one save to the next, and
+-- how many bytes the room for a stream has
+pub record NumbersAre : Type 0 where
+  pub wait : WAIT ≡ 100000
+  pub saves : BETWEEN_SAVES ≡ 1000
+  pub room : STREAM_ROOM ≡ 65536

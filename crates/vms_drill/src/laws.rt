@@ -1,6 +1,6 @@
 // Laws of drills, each in a clause of a function that does nothing.
 ghost use Rattle.vms_drill.specs.EventLaws.{EventsAreGood, SavesLeaveCounts};
-ghost use Rattle.vms_drill.specs.Laws.{ProgressIsSame, SizesAreSmall};
+ghost use Rattle.vms_drill.specs.Laws.{ProgressIsSame, SizesAreSmall, NumbersAre};
 
 /// A drill's board is that of its events and saves alone, what its streams weigh beside it, and so its events, the bytes
 /// sent and the events that raised the interrupt output are those of the same events without any save.
@@ -26,4 +26,11 @@ pub fn events_law()
 #[tactic(auto, using(crate::proofs::FoldLaws::saves_leave_counts))]
 pub fn saves_law()
     ensures { SavesLeaveCounts }
+{}
+
+/// A wait has 100,000 nanoseconds for each one that its byte counts, there are 1,000 events from one save to the next, and a
+/// stream has less than 65,536 bytes.
+#[tactic(auto, using(crate::proofs::DrillLaws::numbers_are))]
+pub fn numbers_law()
+    ensures { NumbersAre }
 {}

@@ -12,6 +12,6 @@ mod tally;
 
 pub use events::Events;
 pub use fold::{Drilled, Summary, drill};
-pub use laws::{events_law, progress_law, saves_law, size_law};
+pub use laws::{events_law, numbers_law, progress_law, saves_law, size_law};
 pub use schedule::{BETWEEN_SAVES, is_save_due, set_of};
 pub use tally::Tally;

@@ -1,0 +1,30 @@
+-- The numbers by which the program goes. Definitions cite each as the constant that the code goes by too; which number it is
+-- stands here.
+use Rattle.std.specs.Prelude.{◌≡◌}
+use Rattle.dev_base.specs.declared.limits.TheConstants.{NEWEST, LAST_MOMENT, NANOSECONDS}
+use Rattle.vms_rtc.specs.declared.limits.TheConstants.{NEWEST_CLOCK}
+use Rattle.vms_script.specs.declared.number.TheConstants.{LONGEST_WAIT}
+use Rattle.vms_spec.specs.declared.TheConstants.{LONGEST_NAME, LONGEST_TEXT, MOST_ITEMS, MOST_UNUSED}
+use Rattle.vms_board_commands.specs.Scripts.{longest_script}
+use Rattle.vms_commands.specs.Fetching.{longest_file}
+use Rattle.vms_cli.specs.Commands.{most_events}
+
+pub record LimitsLaw : Type 0 where
+  -- how many bytes a description file or a values text has at most, and a script
+  pub file : longest_file ≡ 1048576
+  pub script : longest_script ≡ 4194304
+  -- how many events a drill has at most, and how many nanoseconds a line of a script waits
+  pub events : most_events ≡ 1000000
+  pub wait : LONGEST_WAIT ≡ 1000000000000000
+  -- how many bytes a name and a description have in a stream at most
+  pub name : LONGEST_NAME ≡ 255
+  pub described : LONGEST_TEXT ≡ 16777216
+  -- how many items a set has at most, and how many unused bytes in one place
+  pub items : MOST_ITEMS ≡ 16384
+  pub unused : MOST_UNUSED ≡ 4096
+  -- the newest shipped sets, and with them the highest level and version of a board
+  pub newest : NEWEST ≡ 4
+  pub newest_clock : NEWEST_CLOCK ≡ 2
+  -- the last moment of a board, and a second, in nanoseconds
+  pub last_moment : LAST_MOMENT ≡ 4000000000000000000
+  pub second : NANOSECONDS ≡ 1000000000
