@@ -1,21 +1,23 @@
 -- From what the playing of lines says to how `play` ends.
-use Rattle.std.proofs.Common.{◌≡◌, ℕ, ◌<◌, ◌≤◌, ◌^◌, List, [], take, drop, inl, inr, Option, Some, None, Result, Ok, Err, refl, sym, ap, ◌∙◌, subst}
+use Rattle.std.proofs.Common.{◌≡◌, ℕ, ◌<◌, ◌≤◌, ◌^◌, List, [], length, take, drop, arith, inl, inr, Option, Some, None, Result, Ok, Err, refl, sym, ap, ◌∙◌, subst}
 use Rattle.std.specs.Prelude.{IsSomeAnd}
+use Rattle.std.specs.Io.KnownBytes.{Appends}
 use Rattle.dev_board.specs.State.{State, power_on}
 use Rattle.vms_io.specs.Shelves.{Held}
 use Rattle.vms_io.specs.Told.{Intake, Outlet, Stock}
 use Rattle.vms_commands.proofs.EndLemmas.{takes_nothing}
 use Rattle.vms_commands.proofs.StepLemmas.{mapped_by}
 use Rattle.vms_commands.specs.Endings.{DoneAs, EndsAs}
-use Rattle.vms_commands.specs.Outcomes.{Outcome, Part, ComesTo, FailsToStore, HoldsBut, stored_next, held_after}
+use Rattle.vms_commands.specs.Outcomes.{Outcome, Part, ComesTo, FailsToStore, HoldsBut, stored_next, held_after, text_of}
 use Rattle.vms_session.specs.Parts.{Plays}
-use Rattle.vms_session.specs.Playing.{session_of, LinesEnd}
+use Rattle.vms_session.specs.Playing.{session_of, DoesSome, LinesEnd}
 use Rattle.vms_session.specs.declared.line.PlayFault.{PlayFault}
 use Rattle.vms_script.specs.Lines.{ScriptLine}
 use Rattle.vms_session.specs.Session.{Session}
 use Rattle.vms_commands.specs.declared.ending.Ending.{Ending}
 use Rattle.vms_commands.specs.declared.ending.Ending.TheVariants.{Done, ReadFault, WriteFault, ShelfFault, NoMemory}
 use Rattle.vms_session.proofs.CourseLemmas.{rose_since}
+use Rattle.vms_session.proofs.PartLemmas.{begun_whole}
 use Rattle.vms_session.specs.declared.line.PlayFault.TheVariants as faults
 use Rattle.vms_board_commands.specs.Play.{PlaysAll, ending_by}
 
@@ -43,12 +45,22 @@ module _ (level : ℕ) (lines : List ScriptLine) (i : Intake) (o o' : Outlet) (s
             taken = takes_nothing i few;
           })
 
+  -- parts that are done were begun
+  comes_so : (parts : List Part) → DoesSome o o' s s' parts → ComesTo o o' s s' parts
+  comes_so parts h = record {
+    begun = h.done;
+    bytes = length (text_of parts);
+    text = subst (Appends o.written o'.written) (sym (begun_whole h.done (length (text_of parts)) parts (omega arith))) h.text;
+    held = h.held;
+  }
+
   -- by each fault
   as_ending : (fault : PlayFault) (parts : List Part) (new : Session) → LinesEnd parts new o o' s s' board' (Err fault)
       → EndsAs i i o o' s s' (ending_by fault) (record { status = 0; parts = parts; note = []; taken = 0 })
   as_ending faults.WriteFault parts new h = h
-  as_ending faults.ShelfFault parts new h = h
-  as_ending faults.NoMemory parts new h = h
+  as_ending faults.ShelfFault parts new (inl h) = inl (comes_so parts h)
+  as_ending faults.ShelfFault parts new (inr h) = inr h
+  as_ending faults.NoMemory parts new h = comes_so parts h
 
   stopped_by : (fault : PlayFault) → Content lines board board' o o' s s' (Err fault) → IsSomeAnd s.held (λ map. PlaysAll level lines map x) → EndsAs i i o o' s s' (ending_by fault) x
   stopped_by fault content has = by s.held refl has

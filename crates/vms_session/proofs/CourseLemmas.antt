@@ -1,5 +1,5 @@
 -- Lines of a session, one after the other.
-use Rattle.std.proofs.Common.{◌≡◌, ◌⊎◌, inl, inr, ℕ, zero, suc, ◌+◌, ◌<◌, ◌≤◌, List, [], ◌∷◌, append-nil, length, take, drop, get_or, Option, Some, Result, Ok, Err, refl, sym, ap, subst, ◌∙◌, arith}
+use Rattle.std.proofs.Common.{◌≡◌, ◌⊎◌, inl, inr, ℕ, zero, suc, ◌+◌, ◌<◌, ◌≤◌, List, [], ◌∷◌, ◌++◌, append-nil, length, take, drop, get_or, Option, Some, Result, Ok, Err, refl, sym, ap, subst, ◌∙◌, arith}
 use Rattle.std.proofs.lemmas.List.{drop_all, drop_more, take_all}
 use Rattle.std.proofs.KnownBytes.{Appends-nil, Appends-trans}
 use Rattle.std.specs.Io.KnownBytes.{Appends}
@@ -11,7 +11,7 @@ use Rattle.vms_io.specs.Told.{Outlet, Stock}
 use Rattle.vms_io.specs.Writing.{Serves}
 use Rattle.vms_io.proofs.ShelvingLemmas.{reaches_both}
 use Rattle.vms_io.proofs.WritingLemmas.{serves_both}
-use Rattle.vms_commands.specs.Outcomes.{Part, text_of, text_begun, held_after, stored_next, HoldsBut, ComesTo, ComesToFault, FailsToStore}
+use Rattle.vms_commands.specs.Outcomes.{Part, text_of, text_begun, held_after, stored_next, HoldsBut, ComesTo, FailsToStore}
 use Rattle.vms_script.specs.Grammar.{IsLine, AreLines}
 use Rattle.vms_script.specs.Lines.{ScriptLine}
 use Rattle.vms_script.specs.Views.{line_view, lines_view}
@@ -19,7 +19,7 @@ use Rattle.vms_script.specs.declared.line.Line.{Line}
 use Rattle.vms_session.specs.Session.{Session, Does}
 use Rattle.vms_session.proofs.PartLemmas.{text_next, held_next, rest_next, begun_next, begun_whole, text_all, held_all}
 use Rattle.vms_session.specs.Parts.{stored_by, part_of, Plays}
-use Rattle.vms_session.specs.Playing.{session_of, Goes, LinesEnd, HasPlayCause}
+use Rattle.vms_session.specs.Playing.{session_of, DoesSome, Goes, LinesEnd, HasPlayCause}
 use Rattle.vms_session.specs.declared.line.PlayFault.{PlayFault}
 use Rattle.vms_session.specs.declared.line.PlayFault.TheVariants.{WriteFault, ShelfFault, NoMemory}
 
@@ -140,6 +140,28 @@ module _ (i : ℕ) (line : ScriptLine) (left : List ScriptLine) (parts : List Pa
         held = some.2 ∙ sym (held_next (part_of line text between) course.rest.1 i shelf.held parts next);
       }
 
+  -- where this one is done, or nothing of it is
+  does_behind : DoesSome out' out'' shelf' shelf'' (part_of line text between ∷ []) → DoesSome out out'' shelf shelf'' parts
+  does_behind does = by does.done does.text does.held
+    where
+      part : Part
+      part = part_of line text between
+
+      whole : Appends out'.written out''.written (text ++ []) → shelf''.held ≡ Some between.held → DoesSome out out'' shelf shelf'' parts
+      whole all held = record {
+        done = suc i;
+        text = subst (Appends out.written out''.written) (sym (text_next part course.rest.1 i parts next))
+            (Appends-trans out.written out'.written out''.written (text_of (take i parts)) text course.text
+            (subst (Appends out'.written out''.written) (append-nil text) all));
+        held = held ∙ sym (held_next part course.rest.1 i shelf.held parts next);
+      }
+
+      by : (k : ℕ) → Appends out'.written out''.written (text_of (take k (part ∷ []))) → shelf''.held ≡ held_after shelf'.held (take k (part ∷ []))
+          → DoesSome out out'' shelf shelf'' parts
+      by zero none held = record { done = i; text = behind none; held = held ∙ course.held }
+      by (suc zero) all held = whole all held
+      by (suc (suc k)) all held = whole all held
+
   -- but for the name under which this one stores
   fails_behind : shelf.faults ≤ shelf'.faults → FailsToStore out' out'' shelf' shelf'' (part_of line text between ∷ []) → FailsToStore out out'' shelf shelf'' parts
   fails_behind le fails = by fails.done fails.text fails.held
@@ -163,10 +185,11 @@ module _ (i : ℕ) (line : ScriptLine) (left : List ScriptLine) (parts : List Pa
   course_stops WriteFault le content = comes_behind (content course.holds text between course.told course.rest.3)
   course_stops ShelfFault le content = by (content course.holds text between course.told course.rest.3)
     where
-      by : ComesToFault out' out'' shelf' shelf'' (part_of line text between ∷ []) → ComesToFault out out'' shelf shelf'' parts
-      by (inl comes) = inl (comes_behind comes)
+      by : DoesSome out' out'' shelf' shelf'' (part_of line text between ∷ []) ⊎ FailsToStore out' out'' shelf' shelf'' (part_of line text between ∷ [])
+          → DoesSome out out'' shelf shelf'' parts ⊎ FailsToStore out out'' shelf shelf'' parts
+      by (inl does) = inl (does_behind does)
       by (inr fails) = inr (fails_behind le fails)
-  course_stops NoMemory le content = comes_behind (content course.holds text between course.told course.rest.3)
+  course_stops NoMemory le content = does_behind (content course.holds text between course.told course.rest.3)
 
 -- the same of lines that begin with this one
 module _ (i : ℕ) (line : ScriptLine) (left said : List ScriptLine) (split : said ≡ line ∷ left) (parts : List Part) (new : Session) (board board' : State) (out out' out'' : Outlet) (shelf shelf' shelf'' : Stock)

@@ -1,5 +1,5 @@
 -- Events, one after the other.
-use Rattle.std.proofs.Common.{◌≡◌, ℕ, ◌+◌, ◌<◌, ◌≤◌, List, [], ◌∷◌, ◌++◌, length, drop, get_or, Option, refl, sym, ap, subst, ◌∙◌}
+use Rattle.std.proofs.Common.{◌≡◌, ℕ, zero, suc, ◌+◌, ◌<◌, ◌≤◌, List, [], ◌∷◌, ◌++◌, length, take, drop, get_or, Option, refl, sym, ap, subst, ◌∙◌, arith}
 use Rattle.std.proofs.lemmas.List.{drop_all, drop_more}
 use Rattle.dev_board.specs.Laws.{AreEvents, IsEvent}
 use Rattle.dev_board.specs.Step.{after_by, answers_by}
@@ -56,6 +56,26 @@ module _ {S : Type 0} (f : Family S) where
   pub after_none : (events : List Event) (m : S) → events ≡ [] → after_events f events m ≡ m
   unfolding after_by
   after_none events m e = ap (λ (es : List Event). after_events f es m) e
+
+  -- ---- the board after some first events
+
+  pub none_yet : (events : List Event) (m : S) → m ≡ after_events f (take 0 events) m
+  unfolding after_by
+  none_yet events m = refl
+
+  after_more : (events : List Event) (i : ℕ) (m : S) → i < length events
+      → after_events f (take (suc i) events) m ≡ (f.step (event_at events i) (after_events f (take i events) m)).1
+  unfolding after_by
+  after_more [] i m lt = absurd (omega (arith, lt))
+  after_more (event ∷ events) zero m lt = refl
+  after_more (event ∷ events) (suc i) m lt = after_more events i (f.step event m).1 (omega (arith, lt))
+
+  pub one_more : (events : List Event) (i : ℕ) (m m' m'' : S) → i < length events → m' ≡ after_events f (take i events) m
+      → m'' ≡ (f.step (event_at events i) m').1 → m'' ≡ after_events f (take (i + 1) events) m
+  one_more events i m m' m'' lt before done =
+      let next : suc i ≡ i + 1 = omega arith in
+      done ∙ ap (λ (b : S). (f.step (event_at events i) b).1) before ∙ sym (after_more events i m lt)
+      ∙ ap (λ (n : ℕ). after_events f (take n events) m) next
 
   -- ---- the trace
 

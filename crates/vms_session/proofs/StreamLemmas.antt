@@ -1,7 +1,7 @@
 -- What a stream of the shelf comes to, and a line that is written.
 use Rattle.std.proofs.Common.{◌≡◌, ℕ, ◌≤◌, List, [], ◌∷◌, append-nil, length, take, inl, inr, Option, Some, None, Result, Ok, Err, arith, sym, ap, subst, ◌∙◌}
 use Rattle.std.specs.Io.KnownBytes.{Appends}
-use Rattle.std.proofs.KnownBytes.{Appends-nil, Keeps-refl}
+use Rattle.std.proofs.KnownBytes.{Appends-nil}
 use Rattle.dev_base.specs.declared.limits.TheConstants.{NEWEST}
 use Rattle.dev_board.specs.State.{State}
 use Rattle.vms_board.specs.Restoring.{Restore, Back, Refused, Restores}
@@ -12,7 +12,6 @@ use Rattle.vms_board_streams.proofs.IsaLaws.{bytes_are_one}
 use Rattle.vms_session.specs.Lines.{restored_line, refused_line}
 use Rattle.vms_session.specs.Session.{Session, ComesTo, IsTooLarge, IsLoaded, LoadsBytes, LoadsHeld}
 use Rattle.vms_commands.specs.Fetching.{longest_file}
-use Rattle.vms_commands.proofs.EndLemmas.{comes_to_nothing}
 use Rattle.vms_script.specs.Lines.{ScriptLine, Saves}
 use Rattle.vms_kinds.specs.Bytes.{IsBytes}
 use Rattle.vms_spec.specs.declared.Reason.{Reason}
@@ -64,11 +63,11 @@ pub save_fails : (set : ℕ) (name stream text : List ℕ) (new : Session) (o : 
     → LinesEnd (part_of (Saves set name) text new ∷ []) new o o s s' m (Err fault)
 save_fails set name stream text new o s s' m WriteFault h = absurd h
 save_fails set name stream text new o s s' m ShelfFault h = inr (record { done = 0; text = Appends-nil o.written; rose = h.rose; held = h.told })
-save_fails set name stream text new o s s' m NoMemory h = comes_to_nothing o o s s' (part_of (Saves set name) text new ∷ []) (Keeps-refl o.written) h.held
+save_fails set name stream text new o s s' m NoMemory h = record { done = 0; text = Appends-nil o.written; held = h.held }
 
 -- or isn't fetched
 pub restore_fails : (T : Type 0) (line : ScriptLine) (text : List ℕ) (new : Session) (o : Outlet) (s s' : Stock) (m : State) (fault : PlayFault) → LooksUp {T = T} s s' (Err fault)
     → LinesEnd (part_of line text new ∷ []) new o o s s' m (Err fault)
 restore_fails T line text new o s s' m WriteFault h = absurd h
-restore_fails T line text new o s s' m ShelfFault h = inl (comes_to_nothing o o s s' (part_of line text new ∷ []) (Keeps-refl o.written) h.0.held)
-restore_fails T line text new o s s' m NoMemory h = comes_to_nothing o o s s' (part_of line text new ∷ []) (Keeps-refl o.written) h.held
+restore_fails T line text new o s s' m ShelfFault h = inl (record { done = 0; text = Appends-nil o.written; held = h.0.held })
+restore_fails T line text new o s s' m NoMemory h = record { done = 0; text = Appends-nil o.written; held = h.held }

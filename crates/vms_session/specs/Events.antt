@@ -1,9 +1,9 @@
 -- The events of a script.
-use Rattle.std.specs.Prelude.{ℕ, List, [], ◌∷◌}
+use Rattle.std.specs.Prelude.{◌≡◌, ℕ, ◌≤◌, List, [], ◌∷◌, length, take}
 use Rattle.dev_board.specs.declared.event.Event.{Event}
 use Rattle.vms_script.specs.Lines.{ScriptLine, Happens, Saves, Restores}
 use Rattle.vms_board.specs.Family.{Family}
-use Rattle.vms_board_streams.specs.Streams.{answers_to, trace_of}
+use Rattle.vms_board_streams.specs.Streams.{after_events, answers_to, trace_of}
 
 -- what a line lets happen, before more events: one that saves or restores lets nothing happen
 abbrev pub events_in : ScriptLine → List Event → List Event
@@ -19,3 +19,9 @@ events_of (line ∷ lines) = events_in line (events_of lines)
 -- the trace that events leave on a board of a kind
 abbrev pub trace_from : {S : Type 0} → Family S → List Event → S → List ℕ
 trace_from f events m = trace_of (answers_to f events m)
+
+-- a board after some first of the events
+pub record StopsAmong {S : Type 0} (f : Family S) (events : List Event) (old new : S) : Type 0 where
+  pub count : ℕ
+  pub within : count ≤ length events
+  pub is : new ≡ after_events f (take count events) old

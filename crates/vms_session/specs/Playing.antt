@@ -1,5 +1,5 @@
 -- How lines of a session end on a board, a sink and a shelf.
-use Rattle.std.specs.Prelude.{◌≡◌, ℕ, List, Result, Ok, Err}
+use Rattle.std.specs.Prelude.{◌≡◌, ◌⊎◌, ℕ, List, take, Result, Ok, Err}
 use Rattle.std.specs.Io.KnownBytes.{Appends}
 use Rattle.dev_board.specs.State.{State}
 use Rattle.vms_io.specs.Causes.{Rose}
@@ -7,7 +7,7 @@ use Rattle.vms_io.specs.Shelves.{Held}
 use Rattle.vms_io.specs.Shelving.{Reaches}
 use Rattle.vms_io.specs.Told.{Outlet, Stock}
 use Rattle.vms_io.specs.Writing.{Puts, Serves, Stops}
-use Rattle.vms_commands.specs.Outcomes.{Part, text_of, held_after, ComesTo, ComesToFault}
+use Rattle.vms_commands.specs.Outcomes.{Part, text_of, held_after, ComesTo, FailsToStore}
 use Rattle.vms_session.specs.Session.{Session}
 use Rattle.vms_session.specs.declared.line.PlayFault.{PlayFault}
 use Rattle.vms_session.specs.declared.line.PlayFault.TheVariants as faults
@@ -16,14 +16,21 @@ use Rattle.vms_session.specs.declared.line.PlayFault.TheVariants as faults
 abbrev pub session_of : State → Held → Session
 session_of board held = record { board = board; held = held }
 
--- Lines that are these parts, or one line that is one part, and leave this session: all is done, or they come to some of the
--- parts. Only after a shelf fault a name may not be told, that of a store that failed.
+-- The first k parts are done, each with all of its text, and nothing of the next one is.
+pub record DoesSome (out out' : Outlet) (shelf shelf' : Stock) (parts : List Part) : Type 0 where
+  pub done : ℕ
+  pub text : Appends out.written out'.written (text_of (take done parts))
+  pub held : shelf'.held ≡ held_after shelf.held (take done parts)
+
+-- Lines that are these parts, or one line that is one part, and leave this session: all is done, or some of the parts are; at a
+-- write fault a beginning of a text may stand behind theirs. Only after a shelf fault a name may not be told, that of a store that
+-- failed.
 abbrev pub LinesEnd : List Part → Session → (out out' : Outlet) (shelf shelf' : Stock) → State → Result Unit PlayFault → Type 0
 LinesEnd parts new out out' shelf shelf' board (Ok u) =
     Appends out.written out'.written (text_of parts) × (shelf'.held ≡ held_after shelf.held parts) × (board ≡ new.board)
 LinesEnd parts new out out' shelf shelf' board (Err faults.WriteFault) = ComesTo out out' shelf shelf' parts
-LinesEnd parts new out out' shelf shelf' board (Err faults.ShelfFault) = ComesToFault out out' shelf shelf' parts
-LinesEnd parts new out out' shelf shelf' board (Err faults.NoMemory) = ComesTo out out' shelf shelf' parts
+LinesEnd parts new out out' shelf shelf' board (Err faults.ShelfFault) = DoesSome out out' shelf shelf' parts ⊎ FailsToStore out out' shelf shelf' parts
+LinesEnd parts new out out' shelf shelf' board (Err faults.NoMemory) = DoesSome out out' shelf shelf' parts
 
 -- a write fault comes only where the sink's count rose, and a shelf fault only where the shelf's did
 abbrev pub HasPlayCause : (out out' : Outlet) (shelf shelf' : Stock) → Result Unit PlayFault → Type 0

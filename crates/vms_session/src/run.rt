@@ -1,11 +1,11 @@
 // Events, on a board.
-ghost use Rattle.std.specs.Prelude.{◌≡◌, OnOk};
+ghost use Rattle.std.specs.Prelude.{◌≡◌, OnErr, OnOk};
 ghost use Rattle.dev_board.specs.Laws.{AreEvents, IsEvent};
 ghost use Rattle.vms_board_streams.specs.Streams.{after_events};
 ghost use Rattle.vms_io.specs.Told.{outlet};
 ghost use Rattle.vms_io.specs.Writing.{Wrote};
 ghost use Rattle.vms_script.specs.Trace.{trace_line};
-ghost use Rattle.vms_session.specs.Events.{trace_from};
+ghost use Rattle.vms_session.specs.Events.{StopsAmong, trace_from};
 
 use dev_board::Event;
 use vms_board::{Machine, MachineBoard};
@@ -25,7 +25,7 @@ pub fn run_events<M: Machine>(board: &mut MachineBoard<M>, events: &[Event])
 }
 
 /// Lets events happen to a board, one after the other, and appends the line of each answer. After an error some
-/// first bytes of their trace were appended.
+/// first bytes of their trace were appended, and the board is as after some first events.
 pub fn trace<M: Machine, K: Sink>(
     board: &mut MachineBoard<M>,
     events: &[Event],
@@ -36,6 +36,8 @@ pub fn trace<M: Machine, K: Sink>(
         Wrote (outlet K.Sink out.old) (outlet K.Sink out.new) text result }
     ensures state { let after = after_events M.family events.now board.old.state in
         OnOk result (board.new.state ≡ after) }
+    ensures stopped { OnErr result
+        (StopsAmong M.family events.now board.old.state board.new.state) }
     ensures number { M.family.number board.new.state ≡ M.family.number board.old.state }
     ensures taken { board.new.taken ≡ board.old.taken }
 {

@@ -1,4 +1,4 @@
-use Rattle.std.proofs.Common.{◌≡◌, drop}
+use Rattle.std.proofs.Common.{◌≡◌, take, drop}
 use Rattle.dev_board.specs.Laws.{AreEvents}
 use Rattle.vms_board_streams.specs.Streams.{after_events}
 use Rattle.vms_io.specs.Told.{outlet}
@@ -11,6 +11,7 @@ invariant-loop-event g l = record {
   events : AreEvents (drop l.event-index l.events);
   leaves : Leaves (outlet g.K.Sink l.fn.out) (outlet g.K.Sink l.out) (trace_from g.M.Machine.family l.events l.fn.board.state) (trace_from g.M.Machine.family (drop l.event-index l.events) l.board.state);
   left : after_events g.M.Machine.family (drop l.event-index l.events) l.board.state ≡ after_events g.M.Machine.family l.events l.fn.board.state;
+  among : l.board.state ≡ after_events g.M.Machine.family (take l.event-index l.events) l.fn.board.state;
   number : g.M.Machine.family.number l.board.state ≡ g.M.Machine.family.number l.fn.board.state;
   taken : l.board.taken ≡ l.fn.board.taken;
 }
