@@ -4,16 +4,6 @@ use Rattle.vms_cli.specs.Limits.{LimitsLaw}
 
 pub limits_hold : LimitsLaw
 limits_hold = record {
-  file = refl;
-  script = refl;
-  events = refl;
-  wait = refl;
-  name = refl;
-  described = refl;
-  items = refl;
-  unused = refl;
-  newest = refl;
-  newest_clock = refl;
-  last_moment = refl;
-  second = refl;
+  file = refl; script = refl; events = refl; wait = refl; name = refl; described = refl;
+  items = refl; unused = refl; newest = refl; newest_clock = refl; last_moment = refl; second = refl;
 }
