@@ -1,4 +1,5 @@
 pub mod AskedLaws
+pub mod DepthLaws
 pub mod PlainLaws
 pub mod TestLaws
 pub mod WalkLaws

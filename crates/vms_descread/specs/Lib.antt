@@ -1,3 +1,4 @@
+pub mod Depths
 pub mod Descs
 pub mod Fields
 pub mod Tests

@@ -5,6 +5,7 @@ mod cells;
 mod descs;
 mod devices;
 mod fields;
+pub mod laws;
 mod parts;
 mod sort;
 mod tests;
