@@ -155,8 +155,8 @@ fn test_on(whose: Whose, field: u32, rel: Rel, mask: u64, value: u64) -> Test
     Test::Cell {
         whose,
         field,
-        mask,
         rel,
+        mask,
         value,
     }
 }
