@@ -1,5 +1,5 @@
 // JSON values as rows over their text.
-ghost use Rattle.std.specs.Prelude.{◌≡◌, ◌<◌, ◌≤◌, length, take, drop, MatchOption, OnSome, option_map, option_and_then};
+ghost use Rattle.std.specs.Prelude.{◌≡◌, ◌<◌, ◌≤◌, length, take, drop, MatchOption, OnSome, IsNone, option_map, option_and_then};
 ghost use Rattle.serde_json.specs.Data as Data;
 ghost use Rattle.serde_json.specs.Data.{no_items, item, put};
 ghost use Rattle.std.specs.Str.{bytes_eq};
@@ -210,6 +210,7 @@ impl<'t, 'a> Items<'t, 'a> {
         ensures value { MatchOption result (items_left self.old ≡ no_items)
             (λ v. items_left self.old ≡ item (view v) (items_left self.new)) }
         ensures fewer { OnSome result (length self.new.rows.now < length self.old.rows.now) }
+        ensures end { IsNone result → self.new ≡ self.old }
     {
         if self.rows.is_empty() {
             return None;
@@ -235,6 +236,7 @@ impl<'t, 'a> Members<'t, 'a> {
             (λ m. members_on self.old found
             ≡ members_on self.new (put m.0.now (view m.1) found)) }
         ensures fewer { OnSome result (length self.new.rows.now < length self.old.rows.now) }
+        ensures end { IsNone result → self.new ≡ self.old }
     {
         let Some((row, rows)) = self.rows.split_first() else {
             return None;

@@ -1,5 +1,5 @@
 // The loader of one stream.
-ghost use Rattle.std.specs.Prelude.{◌≡◌, map, IfOk, OnOk};
+ghost use Rattle.std.specs.Prelude.{◌≡◌, map, IfOk, OnOk, OnErr};
 ghost use Rattle.vms_parts.specs.Views.{set_of};
 ghost use Rattle.vms_load.specs.Good.{AreKept};
 ghost use Rattle.vms_image.specs.Typed.{AreImagesOf, state_of as untyped};
@@ -32,7 +32,8 @@ impl LeanLoader {
 
     /// A loader that has taken no stream yet. All memory that a load needs is taken here.
     pub fn new(alloc: Global, set: DescSet) -> Result<LeanLoader, NoMemory>
-        ensures { IfOk result (λ loader. loads loader ≡ described set) }
+        ensures set { IfOk result (λ loader. loads loader ≡ described set) }
+        ensures taken { IfOk result (λ loader. taken_by loader ≡ 0) }
     {
         let staged = spare_room(alloc, &set)?;
         Ok(LeanLoader {
@@ -55,6 +56,7 @@ impl LeanLoader {
             (taken_by self.new) result }
         ensures machine { IfOk result (IsMachine (loads self.old).machines) }
         ensures whole { OnOk result (AreKept (loads self.old) (has self.new)) }
+        ensures taken { OnErr result (taken_by self.new ≡ taken_by self.old) }
         ensures set { loads self.new ≡ loads self.old }
     {
         let taken = stream(&self.set, only, &mut self.staged, source)?;
