@@ -46,7 +46,7 @@ back() {
     echo '{"execute": "qmp_capabilities"}'
     until_it_says before.txt AAAA
     echo '{"execute": "stop"}'
-    echo '{"execute": "xen-save-devices-state", "arguments": {"filename": "devices.stream"}}'
+    echo '{"execute": "xen-save-devices-state", "arguments": {"filename": "devices.stream", "live": false}}'
     echo '{"execute": "migrate", "arguments": {"uri": "exec:cat > whole.stream"}}'
     until_it_says before.log '"completed"'
     echo '{"execute": "quit"}'

@@ -36,7 +36,7 @@ qmp() {
 
 # It runs until the guest has sent something, is stopped, and saves its devices without its RAM.
 qmp before.txt AAAA '{"execute": "stop"}' \
-    '{"execute": "xen-save-devices-state", "arguments": {"filename": "before.stream"}}' |
+    '{"execute": "xen-save-devices-state", "arguments": {"filename": "before.stream", "live": false}}' |
     vm -qmp stdio -serial file:before.txt > before.log
 
 # Shown, edited, packed. The stream names no machine, but one that comes in must.
@@ -50,7 +50,7 @@ vmstate pack microvm.json after.values > after.stream
 qmp after.txt .... | vm -qmp stdio -serial file:after.txt -incoming 'exec:cat after.stream' > after.log
 
 # A third takes it, stays stopped, and saves what it took.
-qmp again.log '"paused"' '{"execute": "xen-save-devices-state", "arguments": {"filename": "again.stream"}}' |
+qmp again.log '"paused"' '{"execute": "xen-save-devices-state", "arguments": {"filename": "again.stream", "live": false}}' |
     vm -qmp stdio -serial null -S -incoming 'exec:cat after.stream' > again.log
 vmstate show microvm.json < again.stream > again.values
 
