@@ -1,12 +1,15 @@
+pub mod Again
 pub mod AlikeLaws
 pub mod ClockLaws
 pub mod Halves
 pub mod KeepLaws
 pub mod PortLaws
+pub mod QuietLaws
 pub mod Reached
 pub mod RestoredLaws
 pub mod RuleLaws
 pub mod SavedLaws
 pub mod SoundLaws
+pub mod StayLaws
 pub mod WireBits
 pub mod WireLaws

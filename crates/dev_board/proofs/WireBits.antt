@@ -64,16 +64,6 @@ names (Wait ns) e = refl
 names (Wire input up) e = e
 names Ack e = refl
 
--- an event that is no wire's leaves the wires
-pub others_leave : (event : Event) (wires : ℕ) → ((input : ℕ) (up : Bool) → event ≡ Wire input up → ⊥) → wires_after event wires ≡ wires
-unfolding wires_after
-others_leave (Read port) wires n = refl
-others_leave (Write port value) wires n = refl
-others_leave (Byte value) wires n = refl
-others_leave (Wait ns) wires n = refl
-others_leave (Wire input up) wires n = absurd (n input up refl)
-others_leave Ack wires n = refl
-
 -- the input of a wire's event
 pub named-bound : (event : Event) (input : ℕ) (up : Bool) → names_wire event ≡ true → event ≡ Wire input up → input < 16
 unfolding names_wire

@@ -5,5 +5,6 @@ pub mod SavedLaws
 pub mod Sound
 pub mod State
 pub mod Step
+pub mod Touch
 pub mod View
 pub mod Wires

@@ -28,13 +28,6 @@ valued value = record { value = Some value; edge = false; sent = [] }
 abbrev pub silent : Act
 silent = record { value = None; edge = false; sent = [] }
 
--- an answer that says nothing, and the act that one says with an edge or none, but for the output
-abbrev pub unsaid : Answer
-unsaid = record { value = None; int = false; sent = record { items = [] } }
-
-abbrev pub act_in : Bool → Answer → Act
-act_in edge answer = record { value = answer.value; edge = edge; sent = answer.sent.items }
-
 -- the moment up to which an event's time passes: not beyond the last
 abbrev pub later_by : ℕ → ℕ → ℕ
 later_by ns moment = min (moment + ns) LAST_MOMENT

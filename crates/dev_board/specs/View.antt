@@ -1,6 +1,10 @@
 -- What contracts see of a board's devices.
 use Rattle.dev_board.specs.State.{State}
 use Rattle.dev_board.specs.declared.devices.Devices.TheInside.{Inside}
+use Rattle.dev_board.specs.declared.parts.Parts.TheInside.{Inside as InsideParts}
+
+abbrev pub parts_view : InsideParts → State
+parts_view d = record { level = d.level; moment = d.moment; pair = d.pair; pit = d.pit; serial = d.serial }
 
 abbrev pub devices_view : Inside → State
-devices_view d = record { level = d.level; moment = d.moment; pair = d.pair; pit = d.pit; serial = d.serial }
+devices_view d = d.parts

@@ -7,8 +7,10 @@ mod devices;
 mod event;
 mod laws;
 mod misfit;
+mod parts;
 mod ports;
 mod saved;
+mod touch;
 mod wires;
 
 pub use cells::BoardCells;

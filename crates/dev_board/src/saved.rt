@@ -12,6 +12,7 @@ ghost use Rattle.vms_kinds.specs.declared.TheConstants.{MOST_CELLS};
 use crate::cells::BoardCells;
 use crate::devices::Devices;
 use crate::misfit::{MASTER_DEVICE, Misfit, PIT_DEVICE, SERIAL_DEVICE, TIMER_DEVICE};
+use crate::parts::Parts;
 use crate::wires::is_high;
 use arrayvec::ArrayVec;
 use dev_base::{LAST_MOMENT, NEWEST, append, load_device, moment_at, save_device};
@@ -21,23 +22,15 @@ use dev_serial::Serial;
 use vms_kinds::DevCells;
 
 impl Devices {
-    ghost use Rattle.dev_board.specs.Saved.{MaySaveUnder, AreBoardCells, saved, lines_agree, restored};
+    ghost use Rattle.dev_board.specs.Saved.{MaySaveUnder, AreBoardCells, saved, restored};
     ghost use Rattle.dev_board.specs.Sound.{IsSound};
 
     /// The cells of the devices under a set, one from the board's level to the newest.
-    #[tactic(auto, unfolding(crate::specs::Saved::saved))]
     pub fn cells(&self, set: u8) -> BoardCells
         requires { MaySaveUnder self.now.level set }
         ensures { result ≡ saved set self.now }
     {
-        let (master, slave) = halves(&save_device(self.level, set, self.moment, &self.pair));
-        BoardCells {
-            timer: moment_cells(self.moment),
-            master,
-            slave,
-            pit: save_device(self.level, set, self.moment, &self.pit),
-            serial: save_device(self.level, set, self.moment, &self.serial),
-        }
+        self.parts.cells(set)
     }
 
     /// The devices of a level of their cells in the newest set, each in its kind's range.
@@ -53,19 +46,39 @@ impl Devices {
         ensures sound { IfOk result (λ devices. IsSound devices) }
     {
         let moment = timed(moment_at(&cells.timer, 0))?;
-        let devices = Devices {
+        let parts = Parts {
             level,
             moment,
             pair: restore_pair(level, moment, &cells.master, &cells.slave)?,
             pit: restore_pit(level, moment, &cells.pit)?,
             serial: restore_serial(level, moment, &cells.serial)?,
         };
-        if devices.lines_agree() {
-            Ok(devices)
+        if parts.lines_agree() {
+            Ok(Devices { parts })
         } else {
             Err(Misfit::LinesDisagree {
                 device: MASTER_DEVICE,
             })
+        }
+    }
+}
+
+impl Parts {
+    ghost use Rattle.dev_board.specs.Saved.{MaySaveUnder, saved, lines_agree};
+
+    // The cells under a set.
+    #[tactic(auto, unfolding(crate::specs::Saved::saved))]
+    fn cells(&self, set: u8) -> BoardCells
+        requires { MaySaveUnder self.now.level set }
+        ensures { result ≡ saved set self.now }
+    {
+        let (master, slave) = halves(&save_device(self.level, set, self.moment, &self.pair));
+        BoardCells {
+            timer: moment_cells(self.moment),
+            master,
+            slave,
+            pit: save_device(self.level, set, self.moment, &self.pit),
+            serial: save_device(self.level, set, self.moment, &self.serial),
         }
     }
 

@@ -12,6 +12,9 @@ pub(crate) const TIMER: u16 = 0x01;
 /// The master's input that the serial port's line drives.
 pub(crate) const SERIAL: u16 = 0x10;
 
+/// A bit for each input that the pair doesn't give itself: all but the master's input 2.
+pub(crate) const DRIVEN: u16 = 0xfffb;
+
 /// Tells whether an input of the pair is a wire: one of 1, 3, 5, 6, 7 and 8 to 15.
 pub fn is_wire(input: u8) -> bool
     ensures { result ≡ is_wire_of input }

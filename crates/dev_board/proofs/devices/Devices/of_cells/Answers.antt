@@ -17,8 +17,8 @@ returns-in_err-restore_serial-clause-restored c =
     let same : c.from_residual-in_err-restore_serial.result ≡ Err c.in_err-restore_serial.field-0.0 = search rules in
     same ∙ sym refused
 
-pub invariant_of-devices : goal.invariant_of-devices
-invariant_of-devices c =
+pub invariant_of-parts : goal.invariant_of-parts
+invariant_of-parts c =
     let time = ap timed (sym c.moment_at.ensures) ∙ sym c.timed.ensures.moment ∙ c.in_ok-moment.was in
     found-devices c.args.level c.args.cells.now c.in_ok-moment.moment time c.in_ok-restore_pair.field-0 (sym c.restore_pair.ensures ∙ c.in_ok-restore_pair.was) c.in_ok-restore_pit.field-0 (sym c.restore_pit.ensures ∙ c.in_ok-restore_pit.was) c.in_ok-restore_serial.field-0 (sym c.restore_serial.ensures ∙ c.in_ok-restore_serial.was) c.requires.level c.requires.cells
 
@@ -29,6 +29,11 @@ returns-then-lines_agree-clause-restored c =
 
 pub returns-then-lines_agree-clause-sound : goal.returns-then-lines_agree-clause-sound
 returns-then-lines_agree-clause-sound c =
+    let time = ap timed (sym c.moment_at.ensures) ∙ sym c.timed.ensures.moment ∙ c.in_ok-moment.was in
+    found-sound c.args.level c.args.cells.now c.in_ok-moment.moment time c.in_ok-restore_pair.field-0 (sym c.restore_pair.ensures ∙ c.in_ok-restore_pair.was) c.in_ok-restore_pit.field-0 (sym c.restore_pit.ensures ∙ c.in_ok-restore_pit.was) c.in_ok-restore_serial.field-0 (sym c.restore_serial.ensures ∙ c.in_ok-restore_serial.was) c.requires.level c.requires.cells (sym c.lines_agree.ensures ∙ c.if-lines_agree.true)
+
+pub invariant_of-result : goal.invariant_of-result
+invariant_of-result c =
     let time = ap timed (sym c.moment_at.ensures) ∙ sym c.timed.ensures.moment ∙ c.in_ok-moment.was in
     found-sound c.args.level c.args.cells.now c.in_ok-moment.moment time c.in_ok-restore_pair.field-0 (sym c.restore_pair.ensures ∙ c.in_ok-restore_pair.was) c.in_ok-restore_pit.field-0 (sym c.restore_pit.ensures ∙ c.in_ok-restore_pit.was) c.in_ok-restore_serial.field-0 (sym c.restore_serial.ensures ∙ c.in_ok-restore_serial.was) c.requires.level c.requires.cells (sym c.lines_agree.ensures ∙ c.if-lines_agree.true)
 

@@ -1,6 +1,6 @@
 use Rattle.dev_board.specs.State.{power_on}
 use Rattle.dev_board.proofs.SoundLaws.{on-devices, power_on-sound}
-use Rattle.dev_board.proofs.devices.Devices.new.Goals as goal
+use Rattle.dev_board.proofs.parts.Parts.new.Goals as goal
 
 pub invariant_of-result : goal.invariant_of-result
 unfolding power_on

@@ -1,0 +1,137 @@
+-- What the lines from before an event still tell.
+use Rattle.std.proofs.Common.{◌≡◌, ℕ, ◌==◌, Bool, true, false, not, ◌&&◌, ◌||◌, if◌then◌else◌, arith, bit_or, refl, sym, ap, ◌∙◌, subst}
+use Rattle.std.proofs.Math.Bool.{and-false, and-true, or-false}
+use Rattle.std.proofs.lemmas.Bool.{false≢true, cond_both}
+use Rattle.std.proofs.lemmas.Bool.Decides.{nat_tests}
+use Rattle.dev_base.proofs.Choices.{either}
+use Rattle.dev_base.specs.Bits.{has, bits_where}
+use Rattle.dev_pic.proofs.BitLaws.{has-or}
+use Rattle.dev_pic.specs.Pair.{lines_of}
+use Rattle.dev_pit.proofs.Chips.{at_counter}
+use Rattle.dev_pit.proofs.CounterSteps.{same, read-goes_on}
+use Rattle.dev_pit.specs.Counter.{out_of, read_of}
+use Rattle.dev_pit.specs.GoesOn.{GoesOn}
+use Rattle.dev_pit.specs.Pit.{counter_of, pit_read, pit_out}
+use Rattle.dev_pit.specs.declared.counter.Counter.{Counter as Counting}
+use Rattle.dev_pit.specs.declared.pit.Pit.{Pit}
+use Rattle.dev_serial.specs.Access.{read_of as registers_read, lsr_of, lsr_read}
+use Rattle.dev_serial.specs.Port.{Port, line_of}
+use Rattle.dev_board.specs.Ports.{target_of, read_at, written_at, read, write}
+use Rattle.dev_board.specs.Sound.{IsSound}
+use Rattle.dev_board.specs.State.{State}
+use Rattle.dev_board.specs.Step.{Act, waited}
+use Rattle.dev_board.specs.Touch.{HasTaken, Stays, leaves_port, read_touches, write_touches}
+use Rattle.dev_board.specs.declared.ports.Target.{Target}
+use Rattle.dev_board.specs.declared.ports.Target.TheVariants.{Pair, Counter, Control, Register, Nothing}
+use Rattle.dev_board.specs.declared.touch.Touch.{Touch}
+use Rattle.dev_board.specs.declared.touch.Touch.TheVariants.{Untouched, Port as OfPort, Time}
+
+-- a read of a counter leaves OUT
+out-goes_on : (before after : Counting) (now : ℕ) → GoesOn before after → out_of after now ≡ out_of before now
+unfolding out_of
+out-goes_on before after now g = rw (g.count, g.mode, g.loaded_at) refl
+
+read-out : (j now : ℕ) (pit : Pit) → pit_out 0 now (pit_read j now pit).1 ≡ pit_out 0 now pit
+unfolding pit_out pit_read
+read-out j now pit =
+    out-goes_on (counter_of 0 pit) _ now
+    (at_counter (GoesOn (counter_of 0 pit)) 0 j _ pit
+    (λ here. subst (λ (i : ℕ). GoesOn (counter_of 0 pit) (read_of now (counter_of i pit)).1) here (read-goes_on now (counter_of 0 pit)))
+    (same (counter_of 0 pit)))
+
+-- the bit of an overrun in the line status
+bit-of : (b : Bool) (bits : ℕ) → has 0 1 ≡ false → has (bits_where b bits) 1 ≡ (has bits 1 && b)
+bit-of true bits z = sym (and-true (has bits 1))
+bit-of false bits z = z ∙ sym (and-false (has bits 1))
+
+or-bits : (a b c d : Bool) → has (bit_or (bit_or (bit_or (bits_where a 0x01) (bits_where b 0x02)) (bits_where c 0x20)) (bits_where d 0x40)) 1 ≡ b
+or-bits a b c d =
+    let x = bits_where a 0x01 in
+    let y = bits_where b 0x02 in
+    let z = bits_where c 0x20 in
+    let w = bits_where d 0x40 in
+    has-or (bit_or (bit_or x y) z) w 1 ∙ ap (λ t. has (bit_or (bit_or x y) z) 1 || t) (bit-of d 0x40 refl) ∙ or-false (has (bit_or (bit_or x y) z) 1)
+    ∙ has-or (bit_or x y) z 1 ∙ ap (λ t. has (bit_or x y) 1 || t) (bit-of c 0x20 refl) ∙ or-false (has (bit_or x y) 1)
+    ∙ has-or x y 1 ∙ ap (λ t. t || has y 1) (bit-of a 0x01 refl) ∙ bit-of b 0x02 refl
+
+lsr-overrun : (port : Port) → has (lsr_of port) 1 ≡ port.receiver.overrun
+unfolding lsr_of
+lsr-overrun port = or-bits _ port.receiver.overrun _ _
+
+not_true : (b : Bool) → not b ≡ true → b ≡ false
+not_true true e = sym e
+not_true false e = refl
+
+no-overrun : (port : Port) → not (has (lsr_of port) 1) ≡ true → (lsr_read port).1 ≡ port
+no-overrun port e =
+    let none : port.receiver.overrun ≡ false = sym (lsr-overrun port) ∙ not_true (has (lsr_of port) 1) e in
+    ap (λ (b : Bool). record port { receiver = record port.receiver { overrun = b } }) (sym none)
+
+-- a read of a register that leaves the port
+abbrev Leaves : ℕ → Port → ℕ × Port → Type 0
+Leaves offset port answer = leaves_port offset answer.0 ≡ true → answer.1 ≡ port
+
+abbrev is_at : (offset n value : ℕ) → offset ≡ n → leaves_port offset value ≡ true → leaves_port n value ≡ true
+is_at offset n value e h = ap (λ k. leaves_port k value) (sym e) ∙ h
+
+left-at : (offset now : ℕ) (port : Port) → Leaves offset port (registers_read offset now port)
+unfolding leaves_port registers_read
+left-at offset now port =
+    cond_both (offset == 0) _ _ (Leaves offset port) (λ e h. let is : offset ≡ 0 = grind (arith, nat_tests) in absurd (false≢true (is_at offset 0 _ is h))) (λ _.
+    cond_both (offset == 1) _ _ (Leaves offset port) (λ e. either (Leaves offset port) (has port.lcr 7) _ _ (λ h. refl) (λ h. refl)) (λ _.
+    cond_both (offset == 2) _ _ (Leaves offset port) (λ e h. let is : offset ≡ 2 = grind (arith, nat_tests) in absurd (false≢true (is_at offset 2 _ is h))) (λ _.
+    either (Leaves offset port) (offset == 3) _ _ (λ h. refl)
+    (either (Leaves offset port) (offset == 4) _ _ (λ h. refl)
+    (cond_both (offset == 5) _ _ (Leaves offset port) (λ e h. let is : offset ≡ 5 = grind (arith, nat_tests) in no-overrun port (is_at offset 5 (lsr_of port) is h))
+    (λ _. either (Leaves offset port) (offset == 6) _ _ (λ h. refl) (λ h. refl)))))))
+
+touched : {A : Type 0} → true ≡ false → A
+touched e = absurd (false≢true (sym e))
+
+module _ (m : State) (s : IsSound m) where
+  abbrev lines : ℕ
+  lines = lines_of m.pair
+
+  taken : HasTaken lines m.pair
+  taken = record { sound = s.pair; slave = s.lines.slave; same = refl }
+
+  -- a read of a register
+  port-stays : (offset : ℕ) (leaves : Bool) → leaves_port offset (registers_read offset m.moment m.serial).0 ≡ leaves → Stays (if leaves then Untouched else OfPort) lines (record m { serial = (registers_read offset m.moment m.serial).1 })
+  port-stays offset true e = record { out = λ e. s.lines.out; serial = λ f. s.lines.serial ∙ ap (line_of m.moment) (sym (left-at offset m.moment m.serial e)); pair = λ e. taken }
+  port-stays offset false e = record { out = λ e. s.lines.out; serial = λ f. touched f; pair = λ e. taken }
+
+  read-stays : (target : Target) (port : ℕ) → Stays (read_touches target (read_at target port m).0) lines (read_at target port m).1
+  unfolding read_at
+  read-stays Pair port = record { out = λ e. s.lines.out; serial = λ e. s.lines.serial; pair = λ e. touched e }
+  read-stays (Counter counter) port = record { out = λ e. s.lines.out ∙ sym (read-out counter m.moment m.pit); serial = λ e. s.lines.serial; pair = λ e. taken }
+  read-stays Control port = record { out = λ e. s.lines.out; serial = λ e. s.lines.serial; pair = λ e. taken }
+  read-stays (Register offset) port = port-stays offset (leaves_port offset (registers_read offset m.moment m.serial).0) refl
+  read-stays Nothing port = record { out = λ e. s.lines.out; serial = λ e. s.lines.serial; pair = λ e. taken }
+
+  write-stays : (target : Target) (port value : ℕ) → Stays (write_touches target) lines (written_at target port value m)
+  unfolding written_at
+  write-stays Pair port value = record { out = λ e. s.lines.out; serial = λ e. s.lines.serial; pair = λ e. touched e }
+  write-stays (Counter counter) port value = record { out = λ e. touched e; serial = λ e. s.lines.serial; pair = λ e. taken }
+  write-stays Control port value = record { out = λ e. touched e; serial = λ e. s.lines.serial; pair = λ e. taken }
+  write-stays (Register offset) port value = record { out = λ e. s.lines.out; serial = λ e. touched e; pair = λ e. taken }
+  write-stays Nothing port value = record { out = λ e. s.lines.out; serial = λ e. s.lines.serial; pair = λ e. taken }
+
+-- the same of what calls gave
+module _ (m : State) (s : IsSound m) (now : ℕ) (l : now ≡ lines_of m.pair) where
+  pub after-read : (port value : ℕ) (after : State) (touch : Touch) → touch ≡ read_touches (target_of m.level port) (read port m).0 → (value, after) ≡ read port m → Stays touch now after
+  after-read port value after touch t e =
+      subst (λ (n : ℕ). Stays touch n after) (sym l)
+      (subst (λ (u : Touch). Stays u (lines_of m.pair) after) (sym t)
+      (subst (λ (done : ℕ × State). Stays (read_touches (target_of m.level port) (read port m).0) (lines_of m.pair) done.1) (sym e) (read-stays m s (target_of m.level port) port)))
+
+  pub after-write : (port value : ℕ) (after : State) (touch : Touch) → touch ≡ write_touches (target_of m.level port) → after ≡ write port value m → Stays touch now after
+  after-write port value after touch t e =
+      subst (λ (n : ℕ). Stays touch n after) (sym l)
+      (subst (λ (u : Touch). Stays u (lines_of m.pair) after) (sym t)
+      (subst (λ (done : State). Stays (write_touches (target_of m.level port)) (lines_of m.pair) done) (sym e) (write-stays m s (target_of m.level port) port value)))
+
+  pub after-time : (to : ℕ) (act : Act) (after : State) → (act, after) ≡ waited to m → Stays Time now after
+  unfolding waited
+  after-time to act after e =
+      subst (λ (n : ℕ). Stays Time n after) (sym l)
+      (subst (λ (done : Act × State). Stays Time (lines_of m.pair) done.1) (sym e) (record { out = λ e. touched e; serial = λ e. touched e; pair = λ e. taken m s }))

@@ -1,6 +1,0 @@
-use Rattle.dev_board.specs.View.{devices_view}
-use Rattle.dev_board.proofs.KeepLaws.{byte-kept}
-use Rattle.dev_board.proofs.devices.Devices.byte_in.Goals as goal
-
-pub invariant_of-self : goal.invariant_of-self
-invariant_of-self c = rw c.byte_in.ensures.state (byte-kept (devices_view c.self.inside) c.self.invariant c.args.value c.ranges.value.fits)

@@ -1,6 +1,0 @@
-use Rattle.dev_board.specs.View.{devices_view}
-use Rattle.dev_board.proofs.KeepLaws.{loaded}
-use Rattle.dev_board.proofs.devices.Devices.lines_agree.Goals as goal
-
-pub out-requires-clause-loaded : goal.out-requires-clause-loaded
-out-requires-clause-loaded c = loaded (devices_view c.self.inside) c.self.invariant

@@ -1,0 +1,8 @@
+use Rattle.dev_board.specs.Wires.{wires_of}
+use Rattle.dev_board.specs.View.{parts_view}
+use Rattle.dev_board.proofs.WireBits.{wires_of-are}
+use Rattle.dev_board.proofs.parts.Parts.wires.Goals as goal
+
+pub returns-clause-are : goal.returns-clause-are
+unfolding wires_of
+returns-clause-are c = rw c.lines.ensures (wires_of-are (parts_view c.self.inside))

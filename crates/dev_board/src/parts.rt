@@ -1,0 +1,331 @@
+// A board's devices on one clock, while an event happens to them.
+ghost use Rattle.std.specs.Prelude.{◌≡◌, ◌≤◌, IsTrue, false, None};
+ghost use Rattle.dev_base.specs.Bits.{has as has_of};
+ghost use Rattle.dev_base.specs.Levels.{IsLevel};
+ghost use Rattle.dev_base.specs.declared.limits.TheConstants.{LAST_MOMENT as last_moment};
+ghost use Rattle.dev_board.specs.Touch.{saying as saying_of, is_quiet as is_quiet_of, is_untouched as is_untouched_of, leaves_port as leaves_port_of};
+ghost use Rattle.dev_pic.specs.Pair.{int_of, settled_pair};
+ghost use Rattle.dev_pit.specs.Pit.{pit_out};
+ghost use Rattle.dev_serial.specs.Port.{line_of};
+
+use crate::event::{Answer, Event};
+use crate::ports::Target;
+use crate::touch::Touch;
+use crate::wires::{DRIVEN, SERIAL, TIMER, WIRES, bits_where, is_high, with_wire};
+use arrayvec::ArrayVec;
+use dev_base::{LAST_MOMENT, has};
+use dev_pic::PicPair;
+use dev_pit::Pit;
+use dev_serial::{MOST_SENT, Serial};
+use std::marker::Model;
+
+/// What a read of a port without a device gives.
+const NO_DEVICE: u8 = 0xff;
+
+/// The devices of a board at a present moment, whatever lines the master remembers of them.
+#[derive(Drop)]
+pub(crate) struct Parts {
+    pub(crate) level: u8,
+    pub(crate) moment: u64,
+    pub(crate) pair: PicPair,
+    pub(crate) pit: Pit,
+    pub(crate) serial: Serial,
+}
+
+impl Model for Parts {
+    ghost use Rattle.dev_board.specs.State.{State};
+
+    ghost Value = { State };
+
+    ghost use Rattle.dev_board.specs.View.{parts_view};
+    ghost use Rattle.dev_board.specs.Sound.{HasDevices};
+
+    ghost view = { parts_view };
+
+    ghost invariant = { λ d. HasDevices (parts_view d) };
+}
+
+impl Parts {
+    ghost use Rattle.dev_board.specs.Ports.{target_of, read as read_of, write as written};
+    ghost use Rattle.dev_board.specs.Sound.{IsSound};
+    ghost use Rattle.dev_board.specs.State.{power_on};
+    ghost use Rattle.dev_board.specs.Step.{byte_came, waited, inputs_of, settled, step, names_wire};
+    ghost use Rattle.dev_board.specs.Touch.{Stays, read_touches, write_touches};
+    ghost use Rattle.dev_board.specs.Wires.{AreWires, wires_of};
+
+    /// The devices of a level at power on.
+    #[tactic(auto, unfolding(crate::specs::State::power_on))]
+    pub(crate) fn new(level: u8) -> Parts
+        requires { IsLevel level }
+        ensures state { result ≡ power_on level }
+        ensures sound { IsSound result }
+    {
+        Parts {
+            level,
+            moment: 0,
+            pair: PicPair::new(level),
+            pit: Pit::new(level),
+            serial: Serial::new(level),
+        }
+    }
+
+    /// The present moment.
+    pub(crate) fn now(&self) -> u64
+        ensures moment { result ≡ self.now.moment }
+        ensures last { result ≤ last_moment }
+    {
+        self.moment
+    }
+
+    /// Lets an event happen, takes the interrupt lines over once, and answers. The board is sound
+    /// afterwards.
+    ///
+    /// A wire that rises or falls is one of the inputs 1, 3, 5, 6, 7 and 8 to 15. Time passes up to the
+    /// last moment at most.
+    #[tactic(auto, unfolding(crate::specs::Step::step, crate::specs::Step::after_act, crate::specs::Step::acted, crate::specs::Step::wires_after))]
+    pub(crate) fn event(&mut self, event: Event) -> Answer
+        requires wire { IsTrue (names_wire event) }
+        requires sound { IsSound self.old }
+        ensures step { (result, self.new) ≡ step event self.old }
+        ensures sound { IsSound self.new }
+    {
+        let lines = self.pair.lines();
+        let wires = self.wires();
+        match event {
+            Event::Read { port } => {
+                let (value, touch) = self.read(port);
+                let int = self.settle(wires, lines, touch, false);
+                saying(Some(value), int)
+            }
+            Event::Write { port, value } => {
+                let touch = self.write(port, value);
+                let int = self.settle(wires, lines, touch, false);
+                saying(None, int)
+            }
+            Event::Byte { value } => {
+                self.byte_in(value);
+                let int = self.settle(wires, lines, Touch::Port, false);
+                saying(None, int)
+            }
+            Event::Wait { ns } => {
+                let to = self.moment.saturating_add(ns).min(LAST_MOMENT);
+                let (edge, sent) = self.wait(to);
+                let int = self.settle(wires, lines, Touch::Time, edge);
+                Answer {
+                    value: None,
+                    int,
+                    sent,
+                }
+            }
+            Event::Wire { input, up } => {
+                let wires = with_wire(wires, input, up);
+                let int = self.settle(wires, lines, Touch::Untouched, false);
+                saying(None, int)
+            }
+            Event::Ack => {
+                let value = self.pair.ack();
+                let int = self.settle(wires, lines, Touch::Access, false);
+                saying(Some(value), int)
+            }
+        }
+    }
+
+    // The wires as they stand.
+    #[tactic(auto, unfolding(crate::specs::Wires::wires_of))]
+    fn wires(&self) -> u16
+        ensures wires { result ≡ wires_of self.now }
+        ensures are { AreWires result }
+    {
+        self.pair.lines() & WIRES
+    }
+
+    // A byte arrives on the serial line.
+    fn byte_in(&mut self, value: u8)
+        ensures { self.new ≡ byte_came value self.old }
+    {
+        self.serial.byte_in(value, self.moment);
+    }
+
+    // What stands behind a port.
+    #[tactic(auto, unfolding(crate::specs::Ports::target_of))]
+    fn target(&self, port: u16) -> Target
+        ensures { result ≡ target_of self.now.level port }
+    {
+        if self.pair.is_port(port) {
+            return Target::Pair;
+        }
+        match port {
+            0x40..=0x42 => Target::Counter {
+                counter: (port - 0x40) as u8,
+            },
+            0x43 => Target::Control,
+            0x3f8..=0x3ff => Target::Register {
+                offset: (port - 0x3f8) as u8,
+            },
+            _ => Target::Nothing,
+        }
+    }
+
+    // Reads a port, and tells what that touched.
+    #[tactic(auto, unfolding(crate::specs::Ports::read_at))]
+    fn read(&mut self, port: u16) -> (u8, Touch)
+        ensures step { (result.0, self.new) ≡ read_of port self.old }
+        ensures touch { result.1 ≡ read_touches (target_of self.old.level port) (read_of port self.old).0 }
+    {
+        match self.target(port) {
+            Target::Pair => (self.pair.read(port), Touch::Access),
+            Target::Counter { counter } => (self.pit.read(counter, self.moment), Touch::Untouched),
+            Target::Register { offset } => {
+                let value = self.serial.read(offset, self.moment);
+                (
+                    value,
+                    if leaves_port(offset, value) {
+                        Touch::Untouched
+                    } else {
+                        Touch::Port
+                    },
+                )
+            }
+            Target::Control | Target::Nothing => (NO_DEVICE, Touch::Untouched),
+        }
+    }
+
+    // Writes a byte to a port, and tells what that touched.
+    #[tactic(auto, unfolding(crate::specs::Ports::written_at))]
+    fn write(&mut self, port: u16, value: u8) -> Touch
+        ensures step { self.new ≡ written port value self.old }
+        ensures touch { result ≡ write_touches (target_of self.old.level port) }
+    {
+        match self.target(port) {
+            Target::Pair => {
+                self.pair.write(port, value);
+                Touch::Access
+            }
+            Target::Counter { .. } | Target::Control => {
+                self.pit.write(port, value, self.moment);
+                Touch::Timer
+            }
+            Target::Register { offset } => {
+                self.serial.write(offset, value, self.moment);
+                Touch::Port
+            }
+            Target::Nothing => Touch::Untouched,
+        }
+    }
+
+    // Lets time pass up to a moment: whether counter 0 had a rising edge, and the bytes that left.
+    #[tactic(auto, unfolding(crate::specs::Step::waited))]
+    fn wait(&mut self, to: u64) -> (bool, ArrayVec<u8, MOST_SENT>)
+        requires later { self.old.moment ≤ to }
+        requires last { to ≤ last_moment }
+        ensures { (record { value = None; edge = result.0; sent = result.1.items }, self.new) ≡ waited to self.old }
+    {
+        let edge = self.pit.edge(0, self.moment, to);
+        let sent = self.serial.advance(to);
+        self.moment = to;
+        (edge, sent)
+    }
+
+    // OUT of counter 0, which the lines from before tell where it wasn't touched.
+    fn timer_out(&self, touched: bool, lines: u16) -> bool
+        requires { touched ≡ false → has_of lines 0 ≡ pit_out 0 self.now.moment self.now.pit }
+        ensures { result ≡ pit_out 0 self.now.moment self.now.pit }
+    {
+        if touched {
+            self.pit.out(0, self.moment)
+        } else {
+            is_high(lines, 0)
+        }
+    }
+
+    // The serial port's line, which the lines from before tell where it wasn't touched.
+    fn line(&self, touched: bool, lines: u16) -> bool
+        requires { touched ≡ false → has_of lines 4 ≡ line_of self.now.moment self.now.serial }
+        ensures { result ≡ line_of self.now.moment self.now.serial }
+    {
+        if touched {
+            self.serial.line(self.moment)
+        } else {
+            is_high(lines, 4)
+        }
+    }
+
+    // The inputs of the pair: the wires, OUT of counter 0 and the serial port's line.
+    #[tactic(auto, unfolding(crate::specs::Step::inputs_of))]
+    fn inputs(&self, wires: u16, lines: u16, touch: Touch) -> u16
+        requires { Stays touch lines self.now }
+        ensures { result ≡ inputs_of wires self.now }
+    {
+        let out = self.timer_out(touch.asks_timer(), lines);
+        let line = self.line(touch.asks_port(), lines);
+        wires | bits_where(out, TIMER) | bits_where(line, SERIAL)
+    }
+
+    // Takes the lines over, with an edge at the timer's input or none, and tells the master's output.
+    #[inline(always)]
+    #[tactic(auto, unfolding(crate::specs::Step::settled))]
+    fn settle(&mut self, wires: u16, lines: u16, touch: Touch, edge: bool) -> bool
+        requires wires { AreWires wires }
+        requires stays { Stays touch lines self.old }
+        ensures int { result ≡ int_of self.new.pair }
+        ensures state { self.new ≡ settled wires edge self.old }
+        ensures sound { IsSound self.new }
+    {
+        if is_untouched(touch, edge, wires, lines) {
+            return self.pair.int();
+        }
+        let inputs = self.inputs(wires, lines, touch);
+        if is_quiet(touch, edge, inputs, lines) {
+            return self.pair.int();
+        }
+        take(&mut self.pair, inputs, bits_where(edge, TIMER));
+        self.pair.int()
+    }
+}
+
+// Takes the lines over, which happens seldom: it stands apart so that each event's code stays short.
+#[inline(never)]
+fn take(pair: &mut PicPair, inputs: u16, edges: u16)
+    ensures { pair.new ≡ settled_pair inputs edges pair.old }
+{
+    pair.settle(inputs, edges);
+}
+
+// An answer of no bytes.
+fn saying(value: Option<u8>, int: bool) -> Answer
+    ensures { result ≡ saying_of value int }
+{
+    Answer {
+        value,
+        int,
+        sent: ArrayVec::new(),
+    }
+}
+
+// Tells whether a read of a register that gives this value leaves the serial port as it is.
+#[tactic(auto, unfolding(crate::specs::Touch::leaves_port))]
+fn leaves_port(offset: u8, value: u8) -> bool
+    ensures { result ≡ leaves_port_of offset value }
+{
+    if offset == 5 {
+        !has(value, 1)
+    } else {
+        offset != 0 && offset != 2
+    }
+}
+
+// Tells whether nothing was touched, and the wires are as they were.
+#[tactic(auto, unfolding(crate::specs::Touch::is_untouched))]
+fn is_untouched(touch: Touch, edge: bool, wires: u16, lines: u16) -> bool
+    ensures { result ≡ is_untouched_of touch edge wires lines }
+{
+    touch.is_nothing() && !edge && wires == lines & WIRES
+}
+
+// Tells whether these inputs leave the pair as it is.
+#[tactic(auto, unfolding(crate::specs::Touch::is_quiet))]
+fn is_quiet(touch: Touch, edge: bool, inputs: u16, lines: u16) -> bool
+    ensures { result ≡ is_quiet_of touch edge inputs lines }
+{
+    !touch.is_access() && !edge && inputs == lines & DRIVEN
+}
