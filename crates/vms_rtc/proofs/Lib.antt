@@ -5,3 +5,4 @@ pub mod SavedLaws
 pub mod SheetNumbers
 pub mod SoundLaws
 pub mod TimeLaws
+pub mod ListLaws

@@ -7,34 +7,34 @@ use Rattle.vms_hooks.specs.Numbers.{Numbers}
 use Rattle.vms_kinds.specs.declared.Kind.TheVariants.{U8}
 use Rattle.dev_base.proofs.CellLaws.{number-lt}
 use Rattle.dev_base.proofs.RuleLaws.{AllTrue, judged-ok, hook-ok}
-use Rattle.dev_base.specs.Cells.{cell_at, nat_of, number_at, flag_at, AreOf}
+use Rattle.dev_base.specs.Cells.{cell_at, nat_of, AreOf}
 use Rattle.dev_base.specs.Levels.{IsUpTo}
 use Rattle.vms_rtc.proofs.CellPlaces.{is_byte}
 use Rattle.vms_rtc.specs.Cells.{kinds}
 use Rattle.vms_rtc.specs.Chip.{register}
 use Rattle.vms_rtc.specs.Laws.{RestoredIsSound}
-use Rattle.vms_rtc.specs.Saved.{CanRestore, index_holds, registers_hold, rules, chip_of, restored, hook_restored}
+use Rattle.vms_rtc.specs.Saved.{CanRestore, index_in, register_in, nmi_mask_in, index_holds, registers_hold, rules, chip_of, restored, hook_restored}
 use Rattle.vms_rtc.specs.Sound.{IsSound}
-use Rattle.vms_rtc.specs.declared.limits.TheConstants.{NEWEST_CLOCK, NMI_SINCE, REGISTERS}
+use Rattle.vms_rtc.specs.declared.limits.TheConstants.{NEWEST_CLOCK, NMI_SINCE, REGISTER_A, REGISTER_C, REGISTER_D, REGISTERS}
 use Rattle.vms_rtc.specs.declared.rtc.Rtc.{Rtc}
 
 -- a register of the chip of cells
-pub register_of : (version : ℕ) (cells : List ℤ) (k : ℕ) → k < REGISTERS → register k (chip_of version cells) ≡ number_at cells (1 + k)
+pub register_of : (version : ℕ) (cells : List ℤ) (k : ℕ) → k < REGISTERS → register k (chip_of version cells) ≡ register_in cells k
 unfolding chip_of
-register_of version cells k lt = get_or-map-range_with_len (λ i. number_at cells (1 + i)) 0 REGISTERS k k 0 lt (omega arith)
+register_of version cells k lt = get_or-map-range_with_len (register_in cells) 0 REGISTERS k k 0 lt (omega arith)
 
-low : (version : ℕ) (cells : List ℤ) → index_holds cells ≡ true → number_at cells 0 ≤ 63
+low : (version : ℕ) (cells : List ℤ) → index_holds cells ≡ true → index_in cells ≤ 63
 low version cells h = grind (arith, nat_tests, h)
 
 record Registers (cells : List ℤ) : Type 0 where
-  a : number_at cells 11 ≤ 127
-  c : number_at cells 13 ≡ 0
-  d : number_at cells 14 ≡ 0
+  a : register_in cells REGISTER_A ≤ 127
+  c : register_in cells REGISTER_C ≡ 0
+  d : register_in cells REGISTER_D ≡ 0
 
 registers : (cells : List ℤ) → registers_hold cells ≡ true → Registers cells
 registers cells h =
-    let first = and_parts (nat_le (number_at cells 11) 127) ((number_at cells 13 == 0) && (number_at cells 14 == 0)) h in
-    let second = and_parts (number_at cells 13 == 0) (number_at cells 14 == 0) first.1 in
+    let first = and_parts (nat_le (register_in cells REGISTER_A) 127) ((register_in cells REGISTER_C == 0) && (register_in cells REGISTER_D == 0)) h in
+    let second = and_parts (register_in cells REGISTER_C == 0) (register_in cells REGISTER_D == 0) first.1 in
     record { a = grind (arith, nat_tests, first.0); c = grind (arith, nat_tests, second.0); d = grind (arith, nat_tests, second.1) }
 
 clear : (b flag : Bool) → (b || not flag) ≡ true → b ≡ false → flag ≡ false
@@ -49,15 +49,15 @@ sound version cells v are hold =
     record {
       version = v;
       index = low version cells hold.0;
-      count = length-map-range_with_len (λ i. number_at cells (1 + i)) 0 REGISTERS;
+      count = length-map-range_with_len (register_in cells) 0 REGISTERS;
       bytes = λ k lt.
-          let is : register k (chip_of version cells) ≡ number_at cells (1 + k) = register_of version cells k lt in
+          let is : register k (chip_of version cells) ≡ register_in cells k = register_of version cells k lt in
           let small : nat_of (cell_at cells (1 + k)) < 256 = number-lt U8 (cell_at cells (1 + k)) (is_byte cells (1 + k) are (omega (arith, lt))) in
           omega (arith, is, small);
       a = n.a;
       c = n.c;
       d = n.d;
-      mask = λ none. clear (nat_le NMI_SINCE version) (flag_at cells 65) hold.1.1.0 none;
+      mask = λ none. clear (nat_le NMI_SINCE version) (nmi_mask_in cells) hold.1.1.0 none;
     }
 
 made : (version : ℕ) (cells : List ℤ) → (chip_of version cells).version ≡ version

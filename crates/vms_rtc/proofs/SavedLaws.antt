@@ -1,21 +1,22 @@
 -- What was saved is restored as it was.
-use Rattle.std.proofs.Common.{◌≡◌, ℕ, zero, suc, ◌+◌, ◌<◌, ◌≤◌, ◌==◌, ◌||◌, not, nat_le, Bool, true, false, cond, List, [], ◌∷◌, ◌++◌, length, map, take, replicate, get_or, ℤ, pos, Ok, refl, sym, ap, subst, ◌∙◌, arith, length-append}
+use Rattle.std.proofs.Common.{◌≡◌, ℕ, zero, suc, ◌+◌, ◌<◌, ◌≤◌, ◌==◌, ◌||◌, not, nat_le, Bool, true, false, List, [], ◌∷◌, length, map, replicate, get_or, ℤ, pos, codes, Ok, refl, sym, ap, subst, ◌∙◌, arith}
+use Rattle.std.proofs.lemmas.Bool.{false≢true}
 use Rattle.std.proofs.lemmas.Bool.Decides.{nat_tests}
-use Rattle.std.proofs.lemmas.List.{get_or-map, get_or_append_left, get_or-append_right, length-map}
-use Rattle.std.proofs.Math.Seq.{take-append_seam}
+use Rattle.std.proofs.lemmas.List.{get_or-map}
+use Rattle.vms_fields.specs.Clock.{mc146818_rows, place_of_clock}
+use Rattle.vms_fields.specs.Fields.{numbers_of}
 use Rattle.vms_hooks.specs.Numbers.{Numbers}
-use Rattle.vms_kinds.specs.declared.Kind.TheVariants.{U8, Bool as Truth}
-use Rattle.dev_base.proofs.CellLaws.{of_none, of_more, of_both, of_where, byte, flag, flag-back}
+use Rattle.vms_kinds.specs.declared.Kind.TheVariants.{U8}
+use Rattle.dev_base.proofs.CellLaws.{of_none, of_more, byte, flag, flag-back}
 use Rattle.dev_base.proofs.PlaceLemmas.{all_set}
 use Rattle.dev_base.proofs.RuleLaws.{AllTrue, judged-all, ok-hook}
-use Rattle.dev_base.proofs.TableLaws.{carried-append, carried-places}
-use Rattle.dev_base.specs.Cells.{cell_at, nat_of, number_at, flag_at, flag_number, firsts, AreOf}
-use Rattle.dev_base.specs.Tables.{Origin, carried_by, places, default_of, where_had}
-use Rattle.vms_rtc.specs.Cells.{kinds, saved_cells, carried}
+use Rattle.dev_base.specs.Cells.{cell_at, nat_of, flag_number, firsts, AreOf}
+use Rattle.vms_rtc.proofs.ListLaws.{AllHold, size_at, whole, of_rows, carried_rows, stands}
+use Rattle.vms_rtc.specs.Cells.{named, kinds, saved_cells, carried}
 use Rattle.vms_rtc.specs.Laws.{SavedAreCells, SavedIsRestored}
-use Rattle.vms_rtc.specs.Saved.{CanSave, CanRestore, MayRestore, rules, chip_of, restored, hook_restored}
+use Rattle.vms_rtc.specs.Saved.{CanSave, CanRestore, MayRestore, register_in, nmi_mask_in, pf_in, rules, chip_of, restored, hook_restored}
 use Rattle.vms_rtc.specs.Sound.{IsSound}
-use Rattle.vms_rtc.specs.declared.limits.TheConstants.{NEWEST_CLOCK, NMI_SINCE}
+use Rattle.vms_rtc.specs.declared.limits.TheConstants.{NEWEST_CLOCK, NMI_SINCE, REGISTER_A, REGISTER_C, REGISTER_D, REGISTERS}
 use Rattle.vms_rtc.specs.declared.rtc.Rtc.{Rtc}
 
 -- ---- the kinds of what is saved
@@ -27,61 +28,47 @@ of-bytes (x ∷ xs) zero len small = absurd (omega (arith, len))
 of-bytes (x ∷ xs) (suc n) len small =
     of_more U8 (pos x) (replicate n U8) (map pos xs) (byte x (small 0 (omega arith))) (of-bytes xs n (omega (arith, len)) (λ k lt. small (suc k) (omega (arith, lt))))
 
--- the index and the registers, and what follows
-abbrev front : Rtc → List ℤ
-front chip = pos chip.index ∷ map pos chip.cmos
-
-of-front : (chip : Rtc) → IsSound chip → AreOf (replicate 65 U8) (front chip)
-of-front chip s =
-    of_more U8 (pos chip.index) (replicate 64 U8) (map pos chip.cmos) (byte chip.index (let i = s.index in omega (arith, i))) (of-bytes chip.cmos 64 s.count s.bytes)
+-- what stands in each field
+holds : (chip : Rtc) → IsSound chip → AllHold (named chip) mc146818_rows
+holds chip s =
+    let index = s.index in (
+      of_more _ _ _ _ (byte chip.index (omega (arith, index))) of_none,
+      (of-bytes chip.cmos 64 s.count s.bytes, (of_more _ _ _ _ (flag chip.nmi_mask) of_none, (of_more _ _ _ _ (flag chip.pf) of_none, tt))),
+    )
 
 of-set : (set : ℕ) (chip : Rtc) → IsSound chip → AreOf (kinds set) (saved_cells set chip)
 unfolding saved_cells
-of-set set chip s =
-    of_both (replicate 65 U8) _ (front chip) _ (of-front chip s)
-    (of_both _ _ _ _ (of_where (nat_le NMI_SINCE set) (Truth ∷ []) (pos (flag_number chip.nmi_mask) ∷ []) (of_more _ _ _ _ (flag chip.nmi_mask) of_none))
-    (of_more _ _ _ _ (flag chip.pf) of_none))
+of-set set chip s = of_rows (named chip) set mc146818_rows (holds chip s)
 
 pub saved_are_cells : SavedAreCells
 saved_are_cells = record { of_kinds = of-set }
 
 -- ---- the chip of its own cells
 
-front-long : (chip : Rtc) → IsSound chip → length (front chip) ≡ 65
-front-long chip s = let n = s.count in let e = length-map chip.cmos pos in omega (arith, n, e)
-
 -- the cells of the newest clock set
 abbrev newest : Rtc → List ℤ
-newest chip = front chip ++ (pos (flag_number chip.nmi_mask) ∷ pos (flag_number chip.pf) ∷ [])
+newest chip = whole (named chip) mc146818_rows
 
-mask-there : (chip : Rtc) → IsSound chip → cell_at (newest chip) 65 ≡ pos (flag_number chip.nmi_mask)
-mask-there chip s = get_or-append_right (front chip) (pos (flag_number chip.nmi_mask) ∷ pos (flag_number chip.pf) ∷ []) 65 65 (pos 0) (front-long chip s) (omega arith)
+there : (chip : Rtc) → IsSound chip → (name : List ℕ) (k : ℕ) → k < size_at mc146818_rows name → cell_at (newest chip) (place_of_clock name + k) ≡ cell_at (numbers_of (named chip) name) k
+there chip s name k l = stands (named chip) name mc146818_rows (holds chip s) [] 0 k refl l
 
-flag-there : (chip : Rtc) → IsSound chip → cell_at (newest chip) 66 ≡ pos (flag_number chip.pf)
-flag-there chip s = get_or-append_right (front chip) (pos (flag_number chip.nmi_mask) ∷ pos (flag_number chip.pf) ∷ []) 65 66 (pos 0) (front-long chip s) (omega arith)
+mask-there : (chip : Rtc) → IsSound chip → nmi_mask_in (newest chip) ≡ chip.nmi_mask
+mask-there chip s = ap (λ (z : ℤ). nat_of z == 1) (there chip s (codes "nmi_mask") 0 (omega arith)) ∙ flag-back chip.nmi_mask
 
-register-there : (chip : Rtc) → IsSound chip → (k : ℕ) → k < 64 → number_at (newest chip) (1 + k) ≡ get_or chip.cmos k 0
+flag-there : (chip : Rtc) → IsSound chip → pf_in (newest chip) ≡ chip.pf
+flag-there chip s = ap (λ (z : ℤ). nat_of z == 1) (there chip s (codes "pf") 0 (omega arith)) ∙ flag-back chip.pf
+
+register-there : (chip : Rtc) → IsSound chip → (k : ℕ) → k < REGISTERS → register_in (newest chip) k ≡ get_or chip.cmos k 0
 register-there chip s k lt =
-    let next : 1 + k ≡ suc k = omega arith in
-    let within : k < length chip.cmos = let n = s.count in omega (arith, n, lt) in
-    let inside : suc k < length (front chip) = let n = front-long chip s in omega (arith, n, lt) in
-    ap (λ (n : ℕ). number_at (newest chip) n) next
-    ∙ ap nat_of (get_or_append_left (front chip) (pos (flag_number chip.nmi_mask) ∷ pos (flag_number chip.pf) ∷ []) (pos 0) (suc k) inside
-    ∙ get_or-map pos chip.cmos k 0 (pos 0) within)
-
-abbrev made : ℕ → ℕ → List ℕ → Bool → Bool → Rtc
-made version index cmos nmi_mask pf = record { version = version; index = index; cmos = cmos; nmi_mask = nmi_mask; pf = pf }
+    let n = s.count in
+    ap nat_of (there chip s (codes "cmos") k lt ∙ get_or-map pos chip.cmos k 0 (pos 0) (omega (arith, n, lt)))
 
 own-back : (chip : Rtc) → IsSound chip → chip_of chip.version (newest chip) ≡ chip
 unfolding chip_of
 own-back chip s =
-    let cmos : firsts 64 (λ k. number_at (newest chip) (1 + k)) ≡ chip.cmos =
-    sym (all_set (λ k. number_at (newest chip) (1 + k)) chip.cmos 64 s.count (λ k lt. sym (register-there chip s k lt))) in
-    let mask : flag_at (newest chip) 65 ≡ chip.nmi_mask = ap (λ (z : ℤ). nat_of z == 1) (mask-there chip s) ∙ flag-back chip.nmi_mask in
-    let pf : flag_at (newest chip) 66 ≡ chip.pf = ap (λ (z : ℤ). nat_of z == 1) (flag-there chip s) ∙ flag-back chip.pf in
-    ap (λ (xs : List ℕ). made chip.version chip.index xs (flag_at (newest chip) 65) (flag_at (newest chip) 66)) cmos
-    ∙ ap (λ (b : Bool). made chip.version chip.index chip.cmos b (flag_at (newest chip) 66)) mask
-    ∙ ap (λ (b : Bool). made chip.version chip.index chip.cmos chip.nmi_mask b) pf
+    let cmos : firsts REGISTERS (register_in (newest chip)) ≡ chip.cmos =
+    sym (all_set (register_in (newest chip)) chip.cmos REGISTERS s.count (λ k lt. sym (register-there chip s k lt))) in
+    rw (cmos, mask-there chip s, flag-there chip s) refl
 
 -- ---- the rules
 
@@ -94,46 +81,22 @@ unmasked version flag h = by (nat_le NMI_SINCE version) h
 
 met : (chip : Rtc) → IsSound chip → AllTrue (rules chip.version (newest chip))
 met chip s =
-    let a : number_at (newest chip) 11 ≤ 127 = let e = register-there chip s 10 (omega arith) in let l = s.a in omega (arith, e, l) in
-    let c : number_at (newest chip) 13 ≡ 0 = register-there chip s 12 (omega arith) ∙ s.c in
-    let d : number_at (newest chip) 14 ≡ 0 = register-there chip s 13 (omega arith) ∙ s.d in
-    let mask : flag_at (newest chip) 65 ≡ chip.nmi_mask = ap (λ (z : ℤ). nat_of z == 1) (mask-there chip s) ∙ flag-back chip.nmi_mask in
+    let a : register_in (newest chip) REGISTER_A ≤ 127 = let e = register-there chip s REGISTER_A (omega arith) in let l = s.a in omega (arith, e, l) in
+    let c : register_in (newest chip) REGISTER_C ≡ 0 = register-there chip s REGISTER_C (omega arith) ∙ s.c in
+    let d : register_in (newest chip) REGISTER_D ≡ 0 = register-there chip s REGISTER_D (omega arith) ∙ s.d in
     let index = s.index in (
       grind (arith, nat_tests, index),
-      (grind (arith, nat_tests, a, c, d), (unmasked chip.version (flag_at (newest chip) 65) (λ none. mask ∙ s.mask none), tt)),
+      (grind (arith, nat_tests, a, c, d), (unmasked chip.version (nmi_mask_in (newest chip)) (λ none. mask-there chip s ∙ s.mask none), tt)),
     )
 
 -- ---- carried cells
 
-front-carried : (chip : Rtc) (rest : List ℤ) → IsSound chip → carried_by (places 0 65) (front chip ++ rest) ≡ front chip
-front-carried chip rest s =
-    let long = front-long chip s in
-    let all : length (front chip ++ rest) ≡ length (front chip) + length rest = length-append (front chip) rest in
-    carried-places (front chip ++ rest) 0 65 (omega (arith, long, all))
-    ∙ ap (λ (n : ℕ). take n (front chip ++ rest)) (sym long) ∙ take-append_seam (front chip) rest
-
-rest-carried : (b : Bool) (chip : Rtc) → IsSound chip → (b ≡ false → chip.nmi_mask ≡ false)
-    → carried_by (cond b (places 65 1) (default_of (pos 0) ∷ []) ++ places (cond b 66 65) 1) (front chip ++ (cond b (pos (flag_number chip.nmi_mask) ∷ []) [] ++ pos (flag_number chip.pf) ∷ []))
-    ≡ pos (flag_number chip.nmi_mask) ∷ pos (flag_number chip.pf) ∷ []
-rest-carried true chip s none =
-    ap (λ (z : ℤ). z ∷ cell_at (newest chip) 66 ∷ []) (mask-there chip s) ∙ ap (λ (z : ℤ). pos (flag_number chip.nmi_mask) ∷ z ∷ []) (flag-there chip s)
-rest-carried false chip s none =
-    let there : cell_at (front chip ++ pos (flag_number chip.pf) ∷ []) 65 ≡ pos (flag_number chip.pf) =
-    get_or-append_right (front chip) (pos (flag_number chip.pf) ∷ []) 65 65 (pos 0) (front-long chip s) (omega arith) in
-    ap (λ (z : ℤ). pos 0 ∷ z ∷ []) there ∙ ap (λ (m : Bool). pos (flag_number m) ∷ pos (flag_number chip.pf) ∷ []) (sym (none refl))
-
--- where the mask and the flag stand
-abbrev later : ℕ → List Origin
-later set = where_had (nat_le NMI_SINCE set) (places 65 1) (default_of (pos 0) ∷ []) ++ places (cond (nat_le NMI_SINCE set) 66 65) 1
-
 carried-newest : (set : ℕ) (chip : Rtc) → IsSound chip → chip.version ≤ set → carried set (saved_cells set chip) ≡ newest chip
 unfolding saved_cells
 carried-newest set chip s le =
-    let rest : List ℤ = cond (nat_le NMI_SINCE set) (pos (flag_number chip.nmi_mask) ∷ []) [] ++ pos (flag_number chip.pf) ∷ [] in
     let lacks : nat_le NMI_SINCE set ≡ false → chip.nmi_mask ≡ false = λ e. let none : nat_le NMI_SINCE chip.version ≡ false = grind (arith, nat_tests, le, e) in s.mask none in
-    carried-append (front chip ++ rest) (places 0 65) (later set)
-    ∙ ap (λ (l : List ℤ). l ++ carried_by (later set) (front chip ++ rest)) (front-carried chip rest s)
-    ∙ ap (λ (l : List ℤ). front chip ++ l) (rest-carried (nat_le NMI_SINCE set) chip s lacks)
+    carried_rows (named chip) set mc146818_rows (holds chip s)
+    (λ e. absurd (false≢true (sym e)), (λ e. absurd (false≢true (sym e)), (λ e. ap (λ (m : Bool). pos (flag_number m) ∷ []) (lacks e), (λ e. absurd (false≢true (sym e)), tt)))) [] 0 refl
 
 saved-newest : (chip : Rtc) → saved_cells NEWEST_CLOCK chip ≡ newest chip
 unfolding saved_cells

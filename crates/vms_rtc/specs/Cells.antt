@@ -1,27 +1,30 @@
--- The cells of the chip.
-use Rattle.std.specs.Prelude.{ℕ, ℤ, pos, nat_le, if◌then◌else◌, List, [], ◌∷◌, ◌++◌, map, replicate}
+-- The cells of the chip: those of its list of fields, each by the field's name.
+use Rattle.std.specs.Prelude.{ℕ, ℤ, pos, List, [], ◌∷◌, map, codes}
+use Rattle.vms_fields.specs.Clock.{mc146818_rows}
+use Rattle.vms_fields.specs.Fields.{Named, kinds_under, cells_under}
 use Rattle.vms_kinds.specs.declared.Kind.{Kind}
-use Rattle.vms_kinds.specs.declared.Kind.TheVariants.{U8, Bool as Truth}
 use Rattle.dev_base.specs.Cells.{flag_number}
-use Rattle.dev_base.specs.Tables.{Origin, default_of, carried_by, places, where_had, since}
-use Rattle.vms_rtc.specs.declared.limits.TheConstants.{NMI_SINCE}
+use Rattle.dev_base.specs.Tables.{Origin, carried_by}
+use Rattle.vms_rtc.specs.Origins.{origins_under}
 use Rattle.vms_rtc.specs.declared.rtc.Rtc.{Rtc}
 
--- the index and the registers, the mask of NMI from @c2 on, and the flag
+-- what stands in each field
+abbrev pub named : Rtc → Named
+named chip =
+    (codes "index", pos chip.index ∷ [])
+    ∷ (codes "cmos", map pos chip.cmos)
+    ∷ (codes "nmi_mask", pos (flag_number chip.nmi_mask) ∷ [])
+    ∷ (codes "pf", pos (flag_number chip.pf) ∷ []) ∷ []
+
 abbrev pub kinds : ℕ → List Kind
-kinds set = replicate 65 U8 ++ (since NMI_SINCE set (Truth ∷ []) ++ Truth ∷ [])
+kinds set = kinds_under mc146818_rows set
 
 unfoldable pub saved_cells : ℕ → Rtc → List ℤ
-saved_cells set chip =
-    (pos chip.index ∷ map pos chip.cmos)
-    ++ (since NMI_SINCE set (pos (flag_number chip.nmi_mask) ∷ []) ++ pos (flag_number chip.pf) ∷ [])
+saved_cells set chip = cells_under mc146818_rows set (named chip)
 
--- where the cells of the newest clock set stand in a clock set, with the mask's default where that hasn't it
+-- where the cells of the newest clock set stand in a clock set, with the default where that hasn't one
 abbrev pub origins : ℕ → List Origin
-origins set =
-    places 0 65
-    ++ (where_had (nat_le NMI_SINCE set) (places 65 1) (default_of (pos 0) ∷ [])
-    ++ places (if nat_le NMI_SINCE set then 66 else 65) 1)
+origins set = origins_under mc146818_rows set
 
 -- the cells of a clock set at their places in the newest one
 abbrev pub carried : ℕ → List ℤ → List ℤ

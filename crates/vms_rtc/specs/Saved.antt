@@ -1,5 +1,6 @@
 -- What saving and restoring mean for the chip.
-use Rattle.std.specs.Prelude.{◌≡◌, ℕ, ℤ, ◌+◌, ◌==◌, Bool, ◌&&◌, ◌||◌, not, nat_le, List, [], ◌∷◌, Result}
+use Rattle.std.specs.Prelude.{◌≡◌, ℕ, ℤ, ◌+◌, ◌==◌, Bool, ◌&&◌, ◌||◌, not, nat_le, List, [], ◌∷◌, Result, codes}
+use Rattle.vms_fields.specs.Clock.{place_of_clock}
 use Rattle.vms_hooks.specs.Numbers.{Numbers}
 use Rattle.vms_hooks.specs.declared.fault.HookFault.{HookFault}
 use Rattle.dev_base.specs.Cells.{number_at, flag_at, firsts, AreOf}
@@ -7,7 +8,7 @@ use Rattle.dev_base.specs.Hooks.{hook_result}
 use Rattle.dev_base.specs.Levels.{IsUpTo, ReachesSet}
 use Rattle.dev_base.specs.Rules.{judged}
 use Rattle.vms_rtc.specs.Cells.{kinds}
-use Rattle.vms_rtc.specs.declared.limits.TheConstants.{NEWEST_CLOCK, NMI_SINCE, REGISTERS}
+use Rattle.vms_rtc.specs.declared.limits.TheConstants.{NEWEST_CLOCK, NMI_SINCE, REGISTER_A, REGISTER_C, REGISTER_D, REGISTERS}
 use Rattle.vms_rtc.specs.declared.rtc.Rtc.{Rtc}
 
 -- the chip may be saved by a pass of its version, under a clock set from it to the newest
@@ -25,17 +26,32 @@ pub record CanRestore (numbers : Numbers) (cells : List ℤ) : Type 0 where
   pub pass : MayRestore numbers
   pub of_kinds : AreOf (kinds NEWEST_CLOCK) cells
 
+-- ---- what stands in the fields of cells, by their names
+
+abbrev pub index_in : List ℤ → ℕ
+index_in cells = number_at cells (place_of_clock (codes "index"))
+
+abbrev pub register_in : List ℤ → ℕ → ℕ
+register_in cells k = number_at cells (place_of_clock (codes "cmos") + k)
+
+abbrev pub nmi_mask_in : List ℤ → Bool
+nmi_mask_in cells = flag_at cells (place_of_clock (codes "nmi_mask"))
+
+abbrev pub pf_in : List ℤ → Bool
+pf_in cells = flag_at cells (place_of_clock (codes "pf"))
+
 -- 1: the index names a register
 abbrev pub index_holds : List ℤ → Bool
-index_holds cells = nat_le (number_at cells 0) 63
+index_holds cells = nat_le (index_in cells) 63
 
 -- 2: register A has bits 6 to 0 alone, and C and D keep nothing
 abbrev pub registers_hold : List ℤ → Bool
-registers_hold cells = nat_le (number_at cells 11) 127 && ((number_at cells 13 == 0) && (number_at cells 14 == 0))
+registers_hold cells =
+    nat_le (register_in cells REGISTER_A) 127 && ((register_in cells REGISTER_C == 0) && (register_in cells REGISTER_D == 0))
 
 -- 3: a chip without a mask of NMI masks none
 abbrev pub mask_holds : ℕ → List ℤ → Bool
-mask_holds version cells = nat_le NMI_SINCE version || not (flag_at cells 65)
+mask_holds version cells = nat_le NMI_SINCE version || not (nmi_mask_in cells)
 
 -- the rules of cells of the newest clock set, in their order
 abbrev pub rules : ℕ → List ℤ → List Bool
@@ -45,10 +61,10 @@ rules version cells = index_holds cells ∷ registers_hold cells ∷ mask_holds 
 unfoldable pub chip_of : ℕ → List ℤ → Rtc
 chip_of version cells = record {
   version = version;
-  index = number_at cells 0;
-  cmos = firsts REGISTERS (λ k. number_at cells (1 + k));
-  nmi_mask = flag_at cells 65;
-  pf = flag_at cells 66;
+  index = index_in cells;
+  cmos = firsts REGISTERS (register_in cells);
+  nmi_mask = nmi_mask_in cells;
+  pf = pf_in cells;
 }
 
 -- the chip, or the number of the first rule that fails

@@ -1,13 +1,14 @@
 // The cells of the chip.
-ghost use Rattle.std.specs.Prelude.{◌≡◌, ◌+◌, ◌∷◌, length, map, pos};
-ghost use Rattle.dev_base.specs.Cells.{AreOf, firsts, number_at};
+ghost use Rattle.std.specs.Prelude.{◌≡◌, ◌+◌, ◌<◌, ◌∷◌, length, map, pos};
+ghost use Rattle.dev_base.specs.Cells.{AreOf, firsts};
 ghost use Rattle.vms_rtc.specs.Cells.{kinds};
-ghost use Rattle.vms_rtc.specs.Saved.{registers_hold};
-ghost use Rattle.vms_rtc.specs.declared.limits.TheConstants.{NEWEST_CLOCK};
+ghost use Rattle.vms_rtc.specs.Saved.{register_in, registers_hold};
+ghost use Rattle.vms_rtc.specs.declared.limits.TheConstants.{NEWEST_CLOCK, REGISTERS};
 
-use crate::limits::REGISTERS;
+use crate::limits::{REGISTER_A, REGISTER_C, REGISTER_D, REGISTERS};
 use arrayvec::ArrayVec;
 use dev_base::byte_at;
+use vms_fields::clock::CMOS;
 use vms_kinds::DevCells;
 
 /// The cells of the index and of the registers.
@@ -23,14 +24,23 @@ pub(crate) fn byte_cells(index: u8, cmos: &[u8; REGISTERS]) -> DevCells
     cells
 }
 
+// The register of a number, in cells of the newest clock set.
+fn register_at(cells: &DevCells, number: usize) -> u8
+    requires of_kinds { AreOf (kinds NEWEST_CLOCK) cells.now.items }
+    requires within { number < REGISTERS }
+    ensures { result ≡ register_in cells.now.items number }
+{
+    byte_at(cells, CMOS + number)
+}
+
 /// The registers of cells of the newest clock set.
 pub(crate) fn registers_at(cells: &DevCells) -> [u8; REGISTERS]
     requires { AreOf (kinds NEWEST_CLOCK) cells.now.items }
-    ensures { result ≡ firsts REGISTERS (λ k. number_at cells.now.items (1 + k)) }
+    ensures { result ≡ firsts REGISTERS (register_in cells.now.items) }
 {
     let mut cmos = [0; REGISTERS];
     for k in 0..REGISTERS {
-        cmos[k] = byte_at(cells, 1 + k);
+        cmos[k] = register_at(cells, k);
     }
     cmos
 }
@@ -40,5 +50,7 @@ pub(crate) fn has_registers(cells: &DevCells) -> bool
     requires { AreOf (kinds NEWEST_CLOCK) cells.now.items }
     ensures { result ≡ registers_hold cells.now.items }
 {
-    byte_at(cells, 11) <= 127 && byte_at(cells, 13) == 0 && byte_at(cells, 14) == 0
+    register_at(cells, usize::from(REGISTER_A)) <= 127
+        && register_at(cells, usize::from(REGISTER_C)) == 0
+        && register_at(cells, usize::from(REGISTER_D)) == 0
 }

@@ -6,7 +6,7 @@ use vms_kinds::NEWEST_CLOCK_SET;
 pub const NEWEST_CLOCK: u8 = NEWEST_CLOCK_SET;
 
 /// The version, and the clock set, from which on there is a mask of NMI.
-pub(crate) const NMI_SINCE: u8 = 2;
+pub(crate) const NMI_SINCE: u8 = vms_fields::clock::NMI_SINCE;
 
 /// The port of the index.
 pub(crate) const INDEX_PORT: u16 = 0x70;
@@ -30,4 +30,4 @@ pub(crate) const REGISTER_D: u8 = 0x0d;
 pub(crate) const CRYSTAL_HERTZ: u64 = 32_768;
 
 /// The number of registers.
-pub(crate) const REGISTERS: usize = 64;
+pub(crate) const REGISTERS: usize = vms_fields::clock::REGISTERS;

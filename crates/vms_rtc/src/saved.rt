@@ -5,6 +5,7 @@ use crate::cells::{byte_cells, has_registers, registers_at};
 use crate::limits::NMI_SINCE;
 use crate::rtc::Rtc;
 use dev_base::{HasHooks, append, byte_at, flag_at, hook_result};
+use vms_fields::clock::{INDEX, NMI_MASK, PF};
 use vms_hooks::{HookFault, Hooked, Pass};
 use vms_kinds::DevCells;
 
@@ -52,8 +53,8 @@ impl Rtc {
         ensures rule { IfErr result (λ rule. rule ≤ 3) }
     {
         let version = pass.level();
-        let index = byte_at(cells, 0);
-        let nmi_mask = flag_at(cells, 65);
+        let index = byte_at(cells, INDEX);
+        let nmi_mask = flag_at(cells, NMI_MASK);
         if index > 63 {
             return Err(1);
         }
@@ -68,7 +69,7 @@ impl Rtc {
             index,
             cmos: registers_at(cells),
             nmi_mask,
-            pf: flag_at(cells, 66),
+            pf: flag_at(cells, PF),
         })
     }
 }

@@ -1,12 +1,13 @@
 -- What the rows of the tables of shipped sets stand for.
 use Rattle.std.specs.Prelude.{List, [], ◌∷◌, ◌++◌, map}
 use Rattle.std.specs.Option.{option_map}
+use Rattle.vms_fields.specs.Fields.{fields_at}
 use Rattle.vms_spec.specs.Sets as sets
 use Rattle.vms_spec.specs.declared.Whose.TheVariants.{Own}
 use Rattle.vms_spec.specs.Shipped.{desc, device, numbers}
 use Rattle.vms_shipped.specs.declared.rows.FieldRow.{FieldRow}
 use Rattle.vms_shipped.specs.declared.rows.Rows.{Rows}
-use Rattle.vms_shipped.specs.declared.rows.Rows.TheVariants.{Numbers, One}
+use Rattle.vms_shipped.specs.declared.rows.Rows.TheVariants.{Numbers, One, Of}
 use Rattle.vms_shipped.specs.declared.rows.DescRow.{DescRow}
 use Rattle.vms_shipped.specs.declared.rows.Asked.{Asked}
 use Rattle.vms_shipped.specs.declared.rows.Needed.{Needed}
@@ -24,6 +25,7 @@ field_in r = record { name = r.name.now; former = map (λ n. n.now) r.former.now
 abbrev pub fields_in : Rows → List sets.Field
 fields_in (Numbers kind names) = numbers kind (map (λ n. n.now) names.now)
 fields_in (One row) = field_in row ∷ []
+fields_in (Of rows version part) = fields_at version part (map (λ r. (r.0.now, r.1)) rows.now)
 
 -- the fields of all rows, one after another
 abbrev pub all_in : List Rows → List sets.Field

@@ -1,29 +1,14 @@
 // The tables of the clock chip.
-use crate::rows::{Asked, BYTE, DescRow, DeviceRow, FieldRow, Needed, Rows, SubRow};
-use vms_kinds::{Item, Kind};
-use vms_parts::{Count, Rel};
-
-const INDEX: Rows = Rows::Numbers(Kind::U8, &["index"]);
-
-const CMOS: Rows = Rows::One(FieldRow {
-    name: "cmos",
-    count: Count::Fixed(64),
-    ..BYTE
-});
-
-const NMI_MASK: Rows = Rows::One(FieldRow {
-    name: "nmi_mask",
-    item: Item::Num(Kind::Bool),
-    since: 2,
-    ..BYTE
-});
+use crate::rows::{Asked, DescRow, DeviceRow, Needed, Rows, SubRow};
+use vms_fields::clock::MC146818;
+use vms_parts::Rel;
 
 // The flag of the periodic interrupt.
 const PENDING: SubRow = SubRow {
     desc: DescRow {
         name: "mc146818/pending",
         version: 1,
-        rows: &[Rows::Numbers(Kind::Bool, &["pf"])],
+        rows: &[Rows::Of(&MC146818, 1, 1)],
     },
     needed: Needed::Only(Asked {
         field: 0,
@@ -38,7 +23,7 @@ pub(crate) const MC146818_AT_1: DeviceRow = DeviceRow {
     desc: DescRow {
         name: "mc146818",
         version: 1,
-        rows: &[INDEX, CMOS],
+        rows: &[Rows::Of(&MC146818, 1, 0)],
     },
     subs: &[PENDING],
 };
@@ -48,7 +33,7 @@ pub(crate) const MC146818_AT_2: DeviceRow = DeviceRow {
     desc: DescRow {
         name: "mc146818",
         version: 2,
-        rows: &[INDEX, CMOS, NMI_MASK],
+        rows: &[Rows::Of(&MC146818, 2, 0)],
     },
     subs: &[PENDING],
 };

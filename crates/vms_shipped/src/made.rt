@@ -1,11 +1,13 @@
 // The parts that rows of tables stand for.
 ghost use Rattle.std.specs.Prelude.{◌≡◌, ◌++◌, map, option_map, IfOk, OnOk};
+ghost use Rattle.vms_fields.specs.Fields.{fields_at, listed_at};
 ghost use Rattle.vms_spec.specs.Shipped.{numbers};
 ghost use Rattle.vms_parts.specs.Views.{formula, formula_in, field_of, desc_of, device_of, sub_of, set_of};
 ghost use Rattle.vms_shipped.specs.Rows.{field_in, fields_in, all_in, desc_in, asked_in, needed_in, sub_in, device_in, set_in};
 
 use crate::rows::{Asked, BYTE, DescRow, DeviceRow, FieldRow, Needed, Rows, SetRow, SubRow};
 use std::alloc::Global;
+use vms_fields::Row;
 use vms_io::NoMemory;
 use vms_kinds::{Item, Kind};
 use vms_parts::{Desc, Device, Field, Listed, Parts, Sub, Test, Text, Whose};
@@ -84,6 +86,48 @@ fn put_numbers(
     Ok(())
 }
 
+// Puts the field of a row after those that are there, if a version has it in a part.
+fn put_listed(
+    alloc: Global,
+    fields: &mut Vec<Field>,
+    row: &Row,
+    version: u32,
+    part: u8,
+) -> Result<(), NoMemory>
+    ensures { OnOk result (map field_of fields.new.items
+        ≡ map field_of fields.old.items ++ listed_at version part (row.now.0.now, row.now.1)) }
+{
+    if row.1.since <= version && row.1.part == part {
+        let row = FieldRow {
+            name: row.0,
+            item: Item::Num(row.1.kind),
+            count: row.1.count,
+            since: row.1.since,
+            default: row.1.default,
+            ..BYTE
+        };
+        fields.push(field(alloc, &row)?)?;
+    }
+    Ok(())
+}
+
+// Puts the fields of a list that a version has in a part after those that are there.
+fn put_list(
+    alloc: Global,
+    fields: &mut Vec<Field>,
+    rows: &'static [Row],
+    version: u32,
+    part: u8,
+) -> Result<(), NoMemory>
+    ensures { OnOk result (map field_of fields.new.items
+        ≡ map field_of fields.old.items ++ fields_at version part (map (λ r. (r.0.now, r.1)) rows.now)) }
+{
+    for row in rows {
+        put_listed(alloc, fields, row, version, part)?;
+    }
+    Ok(())
+}
+
 // Puts the fields of a row after those that are there.
 fn put(alloc: Global, fields: &mut Vec<Field>, rows: &Rows) -> Result<(), NoMemory>
     ensures { OnOk result
@@ -92,6 +136,7 @@ fn put(alloc: Global, fields: &mut Vec<Field>, rows: &Rows) -> Result<(), NoMemo
     match rows {
         Rows::Numbers(kind, names) => put_numbers(alloc, fields, *kind, *names),
         Rows::One(row) => Ok(fields.push(field(alloc, row)?)?),
+        Rows::Of(rows, version, part) => put_list(alloc, fields, *rows, *version, *part),
     }
 }
 

@@ -1,4 +1,5 @@
 // The rows of which the tables of the shipped sets are made.
+use vms_fields::Row;
 use vms_kinds::{Item, Kind};
 use vms_parts::{Count, Rel};
 
@@ -8,6 +9,8 @@ pub(crate) enum Rows {
     /// A number of this kind for each name.
     Numbers(Kind, &'static [&'static str]),
     One(FieldRow),
+    /// Those of a device's list that a version has in a part: the section, 0, or a subsection, from 1 on.
+    Of(&'static [Row], u32, u8),
 }
 
 #[derive(Clone, Copy)]

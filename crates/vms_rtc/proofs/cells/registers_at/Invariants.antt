@@ -1,9 +1,9 @@
-use Rattle.std.proofs.Common.{◌≡◌, ℕ, ◌+◌, ◌<◌, get_or, length}
-use Rattle.dev_base.specs.Cells.{number_at}
+use Rattle.std.proofs.Common.{◌≡◌, ℕ, ◌<◌, get_or, length}
+use Rattle.vms_rtc.specs.Saved.{register_in}
 use Rattle.vms_rtc.proofs.cells.registers_at.Given as goal
 
 abbrev pub invariant-loop-k : goal.invariant-loop-k
 invariant-loop-k l = record {
   len : length l.cmos ≡ 64;
-  set : (i : ℕ) → i < l.k → get_or l.cmos i 0 ≡ number_at l.cells.items (1 + i);
+  set : (i : ℕ) → i < l.k → get_or l.cmos i 0 ≡ register_in l.cells.items i;
 }

@@ -1,0 +1,11 @@
+-- The clock chip's list.
+use Rattle.std.specs.Prelude.{ℕ, List, map}
+use Rattle.vms_fields.specs.Fields.{Row, place_of}
+use Rattle.vms_fields.specs.declared.clock.TheConstants.{MC146818}
+
+abbrev pub mc146818_rows : List Row
+mc146818_rows = map (λ row. (row.0.now, row.1)) MC146818
+
+-- where the cells of the field of a name begin in the newest clock set
+abbrev pub place_of_clock : List ℕ → ℕ
+place_of_clock name = place_of mc146818_rows name
