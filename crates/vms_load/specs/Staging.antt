@@ -127,6 +127,10 @@ abbrev pub stream_due : Set → List Bool → Option Between → ℕ
 stream_due set came None = 0
 stream_due set came (Some between) = configuration_due between + (sections_due set set.devices came + 1)
 
+-- by what came of the set so far
+abbrev pub due_at : DescSet → Staged → Option Between → ℕ
+due_at set staged place = stream_due (described set) staged.came.items place
+
 -- the bytes of all items of these subsections at full capacity
 abbrev pub subs_bytes : Set → List Sub → ℕ
 subs_bytes set [] = 0

@@ -10,7 +10,7 @@ ghost use Rattle.vms_stream.specs.Judged.{ask};
 ghost use Rattle.vms_spec.specs.Units.{Head as HeadUnit};
 ghost use Rattle.vms_io.specs.Told.{intake};
 ghost use Rattle.vms_load.specs.Going.{GoesOn, GoesBehind, GoesThrough, Moves};
-ghost use Rattle.vms_load.specs.Staging.{AreShaped, IsOf, IsMachine, accepted_of, state_of, spot_of, spot_at, read_from, HoldsAt, sections_due, stream_due};
+ghost use Rattle.vms_load.specs.Staging.{AreShaped, IsOf, IsMachine, accepted_of, state_of, spot_of, spot_at, read_from, HoldsAt, due_at, sections_due};
 ghost use Rattle.vms_marks.specs.declared.head.TheConstants.{LONGEST_HEAD};
 
 use crate::LoadFault;
@@ -77,18 +77,16 @@ fn sections<S: Source>(
 ) -> Result<(), LoadFault>
     requires machine { IsMachine (described set.now).machines only }
     requires whole { IsOf (described set.now) staged.old }
-    requires place { cursor.old.at
-        + stream_due (described set.now) staged.old.came.items (Some Between.First) ≤ 2 ^ 63 }
+    requires place { cursor.old.at + due_at set.now staged.old (Some Between.First) ≤ 2 ^ 63 }
     requires held { cursor.old.held ≡ None }
     ensures reads { GoesOn (intake S.Source source.old) (intake S.Source source.new)
-        (stream_due (described set.now) staged.old.came.items (Some Between.First) + LONGEST_HEAD)
+        (due_at set.now staged.old (Some Between.First) + LONGEST_HEAD)
         (read_from set.now only staged.old (spot_at (Some Between.First)))
         (λ _. read_from set.now only staged.new (spot_at None))
         cursor.old cursor.new result }
     ensures held { OnOk result (cursor.new.held ≡ None) }
-    ensures moves { Moves cursor.old cursor.new
-        (stream_due (described set.now) staged.old.came.items (Some Between.First)) (λ _. 0)
-        result }
+    ensures moves { Moves cursor.old cursor.new (due_at set.now staged.old (Some Between.First))
+        (λ _. 0) result }
     ensures whole { IsOf (described set.now) staged.new }
 {
     let mut place = Some(Between::First);
@@ -110,17 +108,15 @@ fn turn<S: Source>(
 ) -> Result<Option<Between>, LoadFault>
     requires machine { IsMachine (described set.now).machines only }
     requires whole { IsOf (described set.now) staged.old }
-    requires place { cursor.old.at
-        + stream_due (described set.now) staged.old.came.items (Some between) ≤ 2 ^ 63 }
+    requires place { cursor.old.at + due_at set.now staged.old (Some between) ≤ 2 ^ 63 }
     ensures reads { GoesOn (intake S.Source source.old) (intake S.Source source.new)
-        (stream_due (described set.now) staged.old.came.items (Some between) + LONGEST_HEAD)
+        (due_at set.now staged.old (Some between) + LONGEST_HEAD)
         (read_from set.now only staged.old (spot_of between))
         (λ next. read_from set.now only staged.new (spot_at next))
         cursor.old cursor.new result }
     ensures held { IfOk result (HoldsAt cursor.new) }
-    ensures moves { Moves cursor.old cursor.new
-        (stream_due (described set.now) staged.old.came.items (Some between))
-        (stream_due (described set.now) staged.new.came.items) result }
+    ensures moves { Moves cursor.old cursor.new (due_at set.now staged.old (Some between))
+        (due_at set.now staged.new) result }
     ensures moved { OnOk result (cursor.old.at < cursor.new.at) }
     ensures whole { IsOf (described set.now) staged.new }
 {
