@@ -2,6 +2,9 @@
 use Rattle.std.specs.Prelude.{ℕ, List, [], ◌∷◌, ◌++◌, codes}
 use Rattle.std.specs.Fmt.{decimal}
 use Rattle.vms_board.specs.Isa.{machine_of}
+use Rattle.vms_commands.specs.Steps.{Gives}
+use Rattle.vms_board_commands.specs.Causes.{drill_course}
+use Rattle.vms_board_commands.specs.Runs.{Task, text_task}
 use Rattle.vms_drill.specs.Drill.{Summary, drill_begun, drilled_on, summary_of}
 
 -- the line of a drill: the board and the seed; what the events came to; and what the saves came to
@@ -21,3 +24,6 @@ summary_line level seed s = drill_text level seed ++ (events_text s.events s.sen
 -- the line of so many events that a seed chooses, on a board of a level
 abbrev pub drill_line : (level seed count : ℕ) → List ℕ
 drill_line level seed count = summary_line level seed (summary_of (drilled_on count (drill_begun level seed)))
+
+abbrev pub drill_task : (level seed count : ℕ) → Task
+drill_task level seed count = text_task (λ held. Gives (drill_line level seed count)) drill_course

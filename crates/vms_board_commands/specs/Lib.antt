@@ -2,6 +2,7 @@ pub mod Causes
 pub mod Drill
 pub mod Load
 pub mod Play
+pub mod Runs
 pub mod Save
 pub mod Scripts
 pub mod Seen

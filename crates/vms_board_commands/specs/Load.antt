@@ -1,10 +1,10 @@
 -- The command `load`: its outcome, and what is seen of its input.
-use Rattle.std.specs.Prelude.{◌≡◌, ℕ, ◌+◌, ◌≤◌, List, [], ◌∷◌, Option, IsSomeAnd}
+use Rattle.std.specs.Prelude.{◌≡◌, ℕ, ◌+◌, ◌≤◌, List, [], ◌∷◌, Option, None, IsSomeAnd}
 use Rattle.vms_board.specs.Family.{Family}
 use Rattle.vms_board.specs.Restoring.{Back, IsMisfitAt, Restores}
 use Rattle.vms_board_streams.specs.Streams.{answers_to, trace_of}
 use Rattle.vms_io.specs.Shelves.{Held}
-use Rattle.vms_io.specs.Told.{Intake}
+use Rattle.vms_io.specs.Told.{Intake, Outlet}
 use Rattle.vms_load.specs.Staging.{most_given}
 use Rattle.vms_commands.specs.Lines.{refused_line}
 use Rattle.vms_commands.specs.Outcomes.{Outcome, done, ended}
@@ -13,6 +13,10 @@ use Rattle.vms_session.specs.Events.{events_of}
 use Rattle.vms_script.specs.Lines.{ScriptLine}
 use Rattle.vms_spec.specs.declared.Reason.{Reason}
 use Rattle.vms_stream.specs.Faults.{Fault}
+use Rattle.vms_commands.specs.declared.ending.Ending.{Ending}
+use Rattle.vms_board_commands.specs.Causes.{load_course, stream_course}
+use Rattle.vms_board_commands.specs.Runs.{RunsBehind, Task}
+use Rattle.vms_board_commands.specs.Scripts.{scripted}
 use Rattle.vms_board_commands.specs.Seen.{WithGiven}
 
 -- the trace of the script's events on the board that the input restores; or where and why the input is refused, up to the end
@@ -39,3 +43,17 @@ LoadGives f step input input' = input'.given ≤ input.given + most_given (f.set
 -- the outcome of these bytes with the script that the step gave, or may have given where it isn't told
 abbrev pub LoadsWith : {S : Type 0} → Family S → ℕ → Step (List ScriptLine) → Option Held → List ℕ → Outcome → Type 0
 LoadsWith f number step held = WithGiven step (λ lines bytes o. Loads f number lines bytes held o)
+
+-- of the board of a number, with the script under a name
+abbrev pub load_task : {S : Type 0} → Family S → ℕ → List ℕ → Task
+load_task f number name = record {
+  has = λ left held o. LoadsBy f number (scripted None held name) left held o;
+  sees = λ held bytes o. LoadsWith f number (scripted None held name) held bytes o;
+  gives = λ held i i'. LoadGives f (scripted None held name) i i';
+  course = load_course;
+}
+
+-- once the script is there
+pub record LoadsStream {S : Type 0} (f : Family S) (number : ℕ) (lines : List ScriptLine) (i i' : Intake) (o o' : Outlet) (e : Ending) : Type 0 where
+  pub runs : RunsBehind (λ left held x. IsSomeAnd left (λ bytes. Loads f number lines bytes held x)) (λ held bytes x. Loads f number lines bytes held x) stream_course i i' o o' e
+  pub given : i'.given ≤ i.given + most_given (f.set f.newest)

@@ -1,5 +1,5 @@
 -- The command `play`: its outcome.
-use Rattle.std.specs.Prelude.{◌≡◌, ℕ, List, [], Option, IsSomeAnd}
+use Rattle.std.specs.Prelude.{◌≡◌, ℕ, List, [], Option, Some, IsSomeAnd}
 use Rattle.vms_io.specs.Shelves.{Held}
 use Rattle.vms_commands.specs.Outcomes.{Outcome, Part}
 use Rattle.vms_commands.specs.Steps.{Step, HasBy}
@@ -10,6 +10,9 @@ use Rattle.vms_session.specs.declared.line.PlayFault.{PlayFault}
 use Rattle.vms_session.specs.declared.line.PlayFault.TheVariants as faults
 use Rattle.vms_script.specs.Lines.{ScriptLine}
 use Rattle.vms_session.specs.Session.{Session, begun}
+use Rattle.vms_board_commands.specs.Causes.{play_course}
+use Rattle.vms_board_commands.specs.Runs.{Task, unread_task}
+use Rattle.vms_board_commands.specs.Scripts.{scripted}
 
 -- all lines of a session are played, from power on and what the shelf holds: one part for each
 pub record PlaysAll (level : ℕ) (lines : List ScriptLine) (held : Held) (o : Outcome) : Type 0 where
@@ -21,6 +24,14 @@ pub record PlaysAll (level : ℕ) (lines : List ScriptLine) (held : Held) (o : O
 -- by the step that gives the script: the outcome with it, where the shelf is told, or the end of that step
 abbrev pub PlaysBy : ℕ → Step (List ScriptLine) → Option Held → Outcome → Type 0
 PlaysBy level step held o = HasBy (λ lines x. IsSomeAnd held (λ map. PlaysAll level lines map x)) step o
+
+-- of the script under a name
+abbrev pub play_task : ℕ → List ℕ → Task
+play_task level name = unread_task (λ held o. PlaysBy level (scripted (Some level) held name) held o) play_course
+
+-- of the lines of a script
+abbrev pub lines_task : ℕ → List ScriptLine → Task
+lines_task level lines = unread_task (λ held o. IsSomeAnd held (λ map. PlaysAll level lines map o)) play_course
 
 -- how a session that stopped ends
 abbrev pub ending_by : PlayFault → Ending

@@ -1,13 +1,11 @@
 // The command `drill`: what events that a seed chooses come to, with saves between them.
-ghost use Rattle.std.specs.Prelude.{◌≡◌, ◌^◌, ◌<◌, IfOk, string_bytes};
+ghost use Rattle.std.specs.Prelude.{◌≡◌, IfOk, string_bytes};
 ghost use Rattle.dev_base.specs.Levels.{IsLevel};
 ghost use Rattle.vms_drill.specs.Views.{summary_view};
-ghost use Rattle.vms_io.specs.Told.{Intake, Stock, outlet};
-ghost use Rattle.vms_commands.specs.Endings.{EndsAs, ending_of};
-ghost use Rattle.vms_commands.specs.Outcomes.{Outcome, done};
-ghost use Rattle.vms_commands.specs.Courses.{EndsSo};
-ghost use Rattle.vms_board_commands.specs.Causes.{drill_course};
-ghost use Rattle.vms_board_commands.specs.Drill.{drill_line, drill_text, events_text, saves_text, summary_line};
+ghost use Rattle.vms_io.specs.Told.{Stock, outlet};
+ghost use Rattle.vms_commands.specs.Endings.{ending_of};
+ghost use Rattle.vms_board_commands.specs.Drill.{drill_line, drill_task, drill_text, events_text, saves_text, summary_line};
+ghost use Rattle.vms_board_commands.specs.Runs.{RunsAside};
 
 use std::alloc::Global;
 use vms_board::machine_name;
@@ -26,12 +24,8 @@ pub fn drill_board<O: Sink>(
     out: &mut O,
 ) -> Result<(), Ending>
     requires { IsLevel level }
-    ensures content { (input : Intake) (shelf : Stock) (o : Outcome) → input.given < 2 ^ 64
-        → o ≡ done (drill_line level seed count) shelf.held 0
-        → EndsAs input input (outlet O.Sink out.old) (outlet O.Sink out.new) shelf shelf
-        (ending_of result) o }
-    ensures so { (input : Intake) (shelf : Stock) → EndsSo input input (outlet O.Sink out.old)
-        (outlet O.Sink out.new) shelf shelf drill_course (ending_of result) }
+    ensures { (shelf : Stock) → RunsAside (drill_task level seed count)
+        (outlet O.Sink out.old) (outlet O.Sink out.new) shelf shelf (ending_of result) }
 {
     let line = drilled_line(alloc, level, seed, count)?;
     write_text(line.as_bytes(), out)

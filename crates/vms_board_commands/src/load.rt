@@ -1,18 +1,12 @@
 // The command `load`: what goes on, by a script, from the board that a stream restores.
-ghost use Rattle.std.specs.Prelude.{◌≡◌, ◌+◌, ◌≤◌, IsSomeAnd, None};
 ghost use Rattle.dev_board.specs.Laws.{AreEvents};
 ghost use Rattle.vms_board.specs.Family.{IsNumber};
-ghost use Rattle.vms_io.specs.Told.{Stock, intake, outlet, stock};
-ghost use Rattle.vms_load.specs.Staging.{most_given};
-ghost use Rattle.vms_commands.specs.Endings.{EndsAs, WritesAs, ending_of};
-ghost use Rattle.vms_commands.specs.Outcomes.{Outcome};
+ghost use Rattle.vms_io.specs.Told.{intake, outlet};
+ghost use Rattle.vms_commands.specs.Endings.{WritesAs, ending_of};
 ghost use Rattle.vms_session.specs.Events.{trace_from};
 ghost use Rattle.vms_script.specs.Views.{event_lines};
-ghost use Rattle.vms_commands.specs.Courses.{EndsSo};
-ghost use Rattle.vms_board_commands.specs.Causes.{load_course};
-ghost use Rattle.vms_board_commands.specs.Load.{LoadGives, Loads, LoadsBy, LoadsWith};
-ghost use Rattle.vms_board_commands.specs.Scripts.{scripted};
-ghost use Rattle.vms_board_commands.specs.Seen.{SeenAs};
+ghost use Rattle.vms_board_commands.specs.Load.{LoadsStream, load_task};
+ghost use Rattle.vms_board_commands.specs.Runs.{Runs, frame};
 
 use crate::asked::OnBoard;
 use crate::scripts::events_of;
@@ -34,23 +28,9 @@ pub fn load_board<M: Machine, I: Source, O: Sink, H: Shelf>(
     shelf: &mut H,
 ) -> Result<(), Ending>
     requires { IsNumber M.family asked.number }
-    ensures content { (o : Outcome) → LoadsBy M.family asked.entry.number
-        (scripted None (H.held shelf.old) asked.entry.script.now)
-        (I.left input.old) (H.held shelf.old) o
-        → EndsAs (intake I.Source input.old) (intake I.Source input.new)
-        (outlet O.Sink out.old) (outlet O.Sink out.new)
-        (stock H.Shelf shelf.old) (stock H.Shelf shelf.new) (ending_of result) o }
-    ensures so { EndsSo (intake I.Source input.old) (intake I.Source input.new)
-        (outlet O.Sink out.old) (outlet O.Sink out.new)
-        (stock H.Shelf shelf.old) (stock H.Shelf shelf.new) load_course (ending_of result) }
-    ensures given { LoadGives M.family (scripted None (H.held shelf.old) asked.entry.script.now)
-        (intake I.Source input.old) (intake I.Source input.new) }
-    ensures seen { let held = H.held shelf.old in
-        let lines = scripted None held asked.entry.script.now in
-        SeenAs (LoadsWith M.family asked.entry.number lines held)
-        (intake I.Source input.old) (intake I.Source input.new)
-        (outlet O.Sink out.old) (outlet O.Sink out.new)
-        (stock H.Shelf shelf.old) (stock H.Shelf shelf.new) (ending_of result) }
+    ensures { Runs (load_task M.family asked.entry.number asked.entry.script.now)
+        (frame I.Source O.Sink H.Shelf input.old out.old shelf.old)
+        (frame I.Source O.Sink H.Shelf input.new out.new shelf.new) (ending_of result) }
 {
     let events = events_of(alloc, asked.script, shelf)?;
     load_events::<M, I, O>(alloc, asked.number, &events, input, out)
@@ -66,19 +46,9 @@ fn load_events<M: Machine, I: Source, O: Sink>(
 ) -> Result<(), Ending>
     requires board { IsNumber M.family number }
     requires events { AreEvents events.now }
-    ensures content { (shelf shelf' : Stock) (o : Outcome) → shelf'.held ≡ shelf.held
-        → IsSomeAnd (I.left input.old)
-        (λ bytes. Loads M.family number (event_lines events.now) bytes shelf.held o)
-        → EndsAs (intake I.Source input.old) (intake I.Source input.new)
-        (outlet O.Sink out.old) (outlet O.Sink out.new) shelf shelf' (ending_of result) o }
-    ensures so { (shelf : Stock) → EndsSo (intake I.Source input.old) (intake I.Source input.new)
-        (outlet O.Sink out.old) (outlet O.Sink out.new) shelf shelf load_course (ending_of result) }
-    ensures given { let most = most_given (M.family.set M.family.newest) in
-        I.given input.new ≤ I.given input.old + most }
-    ensures seen { (shelf shelf' : Stock) → shelf'.held ≡ shelf.held
-        → SeenAs (λ bytes o. Loads M.family number (event_lines events.now) bytes shelf.held o)
-        (intake I.Source input.old) (intake I.Source input.new)
-        (outlet O.Sink out.old) (outlet O.Sink out.new) shelf shelf' (ending_of result) }
+    ensures { LoadsStream M.family number
+        (event_lines events.now) (intake I.Source input.old) (intake I.Source input.new)
+        (outlet O.Sink out.old) (outlet O.Sink out.new) (ending_of result) }
 {
     let mut board = MachineBoard::<M>::new(alloc, number)?;
     load_on(&mut board, events, input, out)
@@ -92,21 +62,9 @@ fn load_on<M: Machine, I: Source, O: Sink>(
     out: &mut O,
 ) -> Result<(), Ending>
     requires { AreEvents events.now }
-    ensures content { (shelf shelf' : Stock) (o : Outcome) → shelf'.held ≡ shelf.held
-        → IsSomeAnd (I.left input.old)
-        (λ bytes. let number = M.family.number board.old.state in
-        Loads M.family number (event_lines events.now) bytes shelf.held o)
-        → EndsAs (intake I.Source input.old) (intake I.Source input.new)
-        (outlet O.Sink out.old) (outlet O.Sink out.new) shelf shelf' (ending_of result) o }
-    ensures so { (shelf : Stock) → EndsSo (intake I.Source input.old) (intake I.Source input.new)
-        (outlet O.Sink out.old) (outlet O.Sink out.new) shelf shelf load_course (ending_of result) }
-    ensures given { let most = most_given (M.family.set M.family.newest) in
-        I.given input.new ≤ I.given input.old + most }
-    ensures seen { (shelf shelf' : Stock) → shelf'.held ≡ shelf.held
-        → let number = M.family.number board.old.state in
-        SeenAs (λ bytes o. Loads M.family number (event_lines events.now) bytes shelf.held o)
-        (intake I.Source input.old) (intake I.Source input.new)
-        (outlet O.Sink out.old) (outlet O.Sink out.new) shelf shelf' (ending_of result) }
+    ensures { LoadsStream M.family (M.family.number board.old.state)
+        (event_lines events.now) (intake I.Source input.old) (intake I.Source input.new)
+        (outlet O.Sink out.old) (outlet O.Sink out.new) (ending_of result) }
 {
     match board.restore(input) {
         Ok(()) => go_on(board, events, out),

@@ -1,15 +1,12 @@
 // The command `play`: a session.
-ghost use Rattle.std.specs.Prelude.{◌≡◌, ◌^◌, ◌<◌, IsSomeAnd, Some};
+ghost use Rattle.std.specs.Prelude.{◌≡◌, Some};
 ghost use Rattle.dev_base.specs.Levels.{IsLevel};
-ghost use Rattle.vms_io.specs.Told.{Intake, outlet, stock};
-ghost use Rattle.vms_commands.specs.Endings.{EndsAs, ending_of};
-ghost use Rattle.vms_commands.specs.Outcomes.{Outcome};
+ghost use Rattle.vms_io.specs.Told.{outlet, stock};
+ghost use Rattle.vms_commands.specs.Endings.{ending_of};
 ghost use Rattle.vms_script.specs.Grammar.{AreLines};
 ghost use Rattle.vms_script.specs.Views.{lines_view};
-ghost use Rattle.vms_commands.specs.Courses.{EndsSo};
-ghost use Rattle.vms_board_commands.specs.Causes.{play_course};
-ghost use Rattle.vms_board_commands.specs.Play.{PlaysAll, PlaysBy, ending_by};
-ghost use Rattle.vms_board_commands.specs.Scripts.{scripted};
+ghost use Rattle.vms_board_commands.specs.Play.{ending_by, lines_task, play_task};
+ghost use Rattle.vms_board_commands.specs.Runs.{RunsAside};
 
 use crate::asked::OnBoard;
 use crate::scripts::session_of;
@@ -29,15 +26,9 @@ pub fn play_board<O: Sink, H: Shelf>(
     shelf: &mut H,
 ) -> Result<(), Ending>
     requires { IsLevel asked.number }
-    ensures content { (input : Intake) (o : Outcome) → input.given < 2 ^ 64
-        → PlaysBy asked.entry.number
-        (scripted (Some asked.entry.number) (H.held shelf.old) asked.entry.script.now)
-        (H.held shelf.old) o
-        → EndsAs input input (outlet O.Sink out.old) (outlet O.Sink out.new)
-        (stock H.Shelf shelf.old) (stock H.Shelf shelf.new) (ending_of result) o }
-    ensures so { (input : Intake) → EndsSo input input
+    ensures { RunsAside (play_task asked.entry.number asked.entry.script.now)
         (outlet O.Sink out.old) (outlet O.Sink out.new)
-        (stock H.Shelf shelf.old) (stock H.Shelf shelf.new) play_course (ending_of result) }
+        (stock H.Shelf shelf.old) (stock H.Shelf shelf.new) (ending_of result) }
 {
     let lines = session_of(alloc, asked.script, asked.number, shelf)?;
     play_lines(alloc, asked.number, &lines, out, shelf)
@@ -53,13 +44,9 @@ fn play_lines<O: Sink, H: Shelf>(
 ) -> Result<(), Ending>
     requires level { IsLevel level }
     requires lines { AreLines (Some level) (lines_view lines.now) }
-    ensures content { (input : Intake) (o : Outcome) → input.given < 2 ^ 64
-        → IsSomeAnd (H.held shelf.old) (λ map. PlaysAll level (lines_view lines.now) map o)
-        → EndsAs input input (outlet O.Sink out.old) (outlet O.Sink out.new)
-        (stock H.Shelf shelf.old) (stock H.Shelf shelf.new) (ending_of result) o }
-    ensures so { (input : Intake) → EndsSo input input
+    ensures { RunsAside (lines_task level (lines_view lines.now))
         (outlet O.Sink out.old) (outlet O.Sink out.new)
-        (stock H.Shelf shelf.old) (stock H.Shelf shelf.new) play_course (ending_of result) }
+        (stock H.Shelf shelf.old) (stock H.Shelf shelf.new) (ending_of result) }
 {
     let mut board = Board::new(alloc, level)?;
     play(alloc, lines, &mut board, out, shelf).map_err(fault_ending)

@@ -9,10 +9,10 @@ ghost use Rattle.vms_io.specs.Told.{Intake, Stock, outlet, stock};
 ghost use Rattle.vms_commands.specs.Endings.{ending_of};
 ghost use Rattle.vms_commands.specs.StepEndings.{TextEnds};
 ghost use Rattle.vms_commands.specs.Steps.{Gives};
-ghost use Rattle.vms_commands.specs.Texts.{TextContent};
 ghost use Rattle.vms_commands.specs.Courses.{EndsSo};
 ghost use Rattle.vms_board_commands.specs.Causes.{save_course};
-ghost use Rattle.vms_board_commands.specs.Save.{ending_by, saved_after};
+ghost use Rattle.vms_board_commands.specs.Save.{ending_by, save_task};
+ghost use Rattle.vms_board_commands.specs.Runs.{RunsAside};
 
 use crate::asked::Saving;
 use crate::scripts::events_of;
@@ -33,13 +33,10 @@ pub fn save_board<M: Machine, O: Sink, H: Shelf>(
 ) -> Result<(), Ending>
     requires board { IsNumber M.family asked.number }
     requires may { ReachesSet M.family.newest asked.number asked.set }
-    ensures content { let said = asked.entry in TextContent
-        (saved_after M.family said.number said.set (H.held shelf.old) said.script.now)
+    ensures { let said = asked.entry in
+        RunsAside (save_task M.family said.number said.set said.script.now)
         (outlet O.Sink out.old) (outlet O.Sink out.new)
         (stock H.Shelf shelf.old) (stock H.Shelf shelf.new) (ending_of result) }
-    ensures so { (input : Intake) → EndsSo input input
-        (outlet O.Sink out.old) (outlet O.Sink out.new)
-        (stock H.Shelf shelf.old) (stock H.Shelf shelf.new) save_course (ending_of result) }
 {
     let events = events_of(alloc, asked.script, shelf)?;
     save_after::<M, O>(alloc, asked.number, asked.set, &events, out)

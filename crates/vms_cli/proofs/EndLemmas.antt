@@ -1,31 +1,32 @@
 -- From how a call ends and why to what it answers.
-use Rattle.std.proofs.Common.{ℕ, List, IfSome}
+use Rattle.std.proofs.Common.{◌≡◌, ℕ, List, None, IfSome}
 use Rattle.vms_io.specs.Shelves.{HoldsAll}
 use Rattle.vms_io.specs.Told.{Intake, Outlet, Stock}
 use Rattle.vms_io.specs.Writing.{Serves}
 use Rattle.vms_commands.specs.declared.ending.Ending.{Ending}
-use Rattle.vms_commands.specs.Endings.{EndsAs, Tells}
+use Rattle.vms_commands.specs.Endings.{Tells}
 use Rattle.vms_commands.specs.Outcomes.{Outcome, DoesOrStops}
 use Rattle.vms_commands.proofs.EndLemmas.{around, outcome_so}
 use Rattle.vms_cli.specs.Answers.{Answers, HasOutcome}
 use Rattle.vms_cli.specs.Commands.{asked_of}
 use Rattle.vms_cli.proofs.ContinuationLemmas.{continues_so}
 use Rattle.vms_cli.proofs.EndsSo.{caused_so}
-use Rattle.vms_cli.proofs.RowLemmas.{RunsSo, row_so}
+use Rattle.vms_cli.proofs.RowLemmas.{row_so}
+use Rattle.vms_board_commands.specs.Runs.{Runs, moment}
+use Rattle.vms_cli.specs.Runs.{task_of}
 use Rattle.vms_cli.proofs.UpgradeLemmas.{upgrade_so}
 use Rattle.vms_cli.proofs.VerdictLaws.{verdict_so}
 
 module _ (i i' : Intake) (o o' n n' : Outlet) (s s' : Stock) where
   -- what the call answers
-  pub answers : (words : List (List ℕ)) (e : Ending) (status : ℕ) → ((x : Outcome) → HasOutcome (asked_of words) i.left s.held x → EndsAs i i' o o' s s' e x)
-      → RunsSo i i' o o' s s' (asked_of words) e → Tells n n' e status → Serves n n' → IfSome s.held HoldsAll → Answers words status (around i o n s) (around i' o' n' s')
-  answers words e status content run t serves octets =
+  pub answers : (words : List (List ℕ)) (e : Ending) (status : ℕ) → Runs (task_of (asked_of words)) (moment i o s) (moment i' o' s') e → (asked_of words ≡ None → o' ≡ o) → Tells n n' e status → Serves n n' → IfSome s.held HoldsAll → Answers words status (around i o n s) (around i' o' n' s')
+  answers words e status run unnamed t serves octets =
       let so = run.so in
       let outcome : (x : Outcome) → HasOutcome (asked_of words) i.left s.held x → DoesOrStops status (around i o n s) (around i' o' n' s') x =
-      λ x has. outcome_so i i' o o' n n' s s' e status x (content x has) (caused_so i i' o o' s s' (asked_of words) e so) t in
+      λ x has. outcome_so i i' o o' n n' s s' e status x (run.content x has) (caused_so i i' o o' s s' (asked_of words) e so) t in
       record {
         outcome = outcome;
-        row = row_so i i' o o' n n' s s' (asked_of words) e status run t;
+        row = row_so i i' o o' n n' s s' (asked_of words) e status run unnamed t;
         verdict = verdict_so (asked_of words) i.left s.held status (around i o n s) (around i' o' n' s') outcome;
         upgrade = upgrade_so (asked_of words) status (around i o n s) (around i' o' n' s') outcome;
         continuation = continues_so (asked_of words) status (around i o n s) (around i' o' n' s') outcome;

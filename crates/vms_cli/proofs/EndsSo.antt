@@ -17,9 +17,6 @@ use Rattle.vms_cli.specs.Causes.{WriteCause, WritesBy}
 use Rattle.vms_cli.specs.Commands.{Asked}
 use Rattle.vms_cli.specs.Statuses.{check_course, counter_course, course_of, stores_at, writes_at}
 use Rattle.vms_cli.proofs.RowTables.{stores_one, writes_one}
-use Rattle.vms_io.specs.Shelves.{Held}
-use Rattle.vms_board_commands.specs.Seen.{SeenAs}
-use Rattle.vms_cli.specs.Rows.{OutcomeWith}
 
 -- ---- the cause of a command that writes one text
 
@@ -133,11 +130,3 @@ module _ (i : Intake) (o o' : Outlet) (s s' : Stock) where
   pub counter_ends : (b : Bool) (e : Ending) → WritesBy false false o o' e → Looks s s' → (b ≡ false → s' ≡ s) → EndsSo i i o o' s s' (counter_course b) e
   counter_ends b e w looks unasked =
       text_by (0 ∷ 6 ∷ 10 ∷ []) b false (compares_none (0 ∷ 6 ∷ 10 ∷ []) refl refl refl) e (written_so b false e w.cause) w.serves looks unasked
-
--- ---- of the command that is asked for
-
-pub asked_so : {i i' : Intake} {o o' : Outlet} {s s' : Stock} {e : Ending} (asked own : Option Asked) → own ≡ asked → EndsSo i i' o o' s s' (course_of own) e → EndsSo i i' o o' s s' (course_of asked) e
-asked_so {i} {i'} {o} {o'} {s} {s'} {e} asked own same h = subst (λ (a : Option Asked). EndsSo i i' o o' s s' (course_of a) e) same h
-
-pub asked_seen : (held : Option Held) {i i' : Intake} {o o' : Outlet} {s s' : Stock} {e : Ending} (asked own : Option Asked) → own ≡ asked → SeenAs (OutcomeWith own held) i i' o o' s s' e → SeenAs (OutcomeWith asked held) i i' o o' s s' e
-asked_seen held {i} {i'} {o} {o'} {s} {s'} {e} asked own same h = subst (λ (a : Option Asked). SeenAs (OutcomeWith a held) i i' o o' s s' e) same h

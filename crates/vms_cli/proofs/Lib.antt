@@ -20,6 +20,7 @@ pub mod RoundTrips
 pub mod RowLemmas
 pub mod RowTables
 pub mod SaveLaws
+pub mod RunLemmas
 pub mod ShowLemmas
 pub mod StateLaws
 pub mod StepsOfTwo

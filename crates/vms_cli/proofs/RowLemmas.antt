@@ -12,8 +12,10 @@ use Rattle.vms_commands.specs.Outcomes.{Does, DoesOrStops, Outcome, Outside}
 use Rattle.vms_commands.proofs.CourseLemmas.{wrong}
 use Rattle.vms_commands.proofs.EndLemmas.{around, kept_none, outcome_so, same_keeps}
 use Rattle.vms_cli.specs.Commands.{Asked}
-use Rattle.vms_cli.specs.Rows.{CanAnswer, ComesSeen, DoesSeen, Gives, HasCause, OutcomeWith}
-use Rattle.vms_cli.specs.Statuses.{course_of, reads, statuses_of, stores_at, takes_at, writes_at}
+use Rattle.vms_board_commands.specs.Runs.{Runs, moment}
+use Rattle.vms_cli.specs.Runs.{task_of}
+use Rattle.vms_cli.specs.Rows.{CanAnswer, ComesSeen, DoesSeen, HasCause, OutcomeWith}
+use Rattle.vms_cli.specs.Statuses.{course_of, statuses_of, stores_at, takes_at, writes_at}
 use Rattle.vms_cli.proofs.EndsSo.{caused_so}
 use Rattle.vms_cli.proofs.VerdictLaws.{StopsAt}
 use Rattle.vms_cli.proofs.RowTables.{HasSix, at_six, six_among, stores_six, takes_six, writes_six}
@@ -39,13 +41,6 @@ status_at Input = 5
 status_at Sink = 6
 status_at Shelf = 7
 status_at Memory = 10
-
--- how a command ends: what it touches, how much of the input is given, and what is seen of it
-pub record RunsSo (i i' : Intake) (o o' : Outlet) (s s' : Stock) (asked : Option Asked) (e : Ending) : Type 0 where
-  pub so : EndsSo i i' o o' s s' (course_of asked) e
-  pub given : Gives asked s.held i i'
-  pub seen : reads asked ≡ true → SeenAs (OutcomeWith asked s.held) i i' o o' s s' e
-  pub unnamed : asked ≡ None → o' ≡ o
 
 module _ (i i' : Intake) (o o' n n' : Outlet) (s s' : Stock) where
   abbrev old : Outside
@@ -184,8 +179,8 @@ module _ (i i' : Intake) (o o' n n' : Outlet) (s s' : Stock) where
 
   -- ---- the row
 
-  pub row_so : (asked : Option Asked) (e : Ending) (status : ℕ) → RunsSo i i' o o' s s' asked e → Tells n n' e status → CanAnswer asked status old new
-  row_so asked e status c t =
+  pub row_so : (asked : Option Asked) (e : Ending) (status : ℕ) → Runs (task_of asked) (moment i o s) (moment i' o' s') e → (asked ≡ None → o' ≡ o) → Tells n n' e status → CanAnswer asked status old new
+  row_so asked e status c unnamed t =
       let h = c.so in
       let said = told e status t in
       let out : is_among (writes_at asked) status ≡ false → Keeps o.written o'.written =
@@ -197,7 +192,7 @@ module _ (i i' : Intake) (o o' n n' : Outlet) (s s' : Stock) where
         input = but_at (takes_at asked) (takes_six asked) e status said (i' ≡ i) h.input;
         held = but_at (stores_at asked) (stores_six asked) e status said (s'.held ≡ s.held) h.held;
         shelf = h.shelf;
-        unnamed = c.unnamed;
+        unnamed = unnamed;
         given = c.given;
         seen = λ is which. seen_so (OutcomeWith asked s.held) e status (c.seen is) (caused_so i i' o o' s s' asked e h) t which;
         stopped = λ is six. stopped_so (OutcomeWith asked s.held) e status (c.seen is) (caused_so i i' o o' s s' asked e h) t six;

@@ -1,9 +1,9 @@
 -- The tables of statuses, each as one of a few lists.
-use Rattle.std.proofs.Common.{◌≡◌, ◌⊎◌, ℕ, true, false, List, [], ◌∷◌, Option, Some, None, inl, inr, refl, sym, ap, ◌∙◌, subst}
+use Rattle.std.proofs.Common.{◌≡◌, ◌⊎◌, ℕ, true, false, List, [], ◌∷◌, Option, Some, None, inl, inr, refl, sym, ◌∙◌, subst}
 use Rattle.vms_commands.specs.Courses.{is_among}
 use Rattle.vms_commands.proofs.CourseLemmas.{wrong}
 use Rattle.vms_cli.specs.Commands.{Asked, Show, Convert, Analyze, Load, Play}
-use Rattle.vms_cli.specs.Statuses.{reads, statuses_of, stores_at, takes_at, writes_at}
+use Rattle.vms_cli.specs.Statuses.{statuses_of, stores_at, takes_at, writes_at}
 
 pub writes_one : (P : List ℕ → Type 0) → P [] → P (0 ∷ 6 ∷ []) → P (0 ∷ 6 ∷ 7 ∷ 10 ∷ []) → (asked : Option Asked) → P (writes_at asked)
 writes_one P none text play None = none
@@ -45,7 +45,3 @@ stores_six asked = stores_one HasSix (inr refl) (inl refl) asked
 pub at_six : (l : List ℕ) → HasSix l → (k status : ℕ) → status ≡ 6 → (P : Type 0) → (is_among l k ≡ false → P) → is_among l status ≡ false → P
 at_six l (inl has) k status six P h none = absurd (wrong (sym (subst (λ (n : ℕ). is_among l n ≡ true) (sym six) has) ∙ none))
 at_six l (inr is) k status six P h none = h (subst (λ (m : List ℕ). is_among m k ≡ false) (sym is) refl)
-
--- another command than those that read their input
-pub unread : {X : Type 0} (asked other : Option Asked) → asked ≡ other → reads asked ≡ false → reads other ≡ true → X
-unread asked other same none is = absurd (wrong (sym is ∙ sym (ap reads same) ∙ none))

@@ -4,7 +4,6 @@ use Rattle.dev_base.specs.Levels.{ReachesSet}
 use Rattle.dev_board.proofs.SoundLaws.{sound_stays_on}
 use Rattle.dev_board.specs.Laws.{AreEvents}
 use Rattle.dev_clock.proofs.SoundLaws.{sound_stays_on as clock_stays_sound}
-use Rattle.dev_board.specs.Sound.{IsSound}
 use Rattle.dev_board.specs.declared.event.Event.{Event}
 use Rattle.vms_board.specs.Clock.{clock}
 use Rattle.vms_board.specs.ClockStands.{clock_stands}

@@ -5,7 +5,7 @@ use Rattle.std.specs.declared.string.String.{String}
 use Rattle.arrayvec.specs.ArrayVec.{ArrayVec}
 use Rattle.dev_base.specs.declared.limits.TheConstants.{NEWEST}
 use Rattle.vms_io.specs.Shelves.{Held}
-use Rattle.vms_io.specs.Told.{Intake}
+use Rattle.vms_io.specs.Told.{Intake, Outlet}
 use Rattle.vms_spec.specs.declared.Reason.{Reason}
 use Rattle.vms_spec.specs.Good.{IsFit}
 use Rattle.vms_spec.specs.Images.{Image}
@@ -32,6 +32,8 @@ use Rattle.vms_commands.specs.Steps.{Step, Gives, Ends, HasBy, next}
 use Rattle.vms_commands.specs.declared.ending.Ending.{Ending}
 use Rattle.vms_commands.specs.declared.ending.Ending.TheVariants as endings
 use Rattle.vms_board_commands.specs.Seen.{WithGiven}
+use Rattle.vms_board_commands.specs.Runs.{RunsBehind}
+use Rattle.vms_cli.specs.Statuses.{convert_course}
 
 -- the set whose streams are read
 abbrev pub newest : Set
@@ -119,3 +121,8 @@ pub data EndsLike : Result (Unit {0}) ConvertFault → Ending → Type 0 where
   FailsReading : EndsLike (Err faults.ReadFault) endings.ReadFault
   FailsWriting : EndsLike (Err faults.WriteFault) endings.WriteFault
   LacksMemory : (fault : ConvertFault) → MayLackMemory fault → EndsLike (Err fault) endings.NoMemory
+
+-- once the set is there
+pub record ConvertsStream (to : Set) (i i' : Intake) (o o' : Outlet) (e : Ending) : Type 0 where
+  pub runs : RunsBehind (ConvertsBy (agrees to)) (ConvertsWith (agrees to)) convert_course i i' o o' e
+  pub given : ConvertGives (agrees to) i i'

@@ -14,6 +14,7 @@ pub mod Laws
 pub mod Limits
 pub mod Pack
 pub mod Rows
+pub mod Runs
 pub mod Show
 pub mod States
 pub mod Statuses

@@ -1,7 +1,7 @@
 -- The command `show`: its outcome, and what is seen of its input.
 use Rattle.std.specs.Prelude.{◌≡◌, ◌⊎◌, ℕ, ◌+◌, ◌≤◌, List, Option, IsSomeAnd}
 use Rattle.vms_io.specs.Shelves.{Held}
-use Rattle.vms_io.specs.Told.{Intake}
+use Rattle.vms_io.specs.Told.{Intake, Outlet}
 use Rattle.vms_spec.specs.declared.Reason.{Reason}
 use Rattle.vms_spec.specs.Images.{Image}
 use Rattle.vms_spec.specs.Sets.{Set}
@@ -13,7 +13,10 @@ use Rattle.vms_load.specs.Staging.{most_given}
 use Rattle.vms_commands.specs.Lines.{refused_line}
 use Rattle.vms_commands.specs.Outcomes.{Outcome, done, ended}
 use Rattle.vms_commands.specs.Steps.{Step, Untold, Gives, Ends, HasBy}
+use Rattle.vms_commands.specs.declared.ending.Ending.{Ending}
+use Rattle.vms_board_commands.specs.Causes.{stream_course}
 use Rattle.vms_board_commands.specs.Seen.{WithGiven}
+use Rattle.vms_board_commands.specs.Runs.{RunsBehind}
 
 -- the values text of the stream that the input takes, or where and why the input is refused, up to the end of the unit at
 -- fault; the shelf tells the same as before
@@ -42,3 +45,8 @@ ShowsWell held set bytes o = WellFormed set × Shows set bytes held o
 -- the outcome of these bytes under the set that the step gave, or may have given where it isn't told
 abbrev pub ShowsWith : Step Set → Option Held → List ℕ → Outcome → Type 0
 ShowsWith step held = WithGiven step (ShowsWell held)
+
+-- once the set is there
+pub record ShowsStream (set : Set) (i i' : Intake) (o o' : Outlet) (e : Ending) : Type 0 where
+  pub runs : RunsBehind (λ left held x. IsSomeAnd left (λ bytes. Shows set bytes held x)) (λ held. ShowsWell held set) stream_course i i' o o' e
+  pub given : i'.given ≤ i.given + most_given set

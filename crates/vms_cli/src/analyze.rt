@@ -1,12 +1,10 @@
 // The command `analyze`: the values text of a stream by its own description.
-ghost use Rattle.std.specs.Prelude.{◌≡◌, IsSomeAnd, Err};
+ghost use Rattle.std.specs.Prelude.{◌≡◌, Err, Some};
 ghost use Rattle.vms_io.specs.Told.{Stock, intake, outlet};
-ghost use Rattle.vms_commands.specs.Courses.{EndsSo};
-ghost use Rattle.vms_commands.specs.Endings.{EndsAs, ending_of};
-ghost use Rattle.vms_commands.specs.Outcomes.{Outcome};
-ghost use Rattle.vms_board_commands.specs.Seen.{SeenAs};
-ghost use Rattle.vms_cli.specs.Analyze.{EndsLike, GivesListed, IsListing, analyze_reason_name, unlisted_line};
-ghost use Rattle.vms_cli.specs.Statuses.{analyze_course};
+ghost use Rattle.vms_commands.specs.Endings.{ending_of};
+ghost use Rattle.vms_cli.specs.Analyze.{EndsLike, analyze_reason_name, unlisted_line};
+ghost use Rattle.vms_cli.specs.Commands.{Analyze};
+ghost use Rattle.vms_cli.specs.Runs.{Runs, moment, doing};
 
 use arrayvec::ArrayVec;
 use std::alloc::Global;
@@ -20,17 +18,9 @@ pub(crate) fn analyze_input<I: Source, O: Sink>(
     input: &mut I,
     out: &mut O,
 ) -> Result<(), Ending>
-    ensures content { (shelf : Stock) (o : Outcome)
-        → IsSomeAnd (I.left input.old) (λ bytes. IsListing shelf.held bytes o)
-        → EndsAs (intake I.Source input.old) (intake I.Source input.new)
-        (outlet O.Sink out.old) (outlet O.Sink out.new) shelf shelf (ending_of result) o }
-    ensures so { (shelf : Stock) → EndsSo (intake I.Source input.old) (intake I.Source input.new)
-        (outlet O.Sink out.old) (outlet O.Sink out.new) shelf shelf analyze_course
-        (ending_of result) }
-    ensures given { GivesListed (I.given input.old) (I.given input.new) }
-    ensures seen { (shelf : Stock) → SeenAs (IsListing shelf.held)
-        (intake I.Source input.old) (intake I.Source input.new)
-        (outlet O.Sink out.old) (outlet O.Sink out.new) shelf shelf (ending_of result) }
+    ensures { (shelf : Stock) → Runs (doing Analyze)
+        (moment (intake I.Source input.old) (outlet O.Sink out.old) shelf)
+        (moment (intake I.Source input.new) (outlet O.Sink out.new) shelf) (ending_of result) }
 {
     analyze(alloc, input, out).map_err(fault_ending)
 }

@@ -1,16 +1,15 @@
 // The command `check`: whether a newer set reads what an older one writes.
-ghost use Rattle.std.specs.Prelude.{true, false};
-ghost use Rattle.vms_io.specs.Told.{Intake, outlet, stock};
+ghost use Rattle.std.specs.Prelude.{true, false, Some};
+ghost use Rattle.vms_io.specs.Told.{outlet, stock};
 ghost use Rattle.vms_desc.specs.Described.{described};
 ghost use Rattle.vms_check.specs.Comparing.{first_mismatch};
 ghost use Rattle.vms_commands.specs.Asks.{set_asked};
 ghost use Rattle.vms_commands.specs.Endings.{ending_of};
-ghost use Rattle.vms_cli.specs.Check.{asks_shelf, checked, verdict};
+ghost use Rattle.vms_cli.specs.Check.{verdict};
+ghost use Rattle.vms_cli.specs.Commands.{Check};
+ghost use Rattle.vms_cli.specs.Runs.{RunsAside, doing};
 ghost use Rattle.vms_cli.specs.Causes.{WritesBy};
-ghost use Rattle.vms_cli.specs.Statuses.{check_course};
-ghost use Rattle.vms_commands.specs.Courses.{EndsSo};
 ghost use Rattle.vms_commands.specs.StepEndings.{TextEnds};
-ghost use Rattle.vms_commands.specs.Texts.{TextContent};
 
 use crate::two_sets::two_sets;
 use std::alloc::Global;
@@ -26,14 +25,9 @@ pub(crate) fn check<O: Sink, H: Shelf>(
     out: &mut O,
     shelf: &mut H,
 ) -> Result<(), Ending>
-    ensures content { TextContent
-        (checked (H.held shelf.old) (set_asked old.entry) (set_asked new.entry))
+    ensures { RunsAside (doing (Check (set_asked old.entry) (set_asked new.entry)))
         (outlet O.Sink out.old) (outlet O.Sink out.new)
         (stock H.Shelf shelf.old) (stock H.Shelf shelf.new) (ending_of result) }
-    ensures so { (input : Intake) → EndsSo input input (outlet O.Sink out.old)
-        (outlet O.Sink out.new) (stock H.Shelf shelf.old) (stock H.Shelf shelf.new)
-        (check_course (asks_shelf (set_asked old.entry) (set_asked new.entry)))
-        (ending_of result) }
 {
     let sets = two_sets(alloc, old, new, shelf)?;
     compare(alloc, &sets.old, &sets.new, out)

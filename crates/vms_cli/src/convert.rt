@@ -1,18 +1,15 @@
 // The command `convert`: the stream of the same state under another set, or what would be lost.
-ghost use Rattle.std.specs.Prelude.{◌≡◌, ◌<◌, Bool, length, IfOk};
+ghost use Rattle.std.specs.Prelude.{◌≡◌, ◌<◌, length, Some, IfOk};
 ghost use Rattle.vms_io.specs.Supplies.{store};
-ghost use Rattle.vms_io.specs.Told.{Stock, intake, outlet, stock};
+ghost use Rattle.vms_io.specs.Told.{intake, outlet};
 ghost use Rattle.vms_spec.specs.Layout.{device_cells};
 ghost use Rattle.vms_desc.specs.Described.{described, device_at};
 ghost use Rattle.vms_elements.specs.Parts.{cell_name};
 ghost use Rattle.vms_commands.specs.Asks.{set_asked};
-ghost use Rattle.vms_commands.specs.Endings.{EndsAs, ending_of};
-ghost use Rattle.vms_commands.specs.Fetching.{is_on_shelf};
-ghost use Rattle.vms_commands.specs.Outcomes.{Outcome};
-ghost use Rattle.vms_commands.specs.Courses.{EndsSo};
-ghost use Rattle.vms_board_commands.specs.Seen.{SeenAs};
-ghost use Rattle.vms_cli.specs.Statuses.{convert_course};
-ghost use Rattle.vms_cli.specs.Convert.{ConvertGives, ConvertsBy, ConvertsWith, EndsLike, IsInNewest, NamesCell, agrees, line_of, lost_line, newest, target};
+ghost use Rattle.vms_commands.specs.Endings.{ending_of};
+ghost use Rattle.vms_cli.specs.Convert.{ConvertsStream, EndsLike, IsInNewest, NamesCell, line_of, lost_line, newest};
+ghost use Rattle.vms_cli.specs.Commands.{Convert};
+ghost use Rattle.vms_cli.specs.Runs.{Runs, frame, doing};
 
 use arrayvec::ArrayVec;
 use dev_base::NEWEST;
@@ -36,22 +33,9 @@ pub(crate) fn convert<I: Source, O: Sink, H: Shelf>(
     out: &mut O,
     shelf: &mut H,
 ) -> Result<(), Ending>
-    ensures content { (o : Outcome) → ConvertsBy (target (H.held shelf.old) (set_asked set.entry))
-        (I.left input.old) (H.held shelf.old) o
-        → EndsAs (intake I.Source input.old) (intake I.Source input.new)
-        (outlet O.Sink out.old) (outlet O.Sink out.new)
-        (stock H.Shelf shelf.old) (stock H.Shelf shelf.new) (ending_of result) o }
-    ensures so { EndsSo (intake I.Source input.old) (intake I.Source input.new)
-        (outlet O.Sink out.old) (outlet O.Sink out.new)
-        (stock H.Shelf shelf.old) (stock H.Shelf shelf.new)
-        (convert_course (is_on_shelf (set_asked set.entry))) (ending_of result) }
-    ensures given { ConvertGives (target (H.held shelf.old) (set_asked set.entry))
-        (intake I.Source input.old) (intake I.Source input.new) }
-    ensures seen { let held = H.held shelf.old in
-        SeenAs (ConvertsWith (target held (set_asked set.entry)) held)
-        (intake I.Source input.old) (intake I.Source input.new)
-        (outlet O.Sink out.old) (outlet O.Sink out.new)
-        (stock H.Shelf shelf.old) (stock H.Shelf shelf.new) (ending_of result) }
+    ensures { Runs (doing (Convert (set_asked set.entry)))
+        (frame I.Source O.Sink H.Shelf input.old out.old shelf.old)
+        (frame I.Source O.Sink H.Shelf input.new out.new shelf.new) (ending_of result) }
 {
     let to = set_of(alloc, set, shelf)?;
     convert_to(alloc, &to, input, out)
@@ -64,20 +48,9 @@ fn convert_to<I: Source, O: Sink>(
     input: &mut I,
     out: &mut O,
 ) -> Result<(), Ending>
-    ensures content { (shelf shelf' : Stock) (o : Outcome) → shelf'.held ≡ shelf.held
-        → ConvertsBy (agrees (described to.now)) (I.left input.old) shelf.held o
-        → EndsAs (intake I.Source input.old) (intake I.Source input.new)
-        (outlet O.Sink out.old) (outlet O.Sink out.new) shelf shelf' (ending_of result) o }
-    ensures so { (shelf : Stock) (asks : Bool)
-        → EndsSo (intake I.Source input.old) (intake I.Source input.new)
-        (outlet O.Sink out.old) (outlet O.Sink out.new) shelf shelf (convert_course asks)
+    ensures { ConvertsStream (described to.now) (intake I.Source input.old)
+        (intake I.Source input.new) (outlet O.Sink out.old) (outlet O.Sink out.new)
         (ending_of result) }
-    ensures given { ConvertGives (agrees (described to.now))
-        (intake I.Source input.old) (intake I.Source input.new) }
-    ensures seen { (shelf shelf' : Stock) → shelf'.held ≡ shelf.held
-        → SeenAs (ConvertsWith (agrees (described to.now)) shelf.held)
-        (intake I.Source input.old) (intake I.Source input.new)
-        (outlet O.Sink out.old) (outlet O.Sink out.new) shelf shelf' (ending_of result) }
 {
     with_line(alloc, vms_convert::convert(alloc, input, to, out))
 }

@@ -1,6 +1,6 @@
 // The command `counter`: a state that shows why a newer set refuses what an older one writes.
-ghost use Rattle.std.specs.Prelude.{◌≡◌, ◌<◌, ◌^◌, ◌++◌, false, length, map, IfSome, IfOk, string_bytes};
-ghost use Rattle.vms_io.specs.Told.{Intake, outlet, stock};
+ghost use Rattle.std.specs.Prelude.{◌≡◌, ◌<◌, ◌++◌, false, length, map, Some, IfSome, IfOk, string_bytes};
+ghost use Rattle.vms_io.specs.Told.{outlet, stock};
 ghost use Rattle.vms_io.specs.Writing.{Wrote};
 ghost use Rattle.vms_spec.specs.Lists.{at_option};
 ghost use Rattle.vms_spec.specs.Values.{values_text};
@@ -9,18 +9,15 @@ ghost use Rattle.vms_image.specs.Typed.{state_of, AreImagesOf};
 ghost use Rattle.vms_counter_laws.specs.Computed.{computed};
 ghost use Rattle.vms_counter.specs.Found.{answer_of, IsFindingOf};
 ghost use Rattle.vms_commands.specs.Asks.{set_asked};
-ghost use Rattle.vms_commands.specs.Endings.{EndsAs, ending_of};
-ghost use Rattle.vms_commands.specs.Fetching.{named_sets};
+ghost use Rattle.vms_commands.specs.Endings.{ending_of};
 ghost use Rattle.vms_commands.specs.Lines.{refused_line};
-ghost use Rattle.vms_commands.specs.Outcomes.{Outcome};
 ghost use Rattle.vms_commands.specs.SetLines.{mismatch_line};
 ghost use Rattle.vms_commands.specs.StepEndings.{WrittenAs};
 ghost use Rattle.vms_cli.specs.Causes.{WritesBy};
-ghost use Rattle.vms_cli.specs.Statuses.{counter_course};
-ghost use Rattle.vms_commands.specs.Courses.{EndsSo};
-ghost use Rattle.vms_cli.specs.Check.{asks_shelf};
 ghost use Rattle.vms_cli.specs.TwoSets.{sets_of};
-ghost use Rattle.vms_cli.specs.Counter.{CountersBy, counter_text, no_state};
+ghost use Rattle.vms_cli.specs.Counter.{counter_text, no_state};
+ghost use Rattle.vms_cli.specs.Commands.{Counter};
+ghost use Rattle.vms_cli.specs.Runs.{RunsAside, doing};
 
 use crate::two_sets::{TwoSets, two_sets};
 use std::alloc::Global;
@@ -40,15 +37,9 @@ pub(crate) fn counter<O: Sink, H: Shelf>(
     out: &mut O,
     shelf: &mut H,
 ) -> Result<(), Ending>
-    ensures content { (input : Intake) (o : Outcome) → input.given < 2 ^ 64
-        → CountersBy (named_sets (H.held shelf.old) (set_asked old.entry) (set_asked new.entry))
-        (H.held shelf.old) o
-        → EndsAs input input (outlet O.Sink out.old) (outlet O.Sink out.new)
-        (stock H.Shelf shelf.old) (stock H.Shelf shelf.new) (ending_of result) o }
-    ensures so { (input : Intake) → EndsSo input input (outlet O.Sink out.old)
-        (outlet O.Sink out.new) (stock H.Shelf shelf.old) (stock H.Shelf shelf.new)
-        (counter_course (asks_shelf (set_asked old.entry) (set_asked new.entry)))
-        (ending_of result) }
+    ensures { RunsAside (doing (Counter (set_asked old.entry) (set_asked new.entry)))
+        (outlet O.Sink out.old) (outlet O.Sink out.new)
+        (stock H.Shelf shelf.old) (stock H.Shelf shelf.new) (ending_of result) }
 {
     let sets = two_sets(alloc, old, new, shelf)?;
     find(alloc, sets, out)

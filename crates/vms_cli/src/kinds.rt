@@ -1,16 +1,10 @@
 // `save` and `load` on a board of the kind that a word names.
 ghost use Rattle.std.specs.Prelude.{Some};
-ghost use Rattle.vms_io.specs.Told.{Intake, intake, outlet, stock};
-ghost use Rattle.vms_commands.specs.Endings.{EndsAs, ending_of};
-ghost use Rattle.vms_commands.specs.Outcomes.{Outcome};
-ghost use Rattle.vms_commands.specs.Texts.{TextContent};
-ghost use Rattle.vms_cli.specs.Answers.{HasOutcome, saved_on};
+ghost use Rattle.vms_io.specs.Told.{outlet, stock};
+ghost use Rattle.vms_commands.specs.Endings.{ending_of};
 ghost use Rattle.vms_cli.specs.Asks.{board_asked, saved_asked};
-ghost use Rattle.vms_cli.specs.Commands.{Load};
-ghost use Rattle.vms_cli.specs.Rows.{Gives, OutcomeWith};
-ghost use Rattle.vms_commands.specs.Courses.{EndsSo};
-ghost use Rattle.vms_board_commands.specs.Causes.{load_course, save_course};
-ghost use Rattle.vms_board_commands.specs.Seen.{SeenAs};
+ghost use Rattle.vms_cli.specs.Commands.{Load, Save};
+ghost use Rattle.vms_cli.specs.Runs.{Runs, RunsAside, frame, doing};
 
 use crate::boards::{BoardWord, Loading, SavedBoard};
 use std::alloc::Global;
@@ -29,13 +23,9 @@ pub(crate) fn save<O: Sink, H: Shelf>(
     out: &mut O,
     shelf: &mut H,
 ) -> Result<(), Ending>
-    ensures content { let asked = saved_asked board in TextContent
-        (saved_on asked.0 asked.1 (H.held shelf.old) script.now)
+    ensures { let asked = saved_asked board in RunsAside (doing (Save asked.0 asked.1 script.now))
         (outlet O.Sink out.old) (outlet O.Sink out.new)
         (stock H.Shelf shelf.old) (stock H.Shelf shelf.new) (ending_of result) }
-    ensures so { (input : Intake) → EndsSo input input (outlet O.Sink out.old)
-        (outlet O.Sink out.new) (stock H.Shelf shelf.old) (stock H.Shelf shelf.new) save_course
-        (ending_of result) }
 {
     match board {
         SavedBoard::Isa(board) => {
@@ -66,22 +56,9 @@ pub(crate) fn load<I: Source, O: Sink, H: Shelf>(
     out: &mut O,
     shelf: &mut H,
 ) -> Result<(), Ending>
-    ensures content { (o : Outcome)
-        → HasOutcome (Some (Load (board_asked loading.entry.board) loading.entry.script.now))
-        (I.left input.old) (H.held shelf.old) o
-        → EndsAs (intake I.Source input.old) (intake I.Source input.new)
-        (outlet O.Sink out.old) (outlet O.Sink out.new)
-        (stock H.Shelf shelf.old) (stock H.Shelf shelf.new) (ending_of result) o }
-    ensures so { EndsSo (intake I.Source input.old) (intake I.Source input.new)
-        (outlet O.Sink out.old) (outlet O.Sink out.new)
-        (stock H.Shelf shelf.old) (stock H.Shelf shelf.new) load_course (ending_of result) }
-    ensures given { Gives (Some (Load (board_asked loading.entry.board) loading.entry.script.now))
-        (H.held shelf.old) (intake I.Source input.old) (intake I.Source input.new) }
-    ensures seen { let asked = Load (board_asked loading.entry.board) loading.entry.script.now in
-        SeenAs (OutcomeWith (Some asked) (H.held shelf.old))
-        (intake I.Source input.old) (intake I.Source input.new)
-        (outlet O.Sink out.old) (outlet O.Sink out.new)
-        (stock H.Shelf shelf.old) (stock H.Shelf shelf.new) (ending_of result) }
+    ensures { Runs (doing (Load (board_asked loading.entry.board) loading.entry.script.now))
+        (frame I.Source O.Sink H.Shelf input.old out.old shelf.old)
+        (frame I.Source O.Sink H.Shelf input.new out.new shelf.new) (ending_of result) }
 {
     let script = loading.script;
     match loading.board {

@@ -1,6 +1,6 @@
 // The command `pack`: the stream of a values text on the shelf.
-ghost use Rattle.std.specs.Prelude.{◌<◌, ◌≤◌, true, false, length, map, vec_len, IfOk, IfSome};
-ghost use Rattle.vms_io.specs.Told.{Intake, outlet, stock};
+ghost use Rattle.std.specs.Prelude.{◌<◌, ◌≤◌, true, false, length, map, vec_len, IfOk, IfSome, Some};
+ghost use Rattle.vms_io.specs.Told.{outlet, stock};
 ghost use Rattle.vms_spec.specs.Lists.{at_option};
 ghost use Rattle.vms_spec.specs.Streams.{AreReady};
 ghost use Rattle.vms_desc.specs.Described.{described};
@@ -9,11 +9,10 @@ ghost use Rattle.vms_commands.specs.Asks.{set_asked};
 ghost use Rattle.vms_commands.specs.Endings.{ending_of};
 ghost use Rattle.vms_commands.specs.Fetching.{longest_file};
 ghost use Rattle.vms_commands.specs.StepEndings.{AsksIf, HadCause, StepAs, TextEnds, WrittenAs};
-ghost use Rattle.vms_commands.specs.Texts.{TextContent};
-ghost use Rattle.vms_commands.specs.Courses.{EndsSo};
-ghost use Rattle.vms_board_commands.specs.Causes.{save_course};
 ghost use Rattle.vms_cli.specs.Causes.{WritesBy};
-ghost use Rattle.vms_cli.specs.Pack.{described_stream, named_parts, packed, packs, parts_of};
+ghost use Rattle.vms_cli.specs.Pack.{described_stream, named_parts, packed, parts_of};
+ghost use Rattle.vms_cli.specs.Commands.{Pack};
+ghost use Rattle.vms_cli.specs.Runs.{RunsAside, doing};
 
 use crate::values_notes::values_line;
 use std::alloc::Global;
@@ -31,12 +30,9 @@ pub(crate) fn pack<O: Sink, H: Shelf>(
     out: &mut O,
     shelf: &mut H,
 ) -> Result<(), Ending>
-    ensures content { TextContent (packs (H.held shelf.old) (set_asked set.entry) values.now)
+    ensures { RunsAside (doing (Pack (set_asked set.entry) values.now))
         (outlet O.Sink out.old) (outlet O.Sink out.new)
         (stock H.Shelf shelf.old) (stock H.Shelf shelf.new) (ending_of result) }
-    ensures so { (input : Intake) → EndsSo input input (outlet O.Sink out.old)
-        (outlet O.Sink out.new) (stock H.Shelf shelf.old) (stock H.Shelf shelf.new) save_course
-        (ending_of result) }
 {
     let parts = pack_parts(alloc, set, values, shelf)?;
     pack_text(alloc, &parts.set, &parts.values, out)

@@ -1,18 +1,14 @@
 // The command `show`: the values text of a stream.
-ghost use Rattle.std.specs.Prelude.{◌≡◌, ◌+◌, ◌≤◌, ◌<◌, Bool, length, IfSome, IsSomeAnd};
-ghost use Rattle.vms_io.specs.Told.{Stock, intake, outlet, stock};
+ghost use Rattle.std.specs.Prelude.{◌<◌, length, IfSome, Some};
+ghost use Rattle.vms_io.specs.Told.{intake, outlet};
 ghost use Rattle.vms_spec.specs.Values.{values_text};
 ghost use Rattle.vms_load.specs.Lean.{has, loads};
-ghost use Rattle.vms_load.specs.Staging.{most_given};
 ghost use Rattle.vms_values.specs.Printing.{machine_of};
 ghost use Rattle.vms_commands.specs.Asks.{set_asked};
-ghost use Rattle.vms_commands.specs.Endings.{EndsAs, WritesAs, ending_of};
-ghost use Rattle.vms_commands.specs.Courses.{EndsSo};
-ghost use Rattle.vms_cli.specs.Statuses.{show_course};
-ghost use Rattle.vms_commands.specs.Fetching.{is_on_shelf, word_set};
-ghost use Rattle.vms_commands.specs.Outcomes.{Outcome};
-ghost use Rattle.vms_board_commands.specs.Seen.{SeenAs};
-ghost use Rattle.vms_cli.specs.Show.{GivesWithin, Shows, ShowsBy, ShowsWell, ShowsWith};
+ghost use Rattle.vms_commands.specs.Endings.{WritesAs, ending_of};
+ghost use Rattle.vms_cli.specs.Commands.{Show};
+ghost use Rattle.vms_cli.specs.Runs.{Runs, frame, doing};
+ghost use Rattle.vms_cli.specs.Show.{ShowsStream};
 
 use std::alloc::Global;
 use vms_commands::{Ending, SetWord, loader_of, refused_line};
@@ -27,22 +23,9 @@ pub(crate) fn show<I: Source, O: Sink, H: Shelf>(
     out: &mut O,
     shelf: &mut H,
 ) -> Result<(), Ending>
-    ensures content { (o : Outcome) → ShowsBy (word_set (H.held shelf.old) (set_asked set.entry))
-        (I.left input.old) (H.held shelf.old) o
-        → EndsAs (intake I.Source input.old) (intake I.Source input.new)
-        (outlet O.Sink out.old) (outlet O.Sink out.new)
-        (stock H.Shelf shelf.old) (stock H.Shelf shelf.new) (ending_of result) o }
-    ensures so { EndsSo (intake I.Source input.old) (intake I.Source input.new)
-        (outlet O.Sink out.old) (outlet O.Sink out.new)
-        (stock H.Shelf shelf.old) (stock H.Shelf shelf.new)
-        (show_course (is_on_shelf (set_asked set.entry))) (ending_of result) }
-    ensures given { GivesWithin (word_set (H.held shelf.old) (set_asked set.entry))
-        (intake I.Source input.old) (intake I.Source input.new) }
-    ensures seen { let held = H.held shelf.old in
-        SeenAs (ShowsWith (word_set held (set_asked set.entry)) held)
-        (intake I.Source input.old) (intake I.Source input.new)
-        (outlet O.Sink out.old) (outlet O.Sink out.new)
-        (stock H.Shelf shelf.old) (stock H.Shelf shelf.new) (ending_of result) }
+    ensures { Runs (doing (Show (set_asked set.entry)))
+        (frame I.Source O.Sink H.Shelf input.old out.old shelf.old)
+        (frame I.Source O.Sink H.Shelf input.new out.new shelf.new) (ending_of result) }
 {
     let mut loader = loader_of(alloc, set, shelf)?;
     show_stream(&mut loader, input, out)
@@ -54,19 +37,8 @@ fn show_stream<I: Source, O: Sink>(
     input: &mut I,
     out: &mut O,
 ) -> Result<(), Ending>
-    ensures content { (shelf shelf' : Stock) (o : Outcome) → shelf'.held ≡ shelf.held
-        → IsSomeAnd (I.left input.old) (λ bytes. Shows (loads loader.old) bytes shelf.held o)
-        → EndsAs (intake I.Source input.old) (intake I.Source input.new)
-        (outlet O.Sink out.old) (outlet O.Sink out.new) shelf shelf' (ending_of result) o }
-    ensures so { (shelf : Stock) (asks : Bool)
-        → EndsSo (intake I.Source input.old) (intake I.Source input.new)
-        (outlet O.Sink out.old) (outlet O.Sink out.new) shelf shelf (show_course asks)
-        (ending_of result) }
-    ensures given { I.given input.new ≤ I.given input.old + most_given (loads loader.old) }
-    ensures seen { (shelf shelf' : Stock) → shelf'.held ≡ shelf.held
-        → SeenAs (ShowsWell shelf.held (loads loader.old))
-        (intake I.Source input.old) (intake I.Source input.new)
-        (outlet O.Sink out.old) (outlet O.Sink out.new) shelf shelf' (ending_of result) }
+    ensures { ShowsStream (loads loader.old) (intake I.Source input.old) (intake I.Source input.new)
+        (outlet O.Sink out.old) (outlet O.Sink out.new) (ending_of result) }
 {
     match loader.load(input, None) {
         Ok(machine) => write_values(loader, machine, out),

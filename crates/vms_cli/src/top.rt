@@ -1,15 +1,11 @@
 // The top call.
-ghost use Rattle.std.specs.Prelude.{◌≡◌, true, None};
+ghost use Rattle.std.specs.Prelude.{◌≡◌, None};
 ghost use Rattle.vms_io.specs.Told.{intake, outlet, stock};
 ghost use Rattle.vms_io.specs.Writing.{Serves};
-ghost use Rattle.vms_cli.specs.Answers.{HasOutcome, Answers};
+ghost use Rattle.vms_commands.specs.Endings.{Tells, ending_of};
+ghost use Rattle.vms_cli.specs.Answers.{Answers};
 ghost use Rattle.vms_cli.specs.Commands.{asked_of};
-ghost use Rattle.vms_commands.specs.Endings.{EndsAs, Tells, ending_of};
-ghost use Rattle.vms_commands.specs.Courses.{EndsSo};
-ghost use Rattle.vms_board_commands.specs.Seen.{SeenAs};
-ghost use Rattle.vms_cli.specs.Rows.{Gives, OutcomeWith};
-ghost use Rattle.vms_cli.specs.Statuses.{course_of, reads};
-ghost use Rattle.vms_commands.specs.Outcomes.{Outcome};
+ghost use Rattle.vms_cli.specs.Runs.{Runs, frame, task_of};
 
 use crate::analyze::analyze_input;
 use crate::boards::Loading;
@@ -86,7 +82,7 @@ pub fn tell<N: Sink>(notes: &mut N, ending: &Ending) -> u8
     }
 }
 
-#[tactic(auto, using(crate::proofs::EndsSo::asked_so, crate::proofs::EndsSo::asked_seen, crate::proofs::RowTables::unread))]
+#[tactic(auto, using(crate::proofs::RunLemmas::asked_runs))]
 fn run<I: Source, O: Sink, H: Shelf>(
     alloc: Global,
     words: &Words,
@@ -94,22 +90,9 @@ fn run<I: Source, O: Sink, H: Shelf>(
     out: &mut O,
     shelf: &mut H,
 ) -> Result<(), Ending>
-    ensures content { (o : Outcome)
-        → HasOutcome (asked_of words.now) (I.left input.old) (H.held shelf.old) o
-        → EndsAs (intake I.Source input.old) (intake I.Source input.new)
-        (outlet O.Sink out.old) (outlet O.Sink out.new)
-        (stock H.Shelf shelf.old) (stock H.Shelf shelf.new) (ending_of result) o }
-    ensures so { EndsSo (intake I.Source input.old) (intake I.Source input.new)
-        (outlet O.Sink out.old) (outlet O.Sink out.new)
-        (stock H.Shelf shelf.old) (stock H.Shelf shelf.new)
-        (course_of (asked_of words.now)) (ending_of result) }
-    ensures given { Gives (asked_of words.now) (H.held shelf.old)
-        (intake I.Source input.old) (intake I.Source input.new) }
-    ensures seen { reads (asked_of words.now) ≡ true
-        → SeenAs (OutcomeWith (asked_of words.now) (H.held shelf.old))
-        (intake I.Source input.old) (intake I.Source input.new)
-        (outlet O.Sink out.old) (outlet O.Sink out.new)
-        (stock H.Shelf shelf.old) (stock H.Shelf shelf.new) (ending_of result) }
+    ensures runs { Runs (task_of (asked_of words.now))
+        (frame I.Source O.Sink H.Shelf input.old out.old shelf.old)
+        (frame I.Source O.Sink H.Shelf input.new out.new shelf.new) (ending_of result) }
     ensures unnamed { asked_of words.now ≡ None → outlet O.Sink out.new ≡ outlet O.Sink out.old }
 {
     match words.command() {

@@ -12,22 +12,27 @@ use Rattle.vms_board_commands.specs.Drill.{drill_line}
 use Rattle.vms_board_commands.proofs.drill.drill_board.Goals as goal
 use Rattle.vms_commands.specs.Endings.{ending_of}
 
-pub returns-clause-content : goal.returns-clause-content
-returns-clause-content g c = λ input shelf o few is.
+pub returns : goal.returns
+returns g c = λ shelf input few.
+    let line = drill_line c.args.level c.args.seed c.args.count in
     let out = outlet g.O.Sink c.args.out.now in
     let out' = outlet g.O.Sink c.write_text.new.out in
-    text_ends (Gives (drill_line c.args.level c.args.seed c.args.count)) input out out' shelf shelf (ending_of c.write_text.result) o few refl
-    (so_quiet (ending_of c.write_text.result) (drilled_so input shelf out out' c.as_bytes.result.now (ending_of c.write_text.result) c.write_text.ensures))
-    (subst (λ (t : List ℕ). TextEnds (Gives t) out out' (ending_of c.write_text.result)) (c.as_bytes.ensures.value ∙ c.in_ok-line.ensures) (writes_end c.as_bytes.result.now out out' (ending_of c.write_text.result) c.write_text.ensures)) is
+    let e = ending_of c.write_text.result in
+    let so = drilled_so input shelf out out' c.as_bytes.result.now e c.write_text.ensures in
+    record {
+      content = λ o is. text_ends (Gives line) input out out' shelf shelf e o few refl (so_quiet e so)
+          (subst (λ (t : List ℕ). TextEnds (Gives t) out out' e) (c.as_bytes.ensures.value ∙ c.in_ok-line.ensures) (writes_end c.as_bytes.result.now out out' e c.write_text.ensures)) is;
+      so = so;
+      given = tt;
+      seen = λ reads. cc;
+    }
 
-pub returns-in_err-line-clause-content : goal.returns-in_err-line-clause-content
-returns-in_err-line-clause-content g c = rw (ending_passed c.from_residual.result c.from_residual.ensures.1) (λ input shelf o few is.
+pub returns-in_err-line : goal.returns-in_err-line
+returns-in_err-line g c = rw (ending_passed c.from_residual.result c.from_residual.ensures.1) (λ shelf input few.
     let out = outlet g.O.Sink c.args.out.now in
-    text_ends (Gives (drill_line c.args.level c.args.seed c.args.count)) input out out shelf shelf NoMemory o few refl (quiet_same out NoMemory) tt is)
-
-pub returns-clause-so : goal.returns-clause-so
-returns-clause-so g c = λ input shelf.
-    drilled_so input shelf (outlet g.O.Sink c.args.out.now) (outlet g.O.Sink c.write_text.new.out) c.as_bytes.result.now (ending_of c.write_text.result) c.write_text.ensures
-
-pub returns-in_err-line-clause-so : goal.returns-in_err-line-clause-so
-returns-in_err-line-clause-so g c = rw (ending_passed c.from_residual.result c.from_residual.ensures.1) (λ input shelf. same_so input (outlet g.O.Sink c.args.out.now) shelf drill_course NoMemory refl tt)
+    record {
+      content = λ o is. text_ends (Gives (drill_line c.args.level c.args.seed c.args.count)) input out out shelf shelf NoMemory o few refl (quiet_same out NoMemory) tt is;
+      so = same_so input out shelf drill_course NoMemory refl tt;
+      given = tt;
+      seen = λ reads. cc;
+    })

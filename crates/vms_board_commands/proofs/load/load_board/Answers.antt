@@ -22,57 +22,46 @@ use Rattle.vms_commands.specs.Endings.{ending_of}
 abbrev view : Vec Event Global → List ScriptLine
 view v = event_lines v.items
 
-pub returns-clause-content : goal.returns-clause-content
-returns-clause-content g c = λ o has.
+pub returns : goal.returns
+returns g c =
+    let f = g.M.Machine.family in
     let held = g.H.Shelf.held c.args.shelf.now in
     let left = g.I.Source.left c.args.input.now in
-    let level = c.args.asked.number in
-    let loads = had_by view (loads_under g.M.Machine.family level left held) (scripted None held c.args.asked.script.now) c.in_ok-events.events o c.in_ok-events.ensures.read has in
-    c.load_events.ensures.content (stock g.H.Shelf c.args.shelf.now) (stock g.H.Shelf c.events_of.new.shelf) o c.in_ok-events.ensures.asks.looks.held
-    (subst (λ (l : List Event). loads_under g.M.Machine.family level left held (event_lines l) o) (sym c.deref.ensures.value) loads)
-
-pub returns-clause-so : goal.returns-clause-so
-returns-clause-so g c = so_since (ending_of c.load_events.result) refl c.in_ok-events.ensures.asks.looks (c.load_events.ensures.so (stock g.H.Shelf c.events_of.new.shelf))
-
-pub returns-clause-given : goal.returns-clause-given
-returns-clause-given g c =
-    gives_some g.M.Machine.family view (scripted None (g.H.Shelf.held c.args.shelf.now) c.args.asked.script.now) c.in_ok-events.events
-    (intake g.I.Source c.args.input.now) (intake g.I.Source c.load_events.new.input) c.in_ok-events.ensures.read c.load_events.ensures.given
-
-pub returns-in_err-events-clause-content : goal.returns-in_err-events-clause-content
-returns-in_err-events-clause-content g c = rw (ending_passed c.from_residual.result c.from_residual.ensures.1) (λ o has.
-    let held = g.H.Shelf.held c.args.shelf.now in
-    let left = g.I.Source.left c.args.input.now in
-    let out = outlet g.O.Sink c.args.out.now in
-    ended_by view (loads_under g.M.Machine.family c.args.asked.number left held) (scripted None held c.args.asked.script.now)
-    (intake g.I.Source c.args.input.now) out out (stock g.H.Shelf c.args.shelf.now) (stock g.H.Shelf c.events_of.new.shelf)
-    c.in_err-events.field-0.0 o (g.met.I.Source.counted c.args.input.now) c.in_err-events.ensures.asks.looks.held (quiet_same out c.in_err-events.field-0.0) c.in_err-events.ensures.read has)
-
-pub returns-in_err-events-clause-so : goal.returns-in_err-events-clause-so
-returns-in_err-events-clause-so g c =
-    rw (ending_passed c.from_residual.result c.from_residual.ensures.1) (unset_so load_course true load_asks (intake g.I.Source c.args.input.now) (outlet g.O.Sink c.args.out.now) c.in_err-events.ensures.asks.looks (λ f. absurd (wrong f)) c.in_err-events.field-0.0 c.in_err-events.ensures.asks.cause)
-
-pub returns-in_err-events-clause-given : goal.returns-in_err-events-clause-given
-returns-in_err-events-clause-given g c =
-    gives_none g.M.Machine.family (scripted None (g.H.Shelf.held c.args.shelf.now) c.args.asked.script.now) (intake g.I.Source c.args.input.now)
-
--- ---- what is seen
-
-pub returns-clause-seen : goal.returns-clause-seen
-returns-clause-seen g c =
-    let held = g.H.Shelf.held c.args.shelf.now in
-    let level = c.args.asked.number in
-    let outcome : List ScriptLine → List ℕ → Outcome → Type 0 = λ lines bytes o. Loads g.M.Machine.family level lines bytes held o in
-    let input = intake g.I.Source c.args.input.now in
-    let input' = intake g.I.Source c.load_events.new.input in
-    let out = outlet g.O.Sink c.args.out.now in
-    let out' = outlet g.O.Sink c.load_events.new.out in
+    let number = c.args.asked.number in
+    let step = scripted None held c.args.asked.script.now in
     let shelf = stock g.H.Shelf c.args.shelf.now in
     let shelf' = stock g.H.Shelf c.events_of.new.shelf in
-    seen_given {P = outcome} view (scripted None held c.args.asked.script.now) c.in_ok-events.events (ending_of c.load_events.result) c.in_ok-events.ensures.read
-    (subst (λ (l : List Event). SeenAs (outcome (event_lines l)) input input' out out' shelf shelf' (ending_of c.load_events.result)) c.deref.ensures.value
-    (c.load_events.ensures.seen shelf shelf' c.in_ok-events.ensures.asks.looks.held))
+    let i = intake g.I.Source c.args.input.now in
+    let i' = intake g.I.Source c.load_events.new.input in
+    let had = c.in_ok-events.ensures in
+    let events = c.in_ok-events.events in
+    let e = ending_of c.load_events.result in
+    let behind = c.load_events.ensures.runs in
+    let outcome : List ScriptLine → List ℕ → Outcome → Type 0 = λ lines bytes o. Loads f number lines bytes held o in
+    record {
+      content = λ o has. behind.content shelf shelf' o had.asks.looks.held
+          (subst (λ (l : List Event). loads_under f number left held (event_lines l) o) (sym c.deref.ensures.value) (had_by view (loads_under f number left held) step events o had.read has));
+      so = so_since e refl had.asks.looks (behind.so shelf' true);
+      given = gives_some f view step events i i' had.read c.load_events.ensures.given;
+      seen = λ reads. seen_given {P = outcome} view step events e had.read
+          (subst (λ (l : List Event). SeenAs (outcome (event_lines l)) i i' (outlet g.O.Sink c.args.out.now) (outlet g.O.Sink c.load_events.new.out) shelf shelf' e) c.deref.ensures.value (behind.seen shelf shelf' had.asks.looks.held));
+    }
 
-pub returns-in_err-events-clause-seen : goal.returns-in_err-events-clause-seen
-returns-in_err-events-clause-seen g c =
-    rw (ending_passed c.from_residual.result c.from_residual.ensures.1) (other_seen c.in_err-events.field-0.0 (set_other true (stock g.H.Shelf c.args.shelf.now) (stock g.H.Shelf c.events_of.new.shelf) c.in_err-events.field-0.0 c.in_err-events.ensures.asks.cause))
+-- the script isn't had
+pub returns-in_err-events : goal.returns-in_err-events
+returns-in_err-events g c = rw (ending_passed c.from_residual.result c.from_residual.ensures.1) (
+    let f = g.M.Machine.family in
+    let held = g.H.Shelf.held c.args.shelf.now in
+    let step = scripted None held c.args.asked.script.now in
+    let input = intake g.I.Source c.args.input.now in
+    let out = outlet g.O.Sink c.args.out.now in
+    let shelf = stock g.H.Shelf c.args.shelf.now in
+    let shelf' = stock g.H.Shelf c.events_of.new.shelf in
+    let had = c.in_err-events.ensures in
+    let e = c.in_err-events.field-0.0 in
+    record {
+      content = λ o has. ended_by view (loads_under f c.args.asked.number input.left held) step input out out shelf shelf' e o (g.met.I.Source.counted c.args.input.now) had.asks.looks.held (quiet_same out e) had.read has;
+      so = unset_so load_course true load_asks input out had.asks.looks (λ f. absurd (wrong f)) e had.asks.cause;
+      given = gives_none f step input;
+      seen = λ reads. other_seen e (set_other true shelf shelf' e had.asks.cause);
+    })

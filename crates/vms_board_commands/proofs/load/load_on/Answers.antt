@@ -17,68 +17,56 @@ use Rattle.vms_board_commands.proofs.load.load_on.Goals as goal
 use Rattle.vms_commands.specs.Endings.{ending_of}
 
 -- the board came back, and its trace was written
-pub returns-in-Ok-clause-seen : goal.returns-in-Ok-clause-seen
-returns-in-Ok-clause-seen g c = λ shelf shelf' held among.
-    trace_seen g.M.Machine.family (g.M.Machine.family.number c.args.board.now.state) (event_lines c.args.events.now) c.restore.new.self (ending_of c.go_on.result) held c.in-Ok.ensures.reads
-    (written_events g.M.Machine.family c.args.events.now c.restore.new.self.state (outlet g.O.Sink c.args.out.now) (outlet g.O.Sink c.go_on.new.out) (ending_of c.go_on.result) c.go_on.ensures)
-
-pub returns-in-Ok-clause-content : goal.returns-in-Ok-clause-content
-returns-in-Ok-clause-content g c = λ shelf shelf' o held loads.
-    let kind = g.M.Machine.family in
-    let number = kind.number c.args.board.now.state in
+pub returns-in-Ok : goal.returns-in-Ok
+returns-in-Ok g c =
+    let f = g.M.Machine.family in
+    let stands = g.met.M.Machine.stands in
+    let number = f.number c.args.board.now.state in
     let lines = event_lines c.args.events.now in
-    content_seen {s = shelf} {s' = shelf'} {P = λ bytes x. Loads kind number lines bytes shelf.held x} (ending_of c.go_on.result) o
-    (λ bytes y ok p q. loads_same kind g.met.M.Machine.stands.well g.met.M.Machine.stands.heads number lines bytes shelf.held ok o y p q) (g.met.I.Source.octets c.args.input.now)
-    (trace_seen kind number lines c.restore.new.self (ending_of c.go_on.result) held c.in-Ok.ensures.reads
-    (written_events kind c.args.events.now c.restore.new.self.state (outlet g.O.Sink c.args.out.now) (outlet g.O.Sink c.go_on.new.out) (ending_of c.go_on.result) c.go_on.ensures)) loads
+    let out = outlet g.O.Sink c.args.out.now in
+    let out' = outlet g.O.Sink c.go_on.new.out in
+    let e = ending_of c.go_on.result in
+    let reads = c.in-Ok.ensures.reads in
+    let written = written_events f c.args.events.now c.restore.new.self.state out out' e c.go_on.ensures in
+    record {
+      runs = record {
+        content = λ shelf shelf' o held loads. content_seen {s = shelf} {s' = shelf'} {P = λ bytes x. Loads f number lines bytes shelf.held x} e o (λ bytes y ok p q. loads_same f stands.well stands.heads number lines bytes shelf.held ok o y p q) (g.met.I.Source.octets c.args.input.now) (trace_seen f number lines c.restore.new.self e held reads written) loads;
+        so = λ shelf asks. traced_so shelf (draws_took reads.takes) _ out out' e c.go_on.ensures;
+        seen = λ shelf shelf' held among. trace_seen f number lines c.restore.new.self e held reads written;
+      };
+      given = within f number c.restore.new.self (Ok tt) reads;
+    }
 
-pub returns-in-Ok-clause-so : goal.returns-in-Ok-clause-so
-returns-in-Ok-clause-so g c = λ shelf.
-    traced_so shelf (draws_took c.in-Ok.ensures.reads.takes) _ (outlet g.O.Sink c.args.out.now) (outlet g.O.Sink c.go_on.new.out) (ending_of c.go_on.result) c.go_on.ensures
+pub returns-in-Err-Refused : goal.returns-in-Err-Refused
+returns-in-Err-Refused g c =
+    let f = g.M.Machine.family in
+    let stands = g.met.M.Machine.stands in
+    let number = f.number c.args.board.now.state in
+    let lines = event_lines c.args.events.now in
+    let out = outlet g.O.Sink c.args.out.now in
+    let r = c.in-Err-Refused.refusal in
+    let line = c.refused_line.result in
+    let reads = rw c.in-Err-Refused.field-0-is at c.in-Err-Refused.ensures.reads in
+    let said = c.refused_line.ensures ∙ ap (λ (s : Set). refused_line s r.at r.section r.reason) c.set.ensures in
+    record {
+      runs = record {
+        content = λ shelf shelf' o held loads. content_seen {o = out} {o' = out} {s = shelf} {s' = shelf'} {P = λ bytes x. Loads f number lines bytes shelf.held x} (Refused line) o (λ bytes y ok p q. loads_same f stands.well stands.heads number lines bytes shelf.held ok o y p q) (g.met.I.Source.octets c.args.input.now) (refusal_seen f number lines c.restore.new.self r line reads said) loads;
+        so = λ shelf asks. refused_so shelf (draws_took reads.takes) out line;
+        seen = λ shelf shelf' held among. refusal_seen f number lines c.restore.new.self r line reads said;
+      };
+      given = within f number c.restore.new.self (Err c.in-Err-Refused.field-0) c.in-Err-Refused.ensures.reads;
+    }
 
-pub returns-in-Err-Refused-clause-so : goal.returns-in-Err-Refused-clause-so
-returns-in-Err-Refused-clause-so g c = λ shelf. refused_so shelf (draws_took c.in-Err-Refused.ensures.reads.takes) (outlet g.O.Sink c.args.out.now) c.refused_line.result
-
-pub returns-in-Err-ReadFault-clause-so : goal.returns-in-Err-ReadFault-clause-so
-returns-in-Err-ReadFault-clause-so g c = λ shelf.
+pub returns-in-Err-ReadFault : goal.returns-in-Err-ReadFault
+returns-in-Err-ReadFault g c =
+    let f = g.M.Machine.family in
+    let out = outlet g.O.Sink c.args.out.now in
     let reads = rw c.in-Err-ReadFault.field-0-is at c.in-Err-ReadFault.ensures.reads in
-    unread_so shelf (draws_took reads.takes) (outlet g.O.Sink c.args.out.now) reads.cause
-
-pub returns-in-Err-Refused-clause-seen : goal.returns-in-Err-Refused-clause-seen
-returns-in-Err-Refused-clause-seen g c = λ shelf shelf' held among.
-    let r = c.in-Err-Refused.refusal in
-    refusal_seen g.M.Machine.family (g.M.Machine.family.number c.args.board.now.state) (event_lines c.args.events.now) c.restore.new.self r c.refused_line.result
-    (rw c.in-Err-Refused.field-0-is at c.in-Err-Refused.ensures.reads) (c.refused_line.ensures ∙ ap (λ (s : Set). refused_line s r.at r.section r.reason) c.set.ensures)
-
-pub returns-in-Err-Refused-clause-content : goal.returns-in-Err-Refused-clause-content
-returns-in-Err-Refused-clause-content g c = λ shelf shelf' o held loads.
-    let kind = g.M.Machine.family in
-    let number = kind.number c.args.board.now.state in
-    let lines = event_lines c.args.events.now in
-    let r = c.in-Err-Refused.refusal in
-    let out = outlet g.O.Sink c.args.out.now in
-    content_seen {o = out} {o' = out} {s = shelf} {s' = shelf'} {P = λ bytes x. Loads kind number lines bytes shelf.held x} (Refused c.refused_line.result) o
-    (λ bytes y ok p q. loads_same kind g.met.M.Machine.stands.well g.met.M.Machine.stands.heads number lines bytes shelf.held ok o y p q) (g.met.I.Source.octets c.args.input.now)
-    (refusal_seen kind number lines c.restore.new.self r c.refused_line.result (rw c.in-Err-Refused.field-0-is at c.in-Err-Refused.ensures.reads)
-    (c.refused_line.ensures ∙ ap (λ (s : Set). refused_line s r.at r.section r.reason) c.set.ensures)) loads
-
-pub returns-in-Err-ReadFault-clause-content : goal.returns-in-Err-ReadFault-clause-content
-returns-in-Err-ReadFault-clause-content g c = λ shelf shelf' o held loads.
-    let out = outlet g.O.Sink c.args.out.now in
-    comes_to_nothing out out shelf shelf' o.parts (Keeps-refl out.written) held
-
-pub returns-in-Err-ReadFault-clause-seen : goal.returns-in-Err-ReadFault-clause-seen
-returns-in-Err-ReadFault-clause-seen g c = λ shelf shelf' held. other_seen ReadFault refl
-
--- ---- how many bytes are given
-
-pub returns-in-Ok-clause-given : goal.returns-in-Ok-clause-given
-returns-in-Ok-clause-given g c = within g.M.Machine.family (g.M.Machine.family.number c.args.board.now.state) c.restore.new.self (Ok tt) c.in-Ok.ensures.reads
-
-pub returns-in-Err-Refused-clause-given : goal.returns-in-Err-Refused-clause-given
-returns-in-Err-Refused-clause-given g c =
-    within g.M.Machine.family (g.M.Machine.family.number c.args.board.now.state) c.restore.new.self (Err c.in-Err-Refused.field-0) c.in-Err-Refused.ensures.reads
-
-pub returns-in-Err-ReadFault-clause-given : goal.returns-in-Err-ReadFault-clause-given
-returns-in-Err-ReadFault-clause-given g c =
-    within g.M.Machine.family (g.M.Machine.family.number c.args.board.now.state) c.restore.new.self (Err c.in-Err-ReadFault.field-0) c.in-Err-ReadFault.ensures.reads
+    record {
+      runs = record {
+        content = λ shelf shelf' o held loads. comes_to_nothing out out shelf shelf' o.parts (Keeps-refl out.written) held;
+        so = λ shelf asks. unread_so shelf (draws_took reads.takes) out reads.cause;
+        seen = λ shelf shelf' held. other_seen ReadFault refl;
+      };
+      given = within f (f.number c.args.board.now.state) c.restore.new.self (Err c.in-Err-ReadFault.field-0) c.in-Err-ReadFault.ensures.reads;
+    }

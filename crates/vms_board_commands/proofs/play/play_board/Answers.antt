@@ -19,30 +19,38 @@ use Rattle.vms_board_commands.specs.Scripts.{scripted}
 use Rattle.vms_board_commands.proofs.play.play_board.Goals as goal
 use Rattle.vms_commands.specs.Endings.{ending_of}
 
-pub returns-clause-content : goal.returns-clause-content
-returns-clause-content g c = λ input o few has.
+abbrev view : Vec Line Global → List ScriptLine
+view v = lines_view v.items
+
+pub returns : goal.returns
+returns g c = λ input few.
     let held = g.H.Shelf.held c.args.shelf.now in
     let level = c.args.asked.number in
-    let plays = had_by (λ (l : Vec Line Global). lines_view l.items) (λ (lines : List ScriptLine) (x : Outcome). IsSomeAnd held (λ map. PlaysAll level lines map x))
-    (scripted (Some level) held c.args.asked.script.now) c.in_ok-lines.lines o c.in_ok-lines.ensures.read has in
-    ends_since input input (outlet g.O.Sink c.args.out.now) (outlet g.O.Sink c.play_lines.new.out) (stock g.H.Shelf c.args.shelf.now) (stock g.H.Shelf c.session_of.new.shelf)
-    (stock g.H.Shelf c.play_lines.new.shelf) c.in_ok-lines.ensures.asks.looks.held c.in_ok-lines.ensures.asks.looks.later o (ending_of c.play_lines.result)
-    (c.play_lines.ensures.content input o few
-    (subst (λ (h : Option Held). IsSomeAnd h (λ map. PlaysAll level (lines_view c.deref.result.now) map o)) (sym c.in_ok-lines.ensures.asks.looks.held)
-    (subst (λ (l : List Line). IsSomeAnd held (λ map. PlaysAll level (lines_view l) map o)) (sym c.deref.ensures.value) plays)))
+    let shelf = stock g.H.Shelf c.args.shelf.now in
+    let had = c.in_ok-lines.ensures in
+    let e = ending_of c.play_lines.result in
+    let played = c.play_lines.ensures input few in
+    record {
+      content = λ o has.
+          let plays = had_by view (λ (lines : List ScriptLine) (x : Outcome). IsSomeAnd held (λ map. PlaysAll level lines map x)) (scripted (Some level) held c.args.asked.script.now) c.in_ok-lines.lines o had.read has in
+          ends_since input input (outlet g.O.Sink c.args.out.now) (outlet g.O.Sink c.play_lines.new.out) shelf (stock g.H.Shelf c.session_of.new.shelf) (stock g.H.Shelf c.play_lines.new.shelf) had.asks.looks.held had.asks.looks.later o e
+          (played.content o (subst (λ (h : Option Held). IsSomeAnd h (λ map. PlaysAll level (lines_view c.deref.result.now) map o)) (sym had.asks.looks.held)
+          (subst (λ (l : List Line). IsSomeAnd held (λ map. PlaysAll level (lines_view l) map o)) (sym c.deref.ensures.value) plays)));
+      so = so_since e refl had.asks.looks played.so;
+      given = tt;
+      seen = λ reads. cc;
+    }
 
-pub returns-clause-so : goal.returns-clause-so
-returns-clause-so g c = λ input. so_since (ending_of c.play_lines.result) refl c.in_ok-lines.ensures.asks.looks (c.play_lines.ensures.so input)
-
-pub returns-in_err-lines-clause-content : goal.returns-in_err-lines-clause-content
-returns-in_err-lines-clause-content g c = rw (ending_passed c.from_residual.result c.from_residual.ensures.1) (λ input o few has.
+pub returns-in_err-lines : goal.returns-in_err-lines
+returns-in_err-lines g c = rw (ending_passed c.from_residual.result c.from_residual.ensures.1) (λ input few.
     let held = g.H.Shelf.held c.args.shelf.now in
     let level = c.args.asked.number in
     let out = outlet g.O.Sink c.args.out.now in
-    ended_by (λ (l : Vec Line Global). lines_view l.items) (λ (lines : List ScriptLine) (x : Outcome). IsSomeAnd held (λ map. PlaysAll level lines map x))
-    (scripted (Some level) held c.args.asked.script.now) input out out (stock g.H.Shelf c.args.shelf.now) (stock g.H.Shelf c.session_of.new.shelf)
-    c.in_err-lines.field-0.0 o few c.in_err-lines.ensures.asks.looks.held (quiet_same out c.in_err-lines.field-0.0) c.in_err-lines.ensures.read has)
-
-pub returns-in_err-lines-clause-so : goal.returns-in_err-lines-clause-so
-returns-in_err-lines-clause-so g c = rw (ending_passed c.from_residual.result c.from_residual.ensures.1) (λ input.
-    unset_so play_course true play_asks input (outlet g.O.Sink c.args.out.now) c.in_err-lines.ensures.asks.looks (λ f. absurd (wrong f)) c.in_err-lines.field-0.0 c.in_err-lines.ensures.asks.cause)
+    let had = c.in_err-lines.ensures in
+    let e = c.in_err-lines.field-0.0 in
+    record {
+      content = λ o has. ended_by view (λ (lines : List ScriptLine) (x : Outcome). IsSomeAnd held (λ map. PlaysAll level lines map x)) (scripted (Some level) held c.args.asked.script.now) input out out (stock g.H.Shelf c.args.shelf.now) (stock g.H.Shelf c.session_of.new.shelf) e o few had.asks.looks.held (quiet_same out e) had.read has;
+      so = unset_so play_course true play_asks input out had.asks.looks (λ f. absurd (wrong f)) e had.asks.cause;
+      given = tt;
+      seen = λ reads. cc;
+    })

@@ -5,6 +5,8 @@ use Rattle.vms_script.specs.Grammar.{AreLines}
 use Rattle.vms_script.specs.Views.{lines_view}
 use Rattle.vms_board_commands.proofs.PlayLemmas.{played_by}
 use Rattle.vms_board_commands.proofs.SaveLemmas.{at_level}
+use Rattle.std.proofs.KnownBytes.{Keeps-refl}
+use Rattle.vms_commands.proofs.EndLemmas.{comes_to_nothing}
 use Rattle.vms_commands.proofs.CourseLemmas.{same_so}
 use Rattle.vms_commands.proofs.StepLemmas.{ending_mapped, ending_passed}
 use Rattle.vms_commands.specs.declared.ending.Ending.TheVariants.{NoMemory}
@@ -18,19 +20,18 @@ play-requires g c =
     let level = ap (λ (m : State). m.level) c.in_ok-board.ensures.state ∙ at_level c.args.level in
     subst (λ (l : ℕ). AreLines (Some l) (lines_view c.args.lines.now)) (sym level) c.requires.lines
 
-pub returns-clause-content : goal.returns-clause-content
-returns-clause-content g c = λ input o few has.
-    rw (ending_mapped ending_by c.play.result c.map_err.result c.map_err.ensures.cases)
-    (played_by c.args.level (lines_view c.args.lines.now) input (outlet g.O.Sink c.args.out.now) (outlet g.O.Sink c.play.new.out)
-    (stock g.H.Shelf c.args.shelf.now) (stock g.H.Shelf c.play.new.shelf) c.in_ok-board.board.state c.play.new.board.state o c.in_ok-board.ensures.state
-    c.play.result few c.play.ensures.content has)
-
-pub returns-clause-so : goal.returns-clause-so
-returns-clause-so g c = λ input.
-    rw (ending_mapped ending_by c.play.result c.map_err.result c.map_err.ensures.cases) (played_so input c.play.result c.play.ensures.goes)
+pub returns : goal.returns
+returns g c = λ input few.
+    rw (ending_mapped ending_by c.play.result c.map_err.result c.map_err.ensures.cases) (record {
+      content = λ o has. played_by c.args.level (lines_view c.args.lines.now) input (outlet g.O.Sink c.args.out.now) (outlet g.O.Sink c.play.new.out) (stock g.H.Shelf c.args.shelf.now) (stock g.H.Shelf c.play.new.shelf) c.in_ok-board.board.state c.play.new.board.state o c.in_ok-board.ensures.state c.play.result few c.play.ensures.content has;
+      so = played_so input c.play.result c.play.ensures.goes;
+      given = tt;
+      seen = λ reads. cc;
+    })
 
 -- without memory nothing was done
-pub returns-in_err-board-clause-so : goal.returns-in_err-board-clause-so
-returns-in_err-board-clause-so g c =
-    rw (ending_passed c.from_residual.result c.from_residual.ensures.1)
-    (λ input. same_so input (outlet g.O.Sink c.args.out.now) (stock g.H.Shelf c.args.shelf.now) play_course NoMemory refl tt)
+pub returns-in_err-board : goal.returns-in_err-board
+returns-in_err-board g c = rw (ending_passed c.from_residual.result c.from_residual.ensures.1) (λ input few.
+    let out = outlet g.O.Sink c.args.out.now in
+    let shelf = stock g.H.Shelf c.args.shelf.now in
+    record { content = λ o has. comes_to_nothing out out shelf shelf o.parts (Keeps-refl out.written) refl; so = same_so input out shelf play_course NoMemory refl tt; given = tt; seen = λ reads. cc })

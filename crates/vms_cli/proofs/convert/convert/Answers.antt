@@ -7,55 +7,45 @@ use Rattle.vms_commands.specs.Fetching.{is_on_shelf, word_set}
 use Rattle.vms_commands.proofs.EndLemmas.{quiet_same}
 use Rattle.vms_commands.proofs.StepLemmas.{ended_by, ending_passed, had_by}
 use Rattle.vms_board_commands.proofs.SeenLemmas.{other_seen, set_other}
-use Rattle.vms_cli.specs.Convert.{ConvertsWell, agrees}
-use Rattle.vms_cli.proofs.ConvertSteps.{converts_after, converts_next, gives_next, seen_next}
+use Rattle.vms_cli.specs.Convert.{ConvertsWell, agrees, target}
+use Rattle.vms_cli.proofs.ConvertSteps.{converts_after, converts_next, gives_next, gives_none, seen_next}
 use Rattle.vms_cli.proofs.EndsSo.{behind_so, lacks_so}
 use Rattle.vms_cli.proofs.convert.convert.Goals as goal
 
-pub returns-clause-content : goal.returns-clause-content
-returns-clause-content g c = λ o has.
+pub returns : goal.returns
+returns g c =
     let held = g.H.Shelf.held c.args.shelf.now in
     let left = g.I.Source.left c.args.input.now in
-    let step = word_set held (set_asked c.args.set) in
-    c.convert_to.ensures.content (stock g.H.Shelf c.args.shelf.now) (stock g.H.Shelf c.set_of.new.shelf) o c.in_ok-to.ensures.asks.looks.held
-    (had_by described (converts_after left held) step c.in_ok-to.to o c.in_ok-to.ensures.had (converts_next left held step o has))
+    let word = set_asked c.args.set in
+    let step = word_set held word in
+    let shelf = stock g.H.Shelf c.args.shelf.now in
+    let shelf' = stock g.H.Shelf c.set_of.new.shelf in
+    let had = c.in_ok-to.ensures in
+    let to = c.in_ok-to.to in
+    let e = ending_of c.convert_to.result in
+    let behind = c.convert_to.ensures.runs in
+    record {
+      content = λ o has. behind.content shelf shelf' o had.asks.looks.held (had_by described (converts_after left held) step to o had.had (converts_next left held step o has));
+      so = behind_so (0 ∷ 1 ∷ 4 ∷ 5 ∷ 6 ∷ 10 ∷ 11 ∷ []) (0 ∷ 1 ∷ 5 ∷ 6 ∷ 10 ∷ 11 ∷ []) (is_on_shelf word) e had.asks.unasked had.asks.looks (behind.so shelf' (is_on_shelf word));
+      given = gives_next described agrees step to (intake g.I.Source c.args.input.now) (intake g.I.Source c.convert_to.new.input) had.had c.convert_to.ensures.given;
+      seen = λ reads. seen_next described agrees (ConvertsWell held) e step to had.had (behind.seen shelf shelf' had.asks.looks.held);
+    }
 
-pub returns-clause-so : goal.returns-clause-so
-returns-clause-so g c =
-    let had = c.in_ok-to.ensures.asks in
-    let b = is_on_shelf (set_asked c.args.set) in
-    behind_so (0 ∷ 1 ∷ 4 ∷ 5 ∷ 6 ∷ 10 ∷ 11 ∷ []) (0 ∷ 1 ∷ 5 ∷ 6 ∷ 10 ∷ 11 ∷ []) b (ending_of c.convert_to.result) had.unasked had.looks
-    (c.convert_to.ensures.so (stock g.H.Shelf c.set_of.new.shelf) b)
-
-pub returns-clause-given : goal.returns-clause-given
-returns-clause-given g c =
-    gives_next described agrees (word_set (g.H.Shelf.held c.args.shelf.now) (set_asked c.args.set)) c.in_ok-to.to
-    (intake g.I.Source c.args.input.now) (intake g.I.Source c.convert_to.new.input) c.in_ok-to.ensures.had c.convert_to.ensures.given
-
-pub returns-clause-seen : goal.returns-clause-seen
-returns-clause-seen g c =
+-- the set isn't had
+pub returns-in_err-to : goal.returns-in_err-to
+returns-in_err-to g c = rw (ending_passed c.from_residual.result c.from_residual.ensures.1) (
     let held = g.H.Shelf.held c.args.shelf.now in
-    seen_next described agrees (ConvertsWell held) (ending_of c.convert_to.result) (word_set held (set_asked c.args.set)) c.in_ok-to.to c.in_ok-to.ensures.had
-    (c.convert_to.ensures.seen (stock g.H.Shelf c.args.shelf.now) (stock g.H.Shelf c.set_of.new.shelf) c.in_ok-to.ensures.asks.looks.held)
-
--- ---- the set isn't had
-
-pub returns-in_err-to-clause-content : goal.returns-in_err-to-clause-content
-returns-in_err-to-clause-content g c = rw (ending_passed c.from_residual.result c.from_residual.ensures.1) (λ o has.
-    let held = g.H.Shelf.held c.args.shelf.now in
-    let left = g.I.Source.left c.args.input.now in
-    let step = word_set held (set_asked c.args.set) in
+    let word = set_asked c.args.set in
+    let step = word_set held word in
+    let input = intake g.I.Source c.args.input.now in
     let out = outlet g.O.Sink c.args.out.now in
-    let ending = c.in_err-to.field-0.0 in
-    ended_by described (converts_after left held) step (intake g.I.Source c.args.input.now) out out (stock g.H.Shelf c.args.shelf.now) (stock g.H.Shelf c.set_of.new.shelf)
-    ending o (g.met.I.Source.counted c.args.input.now) c.in_err-to.ensures.asks.looks.held (quiet_same out ending) c.in_err-to.ensures.had (converts_next left held step o has))
-
-pub returns-in_err-to-clause-so : goal.returns-in_err-to-clause-so
-returns-in_err-to-clause-so g c =
-    rw (ending_passed c.from_residual.result c.from_residual.ensures.1)
-    (lacks_so (0 ∷ 1 ∷ 4 ∷ 5 ∷ 6 ∷ 10 ∷ 11 ∷ []) (0 ∷ 1 ∷ 5 ∷ 6 ∷ 10 ∷ 11 ∷ []) refl (intake g.I.Source c.args.input.now) (outlet g.O.Sink c.args.out.now) c.in_err-to.ensures.asks)
-
-pub returns-in_err-to-clause-seen : goal.returns-in_err-to-clause-seen
-returns-in_err-to-clause-seen g c =
-    rw (ending_passed c.from_residual.result c.from_residual.ensures.1)
-    (other_seen c.in_err-to.field-0.0 (set_other (is_on_shelf (set_asked c.args.set)) (stock g.H.Shelf c.args.shelf.now) (stock g.H.Shelf c.set_of.new.shelf) c.in_err-to.field-0.0 c.in_err-to.ensures.asks.cause))
+    let shelf = stock g.H.Shelf c.args.shelf.now in
+    let shelf' = stock g.H.Shelf c.set_of.new.shelf in
+    let had = c.in_err-to.ensures in
+    let e = c.in_err-to.field-0.0 in
+    record {
+      content = λ o has. ended_by described (converts_after input.left held) step input out out shelf shelf' e o (g.met.I.Source.counted c.args.input.now) had.asks.looks.held (quiet_same out e) had.had (converts_next input.left held step o has);
+      so = lacks_so (0 ∷ 1 ∷ 4 ∷ 5 ∷ 6 ∷ 10 ∷ 11 ∷ []) (0 ∷ 1 ∷ 5 ∷ 6 ∷ 10 ∷ 11 ∷ []) refl input out had.asks;
+      given = gives_none (target held word) input;
+      seen = λ reads. other_seen e (set_other (is_on_shelf word) shelf shelf' e had.asks.cause);
+    })

@@ -11,27 +11,23 @@ with_line-requires g c =
     names_cell (described to) (fit_of (described to) to.well_formed to.heads) (intake g.I.Source c.args.input.now) (intake g.I.Source c.convert.new.source)
     (outlet g.O.Sink c.args.out.now) (outlet g.O.Sink c.convert.new.sink) c.convert.result c.convert.ensures
 
-pub returns-clause-content : goal.returns-clause-content
-returns-clause-content g c = λ shelf shelf' o held has.
+pub returns : goal.returns
+returns g c =
     let to = c.args.to.now in
-    convert_content (described to) (fit_of (described to) to.well_formed to.heads) (intake g.I.Source c.args.input.now) (intake g.I.Source c.convert.new.source)
-    (outlet g.O.Sink c.args.out.now) (outlet g.O.Sink c.convert.new.sink) c.convert.result (ending_of c.with_line.result) c.with_line.ensures c.convert.ensures
-    (g.met.I.Source.octets c.args.input.now) (g.met.I.Source.counted c.args.input.now) shelf shelf' o held has
-
-pub returns-clause-so : goal.returns-clause-so
-returns-clause-so g c = λ shelf asks.
-    let to = c.args.to.now in
-    convert_so (described to) (fit_of (described to) to.well_formed to.heads) (intake g.I.Source c.args.input.now) (intake g.I.Source c.convert.new.source)
-    (outlet g.O.Sink c.args.out.now) (outlet g.O.Sink c.convert.new.sink) c.convert.result (ending_of c.with_line.result) c.with_line.ensures c.convert.ensures shelf asks
-
-pub returns-clause-given : goal.returns-clause-given
-returns-clause-given g c =
-    let to = c.args.to.now in
-    convert_given (described to) (fit_of (described to) to.well_formed to.heads) (intake g.I.Source c.args.input.now) (intake g.I.Source c.convert.new.source)
-    (outlet g.O.Sink c.args.out.now) (outlet g.O.Sink c.convert.new.sink) c.convert.result c.convert.ensures
-
-pub returns-clause-seen : goal.returns-clause-seen
-returns-clause-seen g c = λ shelf shelf' held.
-    let to = c.args.to.now in
-    convert_seen (described to) (fit_of (described to) to.well_formed to.heads) (intake g.I.Source c.args.input.now) (intake g.I.Source c.convert.new.source)
-    (outlet g.O.Sink c.args.out.now) (outlet g.O.Sink c.convert.new.sink) c.convert.result (ending_of c.with_line.result) c.with_line.ensures c.convert.ensures shelf shelf' held
+    let set = described to in
+    let fit = fit_of set to.well_formed to.heads in
+    let i = intake g.I.Source c.args.input.now in
+    let i' = intake g.I.Source c.convert.new.source in
+    let o = outlet g.O.Sink c.args.out.now in
+    let o' = outlet g.O.Sink c.convert.new.sink in
+    let e = ending_of c.with_line.result in
+    let said = c.convert.ensures in
+    let like = c.with_line.ensures in
+    record {
+      runs = record {
+        content = convert_content set fit i i' o o' c.convert.result e like said (g.met.I.Source.octets c.args.input.now) (g.met.I.Source.counted c.args.input.now);
+        so = convert_so set fit i i' o o' c.convert.result e like said;
+        seen = convert_seen set fit i i' o o' c.convert.result e like said;
+      };
+      given = convert_given set fit i i' o o' c.convert.result said;
+    }

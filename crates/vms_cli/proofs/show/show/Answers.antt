@@ -13,50 +13,38 @@ use Rattle.vms_cli.proofs.ShowLemmas.{gives_none, gives_within, shows_under}
 use Rattle.vms_cli.proofs.show.show.Goals as goal
 use Rattle.vms_commands.specs.Endings.{ending_of}
 
-pub returns-clause-content : goal.returns-clause-content
-returns-clause-content g c = λ o has.
+pub returns : goal.returns
+returns g c =
     let held = g.H.Shelf.held c.args.shelf.now in
-    c.show_stream.ensures.content (stock g.H.Shelf c.args.shelf.now) (stock g.H.Shelf c.loader_of.new.shelf) o c.in_ok-loader.ensures.asks.looks.held
-    (had_by loads (shows_under (g.I.Source.left c.args.input.now) held) (word_set held (set_asked c.args.set)) c.in_ok-loader.loader o c.in_ok-loader.ensures.had has)
+    let word = set_asked c.args.set in
+    let step = word_set held word in
+    let shelf = stock g.H.Shelf c.args.shelf.now in
+    let shelf' = stock g.H.Shelf c.loader_of.new.shelf in
+    let had = c.in_ok-loader.ensures in
+    let loader = c.in_ok-loader.loader in
+    let e = ending_of c.show_stream.result in
+    let behind = c.show_stream.ensures.runs in
+    record {
+      content = λ o has. behind.content shelf shelf' o had.asks.looks.held (had_by loads (shows_under (g.I.Source.left c.args.input.now) held) step loader o had.had has);
+      so = behind_so (0 ∷ 1 ∷ 5 ∷ 6 ∷ 10 ∷ []) (0 ∷ 1 ∷ 5 ∷ 6 ∷ []) (is_on_shelf word) e had.asks.unasked had.asks.looks (behind.so shelf' (is_on_shelf word));
+      given = gives_within loads step loader (intake g.I.Source c.args.input.now) (intake g.I.Source c.show_stream.new.input) had.had c.show_stream.ensures.given (well_of (loads loader) loader.set.well_formed);
+      seen = λ reads. seen_given {P = ShowsWell held} loads step loader e had.had (behind.seen shelf shelf' had.asks.looks.held);
+    }
 
-pub returns-clause-so : goal.returns-clause-so
-returns-clause-so g c =
-    let had = c.in_ok-loader.ensures.asks in
-    let b = is_on_shelf (set_asked c.args.set) in
-    behind_so (0 ∷ 1 ∷ 5 ∷ 6 ∷ 10 ∷ []) (0 ∷ 1 ∷ 5 ∷ 6 ∷ []) b (ending_of c.show_stream.result) had.unasked had.looks (c.show_stream.ensures.so (stock g.H.Shelf c.loader_of.new.shelf) b)
-
-pub returns-clause-given : goal.returns-clause-given
-returns-clause-given g c =
-    gives_within loads (word_set (g.H.Shelf.held c.args.shelf.now) (set_asked c.args.set)) c.in_ok-loader.loader
-    (intake g.I.Source c.args.input.now) (intake g.I.Source c.show_stream.new.input) c.in_ok-loader.ensures.had c.show_stream.ensures.given
-    (well_of (loads c.in_ok-loader.loader) c.in_ok-loader.loader.set.well_formed)
-
-pub returns-in_err-loader-clause-content : goal.returns-in_err-loader-clause-content
-returns-in_err-loader-clause-content g c = rw (ending_passed c.from_residual.result c.from_residual.ensures.1) (λ o has.
+-- the set isn't had
+pub returns-in_err-loader : goal.returns-in_err-loader
+returns-in_err-loader g c = rw (ending_passed c.from_residual.result c.from_residual.ensures.1) (
     let held = g.H.Shelf.held c.args.shelf.now in
+    let word = set_asked c.args.set in
+    let input = intake g.I.Source c.args.input.now in
     let out = outlet g.O.Sink c.args.out.now in
-    ended_by loads (shows_under (g.I.Source.left c.args.input.now) held) (word_set held (set_asked c.args.set))
-    (intake g.I.Source c.args.input.now) out out (stock g.H.Shelf c.args.shelf.now) (stock g.H.Shelf c.loader_of.new.shelf)
-    c.in_err-loader.field-0.0 o (g.met.I.Source.counted c.args.input.now) c.in_err-loader.ensures.asks.looks.held (quiet_same out c.in_err-loader.field-0.0) c.in_err-loader.ensures.had has)
-
-pub returns-in_err-loader-clause-so : goal.returns-in_err-loader-clause-so
-returns-in_err-loader-clause-so g c =
-    rw (ending_passed c.from_residual.result c.from_residual.ensures.1)
-    (lacks_so (0 ∷ 1 ∷ 5 ∷ 6 ∷ 10 ∷ []) (0 ∷ 1 ∷ 5 ∷ 6 ∷ []) refl (intake g.I.Source c.args.input.now) (outlet g.O.Sink c.args.out.now) c.in_err-loader.ensures.asks)
-
-pub returns-in_err-loader-clause-given : goal.returns-in_err-loader-clause-given
-returns-in_err-loader-clause-given g c =
-    gives_none (word_set (g.H.Shelf.held c.args.shelf.now) (set_asked c.args.set)) (intake g.I.Source c.args.input.now)
-
--- ---- what is seen
-
-pub returns-clause-seen : goal.returns-clause-seen
-returns-clause-seen g c =
-    let held = g.H.Shelf.held c.args.shelf.now in
-    seen_given {P = ShowsWell held} loads (word_set held (set_asked c.args.set)) c.in_ok-loader.loader (ending_of c.show_stream.result) c.in_ok-loader.ensures.had
-    (c.show_stream.ensures.seen (stock g.H.Shelf c.args.shelf.now) (stock g.H.Shelf c.loader_of.new.shelf) c.in_ok-loader.ensures.asks.looks.held)
-
-pub returns-in_err-loader-clause-seen : goal.returns-in_err-loader-clause-seen
-returns-in_err-loader-clause-seen g c =
-    rw (ending_passed c.from_residual.result c.from_residual.ensures.1)
-    (other_seen c.in_err-loader.field-0.0 (set_other (is_on_shelf (set_asked c.args.set)) (stock g.H.Shelf c.args.shelf.now) (stock g.H.Shelf c.loader_of.new.shelf) c.in_err-loader.field-0.0 c.in_err-loader.ensures.asks.cause))
+    let shelf = stock g.H.Shelf c.args.shelf.now in
+    let shelf' = stock g.H.Shelf c.loader_of.new.shelf in
+    let had = c.in_err-loader.ensures in
+    let e = c.in_err-loader.field-0.0 in
+    record {
+      content = λ o has. ended_by loads (shows_under input.left held) (word_set held word) input out out shelf shelf' e o (g.met.I.Source.counted c.args.input.now) had.asks.looks.held (quiet_same out e) had.had has;
+      so = lacks_so (0 ∷ 1 ∷ 5 ∷ 6 ∷ 10 ∷ []) (0 ∷ 1 ∷ 5 ∷ 6 ∷ []) refl input out had.asks;
+      given = gives_none (word_set held word) input;
+      seen = λ reads. other_seen e (set_other (is_on_shelf word) shelf shelf' e had.asks.cause);
+    })

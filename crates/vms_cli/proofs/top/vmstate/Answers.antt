@@ -8,5 +8,5 @@ returns g c =
     let run = c.run.ensures in
     answers (intake g.I.Source c.args.input.now) (intake g.I.Source c.run.new.input) (outlet g.O.Sink c.args.out.now) (outlet g.O.Sink c.run.new.out)
     (outlet g.N.Sink c.args.notes.now) (outlet g.N.Sink c.tell.new.notes) (stock g.H.Shelf c.args.shelf.now) (stock g.H.Shelf c.run.new.shelf)
-    c.args.words.now (ending_of c.run.result) c.tell.result run.content (record { so = run.so; given = run.given; seen = run.seen; unnamed = run.unnamed })
+    c.args.words.now (ending_of c.run.result) c.tell.result run.runs run.unnamed
     (rw c.of-ending.ensures at c.tell.ensures.tells) c.tell.ensures.serves (g.met.H.Shelf.octets c.args.shelf.now)
