@@ -5,7 +5,7 @@ use Rattle.vms_io.specs.Shelves.{Held}
 use Rattle.vms_io.specs.Told.{Intake, Outlet, Stock}
 use Rattle.vms_commands.specs.Outcomes.{Outside}
 use Rattle.vms_cli.specs.Answers.{Answers}
-use Rattle.vmstate_c.specs.Calls.{Comes, before, file_of, words_of}
+use Rattle.vmstate_c.specs.Calls.{Comes, NoneFailed, before, file_of, words_of}
 use Rattle.vmstate_c.specs.declared.request.Request.{Request}
 
 -- a source of bytes that no read was made of, and of which none fails
@@ -43,9 +43,9 @@ pub comes : (request : Request) (status : ℕ) (words : List (List ℕ)) (held :
     → ((name : List ℕ) → held name ≡ file_of name request.files.now)
     → input ≡ fresh request.input.now → out ≡ outlet_of [] 0 → notes ≡ outlet_of [] 0 → shelf ≡ stock_of held 0 []
     → Answers words status (outside input out notes shelf) after
-    → after.out.written ≡ Some text → after.notes.written ≡ Some line
+    → after.out.written ≡ Some text → after.notes.written ≡ Some line → NoneFailed after
     → Comes request status text line
-comes request status words held input out notes shelf after text line same files i o n s answers wrote told =
+comes request status words held input out notes shelf after text line same files i o n s answers wrote told none =
     let began : outside input out notes shelf ≡ before request.input.now held =
     ap (λ (x : Intake). outside x out notes shelf) i ∙ ap (λ (x : Outlet). outside (fresh request.input.now) x notes shelf) o
     ∙ ap (λ (x : Outlet). outside (fresh request.input.now) (outlet_of [] 0) x shelf) n
@@ -57,4 +57,5 @@ comes request status words held input out notes shelf after text line same files
       answers = subst (λ (x : Outside). Answers (words_of request.words.now) status x after) began (subst (λ (x : List (List ℕ)). Answers x status (outside input out notes shelf) after) same answers);
       out_is = wrote;
       notes_is = told;
+      none = none;
     }

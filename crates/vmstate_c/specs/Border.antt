@@ -1,7 +1,6 @@
 -- What an answer says, and what stands in the rooms then.
 use Rattle.std.specs.Prelude.{◌≡◌, ◌&&◌, ◌⊎◌, ℕ, Bool, List, ◌++◌, length, drop, nat_le, if◌then◌else◌}
 use Rattle.vmstate_c.specs.Calls.{Comes}
-use Rattle.vmstate_c.specs.declared.request.TheConstants.{TOO_SMALL}
 use Rattle.vmstate_c.specs.declared.request.Answer.{Answer}
 use Rattle.vmstate_c.specs.declared.request.Request.{Request}
 
@@ -24,7 +23,7 @@ put_in text room = text ++ drop (length text) room
 -- The texts stand in the rooms and their status is answered; or the rooms are as before, where one is too small. In both cases
 -- their lengths are told.
 pub record Lands (status : ℕ) (texts old new : Both) (answer : Answer) : Type 0 where
-  pub status_is : answer.status ≡ (if do_fit texts old then status else TOO_SMALL)
+  pub status_is : answer.status ≡ (if do_fit texts old then status else 100)
   pub out : new.out ≡ (if do_fit texts old then put_in texts.out old.out else old.out)
   pub notes : new.notes ≡ (if do_fit texts old then put_in texts.notes old.notes else old.notes)
   pub lengths : (answer.out ≡ length texts.out) × (answer.notes ≡ length texts.notes)

@@ -35,6 +35,13 @@ before input held = record {
   shelf = record { held = Some held; faults = 0; promise = true };
 }
 
+-- no call of an object failed
+pub record NoneFailed (after : Outside) : Type 0 where
+  pub input : after.input.faults ≡ 0
+  pub out : after.out.faults ≡ 0
+  pub notes : after.notes.faults ≡ 0
+  pub shelf : after.shelf.faults ≡ 0
+
 -- the top call answers this status for the words, the input and the files, and writes these texts
 pub record Comes (request : Request) (status : ℕ) (out notes : List ℕ) : Type 0 where
   pub held : Held
@@ -43,3 +50,4 @@ pub record Comes (request : Request) (status : ℕ) (out notes : List ℕ) : Typ
   pub answers : Answers (words_of request.words.now) status (before request.input.now held) after
   pub out_is : after.out.written ≡ Some out
   pub notes_is : after.notes.written ≡ Some notes
+  pub none : NoneFailed after

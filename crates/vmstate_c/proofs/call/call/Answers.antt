@@ -1,4 +1,5 @@
-use Rattle.std.proofs.Common.{rules, sym, ap, ℕ, Some}
+use Rattle.std.proofs.Common.{rules, sym, ap, ℕ, Some, ◌∙◌, true, refl}
+use Rattle.vms_io.specs.Memory.{Supply, is_empty, empty_is}
 use Rattle.std.specs.declared.alloc.Global.{Global}
 use Rattle.std.specs.declared.vec.Vec.{Vec}
 use Rattle.vms_io.specs.Cabinets.{cabinet}
@@ -18,3 +19,9 @@ returns c =
     c.vmstate-status.ensures
     (ap (λ (v : Vec ℕ Global). Some v.items) (sym c.into_bytes.ensures))
     (ap (λ (v : Vec ℕ Global). Some v.items) (sym c.into_bytes-2.ensures))
+    record {
+      input = c.vmstate-status.new.input.quiet (empty_is c.vmstate-status.new.input.failing.items (c.vmstate-status.ensures.stands.input.promise ∙ ap (λ (s : Supply). is_empty s.failing) c.new-input.ensures ∙ ap is_empty c.new-2.ensures.items));
+      out = c.if-is_wanting.ensures;
+      notes = c.if-is_wanting-2.ensures;
+      shelf = c.vmstate-status.new.shelf.quiet (empty_is c.vmstate-status.new.shelf.failing.items (c.vmstate-status.ensures.stands.shelf.promise ∙ ap is_empty c.in_ok-shelf.ensures.failing));
+    }
