@@ -2,5 +2,5 @@ use Rattle.dev_board.specs.View.{parts_view}
 use Rattle.dev_board.proofs.KeepLaws.{loaded}
 use Rattle.dev_board.proofs.parts.Parts.timer_out.Goals as goal
 
-pub timer_out-requires-clause-loaded : goal.timer_out-requires-clause-loaded
-timer_out-requires-clause-loaded c = loaded (parts_view c.self.inside) c.self.invariant
+pub out-requires-clause-loaded : goal.out-requires-clause-loaded
+out-requires-clause-loaded c = loaded (parts_view c.self.inside) c.self.invariant
