@@ -1,7 +1,7 @@
-/* The top call of vmstate for C and C++: the static library of the crate vmstate_c.
+/* vmstate as a function for C and C++: the static library of the crate vmstate_c.
  *
- * Nothing checks a C caller: the pointers and their lengths, and that these declarations fit those of
- * crates/vmstate_c/src, stand outside of what is proved. */
+ * Nothing checks a C caller. It isn't proved that pointers and lengths are right, nor that these declarations match those of
+ * crates/vmstate_c/src. */
 #ifndef VMSTATE_H
 #define VMSTATE_H
 
@@ -18,13 +18,13 @@ struct vmstate_bytes {
     size_t length;
 };
 
-/* A file of the shelf, from which words name it. */
+/* A file that arguments may name. */
 struct vmstate_file {
     struct vmstate_bytes name, bytes;
 };
 
-/* What is asked: the words behind the program's name, as "show" and "@2", what stands on standard input, and the files that are
- * there. Of two files with one name the later is there. What a session of `play` saves is held until the call ends. */
+/* A call: the arguments after the program's name, such as "show" and "@2"; the bytes of standard input; and the files of the
+ * current folder. If two files have one name, the later counts. What a session of `play` saves is kept until the call ends. */
 struct vmstate_request {
     const struct vmstate_bytes *words;
     size_t word_count;
@@ -33,21 +33,21 @@ struct vmstate_request {
     size_t file_count;
 };
 
-/* The status, as the program's (docs/commands.md), and how many bytes out and notes have. */
+/* The status, as the program's (docs/commands.md), and the lengths of standard output (out) and standard error (notes). */
 struct vmstate_answer {
     uint32_t status;
     size_t out, notes;
 };
 
-/* The status where a room is too small for its text. */
+/* The status if a buffer is too small for its text. */
 #define VMSTATE_TOO_SMALL 100
 
-/* Does what the words say. What the program would write stands at the beginning of the rooms then.
+/* Does the command, and copies what the program would write into the caller's two buffers.
  *
- * Where a room is too small for its text the status is VMSTATE_TOO_SMALL, the lengths are those that are wanted, and both rooms
- * are as they were. Where memory is wanting the status is 10; where it is wanting for the texts themselves, both lengths are 0 and
- * both rooms as they were. All memory that a call takes it has given back when it answers, by malloc, realloc and free of the
- * program. Two threads may each make a call at one time. */
+ * If a buffer is too small for its text, the status is VMSTATE_TOO_SMALL, the lengths are the required ones, and both buffers are
+ * unchanged. If memory runs out, the status is 10; if it runs out for the texts themselves, both lengths are 0 and both buffers are
+ * unchanged. A call allocates by malloc, realloc and free, and has freed everything when it returns. Two threads may each make a
+ * call at the same time. */
 struct vmstate_answer vmstate_call(const struct vmstate_request *request, uint8_t *out, size_t out_room,
                                    uint8_t *notes, size_t notes_room);
 
