@@ -18,7 +18,7 @@ module _ (now : ℕ) (port : Port) where
   none k m a b c d ReceivedData l = b l
   none k m a b c d CharacterTimeout l = c l
   none k m a b c d ThrEmpty l = d l
-  none k m a b c d NonePending l = let far : 4 < k = l in absurd (omega (arith, m, far))
+  none k m a b c d NonePending l = absurd (omega arith)
 
   first : IsFirstAsking now port (interrupt now port)
   unfolding interrupt

@@ -14,7 +14,6 @@ use Rattle.dev_serial.specs.Receive.{received}
 use Rattle.dev_serial.specs.Sending.{Event, Writes, Advances, after, after_all, left_in, left_in_all, accepted_in, accepted_in_all, replaces, pending, SendsInOrder, ReplacesOne, LeavesForLine, AdvancesInParts, WaitsUntilDue, LoopsAtMoment}
 use Rattle.dev_serial.specs.Transmit.{timetable, departures, gone, staying, holding, arrived, on_line, looped_in, run_until, gone_by, bytes_of, byte_of, pending_of, queued, loaded}
 use Rattle.dev_serial.specs.declared.mode.Mode.{Mode}
-use Rattle.dev_serial.specs.declared.mode.TheConstants.{LINE_RATE}
 use Rattle.dev_serial.specs.declared.shift.Shift.{Shift}
 use Rattle.dev_serial.proofs.SendLemmas.{bytes_of-timetable, looped_none}
 use Rattle.dev_serial.proofs.Timetables.{gone_by-twice, run-twice, fewer, in-order}
@@ -175,7 +174,7 @@ waits_until_due to port shift e h =
 
 pub character-positive : (divisor lcr : ℕ) → 1 ≤ character_time divisor lcr
 unfolding character_time
-character-positive divisor lcr = le-div 1 _ LINE_RATE (omega arith) (omega (arith, le-max_right divisor 1))
+character-positive divisor lcr = le-div 1 _ 115200 (omega arith) (omega (arith, le-max_right divisor 1))
 
 next-waits : (character due : ℕ) (bytes : List ℕ) → 1 ≤ character → gone due (timetable character (due + character) bytes) ≡ []
 unfolding gone timetable

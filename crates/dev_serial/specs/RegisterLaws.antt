@@ -1,19 +1,20 @@
 -- Laws of the identification, of the FIFO control register, of the divisor latch and of the modem status in loop
 -- mode, in the data sheet's words.
-use Rattle.std.specs.Prelude.{◌≡◌, ℕ, suc, ◌+◌, ◌*◌, ◌/◌, ◌%◌, ◌<◌, ◌==◌, ◌↔◌, true, false, ◌&&◌, not, if◌then◌else◌, List, [], ◌∷◌, None, is_some}
+use Rattle.std.specs.Prelude.{◌≡◌, ℕ, ◌+◌, ◌*◌, ◌/◌, ◌%◌, ◌<◌, ◌↔◌, true, false, ◌&&◌, not, if◌then◌else◌, [], None, is_some}
 use Rattle.dev_serial.specs.Access.{is_empty, switch_of, fcr_written, msr_of, read_of, written}
 use Rattle.dev_base.specs.Bits.{has}
-use Rattle.dev_serial.specs.Port.{Port, asks, priorities, interrupt, id_number, is_pending, line_of}
+use Rattle.dev_serial.specs.Port.{Port, asks, interrupt, is_pending, line_of}
 use Rattle.dev_serial.specs.declared.interrupt.Interrupt.{Interrupt}
+use Rattle.dev_serial.specs.declared.interrupt.Interrupt.TheVariants.{LineStatus, ReceivedData, CharacterTimeout, ThrEmpty, NonePending}
 
--- how many interrupts of a list come before one
-abbrev pub before : Interrupt → List Interrupt → ℕ
-before interrupt [] = 0
-before interrupt (first ∷ later) = if id_number first == id_number interrupt then 0 else suc (before interrupt later)
-
--- the place of an interrupt in the order of priorities, the highest first
+-- the place of an interrupt in the order of priorities, the highest first ("Interrupt Identification Register", the table
+-- of interrupt control functions)
 abbrev pub rank : Interrupt → ℕ
-rank interrupt = before interrupt priorities
+rank LineStatus = 0
+rank ReceivedData = 1
+rank CharacterTimeout = 2
+rank ThrEmpty = 3
+rank NonePending = 4
 
 -- an interrupt asks, and none of higher priority does
 pub record IsFirstAsking (now : ℕ) (port : Port) (identified : Interrupt) : Type 0 where

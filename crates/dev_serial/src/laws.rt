@@ -3,6 +3,21 @@ ghost use Rattle.dev_serial.specs.Laws.{AlikeItself, AlikeBack, AlikeOn, ReadsKe
 ghost use Rattle.dev_serial.specs.Recast.{RecastOnce};
 ghost use Rattle.dev_serial.specs.RegisterLaws.{IdentifiesFirst, LineTellsAsking, SwitchClearsBoth, ResetsByBits, StaysOff, WritesSwitch, ReachesDivisor, LoopsModem};
 ghost use Rattle.dev_serial.specs.Sending.{SendsInOrder, ReplacesOne, LeavesForLine, AdvancesInParts, WaitsUntilDue, LoopsAtMoment, LongestCharacter};
+ghost use Rattle.dev_serial.specs.Places.{PlacesAre};
+ghost use Rattle.dev_serial.specs.SheetNumbers.{NumbersAre};
+
+/// States the numbers by which the port goes: sixteen bytes a FIFO, the longest character of 6,826,562,500 nanoseconds, and the
+/// levels 2, 3 and 4 from which on there are FIFOs, the character timeout and rings.
+#[tactic(auto, using(crate::proofs::SheetNumbers::numbers_are))]
+pub fn numbers_law()
+    ensures { NumbersAre }
+{}
+
+/// States where the cells of each field stand in the newest set.
+#[tactic(auto, using(crate::proofs::Places::places_are))]
+pub fn places_law()
+    ensures { PlacesAre }
+{}
 
 /// Each port is like itself, a port that is like another is so both ways, and what is like one of two
 /// ports that are alike is like the other.

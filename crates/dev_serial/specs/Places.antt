@@ -1,0 +1,28 @@
+-- Where the cells of each field stand in the newest set. Definitions cite each place as the constant that the code goes by too;
+-- which number it is stands here.
+use Rattle.std.specs.Prelude.{◌≡◌}
+use Rattle.dev_serial.specs.declared.place.TheConstants.{DIVISOR, IER, IIR, LCR, MCR, LSR, SCR, RBR, THR, TSR, TX_DUE, FCR, THR_IPENDING, RX_COUNT, TX_COUNT, TIMEOUT_AT, RX_RING, TX_RING}
+use Rattle.dev_serial.specs.declared.stored.TheConstants.{ARRAY_CELLS, RING_CELLS}
+
+-- how many cells a counted array and a ring have, and where each field's cells begin in the newest set
+pub record PlacesAre : Type 0 where
+  pub array_cells : ARRAY_CELLS ≡ 17
+  pub ring_cells : RING_CELLS ≡ 18
+  pub divisor : DIVISOR ≡ 0
+  pub ier : IER ≡ 1
+  pub iir : IIR ≡ 2
+  pub lcr : LCR ≡ 3
+  pub mcr : MCR ≡ 4
+  pub lsr : LSR ≡ 5
+  pub scr : SCR ≡ 6
+  pub rbr : RBR ≡ 7
+  pub thr : THR ≡ 8
+  pub tsr : TSR ≡ 9
+  pub tx_due : TX_DUE ≡ 10
+  pub fcr : FCR ≡ 11
+  pub thr_ipending : THR_IPENDING ≡ 12
+  pub rx_count : RX_COUNT ≡ 13
+  pub tx_count : TX_COUNT ≡ 30
+  pub timeout_at : TIMEOUT_AT ≡ 47
+  pub rx_ring : RX_RING ≡ 48
+  pub tx_ring : TX_RING ≡ 66
