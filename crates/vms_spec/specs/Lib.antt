@@ -1,5 +1,6 @@
 pub mod Lists
 pub mod Numbers
+pub mod Reasons
 pub mod Sets
 pub mod Tests
 pub mod Layout

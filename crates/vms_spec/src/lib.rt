@@ -1,9 +1,12 @@
 //! The definitions of the format: what a description set means, of which pieces streams are made, what the
 //! writer gives, and how values texts are printed and read.
 //!
-//! The definitions stand in `specs/`, one module a subject. The crate's code is the few enums without
-//! pointers that the definitions and the public types of the crates above share.
+//! The definitions are in `specs/`, one module a subject. The crate's code is the few enums without
+//! pointers that the definitions and the public types of the crates above share, and the words of reasons.
 #![tactic(auto)]
+
+ghost use Rattle.std.specs.Prelude.{◌≡◌, ◌≤◌, length};
+ghost use Rattle.vms_spec.specs.Reasons.{reason_word, rule_of};
 
 /// How many items the devices of a well-formed set have together at most: what stands in an array counts
 /// as often as it may stand there.
@@ -128,6 +131,53 @@ pub enum Reason {
     Trailing,
     /// The description's length is above 16,777,216.
     DescriptionTooLong,
+}
+
+impl Reason {
+    /// Returns the word that names this reason in a line, of at most 18 bytes.
+    pub fn word(self) -> &'static str
+        ensures word { result.now ≡ reason_word self }
+        ensures short { length result.now ≤ 18 }
+    {
+        match self {
+            Reason::Truncated => "Truncated",
+            Reason::BadMagic => "BadMagic",
+            Reason::OldStream => "OldStream",
+            Reason::BadVersion => "BadVersion",
+            Reason::BadMark => "BadMark",
+            Reason::Ram => "Ram",
+            Reason::Iterative => "Iterative",
+            Reason::Command => "Command",
+            Reason::ConfigurationExtra => "ConfigurationExtra",
+            Reason::WrongMachine => "WrongMachine",
+            Reason::UnknownSection => "UnknownSection",
+            Reason::RepeatedSection => "RepeatedSection",
+            Reason::TooNew => "TooNew",
+            Reason::TooOld => "TooOld",
+            Reason::BadBool => "BadBool",
+            Reason::NotEqual => "NotEqual",
+            Reason::CountTooLarge => "CountTooLarge",
+            Reason::UnknownSubsection => "UnknownSubsection",
+            Reason::RepeatedSubsection => "RepeatedSubsection",
+            Reason::Invalid => "Invalid",
+            Reason::Unsound(_) => "Unsound",
+            Reason::BadFooter => "BadFooter",
+            Reason::MissingSection => "MissingSection",
+            Reason::LinesDisagree => "LinesDisagree",
+            Reason::Trailing => "Trailing",
+            Reason::DescriptionTooLong => "DescriptionTooLong",
+        }
+    }
+
+    /// Returns the number of the device's rule that fails, or `None` for every other reason.
+    pub fn rule(self) -> Option<u8>
+        ensures { result ≡ rule_of self }
+    {
+        match self {
+            Reason::Unsound(rule) => Some(rule),
+            _ => None,
+        }
+    }
 }
 
 /// Why a values text is refused at a line, in the order in which the reasons are tried there.
