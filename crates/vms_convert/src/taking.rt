@@ -11,7 +11,7 @@ ghost use Rattle.vms_convert.specs.Putting.{put_step, put_partner, AreSources};
 
 use vms_desc::{Cells, DescSet};
 use vms_image::Image;
-use vms_walk::{PartAt, WalkStep, Walker, walk};
+use vms_walk::{PartAt, WalkStep, Walker, is_above, walk};
 
 /// Puts into each cell that stands in the bytes of a part its partner's number, unless that counts more than there is
 /// room for. Which cells stand there is said by the numbers that are put.
@@ -134,15 +134,5 @@ fn take_number(
         if !is_above(number, most) {
             image.set(cell, number);
         }
-    }
-}
-
-// A number counts more than the most that it may.
-fn is_above(number: i128, most: Option<u32>) -> bool
-    ensures { result ≡ exceeds (capacities_of most) number }
-{
-    match most {
-        Some(most) => number > i128::from(most),
-        None => false,
     }
 }

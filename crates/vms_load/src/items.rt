@@ -1,7 +1,6 @@
 // Numbers that count arrays, constants and unused bytes.
 ghost use Rattle.std.specs.Prelude.{◌≡◌, ◌+◌, ◌≤◌, ◌^◌, true, false, OnOk, IfOk, IfErr, None};
 ghost use Rattle.vms_kinds.specs.Codes.{InRange, width};
-ghost use Rattle.vms_spec.specs.Numbers.{exceeds, is_above};
 ghost use Rattle.vms_io.specs.Told.{intake};
 ghost use Rattle.vms_frames.specs.Reads.{ReadsAs};
 ghost use Rattle.vms_load.specs.Bodies.{ReadsCapped, ReadsConstant};
@@ -11,6 +10,7 @@ use vms_frames::{Cursor, FrameFault};
 use vms_io::Source;
 use vms_kinds::Kind;
 use vms_spec::Reason;
+use vms_walk::is_above;
 
 /// A number. It is at most `most`: the least of the capacities of the arrays that it counts, whether or not they are there.
 #[inline(always)]
@@ -31,7 +31,7 @@ pub(crate) fn number<S: Source>(
 {
     let at = cursor.at();
     let value = cursor.number(source, kind)?;
-    if is_too_large(most, value) {
+    if is_above(value, most) {
         return Err(FrameFault::Refused {
             at,
             reason: Reason::CountTooLarge,
@@ -78,20 +78,4 @@ pub(crate) fn rule(holds: bool, cursor: &Cursor) -> Result<(), FrameFault>
         });
     }
     Ok(())
-}
-
-// Whether a number is more than it may be.
-fn is_too_large(most: Option<u32>, number: i128) -> bool
-    ensures { result ≡ exceeds (capacities_of most) number }
-{
-    match most {
-        None => false,
-        Some(most) => is_above(number, most),
-    }
-}
-
-fn is_above(number: i128, most: u32) -> bool
-    ensures { result ≡ is_above number most }
-{
-    number > i128::from(most)
 }

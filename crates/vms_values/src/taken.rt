@@ -264,7 +264,7 @@ fn judge_number(kind: Kind, run: Run, text: &[u8]) -> Result<i128, ValuesReason>
     let Some(number) = read_number(kind, text) else {
         return Err(ValuesReason::Number);
     };
-    if is_above(run.most, number) {
+    if is_above(number, run.most) {
         return Err(ValuesReason::Count);
     }
     if run.present || is_same(number, run.field.default) {
@@ -278,14 +278,4 @@ fn is_same(number: i128, other: i128) -> bool
     ensures { result ≡ same_number number other }
 {
     number == other
-}
-
-// Whether a number is above the most that it may count.
-fn is_above(most: Option<u32>, number: i128) -> bool
-    ensures { result ≡ exceeds (capacities_of most) number }
-{
-    match most {
-        Some(most) => number > i128::from(most),
-        None => false,
-    }
 }

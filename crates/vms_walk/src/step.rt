@@ -1,5 +1,7 @@
 // What a walk comes to, and what is done there.
-ghost use Rattle.std.specs.Prelude.{OnOk, IfErr};
+ghost use Rattle.std.specs.Prelude.{◌≡◌, OnOk, IfErr};
+ghost use Rattle.vms_spec.specs.Numbers.{exceeds};
+ghost use Rattle.vms_walk.specs.Steps.{capacities_of};
 
 use crate::PartAt;
 use vms_desc::{Cells, DescSet};
@@ -27,6 +29,17 @@ pub enum WalkStep {
     Rule {
         holds: bool,
     },
+}
+
+/// Tells whether `number` is above `most`, the least capacity of the arrays that it counts. If `most` is `None`, it counts
+/// no array, and the result is false.
+pub fn is_above(number: i128, most: Option<u32>) -> bool
+    ensures { result ≡ exceeds (capacities_of most) number }
+{
+    match most {
+        Some(most) => number > i128::from(most),
+        None => false,
+    }
 }
 
 /// So many numbers at most are taken by one call of [`Walker::run`].

@@ -12,8 +12,8 @@ returns-in_err-value-clause-reads g c =
     let p = err_from_is_err_and c.from_residual.result c.from_residual.ensures.1 in
     rw (p.1, p.2) (reads_no_number c.args.kind c.args.cursor.now.at (capacities_of c.args.most) c.in_err-value.field-0.0 c.in_err-value.ensures.reads)
 
-pub returns-then-is_too_large-clause-reads : goal.returns-then-is_too_large-clause-reads
-returns-then-is_too_large-clause-reads g c =
+pub returns-then-is_above-clause-reads : goal.returns-then-is_above-clause-reads
+returns-then-is_above-clause-reads g c =
     let large : exceeds (capacities_of c.args.most) c.in_ok-value.value ≡ true = search rules in
     reads_large c.args.kind c.args.cursor.now.at (capacities_of c.args.most) c.in_ok-value.value c.at-at.result c.at-at.ensures large c.in_ok-value.ensures.reads
 
