@@ -47,7 +47,7 @@ fn part_of(device: u32, sub: Option<u32>) -> Part
 }
 
 // Reads the fields of a part.
-fn fields<S: Source>(
+fn read_fields<S: Source>(
     set: &DescSet,
     section: Section,
     part: Open,
@@ -91,7 +91,7 @@ fn fields<S: Source>(
 }
 
 // Reads what follows the fields of a part: the head of a subsection, which comes next, or the end of the section.
-fn after<S: Source>(
+fn read_after_fields<S: Source>(
     set: &DescSet,
     section: &mut Section,
     image: &mut Image,
@@ -183,8 +183,8 @@ pub(crate) fn read_section<S: Source>(
         version: image.version(),
     });
     while let Some(part) = next {
-        fields(set, *section, part, image, cursor, source)?;
-        next = after(set, section, image, cursor, source)?;
+        read_fields(set, *section, part, image, cursor, source)?;
+        next = read_after_fields(set, section, image, cursor, source)?;
     }
     Ok(())
 }

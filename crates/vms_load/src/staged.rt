@@ -103,7 +103,7 @@ fn none_came(devices: usize) -> ArrayVec<bool, 64>
 }
 
 /// Begins the section of a device at a version: it has come.
-pub(crate) fn begin(staged: &mut Staged, device: u32, version: u32)
+pub(crate) fn begin_section(staged: &mut Staged, device: u32, version: u32)
     requires image { device < length staged.old.images.items }
     requires device { device < length staged.old.came.items }
     ensures images { staged.new.images.items ≡ slice_set staged.old.images.items device
@@ -164,7 +164,7 @@ fn machine_of(machines: &[Text], only: Option<u32>, name: &[u8]) -> Option<u32>
 }
 
 /// Takes the end mark at this place, before which each device's section must have come: no place is after it.
-pub(crate) fn end(staged: &Staged, at: u64) -> Result<Option<Between>, LoadFault>
+pub(crate) fn take_end_mark(staged: &Staged, at: u64) -> Result<Option<Between>, LoadFault>
     ensures next { IfOk result (λ next. next ≡ None) }
     ensures refused { IfErr result IsRefused }
     ensures settles { (set : Set) (names : List (List ℕ)) (first after : Bool)

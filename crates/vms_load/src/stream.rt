@@ -16,7 +16,7 @@ ghost use Rattle.vms_marks.specs.declared.head.TheConstants.{LONGEST_HEAD};
 use crate::LoadFault;
 use crate::heads::open_section;
 use crate::parts::{Section, read_section};
-use crate::staged::{Staged, begin, configure, end, restart};
+use crate::staged::{Staged, begin_section, configure, restart, take_end_mark};
 use vms_desc::DescSet;
 use vms_frames::{Between, Cursor, Step};
 use vms_io::Source;
@@ -41,7 +41,7 @@ pub(crate) fn stream<S: Source>(
 {
     restart(set, staged);
     let mut cursor = Cursor::new();
-    head(&mut cursor, source)?;
+    read_head(&mut cursor, source)?;
     sections(set, only, staged, &mut cursor, source)?;
     match cursor.trailer(source) {
         Ok(()) => Ok(cursor.at()),
@@ -50,7 +50,7 @@ pub(crate) fn stream<S: Source>(
 }
 
 // Reads the stream head.
-fn head<S: Source>(cursor: &mut Cursor, source: &mut S) -> Result<(), LoadFault>
+fn read_head<S: Source>(cursor: &mut Cursor, source: &mut S) -> Result<(), LoadFault>
     requires held { cursor.old.held ≡ None }
     requires place { cursor.old.at ≤ 2 ^ 63 }
     ensures reads { (set : Set) (names : List (List ℕ)) (state : State)
@@ -91,14 +91,14 @@ fn sections<S: Source>(
 {
     let mut place = Some(Between::First);
     while let Some(between) = place {
-        place = turn(set, only, staged, between, cursor, source)?;
+        place = read_between(set, only, staged, between, cursor, source)?;
     }
     Ok(())
 }
 
 // Reads what stands at a place between sections, a section up to its footer: the place after it, or none
 // after the end mark.
-fn turn<S: Source>(
+fn read_between<S: Source>(
     set: &DescSet,
     only: Option<u32>,
     staged: &mut Staged,
@@ -124,16 +124,16 @@ fn turn<S: Source>(
     match cursor.between(source, between) {
         Ok(Step::Configuration(name)) => configure(set, only, staged, &name, at),
         Ok(Step::Section(head)) => {
-            opened(set, staged, &head, at, cursor, source)?;
+            stage_section(set, staged, &head, at, cursor, source)?;
             Ok(Some(Between::Later))
         }
-        Ok(Step::End) => end(staged, at),
+        Ok(Step::End) => take_end_mark(staged, at),
         Err(fault) => Err(LoadFault::concerning(None, fault)),
     }
 }
 
 // Reads the section of a head that stood at this place.
-fn opened<S: Source>(
+fn stage_section<S: Source>(
     set: &DescSet,
     staged: &mut Staged,
     head: &Head,
@@ -167,7 +167,7 @@ fn opened<S: Source>(
     ensures short { length head.now.name.items ≤ LONGEST_NAME }
 {
     let device = open_section(set, &staged.came, head, at)?;
-    begin(staged, device, head.version);
+    begin_section(staged, device, head.version);
     let mut section = Section {
         device,
         id: head.id,

@@ -22,7 +22,7 @@ use Rattle.vms_load.proofs.AfterReads.{after_fault, after_settled, after_next, f
 use Rattle.vms_load.proofs.SetFacts.{few_subs}
 use Rattle.vms_image.specs.Typed.{Typed, state_of as untyped}
 use Rattle.vms_marks.specs.declared.sub_head.TheConstants.{LONGEST_SUB_HEAD}
-use Rattle.vms_load.proofs.parts.after.Goals as goal
+use Rattle.vms_load.proofs.parts.read_after_fields.Goals as goal
 
 -- what a subsection head opens, as the call tells it
 opened : (k place : ℕ) (came : List (Option ℕ)) (name : List ℕ) (v : ℕ) (d there : Device) (result is : Result ℕ Reason) → there ≡ d → in_section k result ≡ sub_opened k there came name v → result ≡ is

@@ -20,9 +20,9 @@ use Rattle.vms_load.proofs.PartTaken.{part_took, part_failed}
 use Rattle.vms_load.proofs.StepBytes.{part_bound}
 use Rattle.vms_load.proofs.SetFacts.{part_kinds, desc_is, base_is, part_spot}
 use Rattle.vms_image.specs.Typed.{state_of as untyped}
-use Rattle.vms_load.proofs.parts.fields.Given.{Over}
-use Rattle.vms_load.proofs.parts.fields.Goals as goal
-use Rattle.vms_load.proofs.parts.fields.Goals.{Start, After-first_cell-base, After-read_part}
+use Rattle.vms_load.proofs.parts.read_fields.Given.{Over}
+use Rattle.vms_load.proofs.parts.read_fields.Goals as goal
+use Rattle.vms_load.proofs.parts.read_fields.Goals.{Start, After-first_cell-base, After-read_part}
 
 -- what is told before the part is read and behind it
 abbrev old : (g : Over) (c : goal.Start g) → Told

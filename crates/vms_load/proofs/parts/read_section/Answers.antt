@@ -38,12 +38,12 @@ loop-next-preserved g c =
     let same = loop.invariant.same in
     let still = c.in_ok-next.ensures.section in
     let from = c.args.cursor.now in
-    let mid = c.fields.new.cursor in
+    let mid = c.read_fields.new.cursor in
     let sub = c.in-Some.part.sub in
     let due = ap (λ (o : Option Open). part_due set d loop.image.came o) c.in-Some.is in
-    let kept = ap (λ (image : Typed). subs_due set d.subs image.came) c.in_ok-fields.ensures.kept in
-    let later = ap (λ (k : ℕ). part_due set (device_at set k) c.after.new.image.came c.in_ok-next.next) still.0 in
-    let one = c.in_ok-fields.ensures.moves in
+    let kept = ap (λ (image : Typed). subs_due set d.subs image.came) c.in_ok-read_fields.ensures.kept in
+    let later = ap (λ (k : ℕ). part_due set (device_at set k) c.read_after_fields.new.image.came c.in_ok-next.next) still.0 in
+    let one = c.in_ok-read_fields.ensures.moves in
     let two = c.in_ok-next.ensures.moves in
     record {
       same = (still.0 ∙ same.0, still.1 ∙ same.1);
@@ -51,11 +51,11 @@ loop-next-preserved g c =
       reads = λ names state room.
           let inside : section.device < length state.images = omega (arith, room, same.0) in
           let here = in_fields set names state c.args.section.now None (untyped c.args.image.now) in
-          let middle = after_fields set names state section sub (untyped c.fields.new.image) in
-          goes_further here middle (after_part set names state c.after.new.section (untyped c.after.new.image) c.in_ok-next.next) from mid c.after.new.cursor
+          let middle = after_fields set names state section sub (untyped c.read_fields.new.image) in
+          goes_further here middle (after_part set names state c.read_after_fields.new.section (untyped c.read_after_fields.new.image) c.in_ok-next.next) from mid c.read_after_fields.new.cursor
           (omega (arith, loop.invariant.from, one.0)) two.0 (omega (arith, loop.invariant.onward, one.1)) two.1
           (goes_further here (after_part set names state section (untyped loop.image) (Some c.in-Some.part)) middle from loop.cursor mid loop.invariant.from one.0 loop.invariant.onward one.1
-          (rw c.in-Some.is at (loop.invariant.reads names state room)) (c.in_ok-fields.ensures.reads names state inside)) (c.in_ok-next.ensures.reads names state sub inside);
+          (rw c.in-Some.is at (loop.invariant.reads names state room)) (c.in_ok-read_fields.ensures.reads names state inside)) (c.in_ok-next.ensures.reads names state sub inside);
       next_is = rw still.0 c.in_ok-next.ensures.open;
       shaped = rw still.0 c.in_ok-next.ensures.shaped;
       from = omega (arith, loop.invariant.from, one.0, two.0);
@@ -63,24 +63,24 @@ loop-next-preserved g c =
       place = omega (arith, loop.invariant.place, due, kept, later, one.2, two.2);
     }
 
-pub returns-in_err-fields-clause-reads : goal.returns-in_err-fields-clause-reads
-returns-in_err-fields-clause-reads g c = λ names state room.
+pub returns-in_err-read_fields-clause-reads : goal.returns-in_err-read_fields-clause-reads
+returns-in_err-read_fields-clause-reads g c = λ names state room.
     let set = described c.args.set.now in
     let loop = c.loop-next in
     let section = loop.section in
     let inside : section.device < length state.images = omega (arith, room, loop.invariant.same.0) in
     let from = c.args.cursor.now in
-    let end = c.fields.new.cursor in
+    let end = c.read_fields.new.cursor in
     let here = in_fields set names state c.args.section.now None (untyped c.args.image.now) in
-    let next : Unit {0} → Onward = λ x. after_fields set names state section c.in-Some.part.sub (untyped c.fields.new.image) in
+    let next : Unit {0} → Onward = λ x. after_fields set names state section c.in-Some.part.sub (untyped c.read_fields.new.image) in
     let due = ap (λ (o : Option Open). part_due set (device_at set section.device) loop.image.came o) c.in-Some.is in
-    let e = c.in_err-fields.field-0.0 in
+    let e = c.in_err-read_fields.field-0.0 in
     let most = part_due set (device_at set c.args.section.now.device) c.args.image.now.came (Some (record { sub = None; version = c.args.image.now.version })) + LONGEST_HEAD in
     let p = err_from_is_err_and c.from_residual.result c.from_residual.ensures.1 in
     rw (p.1, p.2)
-    (goes_still (Unit {0}) (Unit {0}) most here next (λ x. after_part set names state section (untyped c.fields.new.image) None) from end end e
+    (goes_still (Unit {0}) (Unit {0}) most here next (λ x. after_part set names state section (untyped c.read_fields.new.image) None) from end end e
     (goes_on {X = Unit {0}} (bytes_of_part set (device_at set section.device) c.in-Some.part.sub) most here (after_part set names state section (untyped loop.image) (Some c.in-Some.part)) next from loop.cursor end (Err e)
-    loop.invariant.from tt loop.invariant.onward tt (omega (arith, due, loop.invariant.place)) (rw c.in-Some.is at (loop.invariant.reads names state room)) (c.in_err-fields.ensures.reads names state inside)))
+    loop.invariant.from tt loop.invariant.onward tt (omega (arith, due, loop.invariant.place)) (rw c.in-Some.is at (loop.invariant.reads names state room)) (c.in_err-read_fields.ensures.reads names state inside)))
 
 pub returns-in_err-next-clause-reads : goal.returns-in_err-next-clause-reads
 returns-in_err-next-clause-reads g c = λ names state room.
@@ -89,14 +89,14 @@ returns-in_err-next-clause-reads g c = λ names state room.
     let section = loop.section in
     let inside : section.device < length state.images = omega (arith, room, loop.invariant.same.0) in
     let from = c.args.cursor.now in
-    let mid = c.fields.new.cursor in
-    let end = c.after.new.cursor in
+    let mid = c.read_fields.new.cursor in
+    let end = c.read_after_fields.new.cursor in
     let here = in_fields set names state c.args.section.now None (untyped c.args.image.now) in
     let sub = c.in-Some.part.sub in
-    let middle = after_fields set names state section sub (untyped c.fields.new.image) in
-    let next : Option Open → Onward = after_part set names state c.after.new.section (untyped c.after.new.image) in
+    let middle = after_fields set names state section sub (untyped c.read_fields.new.image) in
+    let next : Option Open → Onward = after_part set names state c.read_after_fields.new.section (untyped c.read_after_fields.new.image) in
     let due = ap (λ (o : Option Open). part_due set (device_at set section.device) loop.image.came o) c.in-Some.is in
-    let one = c.in_ok-fields.ensures.moves in
+    let one = c.in_ok-read_fields.ensures.moves in
     let e = c.in_err-next.field-0.0 in
     let most = part_due set (device_at set c.args.section.now.device) c.args.image.now.came (Some (record { sub = None; version = c.args.image.now.version })) + LONGEST_HEAD in
     let p = err_from_is_err_and c.from_residual-in_err-next.result c.from_residual-in_err-next.ensures.1 in
@@ -104,7 +104,7 @@ returns-in_err-next-clause-reads g c = λ names state room.
     (goes_still (Option Open) (Unit {0}) most here next (λ x. next None) from end end e
     (goes_on {X = Option Open} LONGEST_SUB_HEAD most here middle next from mid end (Err e) (omega (arith, loop.invariant.from, one.0)) tt (omega (arith, loop.invariant.onward, one.1)) tt (omega (arith, due, loop.invariant.place, one.2))
     (goes_further here (after_part set names state section (untyped loop.image) (Some c.in-Some.part)) middle from loop.cursor mid loop.invariant.from one.0 loop.invariant.onward one.1
-    (rw c.in-Some.is at (loop.invariant.reads names state room)) (c.in_ok-fields.ensures.reads names state inside)) (c.in_err-next.ensures.reads names state sub inside)))
+    (rw c.in-Some.is at (loop.invariant.reads names state room)) (c.in_ok-read_fields.ensures.reads names state inside)) (c.in_err-next.ensures.reads names state sub inside)))
 
 -- less is due with each part
 less : (set : Set) (d : Device) (came : List (Option ℕ)) (next : Option Open) (from to : Stand) (most : ℕ) → from.held ≡ None → IsMoved from to next → reach to + part_due set d came next ≤ reach from + most → 0 < most
@@ -118,11 +118,11 @@ loop-next-smaller g c =
     let loop = c.loop-next in
     let d = device_at set loop.section.device in
     let due = ap (λ (o : Option Open). part_due set d loop.image.came o) c.in-Some.is in
-    let same = ap (λ (image : Typed). subs_due set d.subs image.came) c.in_ok-fields.ensures.kept in
-    let still = ap (λ (k : ℕ). part_due set (device_at set k) c.after.new.image.came c.in_ok-next.next) c.in_ok-next.ensures.section.0 in
-    let most = subs_due set d.subs c.fields.new.image.came + FOOT_LENGTH in
+    let same = ap (λ (image : Typed). subs_due set d.subs image.came) c.in_ok-read_fields.ensures.kept in
+    let still = ap (λ (k : ℕ). part_due set (device_at set k) c.read_after_fields.new.image.came c.in_ok-next.next) c.in_ok-next.ensures.section.0 in
+    let most = subs_due set d.subs c.read_fields.new.image.came + FOOT_LENGTH in
     let some : 0 < most = omega arith in
-    let now = less set d c.after.new.image.came c.in_ok-next.next c.fields.new.cursor c.after.new.cursor most c.in_ok-fields.ensures.held c.in_ok-next.ensures.moved (c.in_ok-next.ensures.moves.2) some in
+    let now = less set d c.read_after_fields.new.image.came c.in_ok-next.next c.read_fields.new.cursor c.read_after_fields.new.cursor most c.in_ok-read_fields.ensures.held c.in_ok-next.ensures.moved (c.in_ok-next.ensures.moves.2) some in
     omega (arith, due, same, still, now)
 
 pub returns-clause-reads : goal.returns-clause-reads

@@ -11,7 +11,7 @@ use Rattle.vms_frames.specs.declared.units.Step.TheVariants as steps
 use Rattle.vms_load.specs.Staging.{accepted_of, state_of, spot_of, spot_at, is_first, is_configured}
 use Rattle.vms_load.proofs.GoingLemmas.{spent_by, goes_judged, goes_still, same_course}
 use Rattle.vms_load.proofs.TurnReads.{turn_fault, turn_settled, turn_section}
-use Rattle.vms_load.proofs.stream.turn.Goals as goal
+use Rattle.vms_load.proofs.stream.read_between.Goals as goal
 
 pub returns-in-Ok-Configuration-clause-reads : goal.returns-in-Ok-Configuration-clause-reads
 returns-in-Ok-Configuration-clause-reads g c =
@@ -41,33 +41,33 @@ returns-in-Ok-End-clause-reads g c =
     let place = rw c.in-Ok-End.field-0-is at c.in-Ok-End.ensures.place in
     let held = c.in-Ok-End.ensures.held in
     let now = ap held_long held in
-    let settled = rw c.at-at.ensures at (c.end.ensures.settles set names (is_first at) (is_configured at)) in
-    goes_judged c.end.result c.end.ensures.refused
-    (reads_as (λ n l. spent_by from to _ c.end.result n (omega (arith, l, place, now)) (omega (arith, l)))
-    (λ rest left h. turn_settled set names c.args.staged.now at {Y = Option Between} from to (Some rest) (Some left) steps.End (λ next. state_of set c.args.staged.now (spot_at next)) c.end.result h place held settled) reads)
+    let settled = rw c.at-at.ensures at (c.take_end_mark.ensures.settles set names (is_first at) (is_configured at)) in
+    goes_judged c.take_end_mark.result c.take_end_mark.ensures.refused
+    (reads_as (λ n l. spent_by from to _ c.take_end_mark.result n (omega (arith, l, place, now)) (omega (arith, l)))
+    (λ rest left h. turn_settled set names c.args.staged.now at {Y = Option Between} from to (Some rest) (Some left) steps.End (λ next. state_of set c.args.staged.now (spot_at next)) c.take_end_mark.result h place held settled) reads)
 
-pub returns-in_err-opened-in-Ok-Section-clause-reads : goal.returns-in_err-opened-in-Ok-Section-clause-reads
-returns-in_err-opened-in-Ok-Section-clause-reads g c =
+pub returns-in_err-stage_section-in-Ok-Section-clause-reads : goal.returns-in_err-stage_section-in-Ok-Section-clause-reads
+returns-in_err-stage_section-in-Ok-Section-clause-reads g c =
     let set = described c.args.set.now in
     let names = accepted_of set c.args.only in
     let at = c.args.between in
     let go = reading_on (judge (by_state set names)) in
     let from = c.args.cursor.now in
-    let end = c.opened.new.cursor in
+    let end = c.stage_section.new.cursor in
     let head = c.in-Ok-Section.head in
     let reads = rw c.in-Ok-Section.field-0-is at c.in-Ok-Section.ensures.reads in
     let place = rw c.in-Ok-Section.field-0-is at c.in-Ok-Section.ensures.place in
     let held = c.in-Ok-Section.ensures.held in
-    let e = c.in_err-opened-in-Ok-Section.field-0.0 in
+    let e = c.in_err-stage_section-in-Ok-Section.field-0.0 in
     let p = err_from_is_err_and c.from_residual.result c.from_residual.ensures.1 in
     rw (p.1, p.2)
-    (goes_still (Unit {0}) (Option Between) _ (go (state_of set c.args.staged.now (spot_of at))) (λ x. go (state_of set c.opened.new.staged (Free false false))) (λ next. go (state_of set c.opened.new.staged (spot_at next))) from end end e
-    (reads_both (λ k n l m. omega (arith, l, m, c.opened.ensures.short))
-    (λ all rest left h r. turn_section set names c.args.staged.now at from c.between.new.self end (Some all) (Some rest) (Some left) head c.at-at.result (state_of set c.opened.new.staged (Free false false)) (Err e)
-    c.requires.whole.came h place held c.at-at.ensures r) reads (c.in_err-opened-in-Ok-Section.ensures.reads names (is_first at) (is_configured at))))
+    (goes_still (Unit {0}) (Option Between) _ (go (state_of set c.args.staged.now (spot_of at))) (λ x. go (state_of set c.stage_section.new.staged (Free false false))) (λ next. go (state_of set c.stage_section.new.staged (spot_at next))) from end end e
+    (reads_both (λ k n l m. omega (arith, l, m, c.stage_section.ensures.short))
+    (λ all rest left h r. turn_section set names c.args.staged.now at from c.between.new.self end (Some all) (Some rest) (Some left) head c.at-at.result (state_of set c.stage_section.new.staged (Free false false)) (Err e)
+    c.requires.whole.came h place held c.at-at.ensures r) reads (c.in_err-stage_section-in-Ok-Section.ensures.reads names (is_first at) (is_configured at))))
 
-pub returns-in_ok-opened-in-Ok-Section-clause-reads : goal.returns-in_ok-opened-in-Ok-Section-clause-reads
-returns-in_ok-opened-in-Ok-Section-clause-reads g c =
+pub returns-in_ok-stage_section-in-Ok-Section-clause-reads : goal.returns-in_ok-stage_section-in-Ok-Section-clause-reads
+returns-in_ok-stage_section-in-Ok-Section-clause-reads g c =
     let set = described c.args.set.now in
     let names = accepted_of set c.args.only in
     let at = c.args.between in
@@ -76,10 +76,10 @@ returns-in_ok-opened-in-Ok-Section-clause-reads g c =
     let place = rw c.in-Ok-Section.field-0-is at c.in-Ok-Section.ensures.place in
     let held = c.in-Ok-Section.ensures.held in
     let now = ap held_long held in
-    let moves = c.in_ok-opened-in-Ok-Section.ensures.moves in
+    let moves = c.in_ok-stage_section-in-Ok-Section.ensures.moves in
     reads_both (λ k n l m. omega (arith, l, m, place, now, moves.1))
-    (λ all rest left h r. turn_section set names c.args.staged.now at c.args.cursor.now c.between.new.self c.opened.new.cursor (Some all) (Some rest) (Some left) head c.at-at.result (state_of set c.opened.new.staged (Free false false))
-    (Ok c.in_ok-opened-in-Ok-Section.field-0) c.requires.whole.came h place held c.at-at.ensures r) reads (c.in_ok-opened-in-Ok-Section.ensures.reads names (is_first at) (is_configured at))
+    (λ all rest left h r. turn_section set names c.args.staged.now at c.args.cursor.now c.between.new.self c.stage_section.new.cursor (Some all) (Some rest) (Some left) head c.at-at.result (state_of set c.stage_section.new.staged (Free false false))
+    (Ok c.in_ok-stage_section-in-Ok-Section.field-0) c.requires.whole.came h place held c.at-at.ensures r) reads (c.in_ok-stage_section-in-Ok-Section.ensures.reads names (is_first at) (is_configured at))
 
 pub returns-in-Err-clause-reads : goal.returns-in-Err-clause-reads
 returns-in-Err-clause-reads g c =

@@ -37,7 +37,7 @@ loop-place-preserved g c =
     let moves = c.in_ok-place.ensures.moves in
     let due = ap (λ (o : Option Between). stream_due set loop.staged.came.items o) c.in-Some.is in
     record {
-      reads = goes_further here mid (go (state_of set c.turn.new.staged (spot_at c.in_ok-place.place))) c.args.cursor.now loop.cursor c.turn.new.cursor loop.invariant.from moves.0 loop.invariant.onward moves.1 (rw c.in-Some.is at loop.invariant.reads) c.in_ok-place.ensures.reads;
+      reads = goes_further here mid (go (state_of set c.read_between.new.staged (spot_at c.in_ok-place.place))) c.args.cursor.now loop.cursor c.read_between.new.cursor loop.invariant.from moves.0 loop.invariant.onward moves.1 (rw c.in-Some.is at loop.invariant.reads) c.in_ok-place.ensures.reads;
       held = c.in_ok-place.ensures.held;
       whole = c.in_ok-place.ensures.whole;
       from = omega (arith, loop.invariant.from, moves.0);
@@ -52,14 +52,14 @@ returns-in_err-place-clause-reads g c =
     let loop = c.loop-place in
     let here = go (state_of set c.args.staged.now (spot_at (Some First))) in
     let mid = go (state_of set loop.staged (spot_at (Some c.in-Some.between))) in
-    let next : Option Between → Onward = λ next. go (state_of set c.turn.new.staged (spot_at next)) in
+    let next : Option Between → Onward = λ next. go (state_of set c.read_between.new.staged (spot_at next)) in
     let most = stream_due set c.args.staged.now.came.items (Some First) + LONGEST_HEAD in
     let e = c.in_err-place.field-0.0 in
     let due = ap (λ (o : Option Between). stream_due set loop.staged.came.items o) c.in-Some.is in
     let p = err_from_is_err_and c.from_residual.result c.from_residual.ensures.1 in
     rw (p.1, p.2)
-    (goes_still (Option Between) (Unit {0}) most here next (λ x. go (state_of set c.turn.new.staged (spot_at None))) c.args.cursor.now c.turn.new.cursor c.turn.new.cursor e
-    (goes_on {X = Option Between} (stream_due set loop.staged.came.items (Some c.in-Some.between) + LONGEST_HEAD) most here mid next c.args.cursor.now loop.cursor c.turn.new.cursor (Err e) loop.invariant.from tt loop.invariant.onward tt
+    (goes_still (Option Between) (Unit {0}) most here next (λ x. go (state_of set c.read_between.new.staged (spot_at None))) c.args.cursor.now c.read_between.new.cursor c.read_between.new.cursor e
+    (goes_on {X = Option Between} (stream_due set loop.staged.came.items (Some c.in-Some.between) + LONGEST_HEAD) most here mid next c.args.cursor.now loop.cursor c.read_between.new.cursor (Err e) loop.invariant.from tt loop.invariant.onward tt
     (omega (arith, due, loop.invariant.due)) (rw c.in-Some.is at loop.invariant.reads) c.in_err-place.ensures.reads))
 
 pub loop-place-smaller : goal.loop-place-smaller

@@ -20,7 +20,7 @@ use Rattle.vms_load.specs.Reads.{Onward}
 use Rattle.vms_load.proofs.GoingLemmas.{behind_here}
 use Rattle.vms_load.proofs.OpenedReads.{head_unit, head_long, begun, section_refused, section_reads, ended_in, ends_later}
 use Rattle.vms_load.proofs.StagedLemmas.{image_begun, begun_here, shaped_put, still_fresh, default_shaped, sections_taken}
-use Rattle.vms_load.proofs.stream.opened.Goals as goal
+use Rattle.vms_load.proofs.stream.stage_section.Goals as goal
 
 pub returns-in_err-device-clause-reads : goal.returns-in_err-device-clause-reads
 returns-in_err-device-clause-reads g c = λ names first after.
@@ -35,15 +35,15 @@ returns-in_err-device-clause-reads g c = λ names first after.
     next c.args.at (head_long head) c.args.cursor.now c.args.cursor.now e c.in_err-device.ensures.refused (g.met.S.Source.counted c.args.source.now)
     (λ more bytes behind. section_refused set names c.args.staged.now first after head c.args.at c.args.cursor.now bytes (Some more) next e c.requires.whole.came is behind.taken))
 
-pub begin-requires-clause-image : goal.begin-requires-clause-image
-begin-requires-clause-image g c = omega (arith, c.requires.whole.images.all, c.in_ok-device.ensures.fresh.0)
+pub begin_section-requires-clause-image : goal.begin_section-requires-clause-image
+begin_section-requires-clause-image g c = omega (arith, c.requires.whole.images.all, c.in_ok-device.ensures.fresh.0)
 
-pub begin-requires-clause-device : goal.begin-requires-clause-device
-begin-requires-clause-device g c = omega (arith, c.requires.whole.came, c.in_ok-device.ensures.fresh.0)
+pub begin_section-requires-clause-device : goal.begin_section-requires-clause-device
+begin_section-requires-clause-device g c = omega (arith, c.requires.whole.came, c.in_ok-device.ensures.fresh.0)
 
 pub index_mut-image-requires : goal.index_mut-image-requires
 index_mut-image-requires g c =
-    let long = ap length c.begin.ensures.images ∙ length-set c.args.staged.now.images.items c.in_ok-device.device _ in
+    let long = ap length c.begin_section.ensures.images ∙ length-set c.args.staged.now.images.items c.in_ok-device.device _ in
     omega (arith, c.in_ok-device.ensures.fresh.0, long, c.requires.whole.images.all)
 
 pub read_section-requires-clause-device : goal.read_section-requires-clause-device
@@ -55,8 +55,8 @@ read_section-requires-clause-shaped g c =
     let head = c.args.head.now in
     let k = c.in_ok-device.device in
     let new = rw c.deref.ensures.0 at c.in_ok-device.ensures.fresh in
-    let began = begun_here set c.begin.new.staged.images.items c.args.staged.now.images.items k head.version c.begin.ensures.images (c.requires.whole.fresh k new.1) in
-    let image = image_begun c.begin.new.staged.images.items c.args.staged.now.images.items k (begun_at set k head.version) c.index_mut-image.result.now c.index_mut-image.ensures.value began (omega (arith, new.0, c.requires.whole.images.all)) in
+    let began = begun_here set c.begin_section.new.staged.images.items c.args.staged.now.images.items k head.version c.begin_section.ensures.images (c.requires.whole.fresh k new.1) in
+    let image = image_begun c.begin_section.new.staged.images.items c.args.staged.now.images.items k (begun_at set k head.version) c.index_mut-image.result.now c.index_mut-image.ensures.value began (omega (arith, new.0, c.requires.whole.images.all)) in
     subst (λ (x : Typed). IsImageOf set k x) (sym image) (default_shaped set k head.version)
 
 pub read_section-requires-clause-place : goal.read_section-requires-clause-place
@@ -65,8 +65,8 @@ read_section-requires-clause-place g c =
     let head = c.args.head.now in
     let k = c.in_ok-device.device in
     let new = rw c.deref.ensures.0 at c.in_ok-device.ensures.fresh in
-    let began = begun_here set c.begin.new.staged.images.items c.args.staged.now.images.items k head.version c.begin.ensures.images (c.requires.whole.fresh k new.1) in
-    let image = image_begun c.begin.new.staged.images.items c.args.staged.now.images.items k (begun_at set k head.version) c.index_mut-image.result.now c.index_mut-image.ensures.value began (omega (arith, new.0, c.requires.whole.images.all)) in
+    let began = begun_here set c.begin_section.new.staged.images.items c.args.staged.now.images.items k head.version c.begin_section.ensures.images (c.requires.whole.fresh k new.1) in
+    let image = image_begun c.begin_section.new.staged.images.items c.args.staged.now.images.items k (begun_at set k head.version) c.index_mut-image.result.now c.index_mut-image.ensures.value began (omega (arith, new.0, c.requires.whole.images.all)) in
     let due = sections_taken set set.devices c.args.staged.now.came.items k (record { instance = 0; desc = no_desc; subs = [] }) c.requires.whole.came new.1 in
     let same = ap (λ (x : Typed). subs_due set (device_at set k).subs x.came) image in
     omega (arith, due, same, c.requires.place)
@@ -79,14 +79,14 @@ returns-in_err-read_section-clause-reads g c = λ names first after.
     let old = c.args.staged.now in
     let is = sym (c.in_ok-device.was) ∙ c.open_section.ensures.opened ∙ ap (λ (came : List Bool). opened_at c.args.at (section_opened set came head.name.items head.instance head.version)) c.deref.ensures.0 in
     let new = rw c.deref.ensures.0 at c.in_ok-device.ensures.fresh in
-    let began = begun_here set c.begin.new.staged.images.items old.images.items k head.version c.begin.ensures.images (c.requires.whole.fresh k new.1) in
+    let began = begun_here set c.begin_section.new.staged.images.items old.images.items k head.version c.begin_section.ensures.images (c.requires.whole.fresh k new.1) in
     let room : k < length old.images.items = omega (arith, new.0, c.requires.whole.images.all) in
-    let image = image_begun c.begin.new.staged.images.items old.images.items k (begun_at set k head.version) c.index_mut-image.result.now c.index_mut-image.ensures.value began room in
+    let image = image_begun c.begin_section.new.staged.images.items old.images.items k (begun_at set k head.version) c.index_mut-image.result.now c.index_mut-image.ensures.value began room in
     let now = c.read_section.new.section in
-    let final = ended_in (name_of set c.begin.new.staged.machine) (map untyped (slice_set c.begin.new.staged.images.items k c.read_section.new.image)) c.begin.new.staged.came.items (tail_of now.tail) in
-    let machine = ap (name_of set) c.begin.ensures.machine in
-    let last = ends_later (name_of set old.machine) (name_of set c.begin.new.staged.machine) c.begin.new.staged.images.items old.images.items old.came.items c.begin.new.staged.came.items k now.device (begun_at set k head.version)
-    c.read_section.new.image (tail_of now.tail) machine began c.begin.ensures.came c.in_err-read_section.ensures.section.0 in
+    let final = ended_in (name_of set c.begin_section.new.staged.machine) (map untyped (slice_set c.begin_section.new.staged.images.items k c.read_section.new.image)) c.begin_section.new.staged.came.items (tail_of now.tail) in
+    let machine = ap (name_of set) c.begin_section.ensures.machine in
+    let last = ends_later (name_of set old.machine) (name_of set c.begin_section.new.staged.machine) c.begin_section.new.staged.images.items old.images.items old.came.items c.begin_section.new.staged.came.items k now.device (begun_at set k head.version)
+    c.read_section.new.image (tail_of now.tail) machine began c.begin_section.ensures.came c.in_err-read_section.ensures.section.0 in
     let go = reading_on (judge (by_state set names)) in
     let v = ask set names (state_of set old (Free first after)) (head_unit head) (head_long head) in
     let due = sections_taken set set.devices c.args.staged.now.came.items k (record { instance = 0; desc = no_desc; subs = [] }) c.requires.whole.came new.1 in
@@ -96,8 +96,8 @@ returns-in_err-read_section-clause-reads g c = λ names first after.
     rw (p.1, p.2)
     (reads_as (λ n l. omega (arith, l, due, same))
     (λ rest left r bytes behind. read_behind {X = Unit {0}} go v (λ x. go final) (head_long head) c.args.at bytes c.args.cursor.now c.read_section.new.cursor (Some rest) (Some left) (Err e) behind tt
-    (section_reads set names old first after head k c.args.at c.args.cursor.now c.read_section.new.cursor (untyped c.index_mut-image.result.now) (untyped c.read_section.new.image) c.begin.new.staged.tail now final
-    (Some rest) (Some left) (Err e) c.requires.whole.came new.0 is (ap untyped image) c.begin.ensures.tail last r))
+    (section_reads set names old first after head k c.args.at c.args.cursor.now c.read_section.new.cursor (untyped c.index_mut-image.result.now) (untyped c.read_section.new.image) c.begin_section.new.staged.tail now final
+    (Some rest) (Some left) (Err e) c.requires.whole.came new.0 is (ap untyped image) c.begin_section.ensures.tail last r))
     (c.in_err-read_section.ensures.reads names (begun set names old first after k) (omega (arith, room, length-map old.images.items untyped))))
 
 pub returns-clause-reads : goal.returns-clause-reads
@@ -108,20 +108,20 @@ returns-clause-reads g c = λ names first after.
     let old = c.args.staged.now in
     let is = sym (c.in_ok-device.was) ∙ c.open_section.ensures.opened ∙ ap (λ (came : List Bool). opened_at c.args.at (section_opened set came head.name.items head.instance head.version)) c.deref.ensures.0 in
     let new = rw c.deref.ensures.0 at c.in_ok-device.ensures.fresh in
-    let began = begun_here set c.begin.new.staged.images.items old.images.items k head.version c.begin.ensures.images (c.requires.whole.fresh k new.1) in
+    let began = begun_here set c.begin_section.new.staged.images.items old.images.items k head.version c.begin_section.ensures.images (c.requires.whole.fresh k new.1) in
     let room : k < length old.images.items = omega (arith, new.0, c.requires.whole.images.all) in
-    let image = image_begun c.begin.new.staged.images.items old.images.items k (begun_at set k head.version) c.index_mut-image.result.now c.index_mut-image.ensures.value began room in
+    let image = image_begun c.begin_section.new.staged.images.items old.images.items k (begun_at set k head.version) c.index_mut-image.result.now c.index_mut-image.ensures.value began room in
     let now = c.read_section.new.section in
-    let final = ended_in (name_of set c.begin.new.staged.machine) (map untyped (slice_set c.begin.new.staged.images.items k c.read_section.new.image)) c.begin.new.staged.came.items (tail_of now.tail) in
-    let machine = ap (name_of set) c.begin.ensures.machine in
-    let last = ends_later (name_of set old.machine) (name_of set c.begin.new.staged.machine) c.begin.new.staged.images.items old.images.items old.came.items c.begin.new.staged.came.items k now.device (begun_at set k head.version)
-    c.read_section.new.image (tail_of now.tail) machine began c.begin.ensures.came c.in_ok-read_section.ensures.section.0 in
+    let final = ended_in (name_of set c.begin_section.new.staged.machine) (map untyped (slice_set c.begin_section.new.staged.images.items k c.read_section.new.image)) c.begin_section.new.staged.came.items (tail_of now.tail) in
+    let machine = ap (name_of set) c.begin_section.ensures.machine in
+    let last = ends_later (name_of set old.machine) (name_of set c.begin_section.new.staged.machine) c.begin_section.new.staged.images.items old.images.items old.came.items c.begin_section.new.staged.came.items k now.device (begun_at set k head.version)
+    c.read_section.new.image (tail_of now.tail) machine began c.begin_section.ensures.came c.in_ok-read_section.ensures.section.0 in
     let go = reading_on (judge (by_state set names)) in
     let v = ask set names (state_of set old (Free first after)) (head_unit head) (head_long head) in
     reads_as (λ n l. l)
     (λ rest left r bytes behind. read_behind {X = Unit {0}} go v (λ x. go final) (head_long head) c.args.at bytes c.args.cursor.now c.read_section.new.cursor (Some rest) (Some left) (Ok c.in_ok-read_section.field-0) behind c.in_ok-read_section.ensures.moves.0
-    (section_reads set names old first after head k c.args.at c.args.cursor.now c.read_section.new.cursor (untyped c.index_mut-image.result.now) (untyped c.read_section.new.image) c.begin.new.staged.tail now final
-    (Some rest) (Some left) (Ok c.in_ok-read_section.field-0) c.requires.whole.came new.0 is (ap untyped image) c.begin.ensures.tail last r))
+    (section_reads set names old first after head k c.args.at c.args.cursor.now c.read_section.new.cursor (untyped c.index_mut-image.result.now) (untyped c.read_section.new.image) c.begin_section.new.staged.tail now final
+    (Some rest) (Some left) (Ok c.in_ok-read_section.field-0) c.requires.whole.came new.0 is (ap untyped image) c.begin_section.ensures.tail last r))
     (c.in_ok-read_section.ensures.reads names (begun set names old first after k) (omega (arith, room, length-map old.images.items untyped)))
 
 pub returns-clause-moves : goal.returns-clause-moves
@@ -130,11 +130,11 @@ returns-clause-moves g c =
     let head = c.args.head.now in
     let k = c.in_ok-device.device in
     let new = rw c.deref.ensures.0 at c.in_ok-device.ensures.fresh in
-    let began = begun_here set c.begin.new.staged.images.items c.args.staged.now.images.items k head.version c.begin.ensures.images (c.requires.whole.fresh k new.1) in
-    let image = image_begun c.begin.new.staged.images.items c.args.staged.now.images.items k (begun_at set k head.version) c.index_mut-image.result.now c.index_mut-image.ensures.value began (omega (arith, new.0, c.requires.whole.images.all)) in
+    let began = begun_here set c.begin_section.new.staged.images.items c.args.staged.now.images.items k head.version c.begin_section.ensures.images (c.requires.whole.fresh k new.1) in
+    let image = image_begun c.begin_section.new.staged.images.items c.args.staged.now.images.items k (begun_at set k head.version) c.index_mut-image.result.now c.index_mut-image.ensures.value began (omega (arith, new.0, c.requires.whole.images.all)) in
     let due = sections_taken set set.devices c.args.staged.now.came.items k (record { instance = 0; desc = no_desc; subs = [] }) c.requires.whole.came new.1 in
     let same = ap (λ (x : Typed). subs_due set (device_at set k).subs x.came) image in
-    let came = ap (λ (l : List Bool). sections_due set set.devices l) c.begin.ensures.came in
+    let came = ap (λ (l : List Bool). sections_due set set.devices l) c.begin_section.ensures.came in
     let moves = c.in_ok-read_section.ensures.moves in
     (moves.0, moves.1, omega (arith, due, same, came, moves.2))
 
@@ -145,14 +145,14 @@ returns-in_err-read_section-clause-whole g c =
     let k = c.in_ok-device.device in
     let old = c.args.staged.now in
     let new = rw c.deref.ensures.0 at c.in_ok-device.ensures.fresh in
-    let began = begun_here set c.begin.new.staged.images.items old.images.items k head.version c.begin.ensures.images (c.requires.whole.fresh k new.1) in
+    let began = begun_here set c.begin_section.new.staged.images.items old.images.items k head.version c.begin_section.ensures.images (c.requires.whole.fresh k new.1) in
     let shaped = subst (AreShaped set) (sym began) (shaped_put set old.images.items k (begun_at set k head.version) c.requires.whole.images new.0 (default_shaped set k head.version)) in
     record {
-      images = shaped_put set c.begin.new.staged.images.items k c.read_section.new.image shaped new.0 c.read_section.ensures.shaped;
+      images = shaped_put set c.begin_section.new.staged.images.items k c.read_section.new.image shaped new.0 c.read_section.ensures.shaped;
       came = search rules;
       machine = search rules;
-      fresh = still_fresh set old.images.items c.begin.new.staged.images.items old.came.items c.begin.new.staged.came.items k (begun_at set k head.version) c.read_section.new.image
-          (omega (arith, c.requires.whole.came, new.0)) c.begin.ensures.came began c.requires.whole.fresh;
+      fresh = still_fresh set old.images.items c.begin_section.new.staged.images.items old.came.items c.begin_section.new.staged.came.items k (begun_at set k head.version) c.read_section.new.image
+          (omega (arith, c.requires.whole.came, new.0)) c.begin_section.ensures.came began c.requires.whole.fresh;
     }
 
 pub returns-clause-whole : goal.returns-clause-whole
@@ -162,12 +162,12 @@ returns-clause-whole g c =
     let k = c.in_ok-device.device in
     let old = c.args.staged.now in
     let new = rw c.deref.ensures.0 at c.in_ok-device.ensures.fresh in
-    let began = begun_here set c.begin.new.staged.images.items old.images.items k head.version c.begin.ensures.images (c.requires.whole.fresh k new.1) in
+    let began = begun_here set c.begin_section.new.staged.images.items old.images.items k head.version c.begin_section.ensures.images (c.requires.whole.fresh k new.1) in
     let shaped = subst (AreShaped set) (sym began) (shaped_put set old.images.items k (begun_at set k head.version) c.requires.whole.images new.0 (default_shaped set k head.version)) in
     record {
-      images = shaped_put set c.begin.new.staged.images.items k c.read_section.new.image shaped new.0 c.read_section.ensures.shaped;
+      images = shaped_put set c.begin_section.new.staged.images.items k c.read_section.new.image shaped new.0 c.read_section.ensures.shaped;
       came = search rules;
       machine = search rules;
-      fresh = still_fresh set old.images.items c.begin.new.staged.images.items old.came.items c.begin.new.staged.came.items k (begun_at set k head.version) c.read_section.new.image
-          (omega (arith, c.requires.whole.came, new.0)) c.begin.ensures.came began c.requires.whole.fresh;
+      fresh = still_fresh set old.images.items c.begin_section.new.staged.images.items old.came.items c.begin_section.new.staged.came.items k (begun_at set k head.version) c.read_section.new.image
+          (omega (arith, c.requires.whole.came, new.0)) c.begin_section.ensures.came began c.requires.whole.fresh;
     }

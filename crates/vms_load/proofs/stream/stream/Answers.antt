@@ -18,34 +18,34 @@ use Rattle.vms_frames.specs.declared.units.Between.TheVariants.{First}
 use Rattle.vms_marks.specs.declared.head.TheConstants.{LONGEST_HEAD}
 use Rattle.vms_load.proofs.stream.stream.Goals as goal
 
-pub head-requires-clause-held : goal.head-requires-clause-held
-head-requires-clause-held g c = ap (λ (s : Stand). s.held) c.new-cursor.ensures
+pub read_head-requires-clause-held : goal.read_head-requires-clause-held
+read_head-requires-clause-held g c = ap (λ (s : Stand). s.held) c.new-cursor.ensures
 
-pub head-requires-clause-place : goal.head-requires-clause-place
-head-requires-clause-place g c = omega (arith, ap (λ (s : Stand). s.at) c.new-cursor.ensures)
+pub read_head-requires-clause-place : goal.read_head-requires-clause-place
+read_head-requires-clause-place g c = omega (arith, ap (λ (s : Stand). s.at) c.new-cursor.ensures)
 
-pub returns-in_err-head-clause-reads : goal.returns-in_err-head-clause-reads
-returns-in_err-head-clause-reads g c =
+pub returns-in_err-read_head-clause-reads : goal.returns-in_err-read_head-clause-reads
+returns-in_err-read_head-clause-reads g c =
     let set = described c.args.set.now in
     let names = accepted_of set c.args.only in
     let go = reading_on (judge (by_state set names)) in
     let start = state_of set c.restart.new.staged Before in
-    let e = c.in_err-head.field-0.0 in
+    let e = c.in_err-read_head.field-0.0 in
     let p = err_from_is_err_and c.from_residual.result c.from_residual.ensures.1 in
     rw (p.1, p.2)
     (reads_as (λ n l. omega (arith, l))
-    (λ input left h. refused_before set names {X = Unit {0}} c.restart.new.staged start (Some input) (Some left) (λ x. go (state_of set c.restart.new.staged (Free true false))) c.new-cursor.result c.head.new.cursor e
-    c.restart.ensures.state (ap (λ (s : Stand). s.at) c.new-cursor.ensures) (ap (λ (s : Stand). s.held) c.new-cursor.ensures) h) (c.in_err-head.ensures.reads set names start))
+    (λ input left h. refused_before set names {X = Unit {0}} c.restart.new.staged start (Some input) (Some left) (λ x. go (state_of set c.restart.new.staged (Free true false))) c.new-cursor.result c.read_head.new.cursor e
+    c.restart.ensures.state (ap (λ (s : Stand). s.at) c.new-cursor.ensures) (ap (λ (s : Stand). s.held) c.new-cursor.ensures) h) (c.in_err-read_head.ensures.reads set names start))
 
 pub sections-requires-clause-place : goal.sections-requires-clause-place
 sections-requires-clause-place g c =
     let set = described c.args.set.now in
     let came = ap (λ (s : State). s.came) c.restart.ensures.state in
     let due = ap (λ (l : List Bool). sections_due set set.devices l) came ∙ all_due set set.devices in
-    omega (arith, due, most_small set c.args.set.now.well_formed, c.in_ok-head.ensures.moves, ap reach c.new-cursor.ensures)
+    omega (arith, due, most_small set c.args.set.now.well_formed, c.in_ok-read_head.ensures.moves, ap reach c.new-cursor.ensures)
 
 pub sections-requires-clause-held : goal.sections-requires-clause-held
-sections-requires-clause-held g c = c.in_ok-head.ensures.held
+sections-requires-clause-held g c = c.in_ok-read_head.ensures.held
 
 pub returns-in_err-sections-clause-reads : goal.returns-in_err-sections-clause-reads
 returns-in_err-sections-clause-reads g c =
@@ -56,22 +56,22 @@ returns-in_err-sections-clause-reads g c =
     let came = ap (λ (s : State). s.came) c.restart.ensures.state in
     let due = ap (λ (l : List Bool). sections_due set set.devices l) came ∙ all_due set set.devices in
     let next : Unit {0} → Onward = λ x. go (state_of set c.sections.new.staged (spot_at None)) in
-    let h = c.in_ok-head.ensures.moves in
+    let h = c.in_ok-read_head.ensures.moves in
     let e = c.in_err-sections.field-0.0 in
     let p = err_from_is_err_and c.from_residual-in_err-sections.result c.from_residual-in_err-sections.ensures.1 in
     rw (p.1, p.2)
     (reads_as (λ n l. l)
     (λ input left h. refused_before set names {X = Unit {0}} c.sections.new.staged start (Some input) (Some left) next c.new-cursor.result c.sections.new.cursor e c.restart.ensures.state
     (ap (λ (s : Stand). s.at) c.new-cursor.ensures) (ap (λ (s : Stand). s.held) c.new-cursor.ensures) h)
-    (goes_on {X = Unit {0}} (stream_due set c.restart.new.staged.came.items (Some First) + LONGEST_HEAD) (most_given set) (go start) (go (state_of set c.restart.new.staged (Free true false))) next c.new-cursor.result c.head.new.cursor c.sections.new.cursor (Err e)
-    h.0 tt h.1 tt (omega (arith, due, h, ap reach c.new-cursor.ensures)) (c.in_ok-head.ensures.reads set names start) c.in_err-sections.ensures.reads))
+    (goes_on {X = Unit {0}} (stream_due set c.restart.new.staged.came.items (Some First) + LONGEST_HEAD) (most_given set) (go start) (go (state_of set c.restart.new.staged (Free true false))) next c.new-cursor.result c.read_head.new.cursor c.sections.new.cursor (Err e)
+    h.0 tt h.1 tt (omega (arith, due, h, ap reach c.new-cursor.ensures)) (c.in_ok-read_head.ensures.reads set names start) c.in_err-sections.ensures.reads))
 
 pub trailer-requires-clause-place : goal.trailer-requires-clause-place
 trailer-requires-clause-place g c =
     let set = described c.args.set.now in
     let came = ap (λ (s : State). s.came) c.restart.ensures.state in
     let due = ap (λ (l : List Bool). sections_due set set.devices l) came ∙ all_due set set.devices in
-    omega (arith, due, most_small set c.args.set.now.well_formed, c.in_ok-head.ensures.moves, c.in_ok-sections.ensures.moves, ap reach c.new-cursor.ensures)
+    omega (arith, due, most_small set c.args.set.now.well_formed, c.in_ok-read_head.ensures.moves, c.in_ok-sections.ensures.moves, ap reach c.new-cursor.ensures)
 
 pub trailer-requires-clause-held : goal.trailer-requires-clause-held
 trailer-requires-clause-held g c = c.in_ok-sections.ensures.held
@@ -84,12 +84,12 @@ returns-in-Ok-clause-reads g c =
     let start = state_of set c.restart.new.staged Before in
     let came = ap (λ (s : State). s.came) c.restart.ensures.state in
     let due = ap (λ (l : List Bool). sections_due set set.devices l) came ∙ all_due set set.devices in
-    let h = c.in_ok-head.ensures.moves in
+    let h = c.in_ok-read_head.ensures.moves in
     let s = c.in_ok-sections.ensures.moves in
     let zero = ap reach c.new-cursor.ensures in
     let free = ap held_long c.in_ok-sections.ensures.held in
-    let lead = goes_further (go start) (go (state_of set c.restart.new.staged (Free true false))) (go (state_of set c.sections.new.staged (spot_at None))) c.new-cursor.result c.head.new.cursor c.sections.new.cursor h.0 s.0 h.1 s.1
-    (c.in_ok-head.ensures.reads set names start) c.in_ok-sections.ensures.reads in
+    let lead = goes_further (go start) (go (state_of set c.restart.new.staged (Free true false))) (go (state_of set c.sections.new.staged (spot_at None))) c.new-cursor.result c.read_head.new.cursor c.sections.new.cursor h.0 s.0 h.1 s.1
+    (c.in_ok-read_head.ensures.reads set names start) c.in_ok-sections.ensures.reads in
     let t = c.in-Ok.ensures.place in
     subst (λ (n : ℕ). GoesThrough (intake g.S.Source c.args.source.now) (intake g.S.Source c.trailer.new.source) set (reading (by_state set names) (at_start set)) c.sections.new.staged (Ok n)) (sym c.at.ensures)
     (reads_both (λ k n l m. (omega (arith, l, m, h.1, s.1, t, free, zero), omega (arith, due, h, s, t, free, zero)))
@@ -104,12 +104,12 @@ returns-in-Err-clause-reads g c =
     let start = state_of set c.restart.new.staged Before in
     let came = ap (λ (s : State). s.came) c.restart.ensures.state in
     let due = ap (λ (l : List Bool). sections_due set set.devices l) came ∙ all_due set set.devices in
-    let h = c.in_ok-head.ensures.moves in
+    let h = c.in_ok-read_head.ensures.moves in
     let s = c.in_ok-sections.ensures.moves in
     let zero = ap reach c.new-cursor.ensures in
     let free = ap held_long c.in_ok-sections.ensures.held in
-    let lead = goes_further (go start) (go (state_of set c.restart.new.staged (Free true false))) (go (state_of set c.sections.new.staged (spot_at None))) c.new-cursor.result c.head.new.cursor c.sections.new.cursor h.0 s.0 h.1 s.1
-    (c.in_ok-head.ensures.reads set names start) c.in_ok-sections.ensures.reads in
+    let lead = goes_further (go start) (go (state_of set c.restart.new.staged (Free true false))) (go (state_of set c.sections.new.staged (spot_at None))) c.new-cursor.result c.read_head.new.cursor c.sections.new.cursor h.0 s.0 h.1 s.1
+    (c.in_ok-read_head.ensures.reads set names start) c.in_ok-sections.ensures.reads in
     rw (c.concerning.ensures, ← same_course None c.in-Err.fault)
     (reads_both (λ k n l m. omega (arith, l, m, due, h, s, zero))
     (λ all rest left l r. closed set names c.sections.new.staged start (Some all) (Some rest) (Some left) c.new-cursor.result c.sections.new.cursor c.trailer.new.self.at (Err c.in-Err.fault)
