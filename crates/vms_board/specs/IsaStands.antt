@@ -12,9 +12,8 @@ use Rattle.dev_board.proofs.RestoredLaws.{restored_is_sound}
 use Rattle.dev_images.proofs.BoardReady.{saved_are_ready}
 use Rattle.dev_images.proofs.NormalBoard.{normal_may_be_restored}
 use Rattle.vms_desc.proofs.Bounds.{none_is}
-use Rattle.vms_desc.proofs.Formed.{formed}
+use Rattle.vms_desc.proofs.Formed.{fit_number, formed}
 use Rattle.vms_desc.specs.Formed.{shipped_set}
-use Rattle.vms_spec.proofs.ShippedSets.{shipped_stands}
 use Rattle.vms_spec.specs.WellFormed.{first_fault}
 use Rattle.vms_board.specs.Family.{Stands}
 use Rattle.vms_board.specs.Isa.{isa, machine_of, cells_of, AreTold}
@@ -71,5 +70,5 @@ isa_stands = record {
   ready = saved_are_ready.images;
   told = λ images kept. normal_may_be_restored.cells images kept.one_each (λ k d image there here. (kept.each k d image there here).normal);
   well = none_is (first_fault (shipped_set NEWEST)) (formed NEWEST);
-  heads = shipped_stands.4.heads;
+  heads = (fit_number NEWEST).heads;
 }

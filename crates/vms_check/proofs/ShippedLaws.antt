@@ -1,14 +1,15 @@
 -- The shipped sets, each beside every later one.
-use Rattle.std.proofs.Common.{◌≡◌, ℕ, zero, suc, ◌<◌, ◌≤◌, List, [], ◌∷◌, length, get_or, Bool, true, refl, sym, ap, ◌∙◌, arith}
+use Rattle.std.proofs.Common.{◌≡◌, ℕ, zero, suc, ◌<◌, ◌≤◌, List, [], ◌∷◌, length, get_or, drop, Bool, true, refl, sym, ap, ◌∙◌, arith}
 use Rattle.std.specs.Prelude.{◌&&◌, is_none}
 use Rattle.std.specs.List.{list_all}
 use Rattle.std.proofs.lemmas.Bool.{and_parts}
 use Rattle.vms_kinds.specs.declared.TheConstants.{NEWEST_SET}
 use Rattle.vms_spec.specs.Layout.{first}
 use Rattle.vms_spec.specs.Sets.{Set}
-use Rattle.vms_spec.specs.Shipped.{set_1, set_2, set_3, set_4}
+use Rattle.vms_spec.specs.Shipped.{shipped_sets}
 use Rattle.vms_desc.specs.Formed.{shipped_set}
 use Rattle.vms_desc.proofs.Bounds.{none_is}
+use Rattle.vms_desc.proofs.Formed.{numbered}
 use Rattle.vms_check.specs.Comparing.{Compatible, first_mismatch}
 
 abbrev are_compatible : Set → Set → Bool
@@ -32,28 +33,18 @@ pair (s ∷ sets) (suc i) zero d e less lt = absurd (omega arith)
 pair (s ∷ sets) (suc i) (suc j) d e less lt = pair sets i j d (and_parts (list_all (are_compatible s) sets) (in_order sets) e).1 (omega arith) (omega arith)
 
 -- from set 1 on
-abbrev shipped : List Set
-shipped = set_1 ∷ set_2 ∷ set_3 ∷ set_4 ∷ []
+abbrev boards : List Set
+boards = drop 1 shipped_sets
 
-shipped_in_order : in_order shipped ≡ true
+boards_in_order : in_order boards ≡ true
 unfolding first_mismatch first
-shipped_in_order = refl
-
-numbered : (i : ℕ) → i < length shipped → get_or shipped i set_4 ≡ shipped_set (suc i)
-numbered zero lt = refl
-numbered (suc zero) lt = refl
-numbered (suc (suc zero)) lt = refl
-numbered (suc (suc (suc i))) lt = last i
-  where
-    last : (i : ℕ) → get_or (set_4 ∷ []) i set_4 ≡ set_4
-    last zero = refl
-    last (suc i) = refl
+boards_in_order = refl
 
 pub shipped_compatible : (s t : ℕ) → 1 ≤ s → s < t → t ≤ NEWEST_SET → Compatible (shipped_set s) (shipped_set t)
 shipped_compatible zero t low less le = absurd (omega arith)
 shipped_compatible (suc i) zero low less le = absurd (omega arith)
 shipped_compatible (suc i) (suc j) low less le =
-    let first : i < length shipped = omega arith in
-    let second : j < length shipped = omega arith in
+    let d = shipped_set NEWEST_SET in
+    let second : suc j < length shipped_sets = omega arith in
     none_is (first_mismatch (shipped_set (suc i)) (shipped_set (suc j)))
-    (ap (λ (x : Set). are_compatible x (shipped_set (suc j))) (sym (numbered i first)) ∙ ap (are_compatible (get_or shipped i set_4)) (sym (numbered j second)) ∙ pair shipped i j set_4 shipped_in_order (omega arith) second)
+    (ap (λ (x : Set). are_compatible x (shipped_set (suc j))) (sym (numbered (suc i) d (omega (arith, second, less)))) ∙ ap (are_compatible (get_or boards i d)) (sym (numbered (suc j) d second)) ∙ pair boards i j d boards_in_order (omega arith) (omega arith))

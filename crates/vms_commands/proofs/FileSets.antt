@@ -9,11 +9,10 @@ use Rattle.vms_spec.specs.Sets.{Formula, Desc, Sub, Device, Set}
 use Rattle.vms_spec.specs.WellFormed.{SetFault, first_fault}
 use Rattle.vms_desc.proofs.Bounds.{none_is}
 use Rattle.vms_desc.proofs.ClockHeads.{clock_heads}
-use Rattle.vms_desc.proofs.Formed.{clock_formed}
+use Rattle.vms_desc.proofs.Formed.{clock_formed, fit_number}
 use Rattle.vms_desc.specs.Formed.{shipped_set, clock_set}
 use Rattle.vms_io.specs.Shelves.{Held}
 use Rattle.vms_spec.specs.Good.{IsFit}
-use Rattle.vms_spec.proofs.ShippedSets.{shipped_stands}
 use Rattle.vms_commands.specs.SetWords.{Isa, Clock, SetWord}
 use Rattle.vms_commands.specs.Fetching.{SetText, Number, Text, fetched_set, said_set, set_in, word_set}
 use Rattle.vms_commands.specs.Steps.{Step, Untold, Gives, Ends, next as after}
@@ -269,13 +268,6 @@ fit_said name (Parts set) h = h
 fit_said name Syntax h = tt
 fit_said name (Shape path) h = tt
 fit_said name (IllFormed fault) h = tt
-
-fit_number : (s : ℕ) → IsFit (shipped_set s)
-fit_number zero = shipped_stands.0
-fit_number (suc zero) = shipped_stands.1
-fit_number (suc (suc zero)) = shipped_stands.2
-fit_number (suc (suc (suc zero))) = shipped_stands.3
-fit_number (suc (suc (suc (suc s)))) = shipped_stands.4
 
 fit_clock : (c : ℕ) → IsFit (clock_set c)
 fit_clock c = record { well = none_is (first_fault (clock_set c)) (clock_formed c); heads = clock_heads c }

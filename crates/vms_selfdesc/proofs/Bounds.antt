@@ -1,22 +1,24 @@
 -- The text of every well-formed set is shorter than what a description section may have, and that of a shipped set is short.
-use Rattle.std.proofs.Common.{◌≡◌, ℕ, zero, suc, ◌*◌, ◌<◌, ◌≤◌, List, ◌∷◌, length, get_or, ap, arith, true, is_none, []}
+use Rattle.std.proofs.Common.{◌≡◌, ℕ, zero, suc, ◌*◌, ◌<◌, ◌≤◌, List, ◌∷◌, length, get_or, ap, refl, arith, Bool, true, is_none, []}
+use Rattle.std.specs.Prelude.{nat_lt}
+use Rattle.std.specs.List.{list_all}
+use Rattle.std.proofs.lemmas.Bool.{ltb-true}
 use Rattle.std.proofs.lemmas.Option.{slice_get-get_or}
 use Rattle.vms_kinds.specs.declared.TheConstants.{NEWEST_SET}
 use Rattle.vms_spec.specs.declared.Part.TheVariants as parts
 use Rattle.vms_spec.specs.Heads.{FitsHeads}
 use Rattle.vms_spec.specs.Images.{Image}
 use Rattle.vms_spec.specs.Sets.{Sub, Device, Set, AtLeast}
-use Rattle.vms_spec.specs.Shipped.{set_0, set_1, set_2, set_3, set_4}
+use Rattle.vms_spec.specs.Shipped.{shipped_sets}
 use Rattle.vms_spec.specs.Streams.{longest_text}
 use Rattle.vms_spec.specs.Layout.{first, no_desc}
-use Rattle.vms_spec.proofs.ShippedSets.{shipped_stands}
 use Rattle.vms_desc.specs.Described.{device_at}
 use Rattle.vms_desc.specs.Formed.{is_well_formed, shipped_set, clock_set}
 use Rattle.vms_desc.specs.Parts.{sub_at}
 use Rattle.vms_desc.proofs.Bounds.{few_items, few_devices}
 use Rattle.vms_desc.proofs.Clean.{few_subs, device_clean, sub_clean}
 use Rattle.vms_desc.proofs.ClockHeads.{clock_heads}
-use Rattle.vms_desc.proofs.Formed.{clock_formed}
+use Rattle.vms_desc.proofs.Formed.{by_number, clock_formed, fit_number}
 use Rattle.vms_selfdesc.specs.Laws.{ShortLaw, ShippedLaw, ClockLaw}
 use Rattle.vms_selfdesc.specs.Tree.{described_text}
 use Rattle.vms_selfdesc.proofs.Lengths.{IsShortDesc, AreShortSubs, AreShortDevices, subs_of, set_room, text_long, room_less}
@@ -84,19 +86,20 @@ short_holds = record { short = λ set well heads images. set_short set (ap is_no
 
 -- ---- shipped sets
 
-rooms : (set_room set_0 < 60000) × (set_room set_1 < 60000) × (set_room set_2 < 60000) × (set_room set_3 < 60000) × (set_room set_4 < 60000)
-unfolding first
-rooms = (omega arith, omega arith, omega arith, omega arith, omega arith)
+abbrev has_room : Set → Bool
+has_room set = nat_lt (set_room set) 60000
 
-by_number : (s : ℕ) → s ≤ NEWEST_SET → (images : List Image) → length (described_text (shipped_set s) images) < 60000
-by_number zero le images = let f = shipped_stands.0 in omega (arith, set_long set_0 (ap is_none f.well) f.heads images, rooms.0)
-by_number (suc zero) le images = let f = shipped_stands.1 in omega (arith, set_long set_1 (ap is_none f.well) f.heads images, rooms.1)
-by_number (suc (suc zero)) le images = let f = shipped_stands.2 in omega (arith, set_long set_2 (ap is_none f.well) f.heads images, rooms.2)
-by_number (suc (suc (suc zero))) le images = let f = shipped_stands.3 in omega (arith, set_long set_3 (ap is_none f.well) f.heads images, rooms.3)
-by_number (suc (suc (suc (suc s)))) le images = let f = shipped_stands.4 in omega (arith, set_long set_4 (ap is_none f.well) f.heads images, rooms.4)
+rooms : list_all has_room shipped_sets ≡ true
+unfolding first
+rooms = refl
+
+short_number : (s : ℕ) → s ≤ NEWEST_SET → (images : List Image) → length (described_text (shipped_set s) images) < 60000
+short_number s le images =
+    let f = fit_number s in
+    omega (arith, set_long (shipped_set s) (ap is_none f.well) f.heads images, ltb-true (set_room (shipped_set s)) 60000 (by_number has_room rooms s))
 
 pub shipped_holds : ShippedLaw
-shipped_holds = record { shipped = by_number }
+shipped_holds = record { shipped = short_number }
 
 -- ---- sets of clock boards
 

@@ -5,16 +5,16 @@ use Rattle.vms_spec.specs.Layout.{first}
 use Rattle.vms_spec.specs.Sets.{Device, Set}
 use Rattle.vms_spec.specs.Images.{Image, default_image}
 use Rattle.vms_spec.specs.Readiness.{is_normal, is_ready}
-use Rattle.vms_spec.specs.Shipped.{set_4}
+use Rattle.vms_spec.specs.Shipped.{shipped_sets}
 use Rattle.vms_spec.proofs.Boxes.{counted_set, subsection_set, tested_set, mixed_set}
 
 -- whether each device's default image is ready
 abbrev defaults_are_ready : Set → Bool
 defaults_are_ready set = list_all (λ (d : Device). is_ready set d (default_image set d)) set.devices
 
-writes_the_defaults_of_set_4 : defaults_are_ready set_4 ≡ true
+writes_the_defaults_of_each_shipped_set : list_all defaults_are_ready shipped_sets ≡ true
 unfolding first
-writes_the_defaults_of_set_4 = refl
+writes_the_defaults_of_each_shipped_set = refl
 
 -- of the one device of a set
 abbrev of_box : (Set → Device → Image → Bool) → Set → Image → Bool

@@ -1,99 +1,66 @@
 -- Each shipped set is well formed, and good: the premises of laws over sets can be met.
-use Rattle.std.proofs.Common.{◌≡◌, ℕ, zero, suc, ◌<◌, ◌^◌, List, [], ◌∷◌, Some, refl, subst, arith}
-use Rattle.std.specs.List.{slice_get}
+use Rattle.std.proofs.Common.{◌≡◌, ℕ, zero, suc, ◌<◌, ◌^◌, Bool, true, List, [], ◌∷◌, Option, Some, None, refl, subst}
+use Rattle.std.specs.Prelude.{◌&&◌, is_none, nat_lt}
+use Rattle.std.specs.List.{AllByRecursion, list_all, slice_get}
+use Rattle.std.proofs.lemmas.Bool.{and_parts, ltb-true}
 use Rattle.vms_spec.specs.Sets.{Device, Sub, Set}
 use Rattle.vms_spec.specs.Layout.{first}
-use Rattle.vms_spec.specs.WellFormed.{first_fault, WellFormed}
-use Rattle.vms_spec.specs.Shipped.{set_0, set_1, set_2, set_3, set_4}
-use Rattle.vms_spec.specs.Good.{IsGood, ShippedLaw}
+use Rattle.vms_spec.specs.WellFormed.{first_fault}
+use Rattle.vms_spec.specs.Shipped.{shipped_sets}
+use Rattle.vms_spec.specs.Good.{IsFit, ShippedLaw}
 use Rattle.vms_spec.specs.Heads.{FitsHeads}
-use Rattle.vms_spec.proofs.WellFormedLaws.{well_good}
 
-abbrev SubsFit : List Sub → Type 0
-SubsFit [] = Unit {0}
-SubsFit (s ∷ subs) = (s.desc.version < 2 ^ 32) × SubsFit subs
+-- ---- what four bytes hold, computed
 
-abbrev DeviceFits : Device → Type 0
-DeviceFits d = (d.instance < 2 ^ 32) × (d.desc.version < 2 ^ 32) × SubsFit d.subs
+abbrev is_word : ℕ → Bool
+is_word n = nat_lt n (2 ^ 32)
 
-abbrev DevicesFit : List Device → Type 0
-DevicesFit [] = Unit {0}
-DevicesFit (d ∷ devices) = DeviceFits d × DevicesFit devices
+abbrev sub_fits : Sub → Bool
+sub_fits s = is_word s.desc.version
 
-each_device : (devices : List Device) → DevicesFit devices → (k : ℕ) (d : Device) → slice_get devices k ≡ Some d → DeviceFits d
-each_device [] fits k d e = cc
-each_device (x ∷ devices) fits zero d e = let same : x ≡ d = cc in subst DeviceFits same fits.0
-each_device (x ∷ devices) fits (suc k) d e = each_device devices fits.1 k d e
+abbrev pub device_fits : Device → Bool
+device_fits d = is_word d.instance && is_word d.desc.version && list_all sub_fits d.subs
 
-each_sub : (subs : List Sub) → SubsFit subs → (j : ℕ) (s : Sub) → slice_get subs j ≡ Some s → s.desc.version < 2 ^ 32
-each_sub [] fits j s e = cc
-each_sub (x ∷ subs) fits zero s e = let same : x ≡ s = cc in let P : Sub → Type 0 = λ s. s.desc.version < 2 ^ 32 in subst P same fits.0
-each_sub (x ∷ subs) fits (suc j) s e = each_sub subs fits.1 j s e
+abbrev pub is_fit : Set → Bool
+is_fit set = is_none (first_fault set) && list_all device_fits set.devices
 
-heads_fit : (set : Set) → DevicesFit set.devices → FitsHeads set
-heads_fit set fits = record {
-  instance = λ k d e. let f = each_device set.devices fits k d e in (f.0, f.1);
-  sub_version = λ k j d s e h. each_sub d.subs (each_device set.devices fits k d e).2 j s h;
+pub each : {X : Type 0} (p : X → Bool) (xs : List X) (k : ℕ) (x : X) → list_all p xs ≡ true → slice_get xs k ≡ Some x → p x ≡ true
+each p [] k x all e = cc
+each p (y ∷ xs) zero x all e = let same : y ≡ x = cc in subst (λ x. p x ≡ true) same (and_parts (p y) (list_all p xs) all).0
+each p (y ∷ xs) (suc k) x all e = each p xs k x (and_parts (p y) (list_all p xs) all).1 e
+
+word : (n : ℕ) → is_word n ≡ true → n < 2 ^ 32
+word n = ltb-true n (2 ^ 32)
+
+pub heads_fit : (set : Set) → list_all device_fits set.devices ≡ true → FitsHeads set
+heads_fit set all = record {
+  instance = λ k d e.
+      let f = and_parts (is_word d.instance && is_word d.desc.version) (list_all sub_fits d.subs) (each device_fits set.devices k d all e) in
+      let g = and_parts (is_word d.instance) (is_word d.desc.version) f.0 in
+      (word d.instance g.0, word d.desc.version g.1);
+  sub_version = λ k j d s e h.
+      let f = and_parts (is_word d.instance && is_word d.desc.version) (list_all sub_fits d.subs) (each device_fits set.devices k d all e) in
+      word s.desc.version (each sub_fits d.subs j s f.1 h);
 }
 
-pub well_0 : WellFormed set_0
+none_is : {X : Type 0} (o : Option X) → is_none o ≡ true → o ≡ None
+none_is None h = refl
+none_is (Some x) h = cc
+
+pub fit : (set : Set) → is_fit set ≡ true → IsFit set
+fit set h =
+    let f = and_parts (is_none (first_fault set)) (list_all device_fits set.devices) h in
+    record { well = none_is (first_fault set) f.0; heads = heads_fit set f.1 }
+
+-- ---- each shipped set
+
+pub all_fit : list_all is_fit shipped_sets ≡ true
 unfolding first_fault first
-well_0 = refl
+all_fit = refl
 
-pub well_1 : WellFormed set_1
-unfolding first_fault first
-well_1 = refl
-
-pub well_2 : WellFormed set_2
-unfolding first_fault first
-well_2 = refl
-
-pub well_3 : WellFormed set_3
-unfolding first_fault first
-well_3 = refl
-
-pub well_4 : WellFormed set_4
-unfolding first_fault first
-well_4 = refl
-
-small : 0 < 2 ^ 32
-small = omega arith
-
-one : 1 < 2 ^ 32
-one = omega arith
-
-two : 2 < 2 ^ 32
-two = omega arith
-
-three : 3 < 2 ^ 32
-three = omega arith
-
-four : 4 < 2 ^ 32
-four = omega arith
-
-pub good_0 : IsGood set_0
-good_0 = well_good set_0 well_0 (heads_fit set_0 ((small, one, tt), tt))
-
-pub good_1 : IsGood set_1
-good_1 = well_good set_1 well_1 (heads_fit set_1 ((small, one, tt), ((small, one, tt), ((one, one, tt), ((small, one, tt), ((small, one, (one, tt)), tt))))))
-
-pub good_2 : IsGood set_2
-good_2 = well_good set_2 well_2 (heads_fit set_2 ((small, one, tt), ((small, two, tt), ((one, two, tt), ((small, two, tt), ((small, two, (one, (one, tt))), tt))))))
-
-pub good_3 : IsGood set_3
-good_3 = well_good set_3 well_3 (heads_fit set_3 ((small, one, tt), ((small, two, tt), ((one, two, tt), ((small, two, tt), ((small, three, (one, (one, (one, tt)))), tt))))))
-
-pub good_4 : IsGood set_4
-good_4 = well_good set_4 well_4 (heads_fit set_4 ((small, one, tt), ((small, two, (one, tt)), ((one, two, (one, tt)), ((small, two, tt), ((small, four, (one, (one, (one, (one, tt))))), tt))))))
-
-fits : (set : Set) → IsGood set → FitsHeads set
-fits set good = record { instance = good.instance; sub_version = good.sub_version }
+stand : (sets : List Set) → list_all is_fit sets ≡ true → AllByRecursion IsFit sets
+stand [] all = tt
+stand (set ∷ sets) all = let f = and_parts (is_fit set) (list_all is_fit sets) all in (fit set f.0, stand sets f.1)
 
 pub shipped_stands : ShippedLaw
-shipped_stands = (
-  record { well = well_0; heads = fits set_0 good_0 },
-  record { well = well_1; heads = fits set_1 good_1 },
-  record { well = well_2; heads = fits set_2 good_2 },
-  record { well = well_3; heads = fits set_3 good_3 },
-  record { well = well_4; heads = fits set_4 good_4 },
-)
+shipped_stands = stand shipped_sets all_fit

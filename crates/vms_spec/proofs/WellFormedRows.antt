@@ -9,18 +9,11 @@ use Rattle.vms_spec.specs.declared.Whose.TheVariants.{Own, Parent}
 use Rattle.vms_spec.specs.Sets.{Set, Cell}
 use Rattle.vms_spec.specs.Layout.{first}
 use Rattle.vms_spec.specs.WellFormed.{SetFault, first_fault, here, in_field}
-use Rattle.vms_spec.specs.Shipped.{set_4}
 use Rattle.vms_spec.proofs.Boxes.{number, box_set, sub_of, point, empty_set}
 
 unfoldable faulty : Set → Option SetFault
 unfolding first_fault
 faulty set = first_fault set
-
--- ---- good sets
-
-accepts_set_4 : faulty set_4 ≡ None
-unfolding faulty first
-accepts_set_4 = refl
 
 -- ---- names
 

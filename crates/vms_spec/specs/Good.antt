@@ -1,6 +1,6 @@
 -- What the laws want of a set. It follows from well-formedness and from the types of the parts.
 use Rattle.std.specs.Prelude.{◌≡◌, ℕ, ◌^◌, ◌<◌, List, [], ◌∷◌, length, get_or, Some}
-use Rattle.std.specs.List.{slice_get}
+use Rattle.std.specs.List.{AllByRecursion, slice_get}
 use Rattle.vms_kinds.specs.declared.Item.{Item}
 use Rattle.vms_kinds.specs.declared.Item.TheVariants.{Equal}
 use Rattle.vms_kinds.specs.Codes.{InRange}
@@ -10,7 +10,7 @@ use Rattle.vms_spec.specs.Images.{FitsCell}
 use Rattle.vms_spec.specs.Lookup.{find_device, find_sub}
 use Rattle.vms_spec.specs.WellFormed.{WellFormed}
 use Rattle.vms_spec.specs.Heads.{FitsHeads}
-use Rattle.vms_spec.specs.Shipped.{set_0, set_1, set_2, set_3, set_4}
+use Rattle.vms_spec.specs.Shipped.{shipped_sets}
 use Rattle.vms_spec.specs.Sound.{IsSound, AreSound}
 
 -- the default of each cell is in its kind's range and within the capacities that it counts
@@ -56,4 +56,4 @@ pub record IsFit (set : Set) : Type 0 where
 
 -- each shipped set is so
 abbrev pub ShippedLaw : Type 0
-ShippedLaw = IsFit set_0 × IsFit set_1 × IsFit set_2 × IsFit set_3 × IsFit set_4
+ShippedLaw = AllByRecursion IsFit shipped_sets

@@ -171,3 +171,7 @@ set_4 = record {
   devices = timer ∷ i8259_at_4 0 ∷ i8259_at_4 1 ∷ i8254_at_2
       ∷ serial 4 (divisor ∷ serial_fields ++ fcr ∷ []) (thr_ipending ∷ fifo ∷ timeout ∷ ring ∷ []) ∷ [];
 }
+
+-- the shipped sets, by their numbers
+abbrev pub shipped_sets : List Set
+shipped_sets = set_0 ∷ set_1 ∷ set_2 ∷ set_3 ∷ set_4 ∷ []
