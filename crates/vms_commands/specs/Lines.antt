@@ -3,7 +3,7 @@ use Rattle.std.specs.Prelude.{ℕ, List, [], ◌∷◌, ◌++◌, Option, Some, 
 use Rattle.std.specs.List.{slice_get}
 use Rattle.std.specs.Fmt.{decimal}
 use Rattle.vms_spec.specs.declared.Reason.{Reason}
-use Rattle.vms_spec.specs.declared.Reason.TheVariants as reasons
+use Rattle.vms_spec.specs.Reasons.{reason_word, rule_of}
 use Rattle.vms_spec.specs.Sets.{Device, Set}
 
 abbrev pub device_text : Option Device → List ℕ
@@ -15,46 +15,13 @@ abbrev pub section_text : Set → Option ℕ → List ℕ
 section_text set None = codes "-"
 section_text set (Some k) = device_text (slice_get set.devices k)
 
-abbrev pub reason_name : Reason → List ℕ
-reason_name reasons.Truncated = codes "Truncated"
-reason_name reasons.BadMagic = codes "BadMagic"
-reason_name reasons.OldStream = codes "OldStream"
-reason_name reasons.BadVersion = codes "BadVersion"
-reason_name reasons.BadMark = codes "BadMark"
-reason_name reasons.Ram = codes "Ram"
-reason_name reasons.Iterative = codes "Iterative"
-reason_name reasons.Command = codes "Command"
-reason_name reasons.ConfigurationExtra = codes "ConfigurationExtra"
-reason_name reasons.WrongMachine = codes "WrongMachine"
-reason_name reasons.UnknownSection = codes "UnknownSection"
-reason_name reasons.RepeatedSection = codes "RepeatedSection"
-reason_name reasons.TooNew = codes "TooNew"
-reason_name reasons.TooOld = codes "TooOld"
-reason_name reasons.BadBool = codes "BadBool"
-reason_name reasons.NotEqual = codes "NotEqual"
-reason_name reasons.CountTooLarge = codes "CountTooLarge"
-reason_name reasons.UnknownSubsection = codes "UnknownSubsection"
-reason_name reasons.RepeatedSubsection = codes "RepeatedSubsection"
-reason_name reasons.Invalid = codes "Invalid"
-reason_name (reasons.Unsound rule) = codes "Unsound"
-reason_name reasons.BadFooter = codes "BadFooter"
-reason_name reasons.MissingSection = codes "MissingSection"
-reason_name reasons.LinesDisagree = codes "LinesDisagree"
-reason_name reasons.Trailing = codes "Trailing"
-reason_name reasons.DescriptionTooLong = codes "DescriptionTooLong"
-
--- the number of a device's rule
-abbrev pub rule_of : Reason → Option ℕ
-rule_of (reasons.Unsound rule) = Some rule
-rule_of _ = None
-
 abbrev pub rule_text : Option ℕ → List ℕ
 rule_text None = []
 rule_text (Some rule) = codes " " ++ decimal rule
 
--- the reason's name, and for a device's rule its number
+-- the reason's word, and for a device's rule its number
 abbrev pub reason_text : Reason → List ℕ
-reason_text reason = reason_name reason ++ rule_text (rule_of reason)
+reason_text reason = reason_word reason ++ rule_text (rule_of reason)
 
 -- a refusal: its place, its device and its reason, each behind a text
 abbrev pub refusal_text : List ℕ → List ℕ → List ℕ → Set → ℕ → Option ℕ → Reason → List ℕ
