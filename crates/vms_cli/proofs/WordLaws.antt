@@ -1,14 +1,17 @@
 -- Words name boards that there are.
-use Rattle.std.proofs.Common.{◌≡◌, ℕ, Bool, true, false, if◌then◌else◌, List, [], ◌∷◌, Option, Some, None, codes, arith, refl}
+use Rattle.std.proofs.Common.{◌≡◌, ℕ, zero, suc, ◌+◌, ◌<◌, ◌≤◌, ◌++◌, Bool, true, false, if◌then◌else◌, List, [], ◌∷◌, Option, Some, None, codes, arith, refl, sym, ap, ◌∙◌}
+use Rattle.std.specs.Fmt.{decimal}
+use Rattle.std.specs.Option.{option_map}
 use Rattle.std.proofs.lemmas.Bool.Decides.{nat_tests}
 use Rattle.std.specs.Str.{bytes_eq}
 use Rattle.dev_base.specs.Levels.{IsLevel, ReachesSet}
 use Rattle.dev_base.specs.declared.limits.TheConstants.{NEWEST}
 use Rattle.vms_rtc.specs.declared.limits.TheConstants.{NEWEST_CLOCK}
-use Rattle.vms_commands.specs.SetWords.{Isa, Clock, ShippedSet, SetWord, Shipped, OnShelf, named_in, set_word, shipped_word}
+use Rattle.vms_spec.specs.Lists.{or_else}
+use Rattle.vms_commands.specs.SetWords.{Isa, Clock, ShippedSet, SetWord, Shipped, OnShelf, number_after, set_word, shipped_word}
 use Rattle.vms_script.specs.Lines.{is_set_of}
 use Rattle.vms_script.specs.Names.{is_shelf_name}
-use Rattle.vms_cli.specs.Commands.{Asked, BoardWord, IsaBoard, ClockBoard, Analyze, Pack, board_word, board_words, check_of, convert_of, counter_of, drill_of, few_events, isa_level, load_of, number_word, on_board, pack_of, pair_of, play_of, save_of, save_under, show_of, single_of, triple_of}
+use Rattle.vms_cli.specs.Commands.{Asked, BoardWord, IsaBoard, ClockBoard, Analyze, Pack, board_word, check_of, convert_of, counter_of, drill_of, few_events, isa_level, load_of, number_word, on_board, pack_of, pair_of, play_of, save_of, save_under, show_of, single_of, triple_of}
 use Rattle.vms_cli.specs.Laws.{AskedLaw, CanBeAsked, IsBoard, MaySaveOn}
 
 -- ---- boards
@@ -18,34 +21,32 @@ abbrev IsThere : Option BoardWord → Type 0
 IsThere None = Unit {0}
 IsThere (Some board) = IsBoard board
 
--- each board of a table is one
-abbrev AreBoards : List (List ℕ × BoardWord) → Type 0
-AreBoards [] = Unit {0}
-AreBoards ((name, board) ∷ table) = IsBoard board × AreBoards table
+-- a number that a word has is in its range
+after-range : (front word : List ℕ) (first count n : ℕ) → number_after front first count word ≡ Some n → (first ≤ n) × (n < first + count)
+after-range front word first zero n e = cc
+after-range front word first (suc count) n e = by (bytes_eq word (front ++ decimal first)) refl where
+  found : (b : Bool) → Option ℕ
+  found b = if b then Some first else number_after front (suc first) count word
 
-found-board : (b : Bool) (x y : Option BoardWord) → IsThere x → IsThere y → IsThere (if b then x else y)
-found-board true x y p q = p
-found-board false x y p q = q
+  by : (b : Bool) → bytes_eq word (front ++ decimal first) ≡ b → (first ≤ n) × (n < first + suc count)
+  by true t = let is : Some first ≡ Some n = sym (ap found t) ∙ e in let same : first ≡ n = cc in (omega (arith, same), omega (arith, same))
+  by false t = let r = after-range front word (suc first) count n (sym (ap found t) ∙ e) in (omega (arith, r.0), omega (arith, r.1))
 
-table-board : (word : List ℕ) (table : List (List ℕ × BoardWord)) → AreBoards table → IsThere (named_in word table)
-table-board word [] are = tt
-table-board word ((name, board) ∷ table) are = found-board (bytes_eq word name) (Some board) (named_in word table) are.0 (table-board word table are.1)
+either-there : (x y : Option BoardWord) → IsThere x → IsThere y → IsThere (or_else x y)
+either-there None y p q = q
+either-there (Some board) y p q = p
 
 word-board : (word : List ℕ) → IsThere (board_word word)
 word-board word =
-    table-board word board_words (
-      record { first = omega arith; last = omega arith },
-      (
-        record { first = omega arith; last = omega arith },
-        (
-          record { first = omega arith; last = omega arith },
-          (
-            record { first = omega arith; last = omega arith },
-            (record { first = omega arith; last = omega arith }, (record { first = omega arith; last = omega arith }, tt)),
-          ),
-        ),
-      ),
-    )
+    either-there (option_map IsaBoard (number_after (codes "isa-") 1 NEWEST word)) (option_map ClockBoard (number_after (codes "clk-") 1 NEWEST_CLOCK word))
+    (isa (number_after (codes "isa-") 1 NEWEST word) refl) (clock (number_after (codes "clk-") 1 NEWEST_CLOCK word) refl) where
+      isa : (o : Option ℕ) → number_after (codes "isa-") 1 NEWEST word ≡ o → IsThere (option_map IsaBoard o)
+      isa None e = tt
+      isa (Some level) e = let r = after-range (codes "isa-") word 1 NEWEST level e in record { first = r.0; last = omega (arith, r.1) }
+
+      clock : (o : Option ℕ) → number_after (codes "clk-") 1 NEWEST_CLOCK word ≡ o → IsThere (option_map ClockBoard o)
+      clock None e = tt
+      clock (Some version) e = let r = after-range (codes "clk-") word 1 NEWEST_CLOCK version e in record { first = r.0; last = omega (arith, r.1) }
 
 -- one of isa-1 to isa-4 has a level
 abbrev pub HasLevel : Option ℕ → Type 0

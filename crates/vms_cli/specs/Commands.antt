@@ -1,6 +1,8 @@
 -- The commands that the words can name.
 use Rattle.std.specs.Prelude.{ℕ, if◌then◌else◌, nat_le, List, [], ◌∷◌, Option, Some, None, Result, Ok, Err, codes}
+use Rattle.std.specs.Option.{option_map}
 use Rattle.std.specs.Str.{bytes_eq}
+use Rattle.vms_spec.specs.Lists.{or_else}
 use Rattle.vms_spec.specs.Spelling.{number_spelled}
 use Rattle.dev_base.specs.declared.limits.TheConstants.{NEWEST}
 use Rattle.vms_rtc.specs.declared.limits.TheConstants.{NEWEST_CLOCK}
@@ -8,9 +10,7 @@ use Rattle.vms_script.specs.Lines.{is_set_of}
 use Rattle.vms_script.specs.Names.{is_shelf_name}
 use Rattle.vms_script.specs.Views.{number_read}
 use Rattle.vms_script.specs.declared.line.ScriptReason.{ScriptReason}
-use Rattle.vms_board.specs.Clock.{clock_machine}
-use Rattle.vms_board.specs.Isa.{machine_of}
-use Rattle.vms_commands.specs.SetWords.{Isa, Clock, ShippedSet, SetWord, Shipped, OnShelf, named_in, set_word, shipped_word}
+use Rattle.vms_commands.specs.SetWords.{Isa, Clock, ShippedSet, SetWord, Shipped, OnShelf, number_after, set_word, shipped_word}
 use Rattle.vms_cli.specs.declared.board_words.TheConstants.{MOST_EVENTS}
 
 -- a board: one of isa-1 to isa-4, by its level, or clk-1 or clk-2, by its version
@@ -63,15 +63,10 @@ abbrev pub pack_of : Option SetWord → List ℕ → Option Asked
 pack_of None values = None
 pack_of (Some set) values = if is_shelf_name values then Some (Pack set values) else None
 
--- the words of the boards
-abbrev pub board_words : List (List ℕ × BoardWord)
-board_words =
-    (machine_of 1, IsaBoard 1) ∷ (machine_of 2, IsaBoard 2) ∷ (machine_of 3, IsaBoard 3) ∷ (machine_of 4, IsaBoard 4)
-    ∷ (clock_machine 1, ClockBoard 1) ∷ (clock_machine 2, ClockBoard 2) ∷ []
-
--- the board that a word names
+-- the board that a word names: `isa-` and its level, or `clk-` and its version
 abbrev pub board_word : List ℕ → Option BoardWord
-board_word word = named_in word board_words
+board_word word =
+    or_else (option_map IsaBoard (number_after (codes "isa-") 1 NEWEST word)) (option_map ClockBoard (number_after (codes "clk-") 1 NEWEST_CLOCK word))
 
 -- the level of the board, where it is one of isa-1 to isa-4
 abbrev pub isa_level : Option BoardWord → Option ℕ

@@ -5,24 +5,24 @@ ghost use Rattle.vms_cli.specs.Asks.{board_asked};
 ghost use Rattle.vms_cli.specs.Commands.{board_word, few_events, isa_level, number_word};
 
 use crate::boards::{BoardWord, ClockBoard, IsaBoard};
+use dev_base::NEWEST;
+use vms_commands::number_after;
+use vms_rtc::NEWEST_CLOCK;
 use vms_script::number_of;
-use vms_shipped::{CLK_1, CLK_2, ISA_1, ISA_2, ISA_3, ISA_4};
 
 /// The greatest number of events of a drill.
 const MOST_EVENTS: u64 = 1_000_000;
 
-/// The board that a word names.
+/// Returns the board whose name is `word`: `isa-` and its level, or `clk-` and its version.
 pub(crate) fn board_word(word: &str) -> Option<BoardWord>
     ensures { option_map board_asked result ≡ board_word word.now }
 {
-    match word {
-        ISA_1 => Some(BoardWord::Isa(IsaBoard { level: 1 })),
-        ISA_2 => Some(BoardWord::Isa(IsaBoard { level: 2 })),
-        ISA_3 => Some(BoardWord::Isa(IsaBoard { level: 3 })),
-        ISA_4 => Some(BoardWord::Isa(IsaBoard { level: 4 })),
-        CLK_1 => Some(BoardWord::Clock(ClockBoard { version: 1 })),
-        CLK_2 => Some(BoardWord::Clock(ClockBoard { version: 2 })),
-        _ => None,
+    if let Some(level) = number_after(b"isa-", 1, NEWEST, word) {
+        return Some(BoardWord::Isa(IsaBoard { level }));
+    }
+    match number_after(b"clk-", 1, NEWEST_CLOCK, word) {
+        Some(version) => Some(BoardWord::Clock(ClockBoard { version })),
+        None => None,
     }
 }
 

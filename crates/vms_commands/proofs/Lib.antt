@@ -3,3 +3,4 @@ pub mod EndLemmas
 pub mod FileSets
 pub mod LineLemmas
 pub mod StepLemmas
+pub mod NumberedWords

@@ -1,8 +1,13 @@
 -- Words that name a set.
-use Rattle.std.specs.Prelude.{ℕ, if◌then◌else◌, List, [], ◌∷◌, Option, Some, None, codes}
+use Rattle.std.specs.Prelude.{ℕ, zero, suc, ◌++◌, if◌then◌else◌, List, Option, Some, None, codes}
+use Rattle.std.specs.Fmt.{decimal}
+use Rattle.std.specs.Option.{option_map}
 use Rattle.std.specs.Str.{bytes_eq}
+use Rattle.dev_base.specs.declared.limits.TheConstants.{NEWEST}
+use Rattle.vms_rtc.specs.declared.limits.TheConstants.{NEWEST_CLOCK}
 use Rattle.vms_desc.specs.Formed.{shipped_set, clock_set}
 use Rattle.vms_script.specs.Names.{is_shelf_name}
+use Rattle.vms_spec.specs.Lists.{or_else}
 use Rattle.vms_spec.specs.Sets.{Set}
 
 -- a shipped set, by its number: one of the boards isa-1 to isa-4, or one of the boards clk-1 and clk-2
@@ -19,19 +24,15 @@ pub data SetWord : Type 0 where
   Shipped : ShippedSet → SetWord
   OnShelf : List ℕ → SetWord
 
--- what a word names in a table of words
-abbrev pub named_in : {A : Type 0} → List ℕ → List (List ℕ × A) → Option A
-named_in word [] = None
-named_in word ((name, it) ∷ table) = if bytes_eq word name then Some it else named_in word table
+-- of the `count` numbers from `first` on, the one whose decimal text a word has after `front`
+abbrev pub number_after : List ℕ → (first count : ℕ) → List ℕ → Option ℕ
+number_after front first zero word = None
+number_after front first (suc count) word = if bytes_eq word (front ++ decimal first) then Some first else number_after front (suc first) count word
 
--- the words of the shipped sets
-abbrev pub shipped_words : List (List ℕ × ShippedSet)
-shipped_words =
-    (codes "@0", Isa 0) ∷ (codes "@1", Isa 1) ∷ (codes "@2", Isa 2) ∷ (codes "@3", Isa 3) ∷ (codes "@4", Isa 4)
-    ∷ (codes "@c1", Clock 1) ∷ (codes "@c2", Clock 2) ∷ []
-
+-- the shipped set of a word: `@` and its number, or `@c` and its number where the boards have a clock chip
 abbrev pub shipped_word : List ℕ → Option ShippedSet
-shipped_word word = named_in word shipped_words
+shipped_word word =
+    or_else (option_map Isa (number_after (codes "@") 0 (suc NEWEST) word)) (option_map Clock (number_after (codes "@c") 1 NEWEST_CLOCK word))
 
 abbrev pub named_set : List ℕ → Option ShippedSet → Option SetWord
 named_set word (Some set) = Some (Shipped set)

@@ -22,4 +22,4 @@ pub use refused::{NoteLine, append_section, refusal_line, refused_line};
 pub use set_notes::{mismatch_line, rule_line, shape_line, syntax_line};
 pub use set_words::{IsaSet, SetWord, ShippedSet};
 pub use texts::write_text;
-pub use words::{set_word, shipped_set};
+pub use words::{number_after, set_word, shipped_set};

@@ -1,13 +1,15 @@
 // Words that name a set.
-ghost use Rattle.std.specs.Prelude.{◌≡◌};
+ghost use Rattle.std.specs.Prelude.{◌≡◌, ◌-◌, ◌≤◌, suc, IfSome};
 ghost use Rattle.std.specs.Option.{option_map};
 ghost use Rattle.vms_commands.specs.Asks.{set_asked, shipped_asked};
-ghost use Rattle.vms_commands.specs.SetWords.{set_word, shipped_word};
+ghost use Rattle.vms_commands.specs.SetWords.{number_after, set_word, shipped_word};
 
 use crate::set_words::{ClockSet, IsaSet, SetWord, ShippedSet};
-use vms_script::is_shelf_name;
+use dev_base::NEWEST;
+use vms_rtc::NEWEST_CLOCK;
+use vms_script::{is_shelf_name, number_of};
 
-/// The set that a word names, or `None` where it names none: `@0` to `@4`, `@c1` and `@c2` are the shipped ones, and a
+/// The set that a word names, or `None` where it names none: the words of the shipped sets, and a
 /// name of the shelf is a set's file.
 pub fn set_word(word: &str) -> Option<SetWord<'_>>
     ensures { option_map set_asked result ≡ set_word word.now }
@@ -19,18 +21,29 @@ pub fn set_word(word: &str) -> Option<SetWord<'_>>
     }
 }
 
-/// The shipped set of a word, or `None` where it is none of `@0` to `@4`, `@c1` and `@c2`.
+/// Returns the shipped set whose word is `word`: `@` and the number of a set, or `@c` and the number of a clock set.
 pub fn shipped_set(word: &str) -> Option<ShippedSet>
     ensures { option_map shipped_asked result ≡ shipped_word word.now }
 {
-    match word {
-        "@0" => Some(ShippedSet::Isa(IsaSet { number: 0 })),
-        "@1" => Some(ShippedSet::Isa(IsaSet { number: 1 })),
-        "@2" => Some(ShippedSet::Isa(IsaSet { number: 2 })),
-        "@3" => Some(ShippedSet::Isa(IsaSet { number: 3 })),
-        "@4" => Some(ShippedSet::Isa(IsaSet { number: 4 })),
-        "@c1" => Some(ShippedSet::Clock(ClockSet { number: 1 })),
-        "@c2" => Some(ShippedSet::Clock(ClockSet { number: 2 })),
+    if let Some(number) = number_after(b"@", 0, NEWEST, word) {
+        return Some(ShippedSet::Isa(IsaSet { number }));
+    }
+    match number_after(b"@c", 1, NEWEST_CLOCK, word) {
+        Some(number) => Some(ShippedSet::Clock(ClockSet { number })),
+        None => None,
+    }
+}
+
+/// Returns the number whose decimal text `word` has after `front`, if it is from `first` to `last`.
+pub fn number_after(front: &[u8], first: u8, last: u8, word: &str) -> Option<u8>
+    ensures number { result ≡ number_after front.now first (suc last - first) word.now }
+    ensures within { IfSome result (λ number. (first ≤ number) × (number ≤ last)) }
+{
+    let Some(digits) = word.as_bytes().strip_prefix(front) else {
+        return None;
+    };
+    match number_of(digits) {
+        Ok(number) if number >= u64::from(first) && number <= u64::from(last) => Some(number as u8),
         _ => None,
     }
 }
