@@ -8,6 +8,7 @@ ghost use Rattle.vms_desc.specs.Described.{described};
 ghost use Rattle.vms_convert.specs.Changes.{Changes};
 ghost use Rattle.vms_convert.specs.Giving.{give_step, give_partner, AreTargets};
 
+use std::convert::Infallible;
 use vms_desc::{Cells, DescSet};
 use vms_image::Image;
 use vms_walk::{PartAt, WalkStep, Walker, walk};
@@ -40,10 +41,6 @@ pub(crate) fn give_part(set: &DescSet, part: PartAt, gift: Gift, target: &mut Im
     }
 }
 
-// Nothing stops it.
-#[derive(Clone, Copy, Drop)]
-enum Never {}
-
 // Gives numbers of the image to the target.
 #[derive(Drop)]
 struct Giver<'a> {
@@ -67,7 +64,7 @@ impl Walker for Giver<'_> {
     ghost use Rattle.vms_convert.specs.Changes.{Changes, changes_more};
     ghost use Rattle.vms_convert.specs.Giving.{give_step, AreTargets, same_gifts};
 
-    type Fault = Never;
+    type Fault = Infallible;
 
     ghost goes = { λ xs a b. (b.target.ghost_name ≡ a.target.ghost_name)
         × (b.image ≡ a.image) × (b.partners ≡ a.partners)
@@ -95,7 +92,7 @@ impl Walker for Giver<'_> {
 
     ghost stops_before = { λ xs ys a b fault h. h };
 
-    fn step(&mut self, step: WalkStep) -> Result<(), Never> {
+    fn step(&mut self, step: WalkStep) -> Result<(), Infallible> {
         give_step(step, self.image, self.target, self.partners);
         Ok(())
     }

@@ -9,6 +9,7 @@ ghost use Rattle.vms_desc.specs.Described.{described};
 ghost use Rattle.vms_convert.specs.Changes.{Changes};
 ghost use Rattle.vms_convert.specs.Putting.{put_step, put_partner, AreSources};
 
+use std::convert::Infallible;
 use vms_desc::{Cells, DescSet};
 use vms_image::Image;
 use vms_walk::{PartAt, WalkStep, Walker, is_above, walk};
@@ -39,10 +40,6 @@ pub(crate) fn take_part(
     }
 }
 
-// Nothing stops it.
-#[derive(Clone, Copy, Drop)]
-enum Never {}
-
 // Takes numbers of `source` into the image.
 #[derive(Drop)]
 struct Taker<'a> {
@@ -66,7 +63,7 @@ impl Walker for Taker<'_> {
     ghost use Rattle.vms_convert.specs.Putting.{put_step, AreSources};
     ghost use Rattle.vms_convert.specs.Takes.{takes_keeps, same_steps};
 
-    type Fault = Never;
+    type Fault = Infallible;
 
     ghost goes = { λ xs a b. (b.image.ghost_name ≡ a.image.ghost_name)
         × (b.source ≡ a.source) × (b.partners ≡ a.partners)
@@ -95,7 +92,7 @@ impl Walker for Taker<'_> {
 
     ghost stops_before = { λ xs ys a b fault h. h };
 
-    fn step(&mut self, step: WalkStep) -> Result<(), Never> {
+    fn step(&mut self, step: WalkStep) -> Result<(), Infallible> {
         take_step(step, self.image, self.source, self.partners);
         Ok(())
     }
