@@ -1,5 +1,5 @@
 -- Words that end with a number.
-use Rattle.std.proofs.Common.{◌≡◌, ⊥, ℕ, zero, suc, ◌+◌, ◌-◌, ◌^◌, ◌<◌, ◌≤◌, ◌++◌, Bool, true, false, if◌then◌else◌, List, Option, Some, None, Ok, Err, ℤ, pos, negsuc, nat_lt, refl, sym, ap, ◌∙◌, absurd, arith}
+use Rattle.std.proofs.Common.{◌≡◌, ℕ, zero, suc, ◌+◌, ◌-◌, ◌^◌, ◌<◌, ◌≤◌, ◌++◌, Bool, true, false, if◌then◌else◌, List, Option, Some, None, Ok, Err, ℤ, pos, negsuc, nat_lt, refl, sym, ap, ◌∙◌, arith}
 use Rattle.std.specs.Fmt.{decimal}
 use Rattle.std.specs.Str.{bytes_eq}
 use Rattle.std.proofs.lemmas.Bool.{ltb-true, lt-ltb}
