@@ -14,7 +14,7 @@ use Rattle.vms_elements.proofs.SlotsOf.{elements_slots}
 use Rattle.vms_values_laws.proofs.AllCome.{short_are}
 use Rattle.vms_values_laws.proofs.Numbers.{AreShort}
 use Rattle.vms_values_laws.proofs.ReadyParts.{fine_both, AreGood, good_both}
-use Rattle.vms_elements.proofs.Counting.{elements_counted}
+use Rattle.vms_elements.proofs.Walk.{walks}
 use Rattle.vms_analyze.specs.Wanted.{Bytes, Head, Foot, Line, element_want, sub_wants, device_wants}
 use Rattle.vms_analyze.specs.Telling.{told_part, told_subs, told_device_of, told_devices}
 use Rattle.vms_analyze.proofs.Following.{Follows, none_follows, one_follows, both_follow, follows_as, takes_bytes, takes_line, takes_foot, takes_head}
@@ -37,7 +37,7 @@ module _ (set : Set) (d : Device) (image : Image) (short : AreShort image.number
   part_follows desc at fine =
       let xs = elements_in set desc desc.version n at in
       follows_as _ _ id id _ _ _ _ refl (ap (zeroed n) (elements_slots set desc desc.version n at)) refl
-      (sent_follow n id xs (fine_said n short xs (elements_counted set desc desc.version n at) fine))
+      (sent_follow n id xs (fine_said n short xs (walks set desc desc.version desc.version n n at at).counted fine))
 
   sub_came : (s : Sub) (at : ℕ) → AreFine (number_entries set s.desc n at)
       → Follows (sub_wants (record { name = s.desc.name; sent = true; version = s.desc.version; elements = told_part set s.desc true n at })) id

@@ -17,7 +17,7 @@ use Rattle.vms_elements.proofs.Members.{Each}
 use Rattle.vms_values_laws.proofs.FineNumbers.{line_number, reason_fits}
 use Rattle.vms_values_laws.proofs.Rights.{fine_rest}
 use Rattle.vms_values_laws.proofs.Numbers.{AreShort, of_numbers}
-use Rattle.vms_elements.proofs.Counting.{IsCounted, AreCounted}
+use Rattle.vms_elements.proofs.Walk.{IsCounted, AreCounted}
 use Rattle.vms_analyze.specs.Told.{Told}
 use Rattle.vms_analyze.specs.Wanted.{element_want}
 use Rattle.vms_analyze.specs.Telling.{told_what, tolds}

@@ -1,9 +1,9 @@
 mod Rows
 mod ReadingRows
 pub mod Tables
-pub mod CellsOf
+pub mod Arrays
+pub mod Walk
 pub mod SlotsOf
-pub mod CountUp
 pub mod LinesOf
 pub mod Members
 pub mod Counting

@@ -1,5 +1,5 @@
 -- Texts that are refused: each reason, each way to miss a line, and two faults in one text.
-use Rattle.std.proofs.Common.{◌≡◌, ℕ, suc, List, [], ◌∷◌, ◌++◌, zero, get_or, take, drop, map, length, Option, Some, None, ℤ, pos, refl, ap, codes, arith}
+use Rattle.std.proofs.Common.{◌≡◌, ℕ, suc, List, [], ◌∷◌, ◌++◌, zero, get_or, take, drop, map, length, Some, None, ℤ, pos, refl, ap, codes, arith}
 use Rattle.std.specs.Fmt.{digits}
 use Rattle.vms_spec.specs.declared.ValuesReason.{ValuesReason}
 use Rattle.vms_spec.specs.declared.ValuesReason.TheVariants as reasons
@@ -22,123 +22,107 @@ no_device = record { instance = 0; desc = no_desc; subs = [] }
 abbrev box : List ℕ
 box = codes "section box 0 v1"
 
--- n good lines of a state of the set, and what follows them
-record Follows (set : Set) (n : ℕ) (machine : Option (List ℕ)) (images : List Image) (text rest : List ℕ) (reason : ValuesReason) : Type 0 where
-  named : machine ≡ machine_named set.machines (first_line text)
-  shaped : AreShaped set set.devices images
-  whole : entries set machine images ≡ take n (entries set machine images) ++ drop n (entries set machine images)
-  fine : AreFine (take n (entries set machine images))
-  begins : text ≡ text_of (map entry_line (take n (entries set machine images))) ++ rest
-  number : n ≡ length (take n (entries set machine images))
-  bad : front_reason (drop n (entries set machine images)) rest ≡ Some reason
+-- the numbers of a state, of whose lines n are good, and the text's lines, good ones first
+record Follows (set : Set) (n : ℕ) (numbers : List ℤ) (good bad : List (List ℕ)) (reason : ValuesReason) : Type 0 where
+  named : None ≡ machine_named set.machines (first_line (text_of (good ++ bad)))
+  shaped : AreShaped set set.devices (of_box numbers)
+  whole : entries set None (of_box numbers) ≡ take n (entries set None (of_box numbers)) ++ drop n (entries set None (of_box numbers))
+  fine : AreFine (take n (entries set None (of_box numbers)))
+  begins : text_of (good ++ bad) ≡ text_of (map entry_line (take n (entries set None (of_box numbers)))) ++ text_of bad
+  number : n ≡ length (take n (entries set None (of_box numbers)))
+  refused : front_reason (drop n (entries set None (of_box numbers))) (text_of bad) ≡ Some reason
 
-bad_after : (set : Set) (n : ℕ) (machine : Option (List ℕ)) (images : List Image) (text rest : List ℕ) (reason : ValuesReason)
-    → Follows set n machine images text rest reason → IsBadLine set text (suc n) reason
-bad_after set n machine images text rest reason c = record {
-  machine = machine;
-  images = images;
-  before = take n (entries set machine images);
-  after = drop n (entries set machine images);
-  rest = rest;
+bad_after : (set : Set) (n : ℕ) (numbers : List ℤ) (good bad : List (List ℕ)) (reason : ValuesReason) → Follows set n numbers good bad reason → IsBadLine set (text_of (good ++ bad)) (suc n) reason
+bad_after set n numbers good bad reason c = record {
+  machine = None;
+  images = of_box numbers;
+  before = take n (entries set None (of_box numbers));
+  after = drop n (entries set None (of_box numbers));
+  rest = text_of bad;
   named = c.named;
   shaped = c.shaped;
   state = c.whole;
   fine = c.fine;
   begins = c.begins;
   number = ap suc c.number;
-  bad = c.bad;
+  bad = c.refused;
 }
 
 -- above the capacity of the array that it counts
 refuses_a_count : IsBadLine counted_set (text_of (box ∷ codes "n = 3" ∷ [])) 2 reasons.Count
 unfolding first digits
-refuses_a_count =
-    bad_after counted_set 1 None (of_box (pos 0 ∷ pos 0 ∷ pos 0 ∷ [])) (text_of (box ∷ codes "n = 3" ∷ [])) (text_of (codes "n = 3" ∷ [])) reasons.Count
-    (record { named = refl; shaped = (record { version = refl; subs = refl; versions = tt; cells = refl; short = refl }, tt); whole = refl; fine = (refl, tt); begins = refl; number = refl; bad = refl })
+refuses_a_count = bad_after counted_set 1 (pos 0 ∷ pos 0 ∷ pos 0 ∷ []) (box ∷ []) (codes "n = 3" ∷ []) reasons.Count search
 
 -- not there, and not its default
 refuses_an_absent_number : IsBadLine tested_set (text_of (box ∷ codes "f = 0" ∷ codes "g = 7" ∷ [])) 3 reasons.Absent
 unfolding first digits
-refuses_an_absent_number =
-    bad_after tested_set 2 None (of_box (pos 0 ∷ pos 0 ∷ [])) (text_of (box ∷ codes "f = 0" ∷ codes "g = 7" ∷ [])) (text_of (codes "g = 7" ∷ [])) reasons.Absent
-    (record { named = refl; shaped = (record { version = refl; subs = refl; versions = tt; cells = refl; short = refl }, tt); whole = refl; fine = (refl, (refl, tt)); begins = refl; number = refl; bad = refl })
+refuses_an_absent_number = bad_after tested_set 2 (pos 0 ∷ pos 0 ∷ []) (box ∷ codes "f = 0" ∷ []) (codes "g = 7" ∷ []) reasons.Absent search
 
 refuses_a_leading_zero : IsBadLine tested_set (text_of (box ∷ codes "f = 01" ∷ codes "g = 0" ∷ [])) 2 reasons.Number
 unfolding first digits
-refuses_a_leading_zero =
-    bad_after tested_set 1 None (of_box (pos 0 ∷ pos 0 ∷ [])) (text_of (box ∷ codes "f = 01" ∷ codes "g = 0" ∷ [])) (text_of (codes "f = 01" ∷ codes "g = 0" ∷ [])) reasons.Number
-    (record { named = refl; shaped = (record { version = refl; subs = refl; versions = tt; cells = refl; short = refl }, tt); whole = refl; fine = (refl, tt); begins = refl; number = refl; bad = refl })
+refuses_a_leading_zero = bad_after tested_set 1 (pos 0 ∷ pos 0 ∷ []) (box ∷ []) (codes "f = 01" ∷ codes "g = 0" ∷ []) reasons.Number search
 
 refuses_another_path : IsBadLine tested_set (text_of (box ∷ codes "g = 0" ∷ codes "f = 0" ∷ [])) 2 reasons.Form
 unfolding first digits
-refuses_another_path =
-    bad_after tested_set 1 None (of_box (pos 0 ∷ pos 0 ∷ [])) (text_of (box ∷ codes "g = 0" ∷ codes "f = 0" ∷ [])) (text_of (codes "g = 0" ∷ codes "f = 0" ∷ [])) reasons.Form
-    (record { named = refl; shaped = (record { version = refl; subs = refl; versions = tt; cells = refl; short = refl }, tt); whole = refl; fine = (refl, tt); begins = refl; number = refl; bad = refl })
+refuses_another_path = bad_after tested_set 1 (pos 0 ∷ pos 0 ∷ []) (box ∷ []) (codes "g = 0" ∷ codes "f = 0" ∷ []) reasons.Form search
 
 -- the first pass goes first: the validation fails as well
 refuses_the_absent_number_before_the_validation : IsBadLine tested_set (text_of (box ∷ codes "f = 10" ∷ codes "g = 7" ∷ [])) 3 reasons.Absent
 unfolding first digits
-refuses_the_absent_number_before_the_validation =
-    bad_after tested_set 2 None (of_box (pos 10 ∷ pos 0 ∷ [])) (text_of (box ∷ codes "f = 10" ∷ codes "g = 7" ∷ [])) (text_of (codes "g = 7" ∷ [])) reasons.Absent
-    (record { named = refl; shaped = (record { version = refl; subs = refl; versions = tt; cells = refl; short = refl }, tt); whole = refl; fine = (refl, (refl, tt)); begins = refl; number = refl; bad = refl })
+refuses_the_absent_number_before_the_validation = bad_after tested_set 2 (pos 10 ∷ pos 0 ∷ []) (box ∷ codes "f = 10" ∷ []) (codes "g = 7" ∷ []) reasons.Absent search
 
 -- ---- the second pass
 
--- a state that a text says in full, the entries before a section or subsection, and that one
-record Judged (set : Set) (n : ℕ) (images : List Image) (text : List ℕ) (entry : Entry) (reason : ValuesReason) : Type 0 where
-  says : Says set text None images
-  whole : entries set None images ≡ take n (entries set None images) ++ (entry ∷ drop (suc n) (entries set None images))
-  good : map (part_reason set) (take n (entries set None images)) ≡ map (λ e. None) (take n (entries set None images))
-  number : n ≡ length (take n (entries set None images))
-  bad : part_reason set entry ≡ Some reason
+-- an image, the lines of its text, how many entries stand before the one that is refused, and that entry
+record Judged (set : Set) (n : ℕ) (image : Image) (lines : List (List ℕ)) (entry : Entry) (reason : ValuesReason) : Type 0 where
+  says : Says set (text_of lines) None (image ∷ [])
+  whole : entries set None (image ∷ []) ≡ take n (entries set None (image ∷ [])) ++ (entry ∷ drop (suc n) (entries set None (image ∷ [])))
+  good : map (part_reason set) (take n (entries set None (image ∷ []))) ≡ map (λ e. None) (take n (entries set None (image ∷ [])))
+  number : n ≡ length (take n (entries set None (image ∷ [])))
+  refused : part_reason set entry ≡ Some reason
 
-bad_part : (set : Set) (n : ℕ) (images : List Image) (text : List ℕ) (entry : Entry) (reason : ValuesReason) → Judged set n images text entry reason → IsBadPart set text (suc n) reason
-bad_part set n images text entry reason c = record {
+bad_part : (set : Set) (n : ℕ) (image : Image) (lines : List (List ℕ)) (entry : Entry) (reason : ValuesReason) → Judged set n image lines entry reason → IsBadPart set (text_of lines) (suc n) reason
+bad_part set n image lines entry reason c = record {
   machine = None;
-  images = images;
-  before = take n (entries set None images);
+  images = image ∷ [];
+  before = take n (entries set None (image ∷ []));
   entry = entry;
-  after = drop (suc n) (entries set None images);
+  after = drop (suc n) (entries set None (image ∷ []));
   says = c.says;
   state = c.whole;
   good = c.good;
   number = ap suc c.number;
-  bad = c.bad;
+  bad = c.refused;
 }
+
+abbrev ten : Image
+ten = record { version = 1; came = []; numbers = pos 10 ∷ pos 0 ∷ [] }
 
 -- f is not below 10
 refuses_a_validation : IsBadPart tested_set (text_of (box ∷ codes "f = 10" ∷ codes "g = 0" ∷ [])) 1 reasons.Invalid
 unfolding first digits
 refuses_a_validation =
-    bad_part tested_set 0 (record { version = 1; came = []; numbers = pos 10 ∷ pos 0 ∷ [] } ∷ []) (text_of (box ∷ codes "f = 10" ∷ codes "g = 0" ∷ [])) (OfSection (get_or tested_set.devices 0 no_device) (record { version = 1; came = []; numbers = pos 10 ∷ pos 0 ∷ [] })) reasons.Invalid
-    (record {
-      says = record { named = tt; shaped = (record { version = refl; subs = refl; versions = tt; cells = refl; short = refl }, tt); unsaid = (unsaid, tt); fine = (refl, (refl, (refl, tt))); printed = refl };
-      whole = refl;
-      good = refl;
-      number = refl;
-      bad = refl;
-    })
+    bad_part tested_set 0 ten (box ∷ codes "f = 10" ∷ codes "g = 0" ∷ []) (OfSection (get_or tested_set.devices 0 no_device) ten) reasons.Invalid
+    (record { says = record { named = tt; shaped = search; unsaid = (unsaid, tt); fine = search; printed = refl }; whole = refl; good = refl; number = refl; refused = refl })
   where
-    unsaid : AreUnsaid tested_set (get_or tested_set.devices 0 no_device) (record { version = 1; came = []; numbers = pos 10 ∷ pos 0 ∷ [] })
+    unsaid : AreUnsaid tested_set (get_or tested_set.devices 0 no_device) ten
     unsaid zero h e = cc
     unsaid (suc zero) h e = cc
-    unsaid (suc (suc c)) h e = absurd (omega (arith, h))
+    unsaid (suc (suc c)) h e = absurd (omega arith)
+
+abbrev dashes : Image
+dashes = record { version = 1; came = None ∷ None ∷ []; numbers = pos 9 ∷ pos 8 ∷ pos 6 ∷ [] }
 
 -- needed, and it did not come
 refuses_a_dash : IsBadPart subsection_set (text_of (box ∷ codes "a = 9" ∷ codes "sub box/p -" ∷ codes "x = 8" ∷ codes "sub box/q -" ∷ codes "y = 6" ∷ [])) 3 reasons.Needed
 unfolding first digits
 refuses_a_dash =
-    bad_part subsection_set 2 (record { version = 1; came = None ∷ None ∷ []; numbers = pos 9 ∷ pos 8 ∷ pos 6 ∷ [] } ∷ []) (text_of (box ∷ codes "a = 9" ∷ codes "sub box/p -" ∷ codes "x = 8" ∷ codes "sub box/q -" ∷ codes "y = 6" ∷ [])) (OfSub (get_or subsection_set.devices 0 no_device) (record { version = 1; came = None ∷ None ∷ []; numbers = pos 9 ∷ pos 8 ∷ pos 6 ∷ [] }) 0 (sub_of (codes "box/p") (codes "x") 5) 1 None) reasons.Needed
-    (record {
-      says = record { named = tt; shaped = (record { version = refl; subs = refl; versions = (tt, (tt, tt)); cells = refl; short = refl }, tt); unsaid = (unsaid, tt); fine = (refl, (refl, (refl, (refl, (refl, (refl, tt)))))); printed = refl };
-      whole = refl;
-      good = refl;
-      number = refl;
-      bad = refl;
-    })
+    bad_part subsection_set 2 dashes (box ∷ codes "a = 9" ∷ codes "sub box/p -" ∷ codes "x = 8" ∷ codes "sub box/q -" ∷ codes "y = 6" ∷ [])
+    (OfSub (get_or subsection_set.devices 0 no_device) dashes 0 (sub_of (codes "box/p") (codes "x") 5) 1 None) reasons.Needed
+    (record { says = record { named = tt; shaped = search; unsaid = (unsaid, tt); fine = search; printed = refl }; whole = refl; good = refl; number = refl; refused = refl })
   where
-    unsaid : AreUnsaid subsection_set (get_or subsection_set.devices 0 no_device) (record { version = 1; came = None ∷ None ∷ []; numbers = pos 9 ∷ pos 8 ∷ pos 6 ∷ [] })
+    unsaid : AreUnsaid subsection_set (get_or subsection_set.devices 0 no_device) dashes
     unsaid zero h e = cc
     unsaid (suc zero) h e = cc
     unsaid (suc (suc zero)) h e = cc
-    unsaid (suc (suc (suc c))) h e = absurd (omega (arith, h))
+    unsaid (suc (suc (suc c))) h e = absurd (omega arith)

@@ -29,8 +29,8 @@ use Rattle.vms_elements.specs.Elements.{Shape, no_shape, shape, shapes, cells_in
 use Rattle.vms_elements.specs.Parts.{names_of}
 use Rattle.vms_spec.proofs.Tables.{first_at}
 use Rattle.vms_elements.proofs.Tables.{shapes_cells}
-use Rattle.vms_elements.proofs.CellsOf.{AreShapes, are_shapes, item_has, field_has, desc_has}
-use Rattle.vms_elements.proofs.Names.{SameNames, same_names, names_append, names_long, names_dotted, item_names as item_same, fields_names, desc_names, desc_names_are, array_name}
+use Rattle.vms_elements.proofs.Walk.{AreWalked, are_walked, is_dotted, names_append, names_long, names_map, item_walks, field_walks, fields_walk, desc_walks, desc_names_are}
+use Rattle.vms_elements.proofs.Names.{array_name}
 use Rattle.vms_values.specs.Naming.{usable, part_names, item_names, field_name}
 
 pub positive : (n size c : ℕ) → c < n * size → 0 < size
@@ -57,8 +57,12 @@ module _ (set : Set) where
   usable_is (parts.Device i) h = refl
   usable_is (parts.Sub i j) h = refl
 
-  same_in : (part : Part) → HasPart set part → SameNames (usable set part)
-  same_in part h = subst SameNames (sym (usable_is part h)) (same_names set.structs (reach set part))
+  walked_in : (part : Part) → HasPart set part → AreWalked (usable set part)
+  walked_in part h = rw (usable_is part h) (are_walked set.structs (reach set part))
+
+  -- as many names as cells
+  long_in : (ss : List Shape) → AreWalked ss → (item : Item) → length (names_of (item_elements ss item [] (pos 0) [] 0)) ≡ item_size (cells_in ss) item
+  long_in ss walked item = names_long _ ∙ ap length (item_walks ss walked item [] (pos 0) [] [] 0 0).cells_are
 
   -- an item that a part may use has the names that it has among all
   item_in : (k : ℕ) → k ≤ length set.structs → (item : Item) → uses_below k item ≡ true → (caps : List ℕ) (z : ℤ) (n : List ℤ) (a : ℕ)
@@ -69,13 +73,12 @@ module _ (set : Set) where
   item_in k le (Struct j) e caps z n a =
       let lt : j < k = ltb-true j k e in
       let lt' : j < length set.structs = omega arith in
-      item_same (first shape set.structs k) (same_names set.structs k) (Struct j) caps z n [] a 0
+      (item_walks (first shape set.structs k) (are_walked set.structs k) (Struct j) caps z n [] a 0).names
       ∙ ap (λ (s : Shape). names_of (map dotted (s.elements [] 0))) (first_at shape set.structs no_shape k j lt ∙ sym (first_at shape set.structs no_shape (length set.structs) j lt'))
 
   item_long : (item : Item) → length (item_names set item) ≡ size_in set item
   item_long item =
-      names_long (item_elements (shapes set) item [] (pos 0) [] 0)
-      ∙ ap length (item_has (shapes set) (are_shapes set.structs (length set.structs)) item [] (pos 0) [] 0)
+      long_in (shapes set) (are_walked set.structs (length set.structs)) item
       ∙ ap (λ (cs : List (List Cell)). item_size cs item) (shapes_cells set.structs (length set.structs) ∙ sym (cells_table set))
 
   -- the names in one element of a structure
@@ -85,11 +88,11 @@ module _ (set : Set) where
       let ss = first shape set.structs j in
       let names = names_of (desc_elements ss d d.version [] 0) in
       let is : item_names set (Struct j) ≡ map (λ l. codes "." ++ l) names =
-      ap (λ (s : Shape). names_of (map dotted (s.elements [] 0))) (first_at shape set.structs no_shape (length set.structs) j lt) ∙ names_dotted (desc_elements ss d d.version [] 0) in
+      ap (λ (s : Shape). names_of (map dotted (s.elements [] 0))) (first_at shape set.structs no_shape (length set.structs) j lt) ∙ names_map is_dotted (desc_elements ss d d.version [] 0) in
       let long : length names ≡ size_in set (Struct j) = sym (length-map names (λ l. codes "." ++ l)) ∙ ap length (sym is) ∙ item_long (Struct j) in
       ap (λ (l : List (List ℕ)). get_or l c []) is
       ∙ get_or-map (λ l. codes "." ++ l) names c [] [] (omega (arith, long))
-      ∙ ap (λ (l : List (List ℕ)). codes "." ++ get_or l c []) (desc_names ss (same_names set.structs j) d d.version 0 [] [] 0 0)
+      ∙ ap (λ (l : List (List ℕ)). codes "." ++ get_or l c []) (desc_walks ss (are_walked set.structs j) d d.version 0 [] [] 0 0).names
 
   -- ---- the fields of a part
 
@@ -101,24 +104,22 @@ module _ (set : Set) where
   all_names part h =
       let d = desc_at set part in
       let own = numbers_of (cells_in (usable set part)) d [] 0 in
-      desc_names_are (usable set part) (same_in part h) d 0 [] 0 ∙ fields_names (usable set part) (same_in part h) d.fields 0 0 own no_parent [] [] 0 0 0 d.fields
+      desc_names_are (usable set part) (walked_in part h) d 0 [] 0 ∙ (fields_walk (usable set part) (walked_in part h) d.fields 0 0 own no_parent [] [] 0 0 0 d.fields).names
 
   pub no_names : (part : Part) (k : ℕ) → k ≡ length (desc_at set part).fields → names_from part k ≡ []
   no_names part k e = ap (λ (l : List Field). names_of (elements_from (usable set part) (desc_at set part).fields 0 no_parent [] k 0 l)) (drop_all k (desc_at set part).fields (omega arith))
 
-  -- as many names as cells
   field_long : (part : Part) → HasPart set part → (k : ℕ) (f : Field) → uses_below (reach set part) f.item ≡ true
       → length (names_of (field_elements (usable set part) (desc_at set part).fields 0 no_parent [] k 0 f)) ≡ capacity_of f.count * size_in set f.item
   field_long part h k f uses =
       let all = (desc_at set part).fields in
       let ss = usable set part in
-      let good : AreShapes ss = subst AreShapes (sym (usable_is part h)) (are_shapes set.structs (reach set part)) in
       let le = reach_whole set part h in
       let one : item_size (cells_in ss) f.item ≡ size_in set f.item =
-      sym (names_long (item_elements ss f.item [] (pos 0) [] 0) ∙ ap length (item_has ss good f.item [] (pos 0) [] 0))
+      sym (long_in ss (walked_in part h) f.item)
       ∙ ap (λ (t : List Shape). length (names_of (item_elements t f.item [] (pos 0) [] 0))) (usable_is part h)
       ∙ ap length (item_in (reach set part) le f.item uses [] (pos 0) [] 0) ∙ item_long f.item in
-      names_long (field_elements ss all 0 no_parent [] k 0 f) ∙ ap length (field_has ss good all 0 no_parent [] k 0 f) ∙ field_size (cells_in ss) all k f ∙ ap (λ (s : ℕ). capacity_of f.count * s) one
+      names_long (field_elements ss all 0 no_parent [] k 0 f) ∙ ap length (field_walks ss (walked_in part h) all 0 0 no_parent no_parent [] [] k 0 0 f).cells_are ∙ field_size (cells_in ss) all k f ∙ ap (λ (s : ℕ). capacity_of f.count * s) one
 
   in_field : (part : Part) → HasPart set part → (k : ℕ) (f : Field) → uses_below (reach set part) f.item ≡ true → (left : ℕ) → left < capacity_of f.count * size_in set f.item
       → get_or (names_of (field_elements (usable set part) (desc_at set part).fields 0 no_parent [] k 0 f)) left [] ≡ field_name set f left
@@ -128,12 +129,11 @@ module _ (set : Set) where
       let size = size_in set f.item in
       let q = left / size in
       let r = left % size in
-      let good : AreShapes ss = subst AreShapes (sym (usable_is part h)) (are_shapes set.structs (reach set part)) in
       let le = reach_whole set part h in
       let names : (a : ℕ) → names_of (item_elements ss f.item (counted k all) f.default [] a) ≡ item_names set f.item =
       λ a. ap (λ (t : List Shape). names_of (item_elements t f.item (counted k all) f.default [] a)) (usable_is part h) ∙ item_in (reach set part) le f.item uses (counted k all) f.default [] a in
       let step_is : item_size (cells_in ss) f.item ≡ size =
-      sym (names_long (item_elements ss f.item [] (pos 0) [] 0) ∙ ap length (item_has ss good f.item [] (pos 0) [] 0))
+      sym (long_in ss (walked_in part h) f.item)
       ∙ ap (λ (t : List Shape). length (names_of (item_elements t f.item [] (pos 0) [] 0))) (usable_is part h)
       ∙ ap length (item_in (reach set part) le f.item uses [] (pos 0) [] 0) ∙ item_long f.item in
       let divided : q * size + r ≡ left = div-add-mod' left size in
@@ -171,7 +171,7 @@ module _ (set : Set) where
       let split : names_from part k ≡ mine ++ names_from part (k + 1) =
       ap (λ (l : List Field). names_of (elements_from ss all 0 no_parent [] k 0 l)) at
       ∙ names_append (field_elements ss all 0 no_parent [] k 0 f) (elements_from ss all 0 no_parent [] (suc k) (0 + length (field_cells (cells_in ss) all k f)) (drop (k + 1) all))
-      ∙ ap (λ (l : List (List ℕ)). mine ++ l) (fields_names ss (same_in part h) all 0 0 no_parent no_parent [] [] (suc k) (0 + length (field_cells (cells_in ss) all k f)) 0 (drop (k + 1) all))
+      ∙ ap (λ (l : List (List ℕ)). mine ++ l) (fields_walk ss (walked_in part h) all 0 0 no_parent no_parent [] [] (suc k) (0 + length (field_cells (cells_in ss) all k f)) 0 (drop (k + 1) all)).names
       ∙ ap (λ (i : ℕ). mine ++ names_of (elements_from ss all 0 no_parent [] i 0 (drop (k + 1) all))) one in
       record {
         uses = uses_more (reach set part) (length set.structs) f.item le uses;
@@ -188,8 +188,7 @@ module _ (set : Set) where
   part_long well part h =
       let ss = usable set part in
       let d = desc_at set part in
-      let good : AreShapes ss = subst AreShapes (sym (usable_is part h)) (are_shapes set.structs (reach set part)) in
-      names_long (desc_elements ss d 0 [] 0) ∙ ap length (desc_has ss good d 0 [] 0)
+      names_long (desc_elements ss d 0 [] 0) ∙ ap length (desc_walks ss (walked_in part h) d 0 0 [] [] 0 0).cells_are
       ∙ ap (λ (t : List Shape). length (desc_cells (cells_in t) d)) (usable_is part h) ∙ ap (λ (cs : List (List Cell)). length (desc_cells cs d)) (shapes_cells set.structs (reach set part)) ∙ by_part part h
     where
       by_part : (part : Part) → HasPart set part → length (desc_cells (first desc_cells set.structs (reach set part)) (desc_at set part)) ≡ own_cell_count set (desc_at set part)

@@ -12,9 +12,9 @@ use Rattle.vms_desc.specs.Described.{device_at}
 use Rattle.vms_desc.specs.Formed.{is_well_formed}
 use Rattle.vms_desc.specs.Parts.{sub_at}
 use Rattle.vms_desc.proofs.AskLaws.{sub_inside, own_inside_device, few_cells}
-use Rattle.vms_elements.specs.Elements.{shapes}
 use Rattle.vms_elements.specs.Parts.{absent, names_of, elements_in, subs_elements, cell_name}
-use Rattle.vms_elements.proofs.Names.{names_append, same_names, desc_names, names_absent}
+use Rattle.vms_elements.proofs.Walk.{names_append, walks}
+use Rattle.vms_elements.proofs.Names.{names_absent}
 use Rattle.vms_values.specs.Naming.{IsInPart}
 use Rattle.vms_values.proofs.Naming.{part_long}
 
@@ -30,7 +30,7 @@ abbrev pub names_of_subs : Set → ℕ → ℕ → List (List ℕ)
 names_of_subs set i j = subs_names set (drop j (device_at set i).subs)
 
 same_desc : (set : Set) (d : Desc) (v : ℕ) (n : List ℤ) (a : ℕ) → names_of (elements_in set d v n a) ≡ desc_names_of set d
-same_desc set d v n a = desc_names (shapes set) (same_names set.structs (length set.structs)) d v 0 n [] a 0
+same_desc set d v n a = (walks set d v 0 n [] a 0).names
 
 none_came : (set : Set) (subs : List Sub) (n : List ℤ) (a : ℕ) → names_of (subs_elements set subs (map (λ s. None) subs) n a) ≡ subs_names set subs
 none_came set [] n a = refl

@@ -11,7 +11,7 @@ use Rattle.vms_elements.specs.Parts.{cells_of, elements_in}
 use Rattle.vms_elements.specs.Lines.{printed}
 use Rattle.vms_elements.specs.Entries.{Entry, OfNumber, number_entries, subs_entries, device_entries, devices_entries, entries}
 use Rattle.vms_elements.specs.Reading.{Refused, Reads}
-use Rattle.vms_elements.proofs.CellsOf.{elements_cells}
+use Rattle.vms_elements.proofs.Walk.{walks}
 use Rattle.vms_values_laws.specs.Laws.{device_lines, most_lines, LineLaw}
 use Rattle.vms_values_laws.proofs.ReadyParts.{sub_cells}
 use Rattle.vms_values_laws.proofs.Rights.{IsNumberOf, IsNoNumber, view}
@@ -32,7 +32,7 @@ few_printed (x ∷ xs) = go (view x xs) (few_printed xs)
 few_numbers : (set : Set) (d : Desc) (n : List ℤ) (at : ℕ) → length (number_entries set d n at) ≤ length (desc_cells (struct_cells set) d)
 few_numbers set d n at =
     let xs = elements_in set d d.version n at in
-    omega (arith, length-map (printed xs) (λ x. OfNumber x n), few_printed xs, ap (λ (l : List Cell). length l) (elements_cells set d d.version n at))
+    omega (arith, length-map (printed xs) (λ x. OfNumber x n), few_printed xs, ap (λ (l : List Cell). length l) (walks set d d.version d.version n n at at).cells_are)
 
 few_subs : (set : Set) (d : Device) (image : Image) (j at : ℕ) (subs : List Sub) (came : List (Option ℕ)) → length (subs_entries set d image j at subs came) ≤ length subs + length (sub_cells set subs)
 few_subs set d image j at [] came = omega arith

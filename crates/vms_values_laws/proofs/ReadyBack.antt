@@ -20,9 +20,8 @@ use Rattle.vms_elements.specs.Parts.{slots_of, elements_in}
 use Rattle.vms_elements.specs.Lines.{text_of, sub_line, section_line}
 use Rattle.vms_elements.specs.Entries.{Entry, number_entries, subs_entries, device_entries, devices_entries, entries, if_not, have_defaults, sub_holds, came_well}
 use Rattle.vms_elements.specs.Reading.{AreFine, has_line, IsShaped, AreShaped, AreUnsaid, AllUnsaid, AreAtVersions, IsText, Says}
-use Rattle.vms_elements.proofs.CellsOf.{elements_cells}
+use Rattle.vms_elements.proofs.Walk.{walks}
 use Rattle.vms_elements.proofs.SlotsOf.{elements_slots}
-use Rattle.vms_elements.proofs.CountUp.{elements_laid}
 use Rattle.vms_elements.proofs.EntryLines.{entry_law}
 use Rattle.vms_elements.proofs.LinesOf.{text_is}
 use Rattle.vms_values_laws.proofs.OneLine.{short}
@@ -32,7 +31,6 @@ use Rattle.vms_values_laws.proofs.Numbers.{AreShort}
 use Rattle.vms_values_laws.proofs.AllCome.{are_short}
 use Rattle.vms_values_laws.proofs.Rights.{AreRight, AreBare}
 use Rattle.vms_values_laws.proofs.ReadyParts.{AreGood, sub_cells}
-use Rattle.vms_elements.proofs.Counting.{elements_counted}
 use Rattle.vms_values_laws.proofs.ReadySays.{bare_bytes, below_bytes, above_bytes, right_front, right_back, right_said, bare_have}
 
 -- ---- parts
@@ -59,24 +57,24 @@ module _ (set : Set) (n : List ℤ) (short_all : AreShort n) where
   desc_fine : (d : Desc) (at : ℕ) → AreRight n at (cells d) (bytes d d.version at) → AreFine (number_entries set d n at)
   desc_fine d at right =
       let xs = elements_in set d d.version n at in
-      right_said n short_all at xs (elements_laid set d d.version n at)
-      (subst (λ (l : List Cell). AreRight n at l (slots_of xs)) (sym (elements_cells set d d.version n at)) (subst (λ (ss : List Slot). AreRight n at (cells d) ss) (sym (elements_slots set d d.version n at)) right))
+      right_said n short_all at xs (walks set d d.version d.version n n at at).up
+      (subst (λ (l : List Cell). AreRight n at l (slots_of xs)) (sym (walks set d d.version d.version n n at at).cells_are) (subst (λ (ss : List Slot). AreRight n at (cells d) ss) (sym (elements_slots set d d.version n at)) right))
 
   desc_have : (d : Desc) (at : ℕ) → AreBare n at (cells d) (λ k. false) → have_defaults n (elements_in set d d.version n at) ≡ true
   desc_have d at bare =
-      bare_have n at (elements_in set d d.version n at) (elements_laid set d d.version n at) (subst (λ (l : List Cell). AreBare n at l (λ k. false)) (sym (elements_cells set d d.version n at)) bare)
+      bare_have n at (elements_in set d d.version n at) (walks set d d.version d.version n n at at).up (subst (λ (l : List Cell). AreBare n at l (λ k. false)) (sym (walks set d d.version d.version n n at at).cells_are) bare)
 
   desc_below : (d : Desc) (v at k : ℕ) → k < at → has_cell (bytes d v at) k ≡ false
-  desc_below d v at k lt = subst (λ (ss : List Slot). has_cell ss k ≡ false) (elements_slots set d v n at) (below_bytes at (elements_in set d v n at) (elements_laid set d v n at) k lt)
+  desc_below d v at k lt = subst (λ (ss : List Slot). has_cell ss k ≡ false) (elements_slots set d v n at) (below_bytes at (elements_in set d v n at) (walks set d v v n n at at).up k lt)
 
   desc_above : (d : Desc) (v at k : ℕ) → at + length (cells d) ≤ k → has_cell (bytes d v at) k ≡ false
   desc_above d v at k le =
       subst (λ (ss : List Slot). has_cell ss k ≡ false) (elements_slots set d v n at)
-      (above_bytes at (elements_in set d v n at) (elements_laid set d v n at) k (omega (arith, ap (λ (l : List Cell). length l) (elements_cells set d v n at))))
+      (above_bytes at (elements_in set d v n at) (walks set d v v n n at at).up k (omega (arith, ap (λ (l : List Cell). length l) (walks set d v v n n at at).cells_are)))
 
   desc_unsaid : (d : Desc) (at k : ℕ) → has_line (number_entries set d n at) k ≡ false → has_cell (bytes d d.version at) k ≡ false
   desc_unsaid d at k e =
-      subst (λ (ss : List Slot). has_cell ss k ≡ false) (elements_slots set d d.version n at) (bare_bytes n (elements_in set d d.version n at) (elements_counted set d d.version n at) k e)
+      subst (λ (ss : List Slot). has_cell ss k ≡ false) (elements_slots set d d.version n at) (bare_bytes n (elements_in set d d.version n at) (walks set d d.version d.version n n at at).counted k e)
 
 -- ---- lines of sections and subsections
 

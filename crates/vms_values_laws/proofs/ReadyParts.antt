@@ -16,9 +16,8 @@ use Rattle.vms_bodies.proofs.ReadyLaws.{rules_are}
 use Rattle.vms_elements.specs.Parts.{cells_of, elements_in}
 use Rattle.vms_elements.specs.Entries.{Entry, OfSub, number_entries, subs_entries, device_entries, if_not, rules_hold, have_defaults, sub_holds, came_well, part_reason}
 use Rattle.vms_elements.specs.Reading.{AreFine, has_line, IsShaped, AreUnsaid, IsAtVersion, AreAtVersions}
-use Rattle.vms_elements.proofs.CellsOf.{elements_cells}
+use Rattle.vms_elements.proofs.Walk.{walks}
 use Rattle.vms_elements.proofs.SlotsOf.{elements_slots}
-use Rattle.vms_elements.proofs.CountUp.{elements_laid}
 use Rattle.vms_values_laws.proofs.Unsaid.{lines_both}
 use Rattle.vms_values_laws.proofs.SecondPass.{desc_rules}
 use Rattle.vms_values_laws.proofs.Numbers.{AreShort}
@@ -60,15 +59,15 @@ module _ (set : Set) (n : List ℤ) (short : AreShort n) where
   pub desc_right : (d : Desc) (at : ℕ) → AreFine (number_entries set d n at) → DefaultsFit (cells d) → AreBare n at (cells d) (λ k. has_line (number_entries set d n at) k) → AreRight n at (cells d) (bytes d at)
   desc_right d at fine defaults bare =
       let xs = elements_in set d d.version n at in
-      let same : cells_of xs ≡ cells d = elements_cells set d d.version n at in
+      let same : cells_of xs ≡ cells d = (walks set d d.version d.version n n at at).cells_are in
       subst (λ (l : List Cell). AreRight n at l (bytes d at)) same
       (subst (λ (ss : List Slot). AreRight n at (cells_of xs) ss) (elements_slots set d d.version n at)
-      (said_right n short at xs (elements_laid set d d.version n at) fine (subst (λ (l : List Cell). DefaultsFit l) (sym same) defaults)
+      (said_right n short at xs (walks set d d.version d.version n n at at).up fine (subst (λ (l : List Cell). DefaultsFit l) (sym same) defaults)
       (subst (λ (l : List Cell). AreBare n at l (λ k. has_line (number_entries set d n at) k)) (sym same) bare)))
 
   desc_bare : (d : Desc) (at : ℕ) → have_defaults n (elements_in set d d.version n at) ≡ true → AreBare n at (cells d) (λ k. false)
   desc_bare d at h =
-      subst (λ (l : List Cell). AreBare n at l (λ k. false)) (elements_cells set d d.version n at) (have_each n at (elements_in set d d.version n at) (elements_laid set d d.version n at) h)
+      subst (λ (l : List Cell). AreBare n at l (λ k. false)) (walks set d d.version d.version n n at at).cells_are (have_each n at (elements_in set d d.version n at) (walks set d d.version d.version n n at at).up h)
 
   -- what is at its default is right, whatever stands in the bytes
   pub default_right : (at : ℕ) (cs : List Cell) (ss : List Slot) → DefaultsFit cs → AreBare n at cs (λ k. false) → AreRight n at cs ss
@@ -76,12 +75,12 @@ module _ (set : Set) (n : List ℤ) (short : AreShort n) where
       record { right = λ c k lt e. let is = bare c k lt e refl in record { fits = subst (λ (z : ℤ). FitsCell (get_or cs c no_cell) z) (sym is) (defaults c lt); absent = λ h. is } }
 
   pub below_desc : (d : Desc) (at k : ℕ) → k < at → has_line (number_entries set d n at) k ≡ false
-  below_desc d at k lt = below_lines n at (elements_in set d d.version n at) (elements_laid set d d.version n at) k lt
+  below_desc d at k lt = below_lines n at (elements_in set d d.version n at) (walks set d d.version d.version n n at at).up k lt
 
   pub above_desc : (d : Desc) (at k : ℕ) → at + length (cells d) ≤ k → has_line (number_entries set d n at) k ≡ false
   above_desc d at k le =
-      above_lines n at (elements_in set d d.version n at) (elements_laid set d d.version n at) k
-      (omega (arith, ap (λ (l : List Cell). length l) (elements_cells set d d.version n at)))
+      above_lines n at (elements_in set d d.version n at) (walks set d d.version d.version n n at at).up k
+      (omega (arith, ap (λ (l : List Cell). length l) (walks set d d.version d.version n n at at).cells_are))
 
 -- the cells of subsections
 abbrev pub sub_cells : Set → List Sub → List Cell

@@ -13,7 +13,7 @@ use Rattle.vms_elements.specs.Parts.{cells_of, slots_of, numbers_in, CountsUp}
 use Rattle.vms_elements.specs.Lines.{printed, number_line}
 use Rattle.vms_elements.specs.Entries.{OfNumber, have_defaults, line_reason}
 use Rattle.vms_elements.specs.Reading.{AreFine, has_line}
-use Rattle.vms_elements.proofs.Counting.{AreCounted}
+use Rattle.vms_elements.proofs.Walk.{AreCounted}
 use Rattle.vms_values_laws.proofs.FineNumbers.{line_number, fits_reason}
 use Rattle.vms_values_laws.proofs.Numbers.{AreShort, of_numbers}
 use Rattle.vms_values_laws.proofs.Rights.{IsRight, AreRight, AreBare, IsNumberOf, IsNoNumber, view}

@@ -19,9 +19,8 @@ use Rattle.vms_elements.specs.Parts.{is_number, cells_with, cells_of, slots_of, 
 use Rattle.vms_elements.specs.Lines.{printed}
 use Rattle.vms_elements.specs.Entries.{Entry, OfMachine, OfSection, OfSub, OfNumber, subs_entries, device_entries, devices_entries, if_not, rules_hold, has_default, have_defaults, sub_holds, has_come, came_well, part_reason}
 use Rattle.vms_elements.specs.Reading.{AreShaped}
-use Rattle.vms_elements.proofs.CellsOf.{elements_cells}
+use Rattle.vms_elements.proofs.Walk.{walks}
 use Rattle.vms_elements.proofs.SlotsOf.{elements_slots}
-use Rattle.vms_elements.proofs.CountUp.{elements_laid}
 
 -- ---- the first bad one of entries
 
@@ -105,8 +104,8 @@ module _ (set : Set) where
   pub desc_defaults : (d : Desc) (v : ℕ) (n : List ℤ) (at : ℕ) → at + length (desc_cells (struct_cells set) d) ≤ length n
       → have_defaults n (elements_in set d v n at) ≡ are_defaults (desc_cells (struct_cells set) d) (drop at n)
   desc_defaults d v n at room =
-      let cells = elements_cells set d v n at in
-      defaults_same n at (elements_in set d v n at) (elements_laid set d v n at) (subst (λ (l : List Rattle.vms_spec.specs.Layout.Cell). at + length l ≤ length n) (sym cells) room)
+      let cells = (walks set d v v n n at at).cells_are in
+      defaults_same n at (elements_in set d v n at) (walks set d v v n n at at).up (subst (λ (l : List Rattle.vms_spec.specs.Layout.Cell). at + length l ≤ length n) (sym cells) room)
       ∙ ap (λ (l : List Rattle.vms_spec.specs.Layout.Cell). are_defaults l (drop at n)) cells
 
   sub_same : (s : Sub) (o : Option ℕ) (n : List ℤ) (at : ℕ) → sub_fails set s o n at ≡ not (sub_holds set s o n at)

@@ -1,7 +1,7 @@
 -- Reading the fields of a description, beside its elements.
 use Rattle.std.proofs.Common.{◌≡◌, ℕ, zero, suc, ◌+◌, ◌*◌, ◌<◌, ◌≤◌, List, ◌∷◌, ◌++◌, length, get_or, map, drop, ℤ, Bool, true, false, ◌&&◌, nat_lt, refl, sym, ap, ◌∙◌, subst, arith, append_assoc, append-nil, length-append, codes, []}
 use Rattle.std.specs.Fmt.{decimal}
-use Rattle.std.proofs.lemmas.Bool.{ltb-true, ltb-false}
+use Rattle.std.proofs.lemmas.Bool.{ltb-true, ltb-false, le-ltb, lt-ltb}
 use Rattle.std.proofs.Math.Bool.{and-true}
 use Rattle.vms_kinds.specs.declared.Item.{Item}
 use Rattle.vms_kinds.specs.declared.Item.TheVariants.{Num, Equal, Unused, Struct}
@@ -19,7 +19,6 @@ use Rattle.vms_elements.specs.Elements.{Element, Number, Shape, no_shape, shape,
 use Rattle.vms_spec.proofs.Tables.{first_long}
 use Rattle.vms_spec.proofs.Prefixes.{readers_cells}
 use Rattle.vms_elements.proofs.Tables.{both, two_more, shapes_cells}
-use Rattle.vms_elements.proofs.SlotsOf.{below_true, past_false}
 use Rattle.vms_values_laws.specs.Said.{Said, Agrees}
 use Rattle.vms_values_laws.proofs.OneLine.{spot}
 use Rattle.vms_values_laws.proofs.Coming.{Knows, AllKnown, knows_grows, At, Comes, at_left, at_less, stay, forget, then_comes, line_comes}
@@ -41,7 +40,7 @@ past_count steps path present f stand part step e (suc k) at le =
     let later = array_elements f stand part step (suc e) k (at + step) in
     wrapped_append steps path present (map (behind (stand.number, e) text below (stand.there && below)) (part at)) later
     ∙ both _ _ _ _
-    (ap (λ (b : Bool). wrapped steps path present (map (behind (stand.number, e) text b (stand.there && below)) (part at))) (past_false e stand.count le below refl)
+    (ap (λ (b : Bool). wrapped steps path present (map (behind (stand.number, e) text b (stand.there && below)) (part at))) (le-ltb e stand.count le)
     ∙ wrapped_none steps path present (stand.number, e) text (stand.there && below) (part at))
     (past_count steps path present f stand part step (suc e) k (at + step) (omega arith))
 
@@ -54,7 +53,7 @@ first_counted steps path present f stand part step e k m at c =
     let text = f.name ++ index_text f.count e in
     let below = nat_lt e stand.count in
     let later = array_elements f stand part step (suc e) k (at + step) in
-    let is : below ≡ true = below_true e m stand.count c in
+    let is : below ≡ true = lt-ltb e stand.count (omega (arith, c)) in
     wrapped_append steps path present (map (behind (stand.number, e) text below (stand.there && below)) (part at)) later
     ∙ ap (λ (l : List Element). l ++ wrapped steps path present later)
     (ap (λ (b : Bool). wrapped steps path present (map (behind (stand.number, e) text b (stand.there && b)) (part at))) is
