@@ -3,7 +3,7 @@ use Rattle.std.proofs.Common.{◌≡◌, refl, append-nil, ℕ, ◌+◌, ◌-◌
 use Rattle.std.proofs.lemmas.List.{drop-take, drop_all, drop-append-le}
 use Rattle.std.specs.Io.KnownBytes.{Keeps, Appends}
 use Rattle.vms_io.specs.Causes.{HasCause}
-use Rattle.vms_io.specs.Gathered.{told, between}
+use Rattle.vms_io.specs.Gathered.{told, between, KeepsFront}
 
 -- a part of the room, taken from its first place
 pub part_is : (room : List ℕ) (b e : ℕ) → b ≤ e → take (e - b) (drop b room) ≡ between room b e
@@ -64,3 +64,14 @@ still_told (Some z) (Some x) (Some y) waiting p k = ap (λ (l : List ℕ). l ++ 
 pub later_cause : {T E : Type 0} (a b c : ℕ) (result : Result T E) → a ≤ b → HasCause b c result → HasCause a c result
 later_cause a b c (Ok x) le h = record { later = omega (arith, le, h.later); failed = tt }
 later_cause a b c (Err x) le h = record { later = omega (arith, le, h.later); failed = omega (arith, le, h.failed) }
+
+-- the writer has the front of what is told
+pub kept_front : (a x : Option (List ℕ)) (waiting : List ℕ) → Keeps a (told x waiting) → KeepsFront a x
+kept_front None x waiting k = tt
+kept_front (Some zs) None waiting k = absurd k
+kept_front (Some zs) (Some xs) waiting k = (waiting, sym k)
+
+-- and that stays where what is gathered is dropped
+pub dropped : (x : Option (List ℕ)) (room waiting : List ℕ) → KeepsFront (told x waiting) (told x (between room 0 0))
+dropped None room waiting = tt
+dropped (Some xs) room waiting = (waiting, ap (λ (l : List ℕ). l ++ waiting) (sym (append-nil xs)))

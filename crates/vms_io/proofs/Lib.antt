@@ -1,3 +1,4 @@
+pub mod Ahead
 pub mod Filling
 pub mod Gathering
 pub mod PutLemmas

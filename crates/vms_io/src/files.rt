@@ -1,8 +1,10 @@
 // The files of one folder.
-ghost use Rattle.std.specs.Prelude.{◌≡◌, None, false};
+ghost use Rattle.std.specs.Prelude.{◌≡◌, None, false, take, IfOk, IfSome, OnOk};
+ghost use Rattle.std.specs.Io.KnownBytes.{Appends};
 
 use crate::{FetchFault, Shelf, StoreFault};
 use std::alloc::Global;
+use std::fs::{File, OpenFile, OpenOptions, Permissions};
 use std::io::{ErrorKind, Read, Write};
 use std::rt::Files;
 use std::{fs, io};
@@ -31,25 +33,82 @@ impl<R: Files + Drop> FileShelf<R> {
     fn read(&self, alloc: Global, name: &str, limit: u32) -> io::Result<Vec<u8>> {
         let path = format!(in alloc; "{}/{name}", self.folder)?;
         let file = fs::open(&self.rt, path.as_str())?;
-        let mut bytes = Vec::new(alloc);
-        file.take(u64::from(limit) + 1).read_to_end(&mut bytes)?;
-        Ok(bytes)
+        read_front(alloc, file, u64::from(limit) + 1)
     }
 
-    // A file of this name without bytes, in place of the one that there was.
-    fn create(&self, name: &str) -> io::Result<R::File> {
-        let path = format!(in *self.folder.allocator(); "{}/{name}", self.folder)?;
-        fs::create(&self.rt, path.as_str())
-    }
-
-    // Puts the bytes into the file. Once it stands anew any error is a fault, since the old content is gone.
-    fn write(&self, name: &str, piece: &[u8]) -> Result<(), StoreFault> {
-        match self.create(name) {
-            Ok(mut file) => file.write_all(piece).map_err(|_| StoreFault::Failed),
-            Err(error) if error.kind() == ErrorKind::OutOfMemory => Err(StoreFault::NoMemory),
-            Err(_) => Err(StoreFault::Failed),
+    // Puts the bytes into a new file that takes the place of the old one. What is no file of its own (a link, a pipe,
+    // a device) stays, and the bytes are written into it.
+    fn write(&self, name: &str, piece: &[u8]) -> io::Result<()> {
+        let alloc = *self.folder.allocator();
+        let path = format!(in alloc; "{}/{name}", self.folder)?;
+        let beside = format!(in alloc; "{}/.{name}.new", self.folder)?;
+        match fs::symlink_metadata(&self.rt, path.as_str()) {
+            Ok(there) if there.is_file() => {
+                // only a file that may be written is replaced
+                let _old = OpenOptions::new()
+                    .write(true)
+                    .open(&self.rt, path.as_str())?;
+                self.replace(&path, &beside, piece, Some(there.permissions()))
+            }
+            Ok(_) => self.overwrite(&path, piece),
+            Err(error) if error.kind() == ErrorKind::NotFound => {
+                self.replace(&path, &beside, piece, None)
+            }
+            Err(error) => Err(error),
         }
     }
+
+    // Writes a new file beside the old one and renames it. After an error the new file is gone and the old one stays.
+    fn replace(
+        &self,
+        path: &str,
+        beside: &str,
+        piece: &[u8],
+        mode: Option<Permissions>,
+    ) -> io::Result<()> {
+        // what a call that was cut off left there
+        let _earlier = fs::remove_file(&self.rt, beside);
+        let mut file = File::create_new(&self.rt, beside)?;
+        let replaced = fill(&mut file, piece, mode).and_then(|()| fs::rename(
+            &self.rt, beside, path,
+        ));
+        if replaced.is_err() {
+            let _removed = fs::remove_file(&self.rt, beside);
+        }
+        replaced
+    }
+
+    // Writes into what there is. Any error after it was opened is a fault, since bytes may have gone.
+    fn overwrite(&self, path: &str, piece: &[u8]) -> io::Result<()> {
+        let mut file = fs::create(&self.rt, path)?;
+        file.write_all(piece)
+            .map_err(|_| io::Error::from(ErrorKind::Other))
+    }
+}
+
+// The first bytes of a file.
+fn read_front<F: Read + Drop>(alloc: Global, file: F, most: u64) -> io::Result<Vec<u8>>
+    ensures { IfOk result (λ bytes.
+        IfSome (F.remaining file) (λ held. bytes.items ≡ take most held)) }
+{
+    let mut bytes = Vec::new(alloc);
+    file.take(most).read_to_end(&mut bytes)?;
+    Ok(bytes)
+}
+
+// Writes the bytes into a new file, down to the disk.
+fn fill<F: Write + OpenFile>(
+    file: &mut F,
+    piece: &[u8],
+    mode: Option<Permissions>,
+) -> io::Result<()>
+    ensures { OnOk result (Appends (F.contents file.old) (F.contents file.new) piece.now) }
+{
+    if let Some(mode) = mode {
+        file.set_permissions(mode)?;
+    }
+    file.write_all(piece)?;
+    file.sync_all()
 }
 
 impl<R: Files + Drop> Shelf for FileShelf<R> {
@@ -80,10 +139,13 @@ impl<R: Files + Drop> Shelf for FileShelf<R> {
     }
 
     fn store(&mut self, name: &str, piece: &[u8]) -> Result<(), StoreFault> {
-        let stored = self.write(name, piece);
-        if let Err(StoreFault::Failed) = stored {
-            self.faults = self.faults.saturating_add(1);
+        match self.write(name, piece) {
+            Ok(()) => Ok(()),
+            Err(error) if error.kind() == ErrorKind::OutOfMemory => Err(StoreFault::NoMemory),
+            Err(_) => {
+                self.faults = self.faults.saturating_add(1);
+                Err(StoreFault::Failed)
+            }
         }
-        stored
     }
 }

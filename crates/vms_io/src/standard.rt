@@ -1,7 +1,7 @@
 // The outside over a reader and a writer of std, with a count of their errors.
-ghost use Rattle.std.specs.Prelude.{◌≡◌, ◌+◌, ◌-◌, ◌^◌, ◌<◌, ◌≤◌, length, min, None, false, OnOk, IsErr};
+ghost use Rattle.std.specs.Prelude.{◌≡◌, ◌+◌, ◌-◌, ◌^◌, ◌<◌, ◌≤◌, [], length, min, take, drop, None, false, OnOk, IsErr};
 ghost use Rattle.std.proofs.Common.{arith};
-ghost use Rattle.std.specs.Io.KnownBytes.{Appends, Keeps};
+ghost use Rattle.std.specs.Io.KnownBytes.{Appends, Consumes, IsAtEnd, Keeps};
 ghost use Rattle.vms_io.specs.Causes.{HasCause};
 ghost use Rattle.vms_io.specs.declared.standard.TheConstants.{STAGE, GATHER};
 
@@ -14,7 +14,10 @@ const STAGE: usize = 8192;
 /// So many bytes are gathered for a writer.
 const GATHER: usize = 8192;
 
-/// The bytes of a reader, as a file or a terminal. It tells of them nothing.
+/// A source over the reader `R`, which is asked for blocks of bytes.
+///
+/// It tells the bytes that wait in its block and those that the reader says it has left, as a slice does. A file or a
+/// terminal doesn't say what it has left, so nothing is told of it.
 #[derive(Drop)]
 pub struct StdSource<R: Read + Drop> {
     reader: R,
@@ -29,8 +32,12 @@ pub struct StdSource<R: Read + Drop> {
 }
 
 impl<R: Read + Drop> StdSource<R> {
-    /// The source over this reader, without a fault so far.
+    ghost use Rattle.vms_io.specs.Ahead.{ahead};
+    ghost use Rattle.vms_io.specs.Gathered.{between};
+
+    /// Makes the source over `reader`, without a fault so far.
     pub fn new(reader: R) -> Self
+        ensures left { ⟦<StdSource<R> as Source>⟧.left result ≡ ahead (R.remaining reader) [] }
         ensures faults { ⟦<StdSource<R> as Source>⟧.faults result ≡ 0 }
         ensures given { ⟦<StdSource<R> as Source>⟧.given result ≡ 0 }
     {
@@ -43,10 +50,60 @@ impl<R: Read + Drop> StdSource<R> {
             faults: 0,
         }
     }
+
+    // Asks the reader for more, once all that was staged is given. Nothing comes only at the end.
+    fn stage(&mut self) -> Result<(), Failed>
+        requires { self.old.begin ≡ self.old.end }
+        ensures left { Keeps (ahead (R.remaining self.old.reader)
+            (between self.old.staged self.old.begin self.old.end))
+            (ahead (R.remaining self.new.reader)
+            (between self.new.staged self.new.begin self.new.end)) }
+        ensures end { OnOk result (self.new.begin ≡ self.new.end
+            → IsAtEnd (ahead (R.remaining self.new.reader)
+            (between self.new.staged self.new.begin self.new.end))) }
+        ensures given { self.new.given ≡ self.old.given }
+        ensures cause { HasCause self.old.faults self.new.faults result }
+    {
+        match self.reader.read(&mut self.staged[..]) {
+            Ok(count) => {
+                self.begin = 0;
+                self.end = count;
+                Ok(())
+            }
+            Err(_) => failed(&mut self.faults),
+        }
+    }
+
+    // Gives as many of the staged bytes as there are and as there is room for.
+    #[inline(always)]
+    fn give(&mut self, buf: &mut [u8]) -> usize
+        ensures count { result ≡ min (length buf.old) (self.old.end - self.old.begin) }
+        ensures bound { result ≤ length buf.new }
+        ensures bytes { Consumes (ahead (R.remaining self.old.reader)
+            (between self.old.staged self.old.begin self.old.end))
+            (ahead (R.remaining self.new.reader)
+            (between self.new.staged self.new.begin self.new.end)) (take result buf.new) }
+        ensures none { result ≡ 0 → ahead (R.remaining self.new.reader)
+            (between self.new.staged self.new.begin self.new.end) ≡ ahead (R.remaining self.old.reader)
+            (between self.old.staged self.old.begin self.old.end) }
+        ensures rest { drop result buf.new ≡ drop result buf.old }
+        ensures given { self.new.given ≡ min (self.old.given + result) (2 ^ 64 - 1) }
+        ensures faults { self.new.faults ≡ self.old.faults }
+    {
+        let count = buf.len().min(self.end - self.begin);
+        let staged = &self.staged[..];
+        buf[..count].copy_from_slice(&staged[self.begin..self.begin + count]);
+        self.begin += count;
+        self.given = self.given.saturating_add(count as u64);
+        count
+    }
 }
 
 impl<R: Read + Drop> Source for StdSource<R> {
-    ghost left = { λ s. None };
+    ghost use Rattle.vms_io.specs.Ahead.{ahead, ahead_bytes};
+    ghost use Rattle.vms_io.specs.Gathered.{between};
+
+    ghost left = { λ s. ahead (R.remaining s.reader) (between s.staged s.begin s.end) };
 
     ghost given = { λ s. min s.given (2 ^ 64 - 1) };
 
@@ -58,27 +115,13 @@ impl<R: Read + Drop> Source for StdSource<R> {
 
     ghost promised = { λ s h. Prim.cc };
 
-    ghost octets = { λ s. tt };
+    ghost octets = { λ s. ahead_bytes (R.remaining s.reader) (between s.staged s.begin s.end) };
 
     fn read(&mut self, buf: &mut [u8]) -> Result<usize, Failed> {
         if self.begin == self.end {
-            match self.reader.read(&mut self.staged[..]) {
-                Ok(count) => {
-                    self.begin = 0;
-                    self.end = count;
-                }
-                Err(_) => {
-                    self.faults = self.faults.saturating_add(1);
-                    return Err(Failed);
-                }
-            }
+            self.stage()?;
         }
-        let count = buf.len().min(self.end - self.begin);
-        let staged = &self.staged[..];
-        buf[..count].copy_from_slice(&staged[self.begin..self.begin + count]);
-        self.begin += count;
-        self.given = self.given.saturating_add(count as u64);
-        Ok(count)
+        Ok(self.give(buf))
     }
 }
 
@@ -97,13 +140,14 @@ pub struct StdSink<W: Write + Drop> {
 }
 
 impl<W: Write + Drop> StdSink<W> {
-    ghost use Rattle.vms_io.specs.Gathered.{told, between};
+    ghost use Rattle.vms_io.specs.Gathered.{told, between, KeepsFront};
     ghost use Rattle.vms_io.specs.Writers.{writer_of};
 
     /// The sink over this writer, without a fault so far.
     pub fn new(writer: W) -> Self
         ensures faults { ⟦<StdSink<W> as Sink>⟧.faults result ≡ 0 }
         ensures written { ⟦<StdSink<W> as Sink>⟧.written result ≡ W.contents writer }
+        ensures writer { writer_of result ≡ writer }
     {
         StdSink {
             writer,
@@ -128,6 +172,8 @@ impl<W: Write + Drop> StdSink<W> {
             (⟦<StdSink<W> as Sink>⟧.written self.new) }
         ensures handed { OnOk result (⟦<StdSink<W> as Sink>⟧.written self.new
             ≡ W.contents (writer_of self.new)) }
+        ensures front { KeepsFront (⟦<StdSink<W> as Sink>⟧.written self.old)
+            (W.contents (writer_of self.new)) }
         ensures cause { HasCause (⟦<StdSink<W> as Sink>⟧.faults self.old)
             (⟦<StdSink<W> as Sink>⟧.faults self.new) result }
     {
@@ -136,6 +182,26 @@ impl<W: Write + Drop> StdSink<W> {
             Ok(()) => Ok(()),
             Err(_) => failed(&mut self.faults),
         }
+    }
+
+    /// Drops what is gathered, so that only what the writer has is written.
+    pub fn discard(&mut self)
+        ensures written { ⟦<StdSink<W> as Sink>⟧.written self.new ≡ W.contents (writer_of self.new) }
+        ensures writer { writer_of self.new ≡ writer_of self.old }
+        ensures front { KeepsFront (⟦<StdSink<W> as Sink>⟧.written self.old)
+            (⟦<StdSink<W> as Sink>⟧.written self.new) }
+        ensures faults { ⟦<StdSink<W> as Sink>⟧.faults self.new
+            ≡ ⟦<StdSink<W> as Sink>⟧.faults self.old }
+    {
+        self.begin = 0;
+        self.end = 0;
+    }
+
+    /// Returns the writer, which has what was handed on. What is still gathered is dropped.
+    pub fn into_inner(self) -> W
+        ensures { result ≡ writer_of self }
+    {
+        self.writer
     }
 
     // Gathers bytes, for which there is room.

@@ -1,0 +1,41 @@
+-- What is still to come of a reader, as it is staged and given.
+use Rattle.std.proofs.Common.{◌≡◌, ℕ, ◌+◌, ◌-◌, ◌≤◌, Bool, true, false, ◌&&◌, List, ◌++◌, length, take, drop, Option, Some, None, if◌then◌else◌, refl, sym, ap, ◌∙◌, arith, append_assoc, length-take-le}
+use Rattle.std.proofs.lemmas.List.{take-take}
+use Rattle.std.proofs.lemmas.List.Folds.{list_all-append}
+use Rattle.std.specs.Io.KnownBytes.{Consumes, Keeps}
+use Rattle.vms_io.specs.Ahead.{ahead, are_bytes, bytes_only}
+use Rattle.vms_io.specs.Gathered.{between}
+use Rattle.vms_io.proofs.Filling.{left_split}
+use Rattle.vms_io.proofs.Gathering.{part_is}
+
+-- behind the front of a list of bytes there are bytes
+only_after : (xs bs ys : List ℕ) → xs ≡ bs ++ ys → Consumes (bytes_only xs) (bytes_only ys) bs
+only_after xs bs ys e = by (are_bytes xs) (are_bytes bs) (are_bytes ys) (ap are_bytes e ∙ list_all-append _ bs ys)
+  where
+    by : (all front back : Bool) → all ≡ (front && back) → Consumes (if all then Some xs else None) (if back then Some ys else None) bs
+    by false front back same = tt
+    by true true true same = e
+    by true true false same = cc
+    by true false back same = cc
+
+-- the front of what waited is given
+gives : (x : Option (List ℕ)) (waiting bs rest : List ℕ) → waiting ≡ bs ++ rest → Consumes (ahead x waiting) (ahead x rest) bs
+gives None waiting bs rest e = tt
+gives (Some xs) waiting bs rest e = only_after (waiting ++ xs) bs (rest ++ xs) (ap (λ (l : List ℕ). l ++ xs) e ∙ append_assoc bs rest xs)
+
+-- the n bytes from the first that waits, copied into the front of a buffer
+pub given_on : (x : Option (List ℕ)) (room copied buf : List ℕ) (b e n : ℕ) → copied ≡ take ((b + n) - b) (drop b room) → b + n ≤ e → e ≤ length room
+    → Consumes (ahead x (between room b e)) (ahead x (between room (b + n) e)) (take n (copied ++ buf))
+given_on x room copied buf b e n is fits within =
+    let less : (b + n) - b ≤ e - b = omega arith in
+    let le : b ≤ e = omega arith in
+    let front : copied ≡ take ((b + n) - b) (between room b e) = is ∙ sym (take-take ((b + n) - b) (e - b) (drop b room) less) ∙ ap (take ((b + n) - b)) (part_is room b e le) in
+    gives x (between room b e) (take n (copied ++ buf)) (between room (b + n) e)
+    (left_split (take e room) (take e room) copied buf b n refl front (omega (arith, length-take-le e room within)))
+
+-- first asked for, then given
+pub kept_gives : (x y z : Option (List ℕ)) (bs : List ℕ) → Keeps x y → Consumes y z bs → Consumes x z bs
+kept_gives None y z bs k h = tt
+kept_gives (Some xs) None z bs k h = absurd k
+kept_gives (Some xs) (Some ys) None bs k h = absurd h
+kept_gives (Some xs) (Some ys) (Some zs) bs k h = sym k ∙ h
