@@ -1,5 +1,8 @@
-// Each real object of the outside once, at its trait, and a shelf in memory whose calls fail.
+// The real objects of the outside at their traits, with 20,000 bytes and with readers, writers and disks that fail, and a shelf
+// in memory whose calls fail.
 use std::alloc::Global;
+use std::io;
+use std::io::{BufWriter, ErrorKind, Read, Write};
 use std::process::Abort;
 use std::rt::Files;
 use std::test::Fail;
@@ -16,6 +19,22 @@ fn fetched<H: Shelf>(alloc: Global, shelf: &mut H, name: &str) -> Result<Vec<u8>
     shelf.fetch(alloc, name, 4)
 }
 
+// How many bytes go through each object: more than two of its blocks.
+pub const MANY: usize = 20_000;
+
+// Byte `n` of them.
+fn byte(n: usize) -> u8 {
+    (n % 251) as u8
+}
+
+pub fn many(alloc: Global) -> Result<Vec<u8>, Fail> {
+    let mut bytes = Vec::with_capacity(alloc, MANY)?;
+    for n in 0..MANY {
+        bytes.push(byte(n))?;
+    }
+    Ok(bytes)
+}
+
 #[test]
 fn a_slice_gives_its_bytes(rt: HostRuntime) -> Result<(), Fail> {
     let mut buf = [0; 4];
@@ -25,14 +44,143 @@ fn a_slice_gives_its_bytes(rt: HostRuntime) -> Result<(), Fail> {
     Ok(())
 }
 
+// A reader of these bytes, at most 777 in one read. The read of number `fails` is an error.
+#[derive(Drop)]
+struct Pieces {
+    at: usize,
+    reads: u32,
+    fails: u32,
+}
+
+impl Pieces {
+    fn new(fails: u32) -> Pieces {
+        Pieces {
+            at: 0,
+            reads: 0,
+            fails,
+        }
+    }
+}
+
+impl Read for Pieces {
+    fn read(&mut self, buf: &mut [u8]) -> io::Result<usize> {
+        self.reads = self.reads.saturating_add(1);
+        if self.reads == self.fails {
+            return Err(io::Error::from(ErrorKind::Other));
+        }
+        let count = MANY.saturating_sub(self.at).min(buf.len()).min(777);
+        for i in 0..count {
+            buf[i] = byte(self.at.wrapping_add(i));
+        }
+        self.at = self.at.saturating_add(count);
+        Ok(count)
+    }
+}
+
+// Reads to the end or to the first failure, 100 bytes at a time: how many bytes came, whether a read failed, and whether each
+// byte was the one that is due.
+fn read_on<S: Source>(source: &mut S, from: usize) -> (usize, bool, bool) {
+    let mut came = from;
+    let mut right = true;
+    for _ in 0..MANY {
+        let mut buf = [0; 100];
+        let Ok(count) = source.read(&mut buf) else {
+            return (came, true, right);
+        };
+        if count == 0 {
+            break;
+        }
+        for i in 0..count {
+            right = right && buf[i] == byte(came.wrapping_add(i));
+        }
+        came = came.saturating_add(count);
+    }
+    (came, false, right)
+}
+
 #[test]
-fn a_vector_takes_bytes(rt: HostRuntime) -> Result<(), Fail> {
-    let mut sink = StdSink::new(Vec::new(rt.alloc()));
-    assert!(rt; write_all_of(&mut sink, b"ab").is_ok());
+fn a_reader_gives_all_its_pieces(rt: HostRuntime) -> Result<(), Fail> {
+    let mut source = StdSource::new(Pieces::new(0));
+    assert_eq!(rt; read_on(&mut source, 0), (MANY, false, true));
+    let bytes = many(rt.alloc())?;
+    let mut source = StdSource::new(bytes.as_slice());
+    assert_eq!(rt; read_on(&mut source, 0), (MANY, false, true));
     Ok(())
 }
 
-fn refusal<H: Shelf>(alloc: Global, shelf: &mut H, name: &str) -> Option<FetchFault> {
+#[test]
+fn an_error_of_a_reader_is_no_end(rt: HostRuntime) -> Result<(), Fail> {
+    let mut source = StdSource::new(Pieces::new(3));
+    assert_eq!(rt; read_on(&mut source, 0), (1_554, true, true));
+    assert_eq!(rt; read_on(&mut source, 1_554), (MANY, false, true));
+    Ok(())
+}
+
+// A writer that takes at most 999 bytes in one write. The write of number `fails` is an error.
+#[derive(Drop)]
+struct Taker {
+    took: Vec<u8>,
+    writes: u32,
+    fails: u32,
+}
+
+impl Write for Taker {
+    fn write(&mut self, buf: &[u8]) -> io::Result<usize> {
+        self.writes = self.writes.saturating_add(1);
+        if self.writes == self.fails {
+            return Err(io::Error::from(ErrorKind::Other));
+        }
+        let count = buf.len().min(999);
+        self.took.extend_from_slice(&buf[..count])?;
+        Ok(count)
+    }
+
+    fn flush(&mut self) -> io::Result<()> {
+        Ok(())
+    }
+}
+
+fn taking(alloc: Global, fails: u32) -> StdSink<Taker> {
+    StdSink::new(Taker {
+        took: Vec::new(alloc),
+        writes: 0,
+        fails,
+    })
+}
+
+// Writes the bytes in pieces of 100 and flushes: whether no call failed.
+fn write_on<W: Write + Drop>(sink: &mut StdSink<W>, bytes: &[u8]) -> bool {
+    bytes
+        .chunks(100)
+        .all(|piece| write_all_of(sink, piece).is_ok())
+        && sink.flush().is_ok()
+}
+
+#[test]
+fn a_writer_takes_all_that_is_flushed(rt: HostRuntime) -> Result<(), Fail> {
+    let alloc = rt.alloc();
+    let bytes = many(alloc)?;
+    let mut sink = taking(alloc, 0);
+    assert!(rt; write_on(&mut sink, &bytes));
+    assert!(rt; sink.get_ref().took == bytes);
+    // a writer that holds back what it took hands it on at the flush
+    let mut sink = StdSink::new(BufWriter::with_capacity(alloc, 32_768, Vec::new(alloc))?);
+    assert!(rt; write_on(&mut sink, &bytes));
+    assert!(rt; *sink.get_ref().get_ref() == bytes);
+    Ok(())
+}
+
+#[test]
+fn an_error_of_a_writer_is_told(rt: HostRuntime) -> Result<(), Fail> {
+    let alloc = rt.alloc();
+    let bytes = many(alloc)?;
+    let mut sink = taking(alloc, 5);
+    assert!(rt; !write_on(&mut sink, &bytes));
+    assert!(rt; sink.get_ref().took.as_slice() == &bytes[..3_996]);
+    Ok(())
+}
+
+pub fn refusal<H: Shelf>(alloc: Global, shelf: &mut H, name: &str) -> Option<FetchFault> {
     fetched(alloc, shelf, name).err()
 }
 
