@@ -46,8 +46,8 @@ struct vmstate_answer {
  *
  * If a buffer is too small for its text, the status is VMSTATE_TOO_SMALL, the lengths are the required ones, and both buffers are
  * unchanged. If memory runs out, the status is 10; if it runs out for the texts themselves, both lengths are 0 and both buffers are
- * unchanged. A call allocates by malloc, realloc and free, and has freed everything when it returns. Two threads may each make a
- * call at the same time. */
+ * unchanged. The statuses 5, 6 and 7 never come. A call allocates by malloc, realloc and free, and has freed everything when it
+ * returns. Two threads may each make a call at the same time. */
 struct vmstate_answer vmstate_call(const struct vmstate_request *request, uint8_t *out, size_t out_room,
                                    uint8_t *notes, size_t notes_room);
 

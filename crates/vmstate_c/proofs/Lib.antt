@@ -1,3 +1,4 @@
 mod CallLemmas
+mod CompleteLaws
 mod FileLemmas
 mod WordLemmas

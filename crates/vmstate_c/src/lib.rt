@@ -6,6 +6,7 @@
 mod border;
 mod call;
 mod growing;
+pub mod laws;
 mod request;
 
 pub use border::vmstate_call;

@@ -1,0 +1,19 @@
+-- What follows of all calls.
+use Rattle.std.specs.Prelude.{◌≡◌, ◌⊎◌, ℕ, List, Some}
+use Rattle.vms_io.specs.Shelves.{Held}
+use Rattle.vms_cli.specs.Commands.{asked_of}
+use Rattle.vms_cli.specs.Laws.{CanBeDone}
+use Rattle.vmstate_c.specs.Border.{Answered, Both}
+use Rattle.vmstate_c.specs.Calls.{file_of, words_of}
+use Rattle.vmstate_c.specs.declared.request.Answer.{Answer}
+use Rattle.vmstate_c.specs.declared.request.Request.{Request}
+
+-- what the words ask for is in the input and on the shelf of the files
+abbrev pub IsDoable : Request → Type 0
+IsDoable request = (held : Held) → ((name : List ℕ) → held name ≡ file_of name request.files.now)
+    → CanBeDone (asked_of (words_of request.words.now)) (Some request.input.now) (Some held)
+
+-- then it is done, or memory runs out, or a room is too small
+abbrev pub CompleteLaw : Type 0
+CompleteLaw = (request : Request) (old new : Both) (answer : Answer) → IsDoable request → Answered request old new answer
+    → (answer.status ≡ 0) ⊎ ((answer.status ≡ 10) ⊎ (answer.status ≡ 100))
