@@ -1,5 +1,5 @@
 -- Words that end with a number.
-use Rattle.std.proofs.Common.{◌≡◌, ℕ, zero, suc, ◌+◌, ◌-◌, ◌^◌, ◌<◌, ◌≤◌, ◌++◌, Bool, true, false, if◌then◌else◌, List, Option, Some, None, Ok, Err, ℤ, pos, negsuc, nat_lt, refl, sym, ap, ◌∙◌, arith}
+use Rattle.std.proofs.Common.{◌≡◌, ℕ, zero, suc, ◌+◌, ◌-◌, ◌^◌, ◌<◌, ◌≤◌, ◌++◌, Bool, true, false, if◌then◌else◌, List, Option, Some, None, Result, Ok, Err, ℤ, pos, negsuc, nat_lt, refl, sym, ap, ◌∙◌, arith}
 use Rattle.std.specs.Fmt.{decimal}
 use Rattle.std.specs.Str.{bytes_eq}
 use Rattle.std.proofs.lemmas.Bool.{ltb-true, lt-ltb}
@@ -43,6 +43,15 @@ unnumbered front word first (suc count) none = by (bytes_eq word (front ++ decim
 
 -- ---- digits that were read
 
+abbrev ok_number : ℕ → Result ℕ ScriptReason
+ok_number n = Ok n
+
+abbrev err_number : ScriptReason → Result ℕ ScriptReason
+err_number reason = Err reason
+
+abbrev if_small : ℕ → Bool → Result ℕ ScriptReason
+if_small n b = if b then Ok n else Err reasons.Range
+
 read_is : (text : List ℕ) (n : ℕ) → Ok n ≡ number_read (number_spelled text) → (n < 2 ^ 64) × (text ≡ decimal n)
 read_is text n e = by (number_spelled text) refl e where
   by : (o : Option ℤ) → number_spelled text ≡ o → Ok n ≡ number_read o → (n < 2 ^ 64) × (text ≡ decimal n)
@@ -51,15 +60,15 @@ read_is text n e = by (number_spelled text) refl e where
   by (Some (pos m)) s r = small (nat_lt m (2 ^ 64)) refl where
     small : (b : Bool) → nat_lt m (2 ^ 64) ≡ b → (n < 2 ^ 64) × (text ≡ decimal n)
     small true lt =
-        let is : Ok {A = ℕ} {B = ScriptReason} n ≡ Ok m = r ∙ ap (λ (b : Bool). if b then Ok m else Err reasons.Range) lt in
+        let is : ok_number n ≡ ok_number m = r ∙ ap (if_small m) lt in
         let same : n ≡ m = cc in
         let less = ltb-true m (2 ^ 64) lt in
         (omega (arith, same, less), spelled_holds text (pos m) less s ∙ ap decimal (sym same))
     small false lt =
-        let is : Ok n ≡ Err reasons.Range = r ∙ ap (λ (b : Bool). if b then Ok m else Err reasons.Range) lt in cc
+        let is : ok_number n ≡ if_small m false = r ∙ ap (if_small m) lt in cc
 
 decimal_read : (n : ℕ) → n < 2 ^ 64 → number_read (number_spelled (decimal n)) ≡ Ok n
-decimal_read n lt = ap number_read (number_holds (pos n) lt) ∙ ap (λ (b : Bool). if b then Ok n else Err reasons.Range) (lt-ltb n (2 ^ 64) lt)
+decimal_read n lt = ap number_read (number_holds (pos n) lt) ∙ ap (if_small n) (lt-ltb n (2 ^ 64) lt)
 
 -- ---- the answers of the code
 
@@ -87,4 +96,4 @@ module _ (front word : List ℕ) (first last : ℕ) where
 
     pub no_number : (reason : ScriptReason) → Err reason ≡ number_read (number_spelled digits) → None ≡ number_after front first (suc last - first) word
     no_number reason read = other (λ m le up w.
-        let f : Err reason ≡ Ok m = read ∙ ap (λ (t : List ℕ). number_read (number_spelled t)) (same_digits m w) ∙ decimal_read m (omega (arith, up, small)) in cc)
+        let f : err_number reason ≡ ok_number m = read ∙ ap (λ (t : List ℕ). number_read (number_spelled t)) (same_digits m w) ∙ decimal_read m (omega (arith, up, small)) in cc)
