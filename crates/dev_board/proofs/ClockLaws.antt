@@ -1,6 +1,7 @@
 -- No event changes the level, and a wait alone moves the moment.
 use Rattle.std.proofs.Common.{◌≡◌, ℕ, refl}
-use Rattle.dev_board.specs.Laws.{ClockGoesOn, moment_left}
+use Rattle.dev_pic.specs.Pair.{int_of}
+use Rattle.dev_board.specs.Laws.{AnswersTellInt, ClockGoesOn, moment_left}
 use Rattle.dev_board.specs.Ports.{target_of, read_at, written_at}
 use Rattle.dev_board.specs.State.{State}
 use Rattle.dev_board.specs.Step.{Act, waited, acted, settled, after_act, step}
@@ -50,3 +51,12 @@ step-clock event m = after_act-clock _ _ _ (acted event m) (acted-clock m event)
 
 pub clock_goes_on : ClockGoesOn
 clock_goes_on = record { moment = λ event m. (step-clock event m).moment_is; level = λ event m. (step-clock event m).level_is; last = refl }
+
+-- ---- the interrupt output
+
+told : (event : Event) (m : State) → (step event m).0.int ≡ int_of (step event m).1.pair
+unfolding step after_act
+told event m = refl
+
+pub answers_tell_int : AnswersTellInt
+answers_tell_int = record { int = told }

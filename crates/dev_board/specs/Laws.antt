@@ -3,7 +3,7 @@ use Rattle.std.specs.Prelude.{◌≡◌, ℕ, ◌+◌, ◌*◌, ◌<◌, ◌==�
 use Rattle.dev_base.specs.declared.limits.TheConstants.{LAST_MOMENT}
 use Rattle.dev_base.specs.Bits.{has}
 use Rattle.dev_base.specs.Levels.{IsLevel}
-use Rattle.dev_pic.specs.Pair.{is_port, lines_of}
+use Rattle.dev_pic.specs.Pair.{int_of, is_port, lines_of}
 use Rattle.dev_board.specs.Ports.{target_of}
 use Rattle.dev_board.specs.Sound.{IsSound, Alike}
 use Rattle.dev_board.specs.State.{State, power_on}
@@ -59,6 +59,10 @@ pub record ClockGoesOn : Type 0 where
   pub moment : (event : Event) (m : State) → (step event m).1.moment ≡ moment_left event m.moment
   pub level : (event : Event) (m : State) → (step event m).1.level ≡ m.level
   pub last : LAST_MOMENT ≡ 4000000000 * 1000000000
+
+-- an answer tells the interrupt output after its event
+pub record AnswersTellInt : Type 0 where
+  pub int : (event : Event) (m : State) → (step event m).0.int ≡ int_of (step event m).1.pair
 
 -- two answers are equal, and what gave them is alike after them
 pub record AnswersAlike {A S : Type 0} (AreAlike : S → S → Type 0) (first second : A × S) : Type 0 where

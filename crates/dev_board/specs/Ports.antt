@@ -1,5 +1,5 @@
 -- The I/O ports of a board.
-use Rattle.std.specs.Prelude.{ℕ, ◌-◌, ◌==◌, ◌&&◌, nat_le, if◌then◌else◌}
+use Rattle.std.specs.Prelude.{ℕ, ◌-◌, ◌==◌, Bool, true, false, ◌&&◌, nat_le, if◌then◌else◌}
 use Rattle.dev_pic.specs.Pair.{is_port, read_pair, written_pair}
 use Rattle.dev_pit.specs.Pit.{pit_read, pit_written}
 use Rattle.dev_serial.specs.Access.{read_of, written}
@@ -16,6 +16,15 @@ target_of level port =
     else (if port == 0x43 then Control
     else (if nat_le 0x3f8 port && nat_le port 0x3ff then Register (port - 0x3f8)
     else Nothing)))
+
+-- a device is there
+abbrev pub is_device : Target → Bool
+is_device Nothing = false
+is_device _ = true
+
+-- a device of a board of this level stands behind the port
+abbrev pub has_port : ℕ → ℕ → Bool
+has_port level port = is_device (target_of level port)
 
 -- the value of a read, and the board after it. The control port and a port without a device give 0xff
 unfoldable pub read_at : Target → ℕ → State → ℕ × State

@@ -1,7 +1,12 @@
 // The devices of a board on one clock.
-ghost use Rattle.std.specs.Prelude.{◌≡◌, ◌≤◌, IsTrue};
+ghost use Rattle.std.specs.Prelude.{◌≡◌, ◌<◌, ◌≤◌, IsTrue};
 ghost use Rattle.dev_base.specs.Levels.{IsLevel};
 ghost use Rattle.dev_base.specs.declared.limits.TheConstants.{LAST_MOMENT as last_moment};
+ghost use Rattle.dev_pic.specs.Pair.{int_of};
+ghost use Rattle.dev_pit.specs.Pit.{pit_out};
+ghost use Rattle.dev_serial.specs.Access.{room_of};
+ghost use Rattle.dev_serial.specs.Line.{character_time};
+ghost use Rattle.dev_serial.specs.declared.mode.TheConstants.{LONGEST_CHARACTER};
 
 use crate::event::{Answer, Event};
 use crate::parts::Parts;
@@ -29,6 +34,7 @@ impl Model for Devices {
 }
 
 impl Devices {
+    ghost use Rattle.dev_board.specs.Ports.{has_port};
     ghost use Rattle.dev_board.specs.Sound.{IsSound};
     ghost use Rattle.dev_board.specs.State.{power_on};
     ghost use Rattle.dev_board.specs.Step.{step, names_wire};
@@ -70,5 +76,43 @@ impl Devices {
         ensures sound { IsSound self.new }
     {
         self.parts.event(event)
+    }
+
+    /// Tells whether the master's interrupt output is high.
+    pub fn int(&self) -> bool
+        ensures { result ≡ int_of self.now.pair }
+    {
+        self.parts.int()
+    }
+
+    /// Tells whether OUT of counter `counter` of the timer chip, 0 to 2, is high at the present moment.
+    pub fn output(&self, counter: u8) -> bool
+        requires { counter < 3 }
+        ensures { result ≡ pit_out counter self.now.moment self.now.pit }
+    {
+        self.parts.output(counter)
+    }
+
+    /// Tells whether a device of the board is behind the port `port`.
+    pub fn has_port(&self, port: u16) -> bool
+        ensures { result ≡ has_port self.now.level port }
+    {
+        self.parts.has_port(port)
+    }
+
+    /// Returns how many bytes may arrive on the serial line before one is lost: up to 16 with FIFOs, else 1
+    /// or 0. It is 0 in loop mode, in which bytes on the line are ignored.
+    pub fn room(&self) -> u8
+        ensures { result ≡ room_of self.now.serial }
+    {
+        self.parts.room()
+    }
+
+    /// Returns the time of one character on the serial line, in nanoseconds.
+    pub fn character(&self) -> u64
+        ensures time { result ≡ character_time self.now.serial.divisor self.now.serial.lcr }
+        ensures longest { result ≤ LONGEST_CHARACTER }
+    {
+        self.parts.character()
     }
 }

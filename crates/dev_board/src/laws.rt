@@ -1,5 +1,5 @@
 // Laws of the definitions, each stated by a function without a body.
-ghost use Rattle.dev_board.specs.Laws.{PortsAre, SoundStays, WiresStay, ClockGoesOn, AlikeStays, Likeness};
+ghost use Rattle.dev_board.specs.Laws.{PortsAre, SoundStays, WiresStay, ClockGoesOn, AnswersTellInt, AlikeStays, Likeness};
 ghost use Rattle.dev_board.specs.SavedLaws.{SavedAreCells, SavedComesBack, SavedGoesOn, RestoredIsSound, SoundMeetsRules};
 
 /// What stands behind each I/O port: the pair behind its own, the three counters behind 0x40 to 0x42 and their control port
@@ -26,6 +26,12 @@ pub fn wires_law()
 #[tactic(auto, using(crate::proofs::ClockLaws::clock_goes_on))]
 pub fn clock_law()
     ensures { ClockGoesOn }
+{}
+
+/// An answer tells the interrupt output after its event.
+#[tactic(auto, using(crate::proofs::ClockLaws::answers_tell_int))]
+pub fn int_law()
+    ensures { AnswersTellInt }
 {}
 
 /// Boards that are alike answer each event, and each list of events, equally, and are alike afterwards.

@@ -1,11 +1,14 @@
 // A board's devices on one clock, while an event happens to them.
-ghost use Rattle.std.specs.Prelude.{◌≡◌, ◌≤◌, IsTrue, false, None};
+ghost use Rattle.std.specs.Prelude.{◌≡◌, ◌<◌, ◌≤◌, IsTrue, false, None};
 ghost use Rattle.dev_base.specs.Bits.{has as has_of};
 ghost use Rattle.dev_base.specs.Levels.{IsLevel};
 ghost use Rattle.dev_base.specs.declared.limits.TheConstants.{LAST_MOMENT as last_moment};
 ghost use Rattle.dev_board.specs.Touch.{saying as saying_of, is_quiet as is_quiet_of, is_untouched as is_untouched_of, leaves_port as leaves_port_of};
 ghost use Rattle.dev_pic.specs.Pair.{int_of, settled_pair};
 ghost use Rattle.dev_pit.specs.Pit.{pit_out};
+ghost use Rattle.dev_serial.specs.Access.{room_of};
+ghost use Rattle.dev_serial.specs.Line.{character_time};
+ghost use Rattle.dev_serial.specs.declared.mode.TheConstants.{LONGEST_CHARACTER};
 ghost use Rattle.dev_serial.specs.Port.{line_of};
 
 use crate::event::{Answer, Event};
@@ -46,7 +49,7 @@ impl Model for Parts {
 }
 
 impl Parts {
-    ghost use Rattle.dev_board.specs.Ports.{target_of, read as read_of, write as written};
+    ghost use Rattle.dev_board.specs.Ports.{target_of, has_port as has_port_of, read as read_of, write as written};
     ghost use Rattle.dev_board.specs.Sound.{IsSound};
     ghost use Rattle.dev_board.specs.State.{power_on};
     ghost use Rattle.dev_board.specs.Step.{byte_came, waited, inputs_of, settled, step, names_wire};
@@ -128,6 +131,43 @@ impl Parts {
                 saying(Some(value), int)
             }
         }
+    }
+
+    /// Tells whether the master's interrupt output is high.
+    pub(crate) fn int(&self) -> bool
+        ensures { result ≡ int_of self.now.pair }
+    {
+        self.pair.int()
+    }
+
+    /// Tells whether OUT of counter `counter` is high at the present moment.
+    pub(crate) fn output(&self, counter: u8) -> bool
+        requires { counter < 3 }
+        ensures { result ≡ pit_out counter self.now.moment self.now.pit }
+    {
+        self.pit.out(counter, self.moment)
+    }
+
+    /// Tells whether a device is behind the port `port`.
+    pub(crate) fn has_port(&self, port: u16) -> bool
+        ensures { result ≡ has_port_of self.now.level port }
+    {
+        !matches!(self.target(port), Target::Nothing)
+    }
+
+    /// Returns how many bytes the serial port's receiver has room for.
+    pub(crate) fn room(&self) -> u8
+        ensures { result ≡ room_of self.now.serial }
+    {
+        self.serial.room()
+    }
+
+    /// Returns the time of one character on the serial line.
+    pub(crate) fn character(&self) -> u64
+        ensures time { result ≡ character_time self.now.serial.divisor self.now.serial.lcr }
+        ensures longest { result ≤ LONGEST_CHARACTER }
+    {
+        self.serial.character()
     }
 
     // The wires as they stand.

@@ -1,14 +1,15 @@
 -- No event changes the version, and a wait alone moves the moment.
 use Rattle.std.proofs.Common.{◌≡◌, ℕ, ◌==◌, refl, ◌∙◌}
 use Rattle.dev_base.proofs.Choices.{either}
-use Rattle.dev_board.proofs.ClockLaws.{clock_goes_on as board_goes_on}
+use Rattle.dev_board.proofs.ClockLaws.{answers_tell_int as board_tells_int, clock_goes_on as board_goes_on}
 use Rattle.dev_board.specs.Laws.{moment_left}
 use Rattle.dev_board.specs.declared.event.Answer.{Answer}
 use Rattle.dev_board.specs.declared.event.Event.{Event}
 use Rattle.dev_board.specs.declared.event.Event.TheVariants.{Read, Write, Byte, Wait, Wire, Ack}
+use Rattle.dev_pic.specs.Pair.{int_of}
 use Rattle.vms_rtc.proofs.CallLaws.{version_stays}
 use Rattle.vms_rtc.specs.Chip.{is_port, line_of}
-use Rattle.dev_clock.specs.Laws.{ClockGoesOn}
+use Rattle.dev_clock.specs.Laws.{AnswersTellInt, ClockGoesOn}
 use Rattle.dev_clock.specs.State.{ClockState}
 use Rattle.dev_clock.specs.Step.{waited, acted, follows_line, step}
 use Rattle.dev_clock.specs.declared.devices.TheConstants.{CLOCK_INPUT}
@@ -45,3 +46,12 @@ step-clock event m = follows-clock _ _ (acted event m) (acted-clock m event)
 
 pub clock_goes_on : ClockGoesOn
 clock_goes_on = record { moment = λ event m. (step-clock event m).moment_is; version = λ event m. (step-clock event m).version_is }
+
+-- ---- the interrupt output
+
+told : (event : Event) (m : ClockState) → (step event m).0.int ≡ int_of (step event m).1.board.pair
+unfolding step follows_line
+told event m = board_tells_int.int (Wire CLOCK_INPUT (line_of (acted event m).1.clock)) (acted event m).1.board
+
+pub answers_tell_int : AnswersTellInt
+answers_tell_int = record { int = told }

@@ -3,6 +3,7 @@ use Rattle.std.specs.Prelude.{◌≡◌, ℕ, List}
 use Rattle.dev_base.specs.Levels.{IsUpTo}
 use Rattle.dev_board.specs.Laws.{IsEvent, AreEvents, moment_left, StaysAlike}
 use Rattle.dev_board.specs.declared.event.Event.{Event}
+use Rattle.dev_pic.specs.Pair.{int_of}
 use Rattle.vms_rtc.specs.declared.limits.TheConstants.{NEWEST_CLOCK}
 use Rattle.dev_clock.specs.Sound.{IsSound, Alike}
 use Rattle.dev_clock.specs.State.{ClockState, power_on}
@@ -18,6 +19,10 @@ pub record SoundStays : Type 0 where
 pub record ClockGoesOn : Type 0 where
   pub moment : (event : Event) (m : ClockState) → (step event m).1.board.moment ≡ moment_left event m.board.moment
   pub version : (event : Event) (m : ClockState) → (step event m).1.clock.version ≡ m.clock.version
+
+-- an answer tells the interrupt output after its event
+pub record AnswersTellInt : Type 0 where
+  pub int : (event : Event) (m : ClockState) → (step event m).0.int ≡ int_of (step event m).1.board.pair
 
 -- devices that are alike answer each event, and each list of events, equally, and are alike after it
 abbrev pub AlikeStays : Type 0

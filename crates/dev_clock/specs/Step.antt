@@ -1,5 +1,6 @@
 -- What an event does to a clock board.
-use Rattle.std.specs.Prelude.{ℕ, ◌==◌, false, if◌then◌else◌, Option, Some, None, List, []}
+use Rattle.std.specs.Prelude.{ℕ, ◌==◌, Bool, false, ◌||◌, if◌then◌else◌, Option, Some, None, List, []}
+use Rattle.dev_board.specs.Ports.{has_port as board_has_port}
 use Rattle.dev_board.specs.Step.{step as board_step, answers_by, after_by}
 use Rattle.dev_board.specs.declared.event.Answer.{Answer}
 use Rattle.dev_board.specs.declared.event.Event.{Event}
@@ -11,6 +12,10 @@ use Rattle.dev_clock.specs.declared.devices.TheConstants.{CLOCK_INPUT}
 -- an answer of the chip, which sends no byte; the output is told afterwards
 unfoldable pub saying : Option ℕ → Answer
 saying value = record { value = value; int = false; sent = record { items = [] } }
+
+-- the chip or a device of the board stands behind the port
+abbrev pub has_port : ℕ → ClockState → Bool
+has_port port m = is_port port || board_has_port m.board.level port
 
 -- a step of the board's devices
 abbrev pub on_board : Event → ClockState → Answer × ClockState

@@ -1,9 +1,13 @@
 // The devices of a clock board on one clock.
-ghost use Rattle.std.specs.Prelude.{◌≡◌, ◌≤◌, IsTrue};
+ghost use Rattle.std.specs.Prelude.{◌≡◌, ◌<◌, ◌≤◌, IsTrue};
 ghost use Rattle.dev_base.specs.Levels.{IsUpTo};
 ghost use Rattle.dev_base.specs.declared.limits.TheConstants.{LAST_MOMENT};
 ghost use Rattle.dev_board.specs.Step.{names_wire};
 ghost use Rattle.dev_clock.specs.Step.{saying as saying_of};
+ghost use Rattle.dev_pic.specs.Pair.{int_of};
+ghost use Rattle.dev_pit.specs.Pit.{pit_out};
+ghost use Rattle.dev_serial.specs.Access.{room_of};
+ghost use Rattle.dev_serial.specs.Line.{character_time};
 ghost use Rattle.vms_rtc.specs.Chip.{is_port};
 ghost use Rattle.vms_rtc.specs.declared.limits.TheConstants.{NEWEST_CLOCK};
 
@@ -41,7 +45,7 @@ impl Model for ClockDevices {
 impl ClockDevices {
     ghost use Rattle.dev_clock.specs.Sound.{IsSound};
     ghost use Rattle.dev_clock.specs.State.{power_on};
-    ghost use Rattle.dev_clock.specs.Step.{acted, clock_read, clock_written, step, waited};
+    ghost use Rattle.dev_clock.specs.Step.{acted, clock_read, clock_written, has_port, step, waited};
 
     /// The devices of a version at power on.
     #[tactic(auto, unfolding(crate::specs::State::power_on))]
@@ -92,6 +96,43 @@ impl ClockDevices {
             int: taken.int,
             sent: answer.sent,
         }
+    }
+
+    /// Tells whether the master's interrupt output is high.
+    pub fn int(&self) -> bool
+        ensures { result ≡ int_of self.now.board.pair }
+    {
+        self.board.int()
+    }
+
+    /// Tells whether OUT of counter `counter` of the timer chip, 0 to 2, is high at the present moment.
+    pub fn output(&self, counter: u8) -> bool
+        requires { counter < 3 }
+        ensures { result ≡ pit_out counter self.now.board.moment self.now.board.pit }
+    {
+        self.board.output(counter)
+    }
+
+    /// Tells whether the clock chip or a device of the board is behind the port `port`.
+    pub fn has_port(&self, port: u16) -> bool
+        ensures { result ≡ has_port port self.now }
+    {
+        Rtc::is_port(port) || self.board.has_port(port)
+    }
+
+    /// Returns how many bytes may arrive on the serial line before one is lost: up to 16 with FIFOs, else 1
+    /// or 0. It is 0 in loop mode, in which bytes on the line are ignored.
+    pub fn room(&self) -> u8
+        ensures { result ≡ room_of self.now.board.serial }
+    {
+        self.board.room()
+    }
+
+    /// Returns the time of one character on the serial line, in nanoseconds.
+    pub fn character(&self) -> u64
+        ensures { result ≡ character_time self.now.board.serial.divisor self.now.board.serial.lcr }
+    {
+        self.board.character()
     }
 
     // What an event does before the chip's line is taken over.

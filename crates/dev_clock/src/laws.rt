@@ -1,5 +1,5 @@
 // Laws of the definitions, each stated by a function without a body.
-ghost use Rattle.dev_clock.specs.Laws.{SoundStays, ClockGoesOn, AlikeStays};
+ghost use Rattle.dev_clock.specs.Laws.{SoundStays, ClockGoesOn, AnswersTellInt, AlikeStays};
 ghost use Rattle.dev_clock.specs.SavedLaws.{SavedAreCells, SavedComesBack, SavedGoesOn, RestoredIsSound};
 
 /// The devices are sound at power on, and each event and each list of events keeps them so.
@@ -13,6 +13,12 @@ pub fn sound_law()
 #[tactic(auto, using(crate::proofs::ClockLaws::clock_goes_on))]
 pub fn clock_law()
     ensures { ClockGoesOn }
+{}
+
+/// An answer tells the interrupt output after its event.
+#[tactic(auto, using(crate::proofs::ClockLaws::answers_tell_int))]
+pub fn int_law()
+    ensures { AnswersTellInt }
 {}
 
 /// Devices that are alike answer each event, and each list of events, equally, and are alike afterwards.

@@ -10,5 +10,5 @@ mod saved;
 pub use cells::ClockCells;
 pub use devices::ClockDevices;
 pub use laws::{
-    alike_law, cells_law, clock_law, continuation_law, restored_law, saved_law, sound_law,
+    alike_law, cells_law, clock_law, continuation_law, int_law, restored_law, saved_law, sound_law,
 };

@@ -1,5 +1,5 @@
 -- The calls of a port.
-use Rattle.std.specs.Prelude.{ℕ, ◌+◌, ◌*◌, ◌/◌, ◌%◌, ◌==◌, Bool, true, false, nat_le, ◌&&◌, not, if◌then◌else◌, List, [], length, Option, Some, None, is_some, bit_and, bit_or}
+use Rattle.std.specs.Prelude.{ℕ, ◌+◌, ◌-◌, ◌*◌, ◌/◌, ◌%◌, ◌==◌, Bool, true, false, nat_le, ◌&&◌, not, if◌then◌else◌, List, [], length, Option, Some, None, is_some, bit_and, bit_or}
 use Rattle.dev_base.specs.Bits.{has, bits_where}
 use Rattle.dev_serial.specs.Fifo.{trigger_of}
 use Rattle.dev_serial.specs.Line.{character_time}
@@ -7,6 +7,7 @@ use Rattle.dev_serial.specs.Parts.{ReceiverState, TransmitterState}
 use Rattle.dev_serial.specs.Port.{Port, mode_of, interrupt, id_number, is_thr_empty}
 use Rattle.dev_serial.specs.Receive.{received, taken, emptied, without_overrun}
 use Rattle.dev_serial.specs.Transmit.{queued, loaded, gone_by, on_line, looped_in, run_until}
+use Rattle.dev_serial.specs.declared.fifo.TheConstants.{FIFO_BYTES}
 use Rattle.dev_serial.specs.declared.levels.TheConstants.{FIFOS_SINCE}
 use Rattle.dev_serial.specs.declared.shift.Shift.{Shift}
 use Rattle.dev_serial.specs.declared.trigger.Trigger.{Trigger}
@@ -117,6 +118,13 @@ written offset value now port =
 unfoldable pub came_in : ℕ → ℕ → Port → Port
 came_in byte now port =
     if has port.mcr 4 then port else record port { receiver = received (mode_of port) byte now port.receiver }
+
+-- how many bytes may come in before one is lost: those that the receive list has room for, and none in loop mode, where what
+-- comes is ignored
+abbrev pub room_of : Port → ℕ
+room_of port =
+    if has port.mcr 4 then 0
+    else (if is_some port.fifos then FIFO_BYTES - length port.receiver.held else 1 - length port.receiver.held)
 
 -- the bytes that leave the shift register up to a moment, each with its own
 abbrev pub leaving : ℕ → Port → List Shift

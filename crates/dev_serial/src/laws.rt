@@ -2,6 +2,7 @@
 ghost use Rattle.dev_serial.specs.Laws.{AlikeItself, AlikeBack, AlikeOn, ReadsKeepLevel, WritesKeepLevel, BytesInKeepLevel, AdvancesKeepLevel, ListsComeBack, HoldsWhatItGives, SavedAreCells, SavedComesBack, SoundMeetsRules, RestoredIsSound, ReadsAlike, WritesAlike, BytesInAlike, AdvancesAlike, SavesAlike, LinesAlike, PowerOnIsSound, ReadsKeepSound, WritesKeepSound, BytesInKeepSound, AdvancesKeepSound};
 ghost use Rattle.dev_serial.specs.Recast.{RecastOnce};
 ghost use Rattle.dev_serial.specs.RegisterLaws.{IdentifiesFirst, LineTellsAsking, SwitchClearsBoth, ResetsByBits, StaysOff, WritesSwitch, ReachesDivisor, LoopsModem};
+ghost use Rattle.dev_serial.specs.RoomLaws.{RoomIsHeld};
 ghost use Rattle.dev_serial.specs.Sending.{SendsInOrder, ReplacesOne, LeavesForLine, AdvancesInParts, WaitsUntilDue, LoopsAtMoment, LongestCharacter};
 ghost use Rattle.dev_serial.specs.Places.{PlacesAre};
 ghost use Rattle.dev_serial.specs.SheetNumbers.{NumbersAre};
@@ -139,4 +140,10 @@ pub fn modem_law()
 #[tactic(auto, using(crate::proofs::RecastKinds::recast_once))]
 pub fn recast_law()
     ensures { RecastOnce }
+{}
+
+/// Bytes that a port has room for are held, in their order, and none is lost; one more is, but in loop mode.
+#[tactic(auto, using(crate::proofs::RoomLaws::room_is_held))]
+pub fn room_law()
+    ensures { RoomIsHeld }
 {}

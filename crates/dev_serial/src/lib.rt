@@ -25,8 +25,8 @@ mod trigger;
 
 pub use laws::{
     alike_law, cells_law, divisor_law, fifo_control_law, interrupt_law, level_law, likeness_law,
-    modem_law, numbers_law, places_law, recast_law, restored_law, ring_law, rules_law, saved_law,
-    sending_law, sound_law, time_law,
+    modem_law, numbers_law, places_law, recast_law, restored_law, ring_law, room_law, rules_law,
+    saved_law, sending_law, sound_law, time_law,
 };
 pub use rings::recast;
 pub use serial::Serial;

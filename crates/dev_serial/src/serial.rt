@@ -4,6 +4,7 @@ ghost use Rattle.dev_base.specs.Levels.{IsLevel};
 ghost use Rattle.std.specs.Prelude.{◌≡◌, ◌≤◌, ◌+◌, length, ◌&&◌};
 ghost use Rattle.dev_serial.specs.declared.transmitter.TheConstants.{MOST_SENT};
 
+use crate::fifo::FIFO_BYTES;
 use crate::interrupt::Interrupt;
 use crate::levels::{FIFOS_SINCE, TIMEOUT_SINCE};
 use crate::mode::{LONGEST_CHARACTER, Mode, character_time};
@@ -52,9 +53,10 @@ impl Model for Serial {
 }
 
 impl Serial {
+    ghost use Rattle.dev_serial.specs.Line.{character_time as character_time_of};
     ghost use Rattle.dev_serial.specs.Transmit.{IsSentAfter};
     ghost use Rattle.dev_serial.specs.Port.{power_on, mode_of, is_data_ready, has_timed_out, interrupt, line_of};
-    ghost use Rattle.dev_serial.specs.Access.{lsr_of, byte_read, id_read, lsr_read, read_of, thr_written, ier_written, receiver_cleared, transmitter_cleared, fcr_written, written, came_in, advanced};
+    ghost use Rattle.dev_serial.specs.Access.{lsr_of, byte_read, id_read, lsr_read, read_of, thr_written, ier_written, receiver_cleared, transmitter_cleared, fcr_written, written, came_in, advanced, room_of};
 
     /// A port of a level at power on: divisor 12, and all else empty or 0.
     #[tactic(auto, unfolding(crate::specs::Port::power_on))]
@@ -322,6 +324,30 @@ impl Serial {
         ensures { result ≡ line_of now self.now }
     {
         self.interrupt(now).is_pending()
+    }
+
+    /// Returns how many bytes may arrive on the line before one is lost: up to 16 with FIFOs, else 1 or 0.
+    ///
+    /// It is 0 in loop mode, in which bytes on the line are ignored.
+    pub fn room(&self) -> u8
+        ensures { result ≡ room_of self.now }
+    {
+        let held = self.receiver.held().len();
+        if has(self.mcr, LOOP) {
+            0
+        } else if self.fifos.is_some() {
+            (FIFO_BYTES - held) as u8
+        } else {
+            (1 - held) as u8
+        }
+    }
+
+    /// Returns the time of one character on the line, in nanoseconds.
+    pub fn character(&self) -> u64
+        ensures time { result ≡ character_time_of self.now.divisor self.now.lcr }
+        ensures longest { result ≤ LONGEST_CHARACTER }
+    {
+        character_time(self.divisor, self.lcr)
     }
 }
 

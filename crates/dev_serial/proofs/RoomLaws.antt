@@ -1,0 +1,43 @@
+-- Bytes that come in while there is room.
+use Rattle.std.proofs.Common.{◌≡◌, ℕ, ◌+◌, ◌≤◌, true, false, List, [], ◌∷◌, ◌++◌, length, refl, sym, ◌∙◌, arith, append_assoc, append-nil}
+use Rattle.std.proofs.lemmas.Grind.{common_steps}
+use Rattle.dev_base.specs.Bits.{has}
+use Rattle.dev_serial.specs.Access.{came_in, room_of}
+use Rattle.dev_serial.specs.Port.{Port}
+use Rattle.dev_serial.specs.Receive.{received}
+use Rattle.dev_serial.specs.RoomLaws.{all_came, RoomIsHeld}
+
+-- a byte for which there is room
+record Held (byte : ℕ) (old new : Port) : Type 0 where
+  held : new.receiver.held ≡ old.receiver.held ++ byte ∷ []
+  overrun : new.receiver.overrun ≡ old.receiver.overrun
+  room : room_of new + 1 ≡ room_of old
+
+one_held : (now byte : ℕ) (port : Port) → 1 ≤ room_of port → Held byte port (came_in byte now port)
+unfolding came_in received
+one_held now byte port h = record {
+  held = grind (arith, common_steps);
+  overrun = grind (arith, common_steps);
+  room = grind (arith, common_steps);
+}
+
+all_held : (now : ℕ) (bytes : List ℕ) (port : Port) → length bytes ≤ room_of port
+    → (all_came now bytes port).receiver.held ≡ port.receiver.held ++ bytes
+all_held now [] port h = sym (append-nil port.receiver.held)
+all_held now (byte ∷ bytes) port h =
+    let one = one_held now byte port (omega arith) in
+    all_held now bytes (came_in byte now port) (omega arith) ∙ rw (one.held, append_assoc)
+
+none_lost : (now : ℕ) (bytes : List ℕ) (port : Port) → length bytes ≤ room_of port
+    → (all_came now bytes port).receiver.overrun ≡ port.receiver.overrun
+none_lost now [] port h = refl
+none_lost now (byte ∷ bytes) port h =
+    let one = one_held now byte port (omega arith) in
+    none_lost now bytes (came_in byte now port) (omega arith) ∙ one.overrun
+
+one_lost : (now byte : ℕ) (port : Port) → has port.mcr 4 ≡ false → room_of port ≡ 0 → (came_in byte now port).receiver.overrun ≡ true
+unfolding came_in received
+one_lost now byte port clear none = grind (arith, common_steps)
+
+pub room_is_held : RoomIsHeld
+room_is_held = record { held = all_held; overrun = none_lost; lost = one_lost }
