@@ -37,7 +37,7 @@ use Rattle.vms_commands.proofs.EndLemmas.{comes_to_nothing, ends_with, same_keep
 use Rattle.vms_board_commands.specs.Seen.{Seen, SeenAs}
 use Rattle.vms_board_commands.proofs.SeenLemmas.{content_seen, load_seen, other_seen, seen_lost, seen_written, sees_as}
 use Rattle.vms_cli.specs.Statuses.{convert_course}
-use Rattle.vms_cli.specs.Convert.{Converts, ConvertGives, ConvertsBy, ConvertsWith, EndsLike, FailsReading, FailsWriting, IsDone, IsLost, IsMismatch, IsRefused, LacksMemory, MayLackMemory, NamesCell, Refuses, Rewrites, WouldLose, agreed, agrees, lost_line, newest}
+use Rattle.vms_cli.specs.Convert.{Converts, ConvertGives, ConvertsBy, ConvertsStream, ConvertsWith, EndsLike, FailsReading, FailsWriting, IsDone, IsLost, IsMismatch, IsRefused, LacksLine, LacksMemory, NamesCell, Refuses, Rewrites, WouldLose, agreed, agrees, lost_line, newest}
 use Rattle.vms_cli.proofs.AnalyzeLemmas.{Stands}
 use Rattle.vms_cli.proofs.ShowLemmas.{same_refusal}
 use Rattle.vms_cli.proofs.Conversions.{lost_inside, never_both, newest_fit, one_loss, one_stream}
@@ -150,14 +150,9 @@ module _ (to : Set) (fit : IsFit to) (i i' : Intake) (o o' : Outlet) where
   given_set compatible s x has = subst (λ (step : Step Set). ConvertsBy step i.left s.held x) (agreed_gives to compatible) has
 
   -- nothing was written before memory was wanting
-  unwritten : (fault : ConvertFault) → MayLackMemory fault → Calls to newest i i' o o' (Err fault) → o' ≡ o
-  unwritten (faults.NotCompatible m) may c = c.2
-  unwritten (faults.Refused r) may c = c.1.none
-  unwritten (faults.WouldLose section cell) may c = c.1.converts.1
-  unwritten faults.NoMemory may (AtOnce input out) = out
-  unwritten faults.NoMemory may (Behind compatible t) = t.converts
-  unwritten faults.ReadFault may c = absurd may
-  unwritten faults.WriteFault may c = absurd may
+  unwritten : Calls to newest i i' o o' (Err faults.NoMemory) → o' ≡ o
+  unwritten (AtOnce input out) = out
+  unwritten (Behind compatible t) = t.converts
 
   -- the outcome of an input that is told
   told_content : (s s' : Stock) (e : Ending) (x : Outcome) → Compatible to newest → IfSome i.left IsBytes → Seen (λ bytes y. Converts to bytes s.held y) i i' o o' s s' e → ConvertsBy (agrees to) i.left s.held x
@@ -182,7 +177,8 @@ module _ (to : Set) (fit : IsFit to) (i i' : Intake) (o o' : Outlet) where
   convert_content _ _ FailsWriting c ok few s s' x same has =
       let t = c.1 in
       told_content s s' endings.WriteFault x c.0 ok (stream_seen to t.images t.taken t.machine t.converts.bytes endings.WriteFault same t.reads t.converts.is t.converts.puts) has
-  convert_content _ _ (LacksMemory fault may) c ok few s s' x same has = comes_to_nothing o o' s s' x.parts (same_keeps o o' (unwritten fault may c)) same
+  convert_content _ _ LacksMemory c ok few s s' x same has = comes_to_nothing o o' s s' x.parts (same_keeps o o' (unwritten c)) same
+  convert_content _ _ (LacksLine m) c ok few s s' x same has = comes_to_nothing o o' s s' x.parts (same_keeps o o' c.2) same
 
   -- ---- told or not
 
@@ -231,7 +227,8 @@ module _ (to : Set) (fit : IsFit to) (i i' : Intake) (o o' : Outlet) where
   convert_seen _ _ FailsWriting c s s' same =
       let t = c.1 in
       with_set s s' endings.WriteFault c.0 (stream_seen to t.images t.taken t.machine t.converts.bytes endings.WriteFault same t.reads t.converts.is t.converts.puts)
-  convert_seen _ _ (LacksMemory fault may) c s s' same = other_seen endings.NoMemory refl
+  convert_seen _ _ LacksMemory c s s' same = other_seen endings.NoMemory refl
+  convert_seen _ _ (LacksLine m) c s s' same = other_seen endings.NoMemory refl
 
   -- ---- counts and promises
 
@@ -280,8 +277,20 @@ module _ (to : Set) (fit : IsFit to) (i i' : Intake) (o o' : Outlet) where
       so_by s asks endings.ReadFault refl c.1.reads.cause (λ f. same_keeps o o' c.1.none) (λ f. absurd (wrong f)) (convert_stands (Err faults.ReadFault) c)
   convert_so _ _ FailsWriting c s asks =
       so_by s asks endings.WriteFault refl c.1.converts.puts.rose (λ f. absurd (wrong f)) (λ f. absurd (wrong f)) (convert_stands (Err faults.WriteFault) c)
-  convert_so _ _ (LacksMemory fault may) c s asks =
-      so_by s asks endings.NoMemory refl tt (λ f. same_keeps o o' (unwritten fault may c)) (λ f. absurd (wrong f)) (convert_stands (Err fault) c)
+  convert_so _ _ LacksMemory c s asks =
+      so_by s asks endings.NoMemory refl tt (λ f. same_keeps o o' (unwritten c)) (λ f. absurd (wrong f)) (convert_stands (Err faults.NoMemory) c)
+  convert_so _ _ (LacksLine m) c s asks =
+      so_by s asks endings.NoMemory refl tt (λ f. same_keeps o o' c.2) (λ f. absurd (wrong f)) (convert_stands (Err (faults.NotCompatible m)) c)
+
+  pub converts_stream : (r : Result (Unit {0}) ConvertFault) (e : Ending) → EndsLike r e → Calls to newest i i' o o' r → IfSome i.left IsBytes → i.given < 2 ^ 64 → ConvertsStream to i i' o o' e
+  converts_stream r e like said octets counted = record {
+    runs = record {
+      content = convert_content r e like said octets counted;
+      so = convert_so r e like said;
+      seen = convert_seen r e like said;
+    };
+    given = convert_given r said;
+  }
 
 -- what would be lost is named in the newest set
 pub names_cell : (to : Set) → IsFit to → (i i' : Intake) (o o' : Outlet) (r : Result (Unit {0}) ConvertFault) → Calls to newest i i' o o' r → NamesCell r

@@ -4,6 +4,7 @@ use Rattle.std.specs.declared.alloc.Global.{Global}
 use Rattle.std.specs.declared.string.String.{String}
 use Rattle.arrayvec.specs.ArrayVec.{ArrayVec}
 use Rattle.dev_base.specs.declared.limits.TheConstants.{NEWEST}
+use Rattle.vms_io.specs.Memory.{Store}
 use Rattle.vms_io.specs.Shelves.{Held}
 use Rattle.vms_io.specs.Told.{Intake, Outlet}
 use Rattle.vms_spec.specs.declared.Reason.{Reason}
@@ -57,6 +58,10 @@ lost_text set (Some k) (Some c) = cell_name set (device_at set k) c
 lost_text set (Some k) None = codes "-"
 lost_text set None cell = codes "machine"
 
+-- the room for a path, before one is written
+abbrev pub no_path : Store
+no_path = record { bytes = []; room = 64; failing = []; calls = 0; faults = 0 }
+
 abbrev pub line_of : Set → Option ℕ → List ℕ → List ℕ
 line_of set section what = codes "would lose " ++ (section_text set section ++ (codes " " ++ (what ++ 10 ∷ [])))
 
@@ -103,12 +108,6 @@ abbrev pub NamesCell : Result (Unit {0}) ConvertFault → Type 0
 NamesCell (Err (faults.WouldLose section cell)) = IsInNewest section cell
 NamesCell answer = Unit {0}
 
--- a line of its own is to be made, or memory was wanting before
-abbrev pub MayLackMemory : ConvertFault → Type 0
-MayLackMemory faults.ReadFault = ⊥
-MayLackMemory faults.WriteFault = ⊥
-MayLackMemory fault = Unit {0}
-
 -- the ending of each answer of the call
 pub data EndsLike : Result (Unit {0}) ConvertFault → Ending → Type 0 where
   IsDone : (u : Unit {0}) → EndsLike (Ok u) endings.Done
@@ -120,7 +119,9 @@ pub data EndsLike : Result (Unit {0}) ConvertFault → Ending → Type 0 where
       → EndsLike (Err (faults.WouldLose section cell)) (endings.WouldLose line)
   FailsReading : EndsLike (Err faults.ReadFault) endings.ReadFault
   FailsWriting : EndsLike (Err faults.WriteFault) endings.WriteFault
-  LacksMemory : (fault : ConvertFault) → MayLackMemory fault → EndsLike (Err fault) endings.NoMemory
+  LacksMemory : EndsLike (Err faults.NoMemory) endings.NoMemory
+  -- the sets are compared before the input is read, and only their line takes memory
+  LacksLine : (mismatch : Mismatch) → EndsLike (Err (faults.NotCompatible mismatch)) endings.NoMemory
 
 -- once the set is there
 pub record ConvertsStream (to : Set) (i i' : Intake) (o o' : Outlet) (e : Ending) : Type 0 where

@@ -1,5 +1,5 @@
 // The command `convert`: the stream of the same state under another set, or what would be lost.
-ghost use Rattle.std.specs.Prelude.{◌≡◌, ◌<◌, length, Some, IfOk};
+ghost use Rattle.std.specs.Prelude.{◌≡◌, ◌<◌, length, Some};
 ghost use Rattle.vms_io.specs.Supplies.{store};
 ghost use Rattle.vms_io.specs.Told.{intake, outlet};
 ghost use Rattle.vms_spec.specs.Layout.{device_cells};
@@ -7,19 +7,18 @@ ghost use Rattle.vms_desc.specs.Described.{described, device_at};
 ghost use Rattle.vms_elements.specs.Parts.{cell_name};
 ghost use Rattle.vms_commands.specs.Asks.{set_asked};
 ghost use Rattle.vms_commands.specs.Endings.{ending_of};
-ghost use Rattle.vms_cli.specs.Convert.{ConvertsStream, EndsLike, IsInNewest, NamesCell, line_of, lost_line, newest};
+ghost use Rattle.vms_cli.specs.Convert.{ConvertsStream, EndsLike, IsInNewest, NamesCell, line_of, lost_line, newest, no_path};
 ghost use Rattle.vms_cli.specs.Commands.{Convert};
 ghost use Rattle.vms_cli.specs.Runs.{Runs, frame, doing};
 
 use arrayvec::ArrayVec;
-use dev_base::NEWEST;
 use std::alloc::Global;
 use vms_commands::{
     Ending, NoteLine, SetWord, append_section, mismatch_line, refused_line, set_of,
 };
-use vms_convert::ConvertFault;
+use vms_convert::{ConvertFault, Converter};
 use vms_desc::DescSet;
-use vms_io::{MemSink, NoMemory, Shelf, Sink, Source};
+use vms_io::{MemSink, Shelf, Sink, Source};
 use vms_values::print_path;
 use vms_words::append;
 
@@ -41,7 +40,7 @@ pub(crate) fn convert<I: Source, O: Sink, H: Shelf>(
     convert_to(alloc, &to, input, out)
 }
 
-// Once the set is there.
+// Once the set is there. The memory for a refusal's line is taken before the input is read.
 fn convert_to<I: Source, O: Sink>(
     alloc: Global,
     to: &DescSet,
@@ -52,12 +51,22 @@ fn convert_to<I: Source, O: Sink>(
         (intake I.Source input.new) (outlet O.Sink out.old) (outlet O.Sink out.new)
         (ending_of result) }
 {
-    with_line(alloc, vms_convert::convert(alloc, input, to, out))
+    let path = MemSink::new(alloc, PATH_ROOM, Vec::new(alloc))?;
+    let mut converter = Converter::new(alloc)?;
+    let converted = converter.convert(alloc, input, to, out);
+    with_line(alloc, converter.set(), path, converted)
 }
 
 // What the call answered, with the line of its fault.
-fn with_line(alloc: Global, converted: Result<(), ConvertFault>) -> Result<(), Ending>
-    requires { NamesCell converted }
+fn with_line(
+    alloc: Global,
+    newest: &DescSet,
+    path: MemSink,
+    converted: Result<(), ConvertFault>,
+) -> Result<(), Ending>
+    requires newest { described newest.now ≡ newest }
+    requires path { store path ≡ no_path }
+    requires named { NamesCell converted }
     ensures { EndsLike converted (ending_of result) }
 {
     match converted {
@@ -65,12 +74,9 @@ fn with_line(alloc: Global, converted: Result<(), ConvertFault>) -> Result<(), E
         Err(ConvertFault::NotCompatible(mismatch)) => {
             Err(Ending::NotCompatible(mismatch_line(alloc, mismatch)?))
         }
-        Err(ConvertFault::Refused(refusal)) => {
-            let newest = DescSet::shipped(alloc, NEWEST)?;
-            Err(Ending::Refused(refused_line(&newest, &refusal)))
-        }
+        Err(ConvertFault::Refused(refusal)) => Err(Ending::Refused(refused_line(newest, &refusal))),
         Err(ConvertFault::WouldLose { section, cell }) => {
-            Err(Ending::WouldLose(lost_line(alloc, section, cell)?))
+            Err(Ending::WouldLose(lost_line(newest, path, section, cell)))
         }
         Err(ConvertFault::ReadFault) => Err(Ending::ReadFault),
         Err(ConvertFault::WriteFault) => Err(Ending::WriteFault),
@@ -79,34 +85,35 @@ fn with_line(alloc: Global, converted: Result<(), ConvertFault>) -> Result<(), E
 }
 
 // The line of what would be lost: a cell of the newest set, a device that has none, or the machine.
-fn lost_line(alloc: Global, section: Option<u32>, cell: Option<u32>) -> Result<NoteLine, NoMemory>
-    requires { IsInNewest section cell }
-    ensures { IfOk result (λ line. line.items ≡ lost_line newest section cell) }
+fn lost_line(set: &DescSet, mut path: MemSink, section: Option<u32>, cell: Option<u32>) -> NoteLine
+    requires newest { described set.now ≡ newest }
+    requires path { store path ≡ no_path }
+    requires named { IsInNewest section cell }
+    ensures { result.items ≡ lost_line newest section cell }
 {
-    let newest = DescSet::shipped(alloc, NEWEST)?;
     match (section, cell) {
         (Some(device), Some(cell)) => {
-            let path = path_of(alloc, &newest, device, cell)?;
-            Ok(line_of(&newest, section, path.bytes()))
+            put_path(set, device, cell, &mut path);
+            line_of(set, section, path.bytes())
         }
-        (Some(_), None) => Ok(line_of(&newest, section, b"-")),
-        (None, _) => Ok(line_of(&newest, section, b"machine")),
+        (Some(_), None) => line_of(set, section, b"-"),
+        (None, _) => line_of(set, section, b"machine"),
     }
 }
 
-// The path of a cell of a device in memory, which has room for it.
-fn path_of(alloc: Global, set: &DescSet, device: u32, cell: u32) -> Result<MemSink, NoMemory>
+// Puts the path of a cell of a device into memory that has room for it.
+fn put_path(set: &DescSet, device: u32, cell: u32, path: &mut MemSink)
     requires is_device { device < length (described set.now).devices }
     requires is_cell { let d = device_at (described set.now) device in
         cell < length (device_cells (described set.now) d) }
     requires short { let d = device_at (described set.now) device in
         length (cell_name (described set.now) d cell) < 64 }
+    requires path { store path.old ≡ no_path }
     ensures { let d = device_at (described set.now) device in
-        IfOk result (λ path. (store path).bytes ≡ cell_name (described set.now) d cell) }
+        (store path.new).bytes ≡ cell_name (described set.now) d cell }
 {
-    let mut path = MemSink::new(alloc, PATH_ROOM, Vec::new(alloc))?;
-    match print_path(set, device, cell, &mut path) {
-        Ok(()) => Ok(path),
+    match print_path(set, device, cell, path) {
+        Ok(()) => {}
         // No call is to fail, and the room is never filled.
         Err(_) => unreachable!(),
     }

@@ -6,7 +6,7 @@ ghost use Rattle.vms_desc.specs.Described.{described};
 ghost use Rattle.vms_desc.specs.Formed.{shipped_set};
 ghost use Rattle.vms_io.specs.Told.{intake, outlet};
 ghost use Rattle.vms_load.specs.Good.{AreKept};
-ghost use Rattle.vms_load.specs.Kept.{kept, loads};
+ghost use Rattle.vms_load.specs.Lean.{has, loads};
 ghost use Rattle.vms_load.specs.Staging.{IsMachine, name_of};
 ghost use Rattle.vms_image.specs.Typed.{AreImagesOf, state_of};
 ghost use Rattle.vms_spec.specs.Lists.{at_option};
@@ -22,8 +22,8 @@ use std::alloc::Global;
 use vms_check::{Verdict, check};
 use vms_desc::DescSet;
 use vms_image::Image;
-use vms_io::{Sink, Source};
-use vms_load::Loader;
+use vms_io::{NoMemory, Sink, Source};
+use vms_load::LeanLoader;
 use vms_selfdesc::describe;
 use vms_write::write_stream;
 
@@ -43,12 +43,58 @@ pub fn convert<S: Source, K: Sink>(
         let empty = outlet K.Sink sink.old in let full = outlet K.Sink sink.new in
         Converts (described to.now) (shipped_set NEWEST) before after empty full result }
 {
-    let newest = DescSet::shipped(alloc, NEWEST)?;
-    if let Verdict::Refused(mismatch) = check(to, &newest) {
-        return Err(ConvertFault::NotCompatible(mismatch));
+    let mut converter = Converter::new(alloc)?;
+    converter.convert(alloc, source, to, sink)
+}
+
+/// A reader of the newest shipped set's streams for [`convert`], which a caller makes before the input is read and whose
+/// set names what a fault speaks of.
+#[derive(Drop)]
+pub struct Converter {
+    loader: LeanLoader,
+    ghost newest: { loads loader ≡ shipped_set NEWEST },
+}
+
+impl Converter {
+    /// Makes the newest shipped set and takes the memory for the images of one stream.
+    ///
+    /// # Errors
+    ///
+    /// [`NoMemory`] if memory runs out.
+    pub fn new(alloc: Global) -> Result<Converter, NoMemory> {
+        let newest = DescSet::shipped(alloc, NEWEST)?;
+        let loader = LeanLoader::new(alloc, newest)?;
+        Ok(Converter { loader })
     }
-    let mut loader = Loader::new(alloc, newest)?;
-    convert_by(alloc, source, to, &mut loader, sink)
+
+    /// Returns the newest shipped set.
+    pub fn set(&self) -> &DescSet
+        ensures { described result.now ≡ shipped_set NEWEST }
+    {
+        self.loader.set()
+    }
+
+    /// Converts one stream from `source` to the set `to`, as [`convert`] does.
+    ///
+    /// # Errors
+    ///
+    /// Those of [`convert`].
+    pub fn convert<S: Source, K: Sink>(
+        &mut self,
+        alloc: Global,
+        source: &mut S,
+        to: &DescSet,
+        sink: &mut K,
+    ) -> Result<(), ConvertFault>
+        ensures { let before = intake S.Source source.old in let after = intake S.Source source.new in
+            let empty = outlet K.Sink sink.old in let full = outlet K.Sink sink.new in
+            Converts (described to.now) (shipped_set NEWEST) before after empty full result }
+    {
+        if let Verdict::Refused(mismatch) = check(to, self.loader.set()) {
+            return Err(ConvertFault::NotCompatible(mismatch));
+        }
+        convert_by(alloc, source, to, &mut self.loader, sink)
+    }
 }
 
 // The same by a loader of the newest set, where that reads what the target writes.
@@ -56,34 +102,35 @@ fn convert_by<S: Source, K: Sink>(
     alloc: Global,
     source: &mut S,
     to: &DescSet,
-    loader: &mut Loader,
+    loader: &mut LeanLoader,
     sink: &mut K,
 ) -> Result<(), ConvertFault>
     requires newest { loads loader.old ≡ shipped_set NEWEST }
     requires compatible { Compatible (described to.now) (shipped_set NEWEST) }
-    ensures { let before = intake S.Source source.old in let after = intake S.Source source.new in
+    ensures converts { let before = intake S.Source source.old in let after = intake S.Source source.new in
         let empty = outlet K.Sink sink.old in let full = outlet K.Sink sink.new in
         Converts (described to.now) (shipped_set NEWEST) before after empty full result }
+    ensures set { loads loader.new ≡ loads loader.old }
 {
     let machine = loader.load(source, None)?;
     convert_kept(alloc, to, loader, machine, sink)
 }
 
-// Writes the images that a loader keeps under the target.
+// Writes the images that a loader has under the target.
 fn convert_kept<K: Sink>(
     alloc: Global,
     to: &DescSet,
-    loader: &Loader,
+    loader: &LeanLoader,
     machine: Option<u32>,
     sink: &mut K,
 ) -> Result<(), ConvertFault>
     requires newest { loads loader.now ≡ shipped_set NEWEST }
     requires compatible { Compatible (described to.now) (shipped_set NEWEST) }
-    requires kept { AreKept (shipped_set NEWEST) (kept loader.now) }
+    requires kept { AreKept (shipped_set NEWEST) (has loader.now) }
     requires machine { IsMachine (shipped_set NEWEST).machines machine }
     ensures { let empty = outlet K.Sink sink.old in let full = outlet K.Sink sink.new in
         let new = shipped_set NEWEST in let name = name_of new machine in
-        ConvertsKept (described to.now) new name (kept loader.now) empty full result }
+        ConvertsKept (described to.now) new name (has loader.now) empty full result }
 {
     let returns = return_all(alloc, to, loader)?;
     let machine = judge(to, loader, machine, &returns)?;

@@ -14,6 +14,6 @@ mod returning;
 mod returns;
 mod taking;
 
-pub use call::convert;
+pub use call::{Converter, convert};
 pub use fault::ConvertFault;
 pub use pairing::partners;

@@ -8,7 +8,7 @@ ghost use Rattle.vms_desc.specs.Described.{described};
 ghost use Rattle.vms_desc.specs.Formed.{shipped_set};
 ghost use Rattle.vms_image.specs.Typed.{state_of};
 ghost use Rattle.vms_load.specs.Good.{AreKept};
-ghost use Rattle.vms_load.specs.Kept.{kept, loads};
+ghost use Rattle.vms_load.specs.Lean.{has, loads};
 ghost use Rattle.vms_load.specs.Staging.{IsMachine, name_of};
 ghost use Rattle.vms_convert.specs.Converted.{recast_each};
 ghost use Rattle.vms_convert.specs.Losing.{AreWritable, FirstInvalid, Judges, KeepsMachine, first_cell_at};
@@ -19,25 +19,25 @@ use crate::fault::Loss;
 use crate::returns::Returns;
 use vms_desc::{DescSet, find_name};
 use vms_image::Image;
-use vms_load::Loader;
+use vms_load::LeanLoader;
 use vms_write::ready;
 
 /// The machine's number in the target, or what is lost first.
 pub(crate) fn judge(
     to: &DescSet,
-    loader: &Loader,
+    loader: &LeanLoader,
     machine: Option<u32>,
     returns: &Returns,
 ) -> Result<Option<u32>, Loss>
     requires newest { loads loader.now ≡ shipped_set NEWEST }
     requires compatible { Compatible (described to.now) (loads loader.now) }
-    requires kept { AreKept (loads loader.now) (kept loader.now) }
+    requires kept { AreKept (loads loader.now) (has loader.now) }
     requires machine { IsMachine (loads loader.now).machines machine }
     requires returned { let new = loads loader.now in
-        let wanted = recast_each (described to.now) new.devices (numbers_in (kept loader.now)) in
+        let wanted = recast_each (described to.now) new.devices (numbers_in (has loader.now)) in
         AreReturned (described to.now) new wanted returns.now }
     ensures { let new = loads loader.now in let name = name_of new machine in
-        let wanted = recast_each (described to.now) new.devices (numbers_in (kept loader.now)) in
+        let wanted = recast_each (described to.now) new.devices (numbers_in (has loader.now)) in
         let backs = map state_of returns.now.images.items in
         let there = numbers_in (carried (described to.now) new backs) in
         Judges (described to.now) new name wanted there backs result }

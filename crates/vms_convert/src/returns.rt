@@ -6,7 +6,7 @@ ghost use Rattle.vms_desc.specs.Described.{described, device_at};
 ghost use Rattle.vms_image.specs.Typed.{IsImageOf};
 ghost use Rattle.vms_desc.specs.Formed.{shipped_set};
 ghost use Rattle.vms_load.specs.Good.{AreKept};
-ghost use Rattle.vms_load.specs.Kept.{kept, loads};
+ghost use Rattle.vms_load.specs.Lean.{has, loads};
 ghost use Rattle.vms_convert.specs.Converted.{recast_each};
 ghost use Rattle.vms_convert.specs.Lost.{numbers_in};
 ghost use Rattle.vms_convert.specs.Returning.{IsReturned};
@@ -19,7 +19,7 @@ use std::alloc::Global;
 use vms_desc::DescSet;
 use vms_image::Image;
 use vms_io::NoMemory;
-use vms_load::Loader;
+use vms_load::LeanLoader;
 
 /// A cell of a device of the newest set that isn't carried back.
 #[derive(Clone, Copy)]
@@ -35,13 +35,17 @@ pub(crate) struct Returns {
     pub(crate) lost: Option<LostCell>,
 }
 
-/// What comes back of the images that a loader of the newest set keeps.
-pub(crate) fn return_all(alloc: Global, to: &DescSet, loader: &Loader) -> Result<Returns, NoMemory>
+/// What comes back of the images that a loader of the newest set has.
+pub(crate) fn return_all(
+    alloc: Global,
+    to: &DescSet,
+    loader: &LeanLoader,
+) -> Result<Returns, NoMemory>
     requires newest { loads loader.now ≡ shipped_set NEWEST }
     requires compatible { Compatible (described to.now) (loads loader.now) }
-    requires kept { AreKept (loads loader.now) (kept loader.now) }
+    requires kept { AreKept (loads loader.now) (has loader.now) }
     ensures { let new = loads loader.now in
-        let wanted = recast_each (described to.now) new.devices (numbers_in (kept loader.now)) in
+        let wanted = recast_each (described to.now) new.devices (numbers_in (has loader.now)) in
         IfOk result (AreReturned (described to.now) new wanted) }
 {
     let devices = to.parts().devices.as_slice().len() as u32;
@@ -82,14 +86,14 @@ fn pair_of<'a>(to: &'a DescSet, device: u32, newest: &'a DescSet) -> Pair<'a>
     }
 }
 
-// What comes back of the newest set's device that a loader keeps.
-fn return_at(alloc: Global, pair: Pair, loader: &Loader) -> Result<Returned, NoMemory>
+// What comes back of the newest set's device that a loader has.
+fn return_at(alloc: Global, pair: Pair, loader: &LeanLoader) -> Result<Returned, NoMemory>
     requires newest { loads loader.now ≡ shipped_set NEWEST }
     requires same { described pair.newest.now ≡ loads loader.now }
-    requires kept { AreKept (loads loader.now) (kept loader.now) }
+    requires kept { AreKept (loads loader.now) (has loader.now) }
     requires pair { ArePaired (described pair.to.now) (loads loader.now) pair.device pair.other }
     ensures { let to = described pair.entry.to.now in let new = loads loader.now in
-        let wanted = recast_each to new.devices (numbers_in (kept loader.now)) in
+        let wanted = recast_each to new.devices (numbers_in (has loader.now)) in
         let numbers = get_or wanted pair.entry.other [] in
         IfOk result (IsReturned to new pair.entry.device pair.entry.other numbers) }
 {

@@ -5,7 +5,7 @@ use Rattle.vms_commands.proofs.StepLemmas.{ending_passed}
 use Rattle.vms_commands.specs.Lines.{refused_line}
 use Rattle.vms_commands.specs.declared.ending.Ending.{Ending}
 use Rattle.vms_spec.specs.Sets.{Set}
-use Rattle.vms_cli.specs.Convert.{EndsLike, FailsReading, FailsWriting, IsDone, IsLost, IsMismatch, IsRefused, LacksMemory}
+use Rattle.vms_cli.specs.Convert.{EndsLike, FailsReading, FailsWriting, IsDone, IsLost, IsMismatch, IsRefused, LacksLine, LacksMemory}
 use Rattle.vms_cli.proofs.convert.with_line.Goals as goal
 
 -- by the fault that the call answered
@@ -23,30 +23,18 @@ returns-in_ok-mismatch_line-in-Err-NotCompatible c =
 pub returns-in_err-mismatch_line-in-Err-NotCompatible : goal.returns-in_err-mismatch_line-in-Err-NotCompatible
 returns-in_err-mismatch_line-in-Err-NotCompatible c =
     rw (ending_passed c.from_residual.result c.from_residual.ensures.1)
-    (by_fault c.in-Err-NotCompatible.is (rw c.in-Err-NotCompatible.is at c.in-Err-NotCompatible.field-0-is) (LacksMemory (faults.NotCompatible c.in-Err-NotCompatible.mismatch) tt))
+    (by_fault c.in-Err-NotCompatible.is (rw c.in-Err-NotCompatible.is at c.in-Err-NotCompatible.field-0-is) (LacksLine c.in-Err-NotCompatible.mismatch))
 
-pub returns-in_ok-newest-in-Err-Refused : goal.returns-in_ok-newest-in-Err-Refused
-returns-in_ok-newest-in-Err-Refused c =
+pub returns-in-Err-Refused : goal.returns-in-Err-Refused
+returns-in-Err-Refused c =
     let r = c.in-Err-Refused.refusal in
     by_fault c.in-Err-Refused.is (rw c.in-Err-Refused.is at c.in-Err-Refused.field-0-is)
-    (IsRefused r c.refused_line.result (c.refused_line.ensures ∙ ap (λ (s : Set). refused_line s r.at r.section r.reason) c.in_ok-newest-in-Err-Refused.ensures))
+    (IsRefused r c.refused_line.result (c.refused_line.ensures ∙ ap (λ (s : Set). refused_line s r.at r.section r.reason) c.requires.newest))
 
-pub returns-in_err-newest-in-Err-Refused : goal.returns-in_err-newest-in-Err-Refused
-returns-in_err-newest-in-Err-Refused c =
-    let passed = c.from_residual-in_err-newest-in-Err-Refused in
-    rw (ending_passed passed.result passed.ensures.1) (by_fault c.in-Err-Refused.is (rw c.in-Err-Refused.is at c.in-Err-Refused.field-0-is) (LacksMemory (faults.Refused c.in-Err-Refused.refusal) tt))
-
-pub returns-in_ok-lost_line-in-Err-WouldLose : goal.returns-in_ok-lost_line-in-Err-WouldLose
-returns-in_ok-lost_line-in-Err-WouldLose c =
+pub returns-in-Err-WouldLose : goal.returns-in-Err-WouldLose
+returns-in-Err-WouldLose c =
     let lost = c.in-Err-WouldLose in
-    let line = c.in_ok-lost_line-in-Err-WouldLose in
-    by_fault lost.is (rw lost.is at lost.field-0-is) (IsLost lost.section lost.cell line.field-0 line.ensures)
-
-pub returns-in_err-lost_line-in-Err-WouldLose : goal.returns-in_err-lost_line-in-Err-WouldLose
-returns-in_err-lost_line-in-Err-WouldLose c =
-    let lost = c.in-Err-WouldLose in
-    let passed = c.from_residual-in_err-lost_line-in-Err-WouldLose in
-    rw (ending_passed passed.result passed.ensures.1) (by_fault lost.is (rw lost.is at lost.field-0-is) (LacksMemory (faults.WouldLose lost.section lost.cell) tt))
+    by_fault lost.is (rw lost.is at lost.field-0-is) (IsLost lost.section lost.cell c.lost_line.result c.lost_line.ensures)
 
 pub returns-in-Err-ReadFault : goal.returns-in-Err-ReadFault
 returns-in-Err-ReadFault c = by_fault c.in-Err-ReadFault.is (rw c.in-Err-ReadFault.is at c.in-Err-ReadFault.field-0-is) FailsReading
@@ -55,4 +43,4 @@ pub returns-in-Err-WriteFault : goal.returns-in-Err-WriteFault
 returns-in-Err-WriteFault c = by_fault c.in-Err-WriteFault.is (rw c.in-Err-WriteFault.is at c.in-Err-WriteFault.field-0-is) FailsWriting
 
 pub returns-in-Err-NoMemory : goal.returns-in-Err-NoMemory
-returns-in-Err-NoMemory c = by_fault c.in-Err-NoMemory.is (rw c.in-Err-NoMemory.is at c.in-Err-NoMemory.field-0-is) (LacksMemory faults.NoMemory tt)
+returns-in-Err-NoMemory c = by_fault c.in-Err-NoMemory.is (rw c.in-Err-NoMemory.is at c.in-Err-NoMemory.field-0-is) LacksMemory

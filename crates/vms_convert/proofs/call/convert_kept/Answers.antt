@@ -9,7 +9,7 @@ use Rattle.vms_image.specs.Typed.{AreImagesOf, Typed, state_of}
 use Rattle.vms_io.specs.Told.{outlet}
 use Rattle.vms_check.specs.Comparing.{Compatible}
 use Rattle.vms_load.specs.Good.{AreKept}
-use Rattle.vms_load.specs.Kept.{kept, loads}
+use Rattle.vms_load.specs.Lean.{has, loads}
 use Rattle.vms_load.specs.Staging.{name_of}
 use Rattle.vms_convert.specs.Calls.{ConvertsKept}
 use Rattle.vms_convert.specs.Losing.{PutsBytes, stream_of}
@@ -20,7 +20,7 @@ use Rattle.vms_convert.proofs.call.convert_kept.Given.{Over}
 use Rattle.vms_convert.proofs.call.convert_kept.Goals.{In_ok-returns}
 use Rattle.vms_convert.proofs.call.convert_kept.Goals as goal
 
-came : (g : Over) (c : In_ok-returns g) → ComesBack (described c.args.to.now) (loads c.args.loader.now) (kept c.args.loader.now) c.in_ok-returns.returns
+came : (g : Over) (c : In_ok-returns g) → ComesBack (described c.args.to.now) (loads c.args.loader.now) (has c.args.loader.now) c.in_ok-returns.returns
 came g c =
     let to = described c.args.to.now in
     let newest = c.requires.newest in
@@ -28,7 +28,7 @@ came g c =
       fit = fit_of to c.args.to.now.well_formed c.args.to.now.heads;
       newest = newest;
       compatible = subst (λ (s : Set). Compatible to s) (sym newest) c.requires.compatible;
-      kept = subst (λ (s : Set). AreKept s (kept c.args.loader.now)) (sym newest) c.requires.kept;
+      kept = subst (λ (s : Set). AreKept s (has c.args.loader.now)) (sym newest) c.requires.kept;
       returned = c.in_ok-returns.ensures;
     }
 
@@ -36,7 +36,7 @@ pub returns-in_err-machine : goal.returns-in_err-machine
 returns-in_err-machine g c =
     let new = loads c.args.loader.now in
     let name = name_of new c.args.machine in
-    let images = kept c.args.loader.now in
+    let images = has c.args.loader.now in
     let back = backs_are _ _ _ _ (came g (goal.at.returns-in_err-machine g c).In_ok-returns) in
     let loss = c.in_err-machine.field-0.0 in
     let p = err_from_is_err_and c.from_residual-in_err-machine.result c.from_residual-in_err-machine.ensures.1 in
@@ -55,7 +55,7 @@ pub write_back-requires-clause-ready : goal.write_back-requires-clause-ready
 write_back-requires-clause-ready g c =
     let to = described c.args.to.now in
     let new = loads c.args.loader.now in
-    let images = kept c.args.loader.now in
+    let images = has c.args.loader.now in
     let r = c.in_ok-returns.returns in
     subst (λ (l : List Typed). AreReady to (map state_of l)) (sym c.deref.ensures.value)
     (ready_back to new images r (came g (goal.at.write_back-requires-clause-ready g c).In_ok-returns) c.in_ok-machine.ensures.0.valid)
@@ -64,7 +64,7 @@ pub returns : goal.returns
 returns g c =
     let to = described c.args.to.now in
     let new = loads c.args.loader.now in
-    let images = kept c.args.loader.now in
+    let images = has c.args.loader.now in
     let r = c.in_ok-returns.returns in
     let name = name_of new c.args.machine in
     let backs = map state_of r.images.items in

@@ -3,7 +3,7 @@ use Rattle.vms_spec.specs.Sets.{Set}
 use Rattle.vms_desc.proofs.Bounds.{fit_of}
 use Rattle.vms_desc.specs.Described.{described}
 use Rattle.vms_image.specs.Typed.{state_of}
-use Rattle.vms_load.specs.Kept.{kept, loads}
+use Rattle.vms_load.specs.Lean.{has, loads}
 use Rattle.vms_load.specs.Staging.{name_of}
 use Rattle.vms_check.specs.Carrying.{carried}
 use Rattle.vms_convert.specs.Converted.{recast_each}
@@ -13,7 +13,7 @@ use Rattle.vms_convert.proofs.JudgeLaws.{ComesBack, cell_first, device_first, in
 use Rattle.vms_convert.proofs.losing.judge.Goals.{Start}
 use Rattle.vms_convert.proofs.losing.judge.Goals as goal
 
-came : (c : Start) → ComesBack (described c.args.to.now) (loads c.args.loader.now) (kept c.args.loader.now) c.args.returns.now
+came : (c : Start) → ComesBack (described c.args.to.now) (loads c.args.loader.now) (has c.args.loader.now) c.args.returns.now
 came c = record {
   fit = fit_of (described c.args.to.now) c.args.to.now.well_formed c.args.to.now.heads;
   newest = c.requires.newest;
@@ -35,7 +35,7 @@ returns-in-Some-first_invalid c =
     let r = c.args.returns.now in
     let name = name_of new c.args.machine in
     let k = c.in-Some-first_invalid.device in
-    let wanted = recast_each to new.devices (numbers_in (kept c.args.loader.now)) in
+    let wanted = recast_each to new.devices (numbers_in (has c.args.loader.now)) in
     let there = numbers_in (carried to new (map state_of r.images.items)) in
     let cell : c.first_cell.result ≡ first_cell_at new k = c.first_cell.ensures ∙ ap (λ (s : Set). first_cell_at s k) c.set-in-Some-first_invalid.ensures in
     subst (λ (o : Option ℕ). Loses to new name wanted there (map state_of r.images.items) (Some k) o) (sym cell)

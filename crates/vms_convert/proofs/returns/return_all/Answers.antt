@@ -4,7 +4,7 @@ use Rattle.vms_spec.specs.Sets.{Set}
 use Rattle.vms_desc.specs.declared.set.DescSet.{DescSet}
 use Rattle.vms_desc.specs.Described.{described, device_at}
 use Rattle.vms_image.specs.Typed.{Typed}
-use Rattle.vms_load.specs.Kept.{kept, loads}
+use Rattle.vms_load.specs.Lean.{has, loads}
 use Rattle.vms_convert.specs.Converted.{IsPairAt, recast_each}
 use Rattle.vms_convert.specs.Lost.{numbers_in}
 use Rattle.vms_convert.specs.Returning.{IsReturned}
@@ -16,7 +16,7 @@ pub loop-device-preserved : goal.loop-device-preserved
 loop-device-preserved c =
     let to = described c.args.to.now in
     let new = loads c.args.loader.now in
-    let lists = numbers_in (kept c.args.loader.now) in
+    let lists = numbers_in (has c.args.loader.now) in
     let wanted = recast_each to new.devices lists in
     let n = c.loop-device.device in
     let p = c.pair_of-pair.result in

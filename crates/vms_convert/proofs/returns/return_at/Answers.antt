@@ -7,7 +7,7 @@ use Rattle.vms_spec.specs.Images.{Image}
 use Rattle.vms_desc.specs.Described.{described, device_at}
 use Rattle.vms_image.specs.Typed.{state_of}
 use Rattle.vms_image.proofs.States.{at_state, image_at}
-use Rattle.vms_load.specs.Kept.{kept, loads}
+use Rattle.vms_load.specs.Lean.{has, loads}
 use Rattle.vms_convert.specs.Converted.{recast_each}
 use Rattle.vms_convert.specs.Lost.{numbers_in}
 use Rattle.vms_convert.specs.Recast.{recast}
@@ -21,7 +21,7 @@ inside : (c : Start) → c.args.pair.other < length (loads c.args.loader.now).de
 inside c = slice_get_within (loads c.args.loader.now).devices c.args.pair.other _ c.requires.pair.in_new
 
 -- the image that is kept of the pair's newer device
-kept_at : (c : After-index-images-pair) → slice_get (kept c.args.loader.now) c.args.pair.other ≡ Some (state_of c.index-images-pair.result)
+kept_at : (c : After-index-images-pair) → slice_get (has c.args.loader.now) c.args.pair.other ≡ Some (state_of c.index-images-pair.result)
 kept_at c =
     let k = c.args.pair.other in
     let images = c.images.result.now in
@@ -38,7 +38,7 @@ return_image-requires-clause-recast c =
     let image = c.index-images-pair.result in
     let p = goal.at.return_image-requires-clause-recast c in
     subst (λ (s : Set). IsRecastFor to s k image.numbers) (sym c.requires.same)
-    (recast_for to new c.requires.newest (kept c.args.loader.now) c.requires.kept k (inside p.Start) (state_of image) (kept_at p.After-index-images-pair))
+    (recast_for to new c.requires.newest (has c.args.loader.now) c.requires.kept k (inside p.Start) (state_of image) (kept_at p.After-index-images-pair))
 
 pub returns : goal.returns
 returns c =
@@ -48,7 +48,7 @@ returns c =
     let k = c.args.pair.other in
     let image = c.index-images-pair.result in
     let p = goal.at.returns c in
-    let is : get_or (recast_each to new.devices (numbers_in (kept c.args.loader.now))) k [] ≡ recast to (device_at new k) image.numbers =
-    wanted_is to new c.requires.newest (kept c.args.loader.now) c.requires.kept k (inside p.Start) (state_of image) (kept_at p.After-index-images-pair) in
+    let is : get_or (recast_each to new.devices (numbers_in (has c.args.loader.now))) k [] ≡ recast to (device_at new k) image.numbers =
+    wanted_is to new c.requires.newest (has c.args.loader.now) c.requires.kept k (inside p.Start) (state_of image) (kept_at p.After-index-images-pair) in
     subst (λ (l : List ℤ). IfOk c.return_image.result (IsReturned to new i k l)) (sym is)
     (subst (λ (s : Set). IfOk c.return_image.result (IsReturned to s i k (recast to (device_at s k) image.numbers))) c.requires.same c.return_image.ensures)
