@@ -13,6 +13,7 @@ pub mod Counter
 pub mod Laws
 pub mod Limits
 pub mod Pack
+pub mod Program
 pub mod Rows
 pub mod Runs
 pub mod Show
