@@ -20,7 +20,9 @@ use Rattle.vms_spec.proofs.ListLaws.{both_none}
 use Rattle.vms_spec.proofs.WellFormedLaws.{Clean, device_parts, struct_clean, sub_clean}
 use Rattle.vms_rules_laws.specs.Eight.{At, IsDesc, IsDevice, IsName, IsSteady, IsStruct, IsSub, NamesOnly, ObeysRules}
 use Rattle.vms_rules_laws.specs.Laws.{EightLaw}
+use Rattle.vms_rules_laws.proofs.Depths.{at-there, deep_struct, shallow_struct}
 use Rattle.vms_rules_laws.proofs.Fields.{field_back, field_on, validation_back, validation_on}
+use Rattle.vms_rules_laws.proofs.Items.{set_counts}
 use Rattle.vms_rules_laws.proofs.Names.{distinct_decides, name_decides, sub_name_decides}
 use Rattle.vms_rules_laws.proofs.Tests.{all_decides, le_decides, names_decides, never, new_decides, small_decides, split, steady_decides}
 
@@ -101,20 +103,21 @@ few_back k d h = (few_decides d).1 (h.few_fields, h.few_validations)
 
 -- ---- structures
 
-struct_on : (structs : List Desc) (i : ℕ) (d : Desc) → Clean i d (struct_rules structs i d) → IsStruct structs i d
-struct_on structs i d c =
+struct_on : (structs : List Desc) (i : ℕ) (d : Desc) → At structs i d → Clean i d (struct_rules structs i d) → IsStruct structs i d
+struct_on structs i d there c =
     let own = c.own in
     let limits = and_parts (has_few d) (nat_le (get_or (struct_depths structs) i 0) 4) own.1.1.1.1.1.1.0 in
+    let few = leb-true (get_or (struct_depths structs) i 0) 4 limits.1 in
     record {
       named = (name_decides 100 d.name).0 own.0;
       new = (new_decides (λ e. e.name) structs i d.name).0 own.1.0;
       is = desc_on i d (struct_rules structs i d) c own.1.1.0 limits.0;
-      shallow = leb-true (get_or (struct_depths structs) i 0) 4 limits.1;
+      shallow = λ on. let deep = deep_struct structs 4 i (at-there structs i d d there).0 on in absurd (omega (arith, deep, few));
       some = leb-true 1 (length d.fields) own.1.1.1.1.1.1.1.0;
     }
 
-struct_back : (structs : List Desc) (i : ℕ) (d : Desc) → IsStruct structs i d → struct_fault structs i d ≡ None
-struct_back structs i d h =
+struct_back : (structs : List Desc) (i : ℕ) (d : Desc) → At structs i d → IsStruct structs i d → struct_fault structs i d ≡ None
+struct_back structs i d there h =
     let own : AllTrue (struct_rules structs i d) = (
       (name_decides 100 d.name).1 h.named,
       (
@@ -128,7 +131,7 @@ struct_back structs i d h =
               (
                 refl,
                 (
-                  and_from (has_few d) (nat_le (get_or (struct_depths structs) i 0) 4) (few_back i d h.is) (le-leb (get_or (struct_depths structs) i 0) 4 h.shallow),
+                  and_from (has_few d) (nat_le (get_or (struct_depths structs) i 0) 4) (few_back i d h.is) (le-leb (get_or (struct_depths structs) i 0) 4 (shallow_struct structs 4 i d there h.shallow)),
                   (le-leb 1 (length d.fields) h.some, tt),
                 ),
               ),
@@ -265,9 +268,9 @@ module _ (set : Set) (well : WellFormed set) where
         few_machines = leb-true (length set.machines) 16 fewer.0;
         few_structs = leb-true (length set.structs) 64 fewer.1;
         few_devices = leb-true (length set.devices) 64 few.1;
-        structs = λ i d e. struct_on set.structs i d (struct_clean set well i d e);
+        structs = λ i d e. struct_on set.structs i d e (struct_clean set well i d e);
         devices = λ i d e. device_on set i d (device_parts set well i d e).0 (λ j s f. sub_on (length set.structs) d j s (sub_clean set well i j d s e f));
-        items = leb-true (devices_items (struct_items set.structs) set.devices) MOST_ITEMS own_size.1.1.1.1.1.1.0;
+        items = let most = leb-true (devices_items (struct_items set.structs) set.devices) MOST_ITEMS own_size.1.1.1.1.1.1.0 in omega (arith, most, set_counts set set.devices);
       }
 
 well_formed : (set : Set) → ObeysRules set → WellFormed set
@@ -297,13 +300,14 @@ well_formed set h =
         ),
       ),
     ) in
+    let most : devices_items (struct_items set.structs) set.devices ≤ MOST_ITEMS = let l = h.items in omega (arith, l, set_counts set set.devices) in
     let size : AllTrue (size_rules set) =
-    (refl, (refl, (refl, (refl, (refl, (refl, (le-leb (devices_items (struct_items set.structs) set.devices) MOST_ITEMS h.items, (refl, tt)))))))) in
+    (refl, (refl, (refl, (refl, (refl, (refl, (le-leb (devices_items (struct_items set.structs) set.devices) MOST_ITEMS most, (refl, tt)))))))) in
     let structs = first_answer (struct_fault set.structs) 0 set.structs in
     let devices = first_answer (device_fault set) 0 set.devices in
     let last = failing 1 (size_rules set) (here parts.Set) in
     both_none (failing 1 (set_rules set) (here parts.Set)) (or_else structs (or_else devices last)) (none_failing 1 (set_rules set) (here parts.Set) own)
-    (both_none structs (or_else devices last) (from_zero (struct_fault set.structs) set.structs (λ i d e. struct_back set.structs i d (h.structs i d e)))
+    (both_none structs (or_else devices last) (from_zero (struct_fault set.structs) set.structs (λ i d e. struct_back set.structs i d e (h.structs i d e)))
     (both_none devices last (from_zero (device_fault set) set.devices (λ i d e. device_back set i d (h.devices i d e))) (none_failing 1 (size_rules set) (here parts.Set) size)))
 
 pub eight_holds : EightLaw

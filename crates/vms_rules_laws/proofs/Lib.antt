@@ -1,4 +1,6 @@
+pub mod Depths
 pub mod Eight
 pub mod Fields
+pub mod Items
 pub mod Names
 pub mod Tests

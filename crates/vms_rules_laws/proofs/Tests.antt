@@ -15,6 +15,7 @@ use Rattle.vms_spec.specs.Rules.{depth, has_no_test, is_earlier_in, is_num, is_o
 use Rattle.vms_spec.specs.Sets.{Formula, AtLeast, Below, Cell, Not, And, Or, Field, Desc}
 use Rattle.vms_spec.specs.Streams.{is_one_of}
 use Rattle.vms_spec.proofs.WellFormedLaws.{untested}
+use Rattle.vms_rules_laws.proofs.Depths.{part_count, deep_test, shallow_test}
 use Rattle.vms_rules_laws.specs.Eight.{At, IsEarlier, IsNew, IsSmall, IsSteady, NamesOnly, Nobody}
 
 pub le_decides : (a b : ℕ) → Decides (nat_le a b) (a ≤ b)
@@ -79,7 +80,14 @@ new_decides f xs i name =
 -- ---- formulas
 
 pub small_decides : (t : Formula) → Decides (is_small_test t) (IsSmall t)
-small_decides t = Decides-and (nat_le (nodes t) 64) (nat_le (depth t) 16) (le_decides (nodes t) 64) (le_decides (depth t) 16)
+small_decides t = (
+  λ e. let both = and_parts (nat_le (nodes t) 64) (nat_le (depth t) 16) e in
+      let few = leb-true (nodes t) 64 both.0 in
+      let shallow = leb-true (depth t) 16 both.1 in
+      record { few = omega (arith, few, part_count t); shallow = λ nests. let deep = deep_test 16 t nests in absurd (omega (arith, deep, shallow)) },
+  λ h. let few = h.few in
+      and_from (nat_le (nodes t) 64) (nat_le (depth t) 16) (le-leb (nodes t) 64 (omega (arith, few, part_count t))) (le-leb (depth t) 16 (shallow_test 16 t h.shallow)),
+)
 
 numbered : (item : Item) → is_num item ≡ true → (kind : _) × (item ≡ Num kind)
 numbered (Num kind) e = (kind, refl)

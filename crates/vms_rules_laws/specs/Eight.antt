@@ -1,6 +1,6 @@
 -- The eight rules of description sets, each as it is worded. The walk of a set gives the first rule that fails, and where; a law
 -- says that it finds none exactly where all of this holds.
-use Rattle.std.specs.Prelude.{◌≡◌, ◌⊎◌, ℕ, ◌<◌, ◌≤◌, List, ◌∷◌, ◌++◌, length, get_or, Some, None, ℤ, pos, ◌≤ℤ◌}
+use Rattle.std.specs.Prelude.{◌≡◌, ◌⊎◌, ℕ, zero, suc, ◌+◌, ◌<◌, ◌≤◌, List, [], ◌∷◌, ◌++◌, length, Some, None, ℤ, pos, ◌≤ℤ◌}
 use Rattle.std.specs.List.{slice_get}
 use Rattle.vms_kinds.specs.declared.Item.{Item}
 use Rattle.vms_kinds.specs.declared.Item.TheVariants.{Num, Equal, Unused, Struct}
@@ -12,9 +12,10 @@ use Rattle.vms_spec.specs.declared.Count.{Count}
 use Rattle.vms_spec.specs.declared.Count.TheVariants.{One, Fixed, Counted}
 use Rattle.vms_spec.specs.declared.Whose.{Whose}
 use Rattle.vms_spec.specs.declared.Whose.TheVariants.{Own, Parent}
-use Rattle.vms_spec.specs.Rules.{depth, nodes}
+use Rattle.vms_spec.specs.Images.{default_image}
 use Rattle.vms_spec.specs.Sets.{Formula, AtLeast, Below, Cell, Not, And, Or, Field, Desc, Sub, Device, Set}
-use Rattle.vms_spec.specs.WellFormed.{devices_items, struct_depths, struct_items}
+use Rattle.vms_elements.specs.Elements.{What, Number, Constant, Filler, Rule, Element}
+use Rattle.vms_elements.specs.Parts.{device_elements}
 
 -- this stands at this number of a list
 abbrev pub At : {X : Type 0} → List X → ℕ → X → Type 0
@@ -104,8 +105,62 @@ DefaultFits (Struct j) z = z ≡ pos 0
 
 -- ---- 7: limits
 
-abbrev pub IsSmall : Formula → Type 0
-IsSmall t = (nodes t ≤ 64) × (depth t ≤ 16)
+-- a test with the tests that it is made of
+abbrev pub parts_of : Formula → List Formula
+parts_of (AtLeast n) = AtLeast n ∷ []
+parts_of (Below n) = Below n ∷ []
+parts_of (Cell whose field mask rel value) = Cell whose field mask rel value ∷ []
+parts_of (Not t) = Not t ∷ parts_of t
+parts_of (And s t) = And s t ∷ (parts_of s ++ parts_of t)
+parts_of (Or s t) = Or s t ∷ (parts_of s ++ parts_of t)
+
+-- a test is joined or negated by another
+abbrev pub IsWithinTest : Formula → Formula → Type 0
+IsWithinTest s (Not t) = s ≡ t
+IsWithinTest s (And t u) = (s ≡ t) ⊎ (s ≡ u)
+IsWithinTest s (Or t u) = (s ≡ t) ⊎ (s ≡ u)
+IsWithinTest s _ = ⊥
+
+-- within a test lies one, within that another, and so on n times
+abbrev pub Nests : ℕ → Formula → Type 0
+Nests zero t = Unit {0}
+Nests (suc n) t = (s : Formula) × IsWithinTest s t × Nests n s
+
+-- it is made of at most 64, and at most 16 lie one within the other, itself among them
+pub record IsSmall (t : Formula) : Type 0 where
+  pub few : length (parts_of t) ≤ 64
+  pub shallow : Nests 16 t → ⊥
+
+-- structure i uses the earlier structure j
+pub record Uses (structs : List Desc) (i j : ℕ) : Type 0 where
+  pub desc : Desc
+  pub there : At structs i desc
+  pub place : ℕ
+  pub field : Field
+  pub among : At desc.fields place field
+  pub is : field.item ≡ Struct j
+  pub earlier : j < i
+
+-- structure i uses another, which uses another, and so on n times
+abbrev pub UsesOn : List Desc → ℕ → ℕ → Type 0
+UsesOn structs zero i = Unit {0}
+UsesOn structs (suc n) i = (j : ℕ) × Uses structs i j × UsesOn structs n j
+
+-- a number, a constant and unused bytes are an item each; the end of a description is none
+abbrev pub item_number : What → ℕ
+item_number (Number cell) = 1
+item_number (Constant kind z) = 1
+item_number (Filler n) = 1
+item_number (Rule holds) = 0
+
+abbrev pub items_among : List Element → ℕ
+items_among [] = 0
+items_among (x ∷ xs) = item_number x.what + items_among xs
+
+-- how many items devices have: arrays at their full length, and structures wherever they are used
+abbrev pub items_of : Set → List Device → ℕ
+items_of set [] = 0
+items_of set (d ∷ devices) = items_among (device_elements set d (default_image set d)) + items_of set devices
 
 -- ---- 8: counts
 
@@ -148,7 +203,7 @@ pub record IsStruct (structs : List Desc) (i : ℕ) (d : Desc) : Type 0 where
   pub named : IsName 100 d.name
   pub new : IsNew (λ e. e.name) structs i d.name
   pub is : IsDesc i d
-  pub shallow : get_or (struct_depths structs) i 0 ≤ 4
+  pub shallow : UsesOn structs 4 i → ⊥
   pub some : 1 ≤ length d.fields
 
 pub record IsSub (k : ℕ) (d : Device) (j : ℕ) (s : Sub) : Type 0 where
@@ -173,4 +228,4 @@ pub record ObeysRules (set : Set) : Type 0 where
   pub few_devices : length set.devices ≤ 64
   pub structs : (i : ℕ) (d : Desc) → At set.structs i d → IsStruct set.structs i d
   pub devices : (i : ℕ) (d : Device) → At set.devices i d → IsDevice set i d
-  pub items : devices_items (struct_items set.structs) set.devices ≤ MOST_ITEMS
+  pub items : items_of set set.devices ≤ MOST_ITEMS

@@ -1,0 +1,147 @@
+-- Structures lie as deep in one another as the walk finds, and so do tests.
+use Rattle.std.proofs.Common.{◌≡◌, ◌⊎◌, ℕ, zero, suc, ◌+◌, ◌<◌, ◌≤◌, max, nat_lt, true, false, List, [], ◌∷◌, ◌++◌, length, get_or, length-append, inl, inr, refl, sym, ap, subst, ◌∙◌, arith}
+use Rattle.std.proofs.Math.Nat.{max-le, le-max_left, le-max_right}
+use Rattle.std.proofs.lemmas.Bool.{cases_Bool, ltb-true}
+use Rattle.std.proofs.lemmas.Bool.Decides.{nat_tests}
+use Rattle.std.proofs.lemmas.List.{get_or_past}
+use Rattle.vms_kinds.specs.declared.Item.{Item}
+use Rattle.vms_kinds.specs.declared.Item.TheVariants.{Num, Equal, Unused, Struct}
+use Rattle.vms_spec.specs.Layout.{first, no_desc}
+use Rattle.vms_spec.specs.Rules.{depth, nodes}
+use Rattle.vms_spec.specs.Sets.{Formula, AtLeast, Below, Cell, Not, And, Or, Field, Desc}
+use Rattle.vms_spec.specs.WellFormed.{deepest, item_depth, struct_depths}
+use Rattle.vms_spec.proofs.Tables.{first_at, first_long}
+use Rattle.vms_rules_laws.specs.Eight.{At, IsWithinTest, Nests, Uses, UsesOn, parts_of}
+
+-- ---- tests
+
+pub part_count : (t : Formula) → length (parts_of t) ≡ nodes t
+part_count (AtLeast n) = refl
+part_count (Below n) = refl
+part_count (Cell whose field mask rel value) = refl
+part_count (Not t) = omega (arith, part_count t)
+part_count (And s t) = omega (arith, part_count s, part_count t, length-append (parts_of s) (parts_of t))
+part_count (Or s t) = omega (arith, part_count s, part_count t, length-append (parts_of s) (parts_of t))
+
+pub shallow_test : (n : ℕ) (t : Formula) → (Nests n t → ⊥) → depth t ≤ n
+shallow_test zero t h = absurd (h tt)
+shallow_test (suc n) (AtLeast m) h = omega arith
+shallow_test (suc n) (Below m) h = omega arith
+shallow_test (suc n) (Cell whose field mask rel value) h = omega arith
+shallow_test (suc n) (Not t) h = omega (arith, shallow_test n t (λ nests. h (t, refl, nests)))
+shallow_test (suc n) (And s t) h =
+    let both = max-le (shallow_test n s (λ nests. h (s, inl refl, nests))) (shallow_test n t (λ nests. h (t, inr refl, nests))) in omega (arith, both)
+shallow_test (suc n) (Or s t) h =
+    let both = max-le (shallow_test n s (λ nests. h (s, inl refl, nests))) (shallow_test n t (λ nests. h (t, inr refl, nests))) in omega (arith, both)
+
+some_depth : (t : Formula) → 1 ≤ depth t
+some_depth (AtLeast m) = omega arith
+some_depth (Below m) = omega arith
+some_depth (Cell whose field mask rel value) = omega arith
+some_depth (Not t) = omega arith
+some_depth (And s t) = omega arith
+some_depth (Or s t) = omega arith
+
+-- a test that lies within another is less deep
+within_less : (s t : Formula) → IsWithinTest s t → depth s < depth t
+within_less s (AtLeast m) w = absurd w
+within_less s (Below m) w = absurd w
+within_less s (Cell whose field mask rel value) w = absurd w
+within_less s (Not t) w = subst (λ (u : Formula). depth u < 1 + depth t) (sym w) (omega arith)
+within_less s (And t u) w = either t u w
+  where
+    either : (t u : Formula) → (s ≡ t) ⊎ (s ≡ u) → depth s < 1 + max (depth t) (depth u)
+    either t u (inl e) = let l = le-max_left (depth t) (depth u) in let same = ap depth e in omega (arith, l, same)
+    either t u (inr e) = let l = le-max_right (depth t) (depth u) in let same = ap depth e in omega (arith, l, same)
+within_less s (Or t u) w = either t u w
+  where
+    either : (t u : Formula) → (s ≡ t) ⊎ (s ≡ u) → depth s < 1 + max (depth t) (depth u)
+    either t u (inl e) = let l = le-max_left (depth t) (depth u) in let same = ap depth e in omega (arith, l, same)
+    either t u (inr e) = let l = le-max_right (depth t) (depth u) in let same = ap depth e in omega (arith, l, same)
+
+pub deep_test : (n : ℕ) (t : Formula) → Nests n t → n < depth t
+deep_test zero t h = some_depth t
+deep_test (suc n) t h = let inner = deep_test n h.0 h.2 in let less = within_less h.0 t h.1 in omega (arith, inner, less)
+
+-- ---- structures
+
+-- the depths of the first k structures
+abbrev depths : List Desc → ℕ → List ℕ
+depths ds k = first (λ earlier d. 1 + deepest earlier d.fields) ds k
+
+abbrev depth_at : List Desc → ℕ → ℕ
+depth_at ds i = get_or (struct_depths ds) i 0
+
+pub at-there : {X : Type 0} (xs : List X) (i : ℕ) (x none : X) → At xs i x → (i < length xs) × (get_or xs i none ≡ x)
+at-there [] i x none e = absurd (cc)
+at-there (y ∷ xs) zero x none e = (omega arith, cc)
+at-there (y ∷ xs) (suc i) x none e = let r = at-there xs i x none e in (omega (arith, r.0), r.1)
+
+there-at : {X : Type 0} (xs : List X) (i : ℕ) (none : X) → i < length xs → At xs i (get_or xs i none)
+there-at [] i none l = absurd (omega (arith, l))
+there-at (x ∷ xs) zero none l = refl
+there-at (x ∷ xs) (suc i) none l = there-at xs i none (omega (arith, l))
+
+most-deep : (sizes : List ℕ) (n : ℕ) (fs : List Field) → ((k : ℕ) (f : Field) → At fs k f → item_depth sizes f.item ≤ n) → deepest sizes fs ≤ n
+most-deep sizes n [] h = omega arith
+most-deep sizes n (f ∷ fs) h = max-le (h 0 f refl) (most-deep sizes n fs (λ k g e. h (suc k) g e))
+
+as-deep : (sizes : List ℕ) (fs : List Field) (k : ℕ) (f : Field) → At fs k f → item_depth sizes f.item ≤ deepest sizes fs
+as-deep sizes [] k f e = absurd (cc)
+as-deep sizes (g ∷ fs) zero f e =
+    let same : g ≡ f = cc in subst (λ (h : Field). item_depth sizes h.item ≤ max (item_depth sizes g.item) (deepest sizes fs)) same (le-max_left (item_depth sizes g.item) (deepest sizes fs))
+as-deep sizes (g ∷ fs) (suc k) f e =
+    let inner = as-deep sizes fs k f e in let l = le-max_right (item_depth sizes g.item) (deepest sizes fs) in omega (arith, inner, l)
+
+module _ (ds : List Desc) where
+  own-depth : (i : ℕ) (d : Desc) → At ds i d → depth_at ds i ≡ 1 + deepest (depths ds i) d.fields
+  own-depth i d e =
+      let there = at-there ds i d no_desc e in
+      first_at (λ earlier d. 1 + deepest earlier d.fields) ds 0 (length ds) i there.0 ∙ ap (λ (x : Desc). 1 + deepest (depths ds i) x.fields) there.1
+
+  -- the depth of an earlier structure
+  earlier-depth : (i j : ℕ) → i < length ds → j < i → get_or (depths ds i) j 0 ≡ depth_at ds j
+  earlier-depth i j l e =
+      first_at (λ earlier d. 1 + deepest earlier d.fields) ds 0 i j e ∙ sym (first_at (λ earlier d. 1 + deepest earlier d.fields) ds 0 (length ds) j (omega (arith, l, e)))
+
+  later-depth : (i j : ℕ) → i ≤ j → get_or (depths ds i) j 0 ≡ 0
+  later-depth i j l = let long = first_long (λ earlier d. 1 + deepest earlier d.fields) ds i in get_or_past (depths ds i) j 0 (omega (arith, l, long))
+
+  pub deep_struct : (n i : ℕ) → i < length ds → UsesOn ds n i → n < depth_at ds i
+  deep_struct zero i l h = let own = own-depth i (get_or ds i no_desc) (there-at ds i no_desc l) in omega (arith, own)
+  deep_struct (suc n) i l h =
+      let j = h.0 in
+      let uses = h.1 in
+      let less = uses.earlier in
+      let inner = deep_struct n j (omega (arith, less, l)) h.2 in
+      let own = own-depth i uses.desc uses.there in
+      let same = earlier-depth i j l less in
+      let among : item_depth (depths ds i) uses.field.item ≤ deepest (depths ds i) uses.desc.fields = as-deep (depths ds i) uses.desc.fields uses.place uses.field uses.among in
+      let here : get_or (depths ds i) j 0 ≤ deepest (depths ds i) uses.desc.fields = subst (λ (item : Item). item_depth (depths ds i) item ≤ deepest (depths ds i) uses.desc.fields) uses.is among in
+      omega (arith, inner, own, same, here)
+
+  -- an item of a structure that uses n at most
+  abbrev IsBounded : ℕ → Type 0
+  IsBounded n = (i : ℕ) (d : Desc) → At ds i d → (UsesOn ds n i → ⊥) → depth_at ds i ≤ n
+
+  bounded-item : (n i : ℕ) (d : Desc) → At ds i d → IsBounded n → (UsesOn ds (suc n) i → ⊥) → (k : ℕ) (f : Field) → At d.fields k f → (item : Item) → f.item ≡ item → item_depth (depths ds i) item ≤ n
+  bounded-item n i d there before h k f e (Num kind) is = omega arith
+  bounded-item n i d there before h k f e (Equal kind z) is = omega arith
+  bounded-item n i d there before h k f e (Unused m) is = omega arith
+  bounded-item n i d there before h k f e (Struct j) is = by (cases_Bool (nat_lt j i))
+    where
+      by : (nat_lt j i ≡ true) ⊎ (nat_lt j i ≡ false) → get_or (depths ds i) j 0 ≤ n
+      by (inl before_i) =
+          let less : j < i = ltb-true j i before_i in
+          let l = (at-there ds i d no_desc there).0 in
+          let same = earlier-depth i j l less in
+          let most = before j (get_or ds j no_desc) (there-at ds j no_desc (omega (arith, less, l))) (λ on. h (j, record { desc = d; there = there; place = k; field = f; among = e; is = is; earlier = less }, on)) in
+          omega (arith, same, most)
+      by (inr behind_i) = let past = later-depth i j (grind (arith, nat_tests, behind_i)) in omega (arith, past)
+
+  pub shallow_struct : (n i : ℕ) (d : Desc) → At ds i d → (UsesOn ds n i → ⊥) → depth_at ds i ≤ n
+  shallow_struct zero i d e h = absurd (h tt)
+  shallow_struct (suc n) i d e h =
+      let own = own-depth i d e in
+      let most = most-deep (depths ds i) n d.fields (λ k f g. bounded-item n i d e (shallow_struct n) h k f g f.item refl) in
+      omega (arith, own, most)
