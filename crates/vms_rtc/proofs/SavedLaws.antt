@@ -13,6 +13,7 @@ use Rattle.dev_base.proofs.RuleLaws.{AllTrue, judged-all, ok-hook}
 use Rattle.dev_base.specs.Cells.{cell_at, nat_of, flag_number, firsts, AreOf}
 use Rattle.vms_rtc.proofs.ListLaws.{AllHold, size_at, whole, of_rows, carried_rows, stands}
 use Rattle.vms_rtc.specs.Cells.{named, kinds, saved_cells, carried}
+use Rattle.vms_rtc.specs.Chip.{register}
 use Rattle.vms_rtc.specs.Laws.{SavedAreCells, SavedIsRestored}
 use Rattle.vms_rtc.specs.Saved.{CanSave, CanRestore, MayRestore, register_in, nmi_mask_in, pf_in, rules, chip_of, restored, hook_restored}
 use Rattle.vms_rtc.specs.Sound.{IsSound}
@@ -28,17 +29,26 @@ of-bytes (x ∷ xs) zero len small = absurd (omega (arith, len))
 of-bytes (x ∷ xs) (suc n) len small =
     of_more U8 (pos x) (replicate n U8) (map pos xs) (byte x (small 0 (omega arith))) (of-bytes xs n (omega (arith, len)) (λ k lt. small (suc k) (omega (arith, lt))))
 
+-- the index and as many registers as there are, each a byte
+pub record IsWide (chip : Rtc) : Type 0 where
+  pub index : chip.index < 256
+  pub count : length chip.cmos ≡ REGISTERS
+  pub bytes : (k : ℕ) → k < REGISTERS → register k chip < 256
+
+wide : (chip : Rtc) → IsSound chip → IsWide chip
+wide chip s = record { index = let index = s.index in omega (arith, index); count = s.count; bytes = s.bytes }
+
 -- what stands in each field
-holds : (chip : Rtc) → IsSound chip → AllHold (named chip) mc146818_rows
+holds : (chip : Rtc) → IsWide chip → AllHold (named chip) mc146818_rows
 holds chip s =
     let index = s.index in (
       of_more _ _ _ _ (byte chip.index (omega (arith, index))) of_none,
       (of-bytes chip.cmos 64 s.count s.bytes, (of_more _ _ _ _ (flag chip.nmi_mask) of_none, (of_more _ _ _ _ (flag chip.pf) of_none, tt))),
     )
 
-of-set : (set : ℕ) (chip : Rtc) → IsSound chip → AreOf (kinds set) (saved_cells set chip)
+pub of-set : (set : ℕ) (chip : Rtc) → IsSound chip → AreOf (kinds set) (saved_cells set chip)
 unfolding saved_cells
-of-set set chip s = of_rows (named chip) set mc146818_rows (holds chip s)
+of-set set chip s = of_rows (named chip) set mc146818_rows (holds chip (wide chip s))
 
 pub saved_are_cells : SavedAreCells
 saved_are_cells = record { of_kinds = of-set }
@@ -46,24 +56,24 @@ saved_are_cells = record { of_kinds = of-set }
 -- ---- the chip of its own cells
 
 -- the cells of the newest clock set
-abbrev newest : Rtc → List ℤ
+abbrev pub newest : Rtc → List ℤ
 newest chip = whole (named chip) mc146818_rows
 
-there : (chip : Rtc) → IsSound chip → (name : List ℕ) (k : ℕ) → k < size_at mc146818_rows name → cell_at (newest chip) (place_of_clock name + k) ≡ cell_at (numbers_of (named chip) name) k
+there : (chip : Rtc) → IsWide chip → (name : List ℕ) (k : ℕ) → k < size_at mc146818_rows name → cell_at (newest chip) (place_of_clock name + k) ≡ cell_at (numbers_of (named chip) name) k
 there chip s name k l = stands (named chip) name mc146818_rows (holds chip s) [] 0 k refl l
 
-mask-there : (chip : Rtc) → IsSound chip → nmi_mask_in (newest chip) ≡ chip.nmi_mask
+mask-there : (chip : Rtc) → IsWide chip → nmi_mask_in (newest chip) ≡ chip.nmi_mask
 mask-there chip s = ap (λ (z : ℤ). nat_of z == 1) (there chip s (codes "nmi_mask") 0 (omega arith)) ∙ flag-back chip.nmi_mask
 
-flag-there : (chip : Rtc) → IsSound chip → pf_in (newest chip) ≡ chip.pf
+flag-there : (chip : Rtc) → IsWide chip → pf_in (newest chip) ≡ chip.pf
 flag-there chip s = ap (λ (z : ℤ). nat_of z == 1) (there chip s (codes "pf") 0 (omega arith)) ∙ flag-back chip.pf
 
-register-there : (chip : Rtc) → IsSound chip → (k : ℕ) → k < REGISTERS → register_in (newest chip) k ≡ get_or chip.cmos k 0
+register-there : (chip : Rtc) → IsWide chip → (k : ℕ) → k < REGISTERS → register_in (newest chip) k ≡ get_or chip.cmos k 0
 register-there chip s k lt =
     let n = s.count in
     ap nat_of (there chip s (codes "cmos") k lt ∙ get_or-map pos chip.cmos k 0 (pos 0) (omega (arith, n, lt)))
 
-own-back : (chip : Rtc) → IsSound chip → chip_of chip.version (newest chip) ≡ chip
+pub own-back : (chip : Rtc) → IsWide chip → chip_of chip.version (newest chip) ≡ chip
 unfolding chip_of
 own-back chip s =
     let cmos : firsts REGISTERS (register_in (newest chip)) ≡ chip.cmos =
@@ -79,14 +89,14 @@ unmasked version flag h = by (nat_le NMI_SINCE version) h
     by true h = refl
     by false h = rw (h refl) refl
 
-met : (chip : Rtc) → IsSound chip → AllTrue (rules chip.version (newest chip))
+pub met : (chip : Rtc) → IsSound chip → AllTrue (rules chip.version (newest chip))
 met chip s =
-    let a : register_in (newest chip) REGISTER_A ≤ 127 = let e = register-there chip s REGISTER_A (omega arith) in let l = s.a in omega (arith, e, l) in
-    let c : register_in (newest chip) REGISTER_C ≡ 0 = register-there chip s REGISTER_C (omega arith) ∙ s.c in
-    let d : register_in (newest chip) REGISTER_D ≡ 0 = register-there chip s REGISTER_D (omega arith) ∙ s.d in
+    let a : register_in (newest chip) REGISTER_A ≤ 127 = let e = register-there chip (wide chip s) REGISTER_A (omega arith) in let l = s.a in omega (arith, e, l) in
+    let c : register_in (newest chip) REGISTER_C ≡ 0 = register-there chip (wide chip s) REGISTER_C (omega arith) ∙ s.c in
+    let d : register_in (newest chip) REGISTER_D ≡ 0 = register-there chip (wide chip s) REGISTER_D (omega arith) ∙ s.d in
     let index = s.index in (
       grind (arith, nat_tests, index),
-      (grind (arith, nat_tests, a, c, d), (unmasked chip.version (nmi_mask_in (newest chip)) (λ none. mask-there chip s ∙ s.mask none), tt)),
+      (grind (arith, nat_tests, a, c, d), (unmasked chip.version (nmi_mask_in (newest chip)) (λ none. mask-there chip (wide chip s) ∙ s.mask none), tt)),
     )
 
 -- ---- carried cells
@@ -95,15 +105,15 @@ carried-newest : (set : ℕ) (chip : Rtc) → IsSound chip → chip.version ≤ 
 unfolding saved_cells
 carried-newest set chip s le =
     let lacks : nat_le NMI_SINCE set ≡ false → chip.nmi_mask ≡ false = λ e. let none : nat_le NMI_SINCE chip.version ≡ false = grind (arith, nat_tests, le, e) in s.mask none in
-    carried_rows (named chip) set mc146818_rows (holds chip s)
+    carried_rows (named chip) set mc146818_rows (holds chip (wide chip s))
     (λ e. absurd (false≢true (sym e)), (λ e. absurd (false≢true (sym e)), (λ e. ap (λ (m : Bool). pos (flag_number m) ∷ []) (lacks e), (λ e. absurd (false≢true (sym e)), tt)))) [] 0 refl
 
-saved-newest : (chip : Rtc) → saved_cells NEWEST_CLOCK chip ≡ newest chip
+pub saved-newest : (chip : Rtc) → saved_cells NEWEST_CLOCK chip ≡ newest chip
 unfolding saved_cells
 saved-newest chip = refl
 
-restored-own : (chip : Rtc) → IsSound chip → restored chip.version (newest chip) ≡ Ok chip
-restored-own chip s = judged-all (rules chip.version (newest chip)) (chip_of chip.version (newest chip)) (met chip s) ∙ ap Ok (own-back chip s)
+pub restored-own : (chip : Rtc) → IsSound chip → restored chip.version (newest chip) ≡ Ok chip
+restored-own chip s = judged-all (rules chip.version (newest chip)) (chip_of chip.version (newest chip)) (met chip s) ∙ ap Ok (own-back chip (wide chip s))
 
 back-as : (numbers back : Numbers) (chip : Rtc) → CanSave numbers chip → IsSound chip → MayRestore back → back.level ≡ chip.version
     → CanRestore back (carried numbers.set (saved_cells numbers.set chip)) × (hook_restored back (carried numbers.set (saved_cells numbers.set chip)) ≡ Ok chip)

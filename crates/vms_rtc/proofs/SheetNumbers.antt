@@ -38,4 +38,13 @@ numbers_are = record {
   writes_data = writes-data;
   enables = enables;
   seconds = of-seconds;
+  index_port = refl;
+  data_port = refl;
+  crystal = refl;
+  register_a = refl;
+  register_b = refl;
+  register_c = refl;
+  register_d = refl;
+  registers = refl;
+  nmi = refl;
 }

@@ -1,14 +1,15 @@
 -- Laws of the chip that contracts name.
-use Rattle.std.specs.Prelude.{◌≡◌, ◌≢◌, ℕ, ℤ, ◌*◌, ◌<◌, ◌≤◌, ◌==◌, ◌&&◌, ◌||◌, ◌↔◌, ◌⊎◌, true, false, List, Option, Some, None, Ok}
+use Rattle.std.specs.Prelude.{◌≡◌, ◌≢◌, ℕ, ℤ, ◌*◌, ◌<◌, ◌≤◌, ◌==◌, ◌&&◌, ◌||◌, ◌↔◌, ◌⊎◌, true, false, List, length, Option, Some, None, Ok}
 use Rattle.vms_hooks.specs.Numbers.{Numbers}
 use Rattle.dev_base.specs.Bits.{has}
 use Rattle.dev_base.specs.Cells.{AreOf}
 use Rattle.dev_base.specs.Levels.{IsUpTo}
+use Rattle.dev_base.specs.Rules.{first_failing}
 use Rattle.vms_rtc.specs.Cells.{kinds, saved_cells, carried}
 use Rattle.vms_rtc.specs.Chip.{is_port, register, power_on, line_of, index_read, data_read, read_of, index_written, data_written, written, ticks, period_of, passed}
-use Rattle.vms_rtc.specs.Saved.{CanSave, CanRestore, MayRestore, hook_restored}
+use Rattle.vms_rtc.specs.Saved.{CanSave, CanRestore, MayRestore, rules, hook_restored}
 use Rattle.vms_rtc.specs.Sound.{IsSound}
-use Rattle.vms_rtc.specs.declared.limits.TheConstants.{NEWEST_CLOCK, REGISTER_A, REGISTER_C, REGISTER_D}
+use Rattle.vms_rtc.specs.declared.limits.TheConstants.{NEWEST_CLOCK, NMI_SINCE, INDEX_PORT, DATA_PORT, REGISTER_A, REGISTER_B, REGISTER_C, REGISTER_D, CRYSTAL_HERTZ, REGISTERS}
 use Rattle.vms_rtc.specs.declared.rtc.Rtc.{Rtc}
 
 -- the numbers of the data sheet: 0x70 is the port of the index and 0x71 that of the register that it names, bit 6 of register
@@ -21,6 +22,17 @@ pub record NumbersAre : Type 0 where
   pub writes_data : (value : ℕ) (chip : Rtc) → written 0x71 value chip ≡ data_written value chip
   pub enables : (chip : Rtc) → line_of chip ≡ (chip.pf && has (register 0x0b chip) 6)
   pub seconds : (seconds : ℕ) → ticks (seconds * 1000000000) ≡ seconds * 32768
+  -- the constants that definitions cite: the ports, the crystal, the registers by their names in the data sheet, how many there
+  -- are, and the version from which on there is a mask of NMI
+  pub index_port : INDEX_PORT ≡ 0x70
+  pub data_port : DATA_PORT ≡ 0x71
+  pub crystal : CRYSTAL_HERTZ ≡ 32768
+  pub register_a : REGISTER_A ≡ 0x0a
+  pub register_b : REGISTER_B ≡ 0x0b
+  pub register_c : REGISTER_C ≡ 0x0c
+  pub register_d : REGISTER_D ≡ 0x0d
+  pub registers : REGISTERS ≡ 64
+  pub nmi : NMI_SINCE ≡ 2
 
 -- time in two parts is time at once
 pub record PartsAreWhole : Type 0 where
@@ -71,6 +83,18 @@ pub record SavedIsRestored : Type 0 where
       → back.level ≡ chip.version
       → CanRestore back (carried numbers.set (saved_cells numbers.set chip))
       × (hook_restored back (carried numbers.set (saved_cells numbers.set chip)) ≡ Ok chip)
+
+-- a chip that a stream can tell: there are chips of its version, it has all registers, and what the newest clock set saves of
+-- it are cells of that set
+pub record IsTold (chip : Rtc) : Type 0 where
+  pub version : IsUpTo NEWEST_CLOCK chip.version
+  pub count : length chip.cmos ≡ REGISTERS
+  pub cells : AreOf (kinds NEWEST_CLOCK) (saved_cells NEWEST_CLOCK chip)
+
+-- a chip is sound exactly where it is one that a stream can tell, and no rule fails of what the newest clock set saves of it
+pub record SoundMeetsRules : Type 0 where
+  pub chip : (chip : Rtc) → IsSound chip
+      ↔ (IsTold chip × (first_failing (rules chip.version (saved_cells NEWEST_CLOCK chip)) ≡ None))
 
 -- what is restored is sound, and has the version of the restore
 pub record RestoredIsSound : Type 0 where

@@ -1,9 +1,10 @@
 // Laws of the chip, each in a clause of a function that does nothing.
 ghost use Rattle.vms_rtc.specs.Laws.{NumbersAre, PartsAreWhole, FlagIsSetAtMultiples, ReadsClearFlag, FlagsAreKept, VersionStays};
-ghost use Rattle.vms_rtc.specs.Laws.{CallsKeepSound, SavedAreCells, SavedIsRestored, RestoredIsSound};
+ghost use Rattle.vms_rtc.specs.Laws.{CallsKeepSound, SavedAreCells, SavedIsRestored, SoundMeetsRules, RestoredIsSound};
 
-/// Port 0x70 reads and writes the index, and port 0x71 the register that it names; the line asks bit 6 of register 0x0b;
-/// each second has 32,768 ticks.
+/// States the numbers of the data sheet: port 0x70 reads and writes the index, and port 0x71 the register that it names; the
+/// line asks bit 6 of register 0x0b; each second has 32,768 ticks; registers A to D are 0x0a to 0x0d of 64; and the mask of NMI
+/// is there from version 2 on.
 #[tactic(auto, using(crate::proofs::SheetNumbers::numbers_are))]
 pub fn numbers_law()
     ensures { NumbersAre }
@@ -57,6 +58,12 @@ pub fn cells_law()
 #[tactic(auto, using(crate::proofs::SavedLaws::saved_is_restored))]
 pub fn saved_law()
     ensures { SavedIsRestored }
+{}
+
+/// A chip that a stream can tell is sound exactly where no rule fails of what the newest clock set saves of it.
+#[tactic(auto, using(crate::proofs::RuleLaws::sound_meets_rules))]
+pub fn rules_law()
+    ensures { SoundMeetsRules }
 {}
 
 /// What is restored is sound, and has the version of the restore.

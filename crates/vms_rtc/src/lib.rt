@@ -14,7 +14,7 @@ mod ticks;
 
 pub use laws::{
     cells_law, flags_law, kept_law, level_law, multiple_law, numbers_law, parts_law, restored_law,
-    saved_law, sound_law,
+    rules_law, saved_law, sound_law,
 };
 pub use limits::NEWEST_CLOCK;
 pub use rtc::Rtc;
