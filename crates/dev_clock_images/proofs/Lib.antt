@@ -4,3 +4,4 @@ pub mod ClockReady
 pub mod ClockSets
 pub mod Inner
 pub mod NormalClock
+pub mod Places

@@ -1,5 +1,6 @@
 // Laws of the definitions, each stated by a function without a body.
 ghost use Rattle.dev_clock_images.specs.Laws.{KindsLaw, ChipIsReady, SavedAreReady, SavedIsCarried, ImagesComeBack, NormalMayBeRestored, SetsAreCompatible};
+ghost use Rattle.dev_clock_images.specs.Places.{PlacesLaw};
 
 /// The kinds of the cells of each device in each clock set are those that the device saves under it.
 #[tactic(auto, using(crate::proofs::ClockSets::kinds_are))]
@@ -45,4 +46,11 @@ pub fn images_law()
 #[tactic(auto, using(crate::proofs::NormalClock::normal_may_be_restored))]
 pub fn normal_law()
     ensures { NormalMayBeRestored }
+{}
+
+/// States where the devices of a clock board stand in each clock set: the clock chip is device 0, and the board's devices, which
+/// are 0 to 4 of a shipped set, are 1 to 5. A refusal names them by these numbers.
+#[tactic(auto, using(crate::proofs::Places::places_are))]
+pub fn places_law()
+    ensures { PlacesLaw }
 {}

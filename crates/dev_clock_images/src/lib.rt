@@ -4,5 +4,5 @@
 mod laws;
 
 pub use laws::{
-    carried_law, chip_law, compatible_law, images_law, kinds_law, normal_law, saved_law,
+    carried_law, chip_law, compatible_law, images_law, kinds_law, normal_law, places_law, saved_law,
 };

@@ -10,6 +10,7 @@ pub mod NormalSerial
 pub mod Parts
 pub mod PitCarried
 pub mod PitReady
+pub mod Places
 pub mod ReadyOf
 pub mod SerialCarried
 pub mod SerialReady

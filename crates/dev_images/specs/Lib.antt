@@ -1,3 +1,4 @@
 pub mod Images
 pub mod Kinds
 pub mod Laws
+pub mod Places

@@ -1,6 +1,7 @@
 // Laws of the definitions, each stated by a function without a body.
 ghost use Rattle.dev_images.specs.Laws.{TimerIsReady, ChipIsReady, PitIsReady, SerialIsReady, SavedAreReady};
 ghost use Rattle.dev_images.specs.Laws.{TimerIsCarried, ChipIsCarried, PitIsCarried, SerialIsCarried, SavedIsCarried, ImagesComeBack, NormalMayBeRestored};
+ghost use Rattle.dev_images.specs.Places.{PlacesLaw};
 
 /// The image of a board's moment is ready under each shipped set from 1 on.
 #[tactic(auto, using(crate::proofs::TimerReady::timer_is_ready))]
@@ -79,4 +80,11 @@ pub fn images_law()
 #[tactic(auto, using(crate::proofs::NormalBoard::normal_may_be_restored))]
 pub fn normal_law()
     ensures { NormalMayBeRestored }
+{}
+
+/// States where the devices of a board stand in each shipped set from 1 on: the timer is device 0, the master 1, the slave 2,
+/// the timer chip 3 and the serial port 4. A refusal names them by these numbers.
+#[tactic(auto, using(crate::proofs::Places::places_are))]
+pub fn places_law()
+    ensures { PlacesLaw }
 {}

@@ -8,5 +8,5 @@ mod laws;
 pub use cells::image_cells;
 pub use laws::{
     carried_chip_law, carried_law, carried_pit_law, carried_serial_law, carried_timer_law,
-    chip_law, images_law, normal_law, pit_law, saved_law, serial_law, timer_law,
+    chip_law, images_law, normal_law, pit_law, places_law, saved_law, serial_law, timer_law,
 };
