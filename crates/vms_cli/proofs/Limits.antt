@@ -3,4 +3,4 @@ use Rattle.std.proofs.Common.{refl}
 use Rattle.vms_cli.specs.Limits.{LimitsLaw}
 
 pub limits_hold : LimitsLaw
-limits_hold = record { file = refl; script = refl; events = refl; wait = refl; name = refl; described = refl; items = refl; unused = refl; newest = refl; newest_clock = refl; last_moment = refl; second = refl }
+limits_hold = record { file = refl; script = refl; events = refl; wait = refl; name = refl; described = refl; items = refl; unused = refl; newest_set = refl; newest = refl; newest_clock = refl; last_moment = refl; second = refl }

@@ -2,6 +2,7 @@
 -- stands here.
 use Rattle.std.specs.Prelude.{◌≡◌}
 use Rattle.dev_base.specs.declared.limits.TheConstants.{NEWEST, LAST_MOMENT, NANOSECONDS}
+use Rattle.vms_kinds.specs.declared.TheConstants.{NEWEST_SET}
 use Rattle.vms_rtc.specs.declared.limits.TheConstants.{NEWEST_CLOCK}
 use Rattle.vms_script.specs.declared.number.TheConstants.{LONGEST_WAIT}
 use Rattle.vms_spec.specs.declared.TheConstants.{LONGEST_NAME, LONGEST_TEXT, MOST_ITEMS, MOST_UNUSED}
@@ -23,6 +24,7 @@ pub record LimitsLaw : Type 0 where
   pub items : MOST_ITEMS ≡ 16384
   pub unused : MOST_UNUSED ≡ 4096
   -- the newest shipped sets, and with them the highest level and version of a board
+  pub newest_set : NEWEST_SET ≡ 4
   pub newest : NEWEST ≡ 4
   pub newest_clock : NEWEST_CLOCK ≡ 2
   -- the last moment of a board, and a second, in nanoseconds

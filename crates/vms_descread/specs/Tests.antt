@@ -17,7 +17,6 @@ use Rattle.vms_descread.specs.declared.cells.Leaf.TheVariants as leaves
 use Rattle.vms_descread.specs.declared.cells.OwnCell.{OwnCell}
 use Rattle.vms_descread.specs.declared.cells.Join.{Join}
 use Rattle.vms_descread.specs.declared.cells.Join.TheVariants as joins
-use Rattle.vms_json.specs.declared.parse.TheConstants.{DEEPEST}
 use Rattle.vms_json.specs.Answers.{Answer, good, bad, under, next, changed, given}
 use Rattle.vms_json.specs.Members.{at, u32_of, u64_of, text_of}
 use Rattle.vms_json.specs.Names.{Names, Scope, name_in}
@@ -131,10 +130,10 @@ test_as (forms.Two join) inner scope d =
     next (at two_of (key_of join) d) (λ p. under (key_of join) (both (joined join) (inner p.first) (inner p.second)))
 test_as (forms.Leaf leaf) inner scope d = leaf_as leaf scope d
 
--- A test that nests at most so deep. No value that is read nests deeper than DEEPEST, so that this bound refuses none.
+-- A test that nests at most so deep. No value that is read nests deeper than 127, so that this bound refuses none.
 abbrev pub test_within : ℕ → Scope → Data → Answer Formula
 test_within zero scope d = bad []
 test_within (suc depth) scope d = test_as (form_of d) (test_within depth scope) scope d
 
 abbrev pub test_of : Scope → Data → Answer Formula
-test_of scope d = test_within DEEPEST scope d
+test_of scope d = test_within 127 scope d

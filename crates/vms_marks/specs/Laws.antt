@@ -6,7 +6,7 @@ use Rattle.vms_marks.specs.declared.head.Head.{Head}
 use Rattle.vms_marks.specs.declared.sub_head.SubHead.{SubHead}
 use Rattle.vms_marks.specs.declared.configuration.Configuration.{Configuration}
 use Rattle.vms_marks.specs.declared.foot.Foot.{Foot}
-use Rattle.vms_marks.specs.declared.configuration.TheConstants.{LONGEST_CONFIGURATION}
+use Rattle.vms_marks.specs.declared.configuration.TheConstants.{CONFIGURATION_FRONT, LONGEST_CONFIGURATION}
 use Rattle.vms_marks.specs.declared.description.TheConstants.{LONGEST_DESCRIPTION}
 use Rattle.vms_marks.specs.declared.foot.TheConstants.{FOOT_LENGTH}
 use Rattle.vms_marks.specs.declared.head.TheConstants.{LONGEST_HEAD}
@@ -40,3 +40,7 @@ pub record LengthsAre : Type 0 where
   pub of_sub : LONGEST_SUB_HEAD ≡ 261
   pub of_description : LONGEST_DESCRIPTION ≡ 16777221
   pub of_load : BESIDE_SECTIONS + LONGEST_HEAD + LONGEST_DESCRIPTION ≡ 16777759
+  -- a section's head and its footer by themselves, and what stands before the machine's name
+  pub of_head : LONGEST_HEAD ≡ 269
+  pub of_foot : FOOT_LENGTH ≡ 5
+  pub of_front : CONFIGURATION_FRONT ≡ 5

@@ -17,7 +17,6 @@ use Rattle.vms_desc.specs.Described.{device_at}
 use Rattle.vms_desc.specs.Parts.{sub_at}
 use Rattle.vms_walk.specs.Steps.{size_in}
 use Rattle.vms_spec.specs.Images.{Image}
-use Rattle.vms_values.specs.declared.line.TheConstants.{PART_ROOM}
 use Rattle.vms_spec.specs.Values.{line_end, version_text, desc_lines, printers, Printer, item_lines, element_lines}
 
 -- the name of the machine of a number
@@ -47,15 +46,15 @@ pub record IsRun (set : Set) (f : Field) (first count : ℕ) (numbers : List ℤ
 
 -- ---- how long lines grow
 
--- so many bytes at most come behind the path of an item, besides those of its own: so many for each structure that it may go into
+-- so many bytes at most come behind the path of an item, besides those of its own: 128 for each structure that it may go into
 abbrev pub below : Item → ℕ
-below (Struct j) = PART_ROOM * (j + 1)
+below (Struct j) = 128 * (j + 1)
 below item = 0
 
 -- so many come behind the path of a part's fields
 abbrev pub below_part : Set → Part → ℕ
-below_part set (parts.Struct j) = PART_ROOM * (j + 1)
-below_part set part = PART_ROOM * (length set.structs + 1)
+below_part set (parts.Struct j) = 128 * (j + 1)
+below_part set part = 128 * (length set.structs + 1)
 
 -- a line still begins with another
 abbrev pub Stays : List ℕ → List ℕ → Type 0
