@@ -1,5 +1,6 @@
 -- Each call has one outcome, and what can be done is done.
-use Rattle.std.proofs.Common.{◌≡◌, ℕ, zero, suc, ◌+◌, ◌<◌, ◌≤◌, ◌⊎◌, List, ◌∷◌, length, length-append, take, Option, Some, None, IfSome, IsSomeAnd, refl, sym, ap, ◌∙◌, subst, arith, inl, inr, []}
+use Rattle.std.proofs.Common.{◌≡◌, ℕ, zero, suc, ◌+◌, ◌<◌, ◌≤◌, max, ◌⊎◌, List, ◌∷◌, length, length-append, take, Option, Some, None, IfSome, IsSomeAnd, refl, sym, ap, ◌∙◌, subst, arith, inl, inr, []}
+use Rattle.std.proofs.Math.Nat.{le-max_left, le-max_right}
 use Rattle.std.proofs.lemmas.List.{length-take}
 use Rattle.std.specs.Io.KnownBytes.{Appends}
 use Rattle.std.proofs.lemmas.Option.{none-some}
@@ -160,7 +161,6 @@ record IsDone (asked : Option Asked) (input : Option (List ℕ)) (held : Option 
   outcome : Outcome
   is : HasOutcome asked input held outcome
   status : outcome.status ≡ 0
-  note : outcome.note ≡ []
 
 can_be : (asked : Option Asked) (input : Option (List ℕ)) (held : Option Held) → CanBeAsked asked → IfSome held HoldsAll → CanBeDone asked input held → IsDone asked input held
 can_be None input held ask octets can = absurd can
@@ -175,14 +175,13 @@ can_be (Some (Show word)) input held ask octets can = by input can.2
           outcome = outcome;
           is = subst (λ (s : Step Set). ShowsBy s (Some bytes) held outcome) (sym can.1) (Printed takes.0 takes.1 takes.2 takes.3);
           status = refl;
-          note = refl;
         }
 can_be (Some (Convert word)) input held ask octets can =
     let one = converted_then word held input can in
-    record { outcome = done one.0 held one.1; is = one.2; status = refl; note = refl }
+    record { outcome = done one.0 held one.1; is = one.2; status = refl }
 can_be (Some Analyze) None held ask octets can = absurd can
 can_be (Some Analyze) (Some bytes) held ask octets can =
-    record { outcome = _; is = record { listing = Text can.0; lists = can.1; is = refl }; status = refl; note = refl }
+    record { outcome = _; is = record { listing = Text can.0; lists = can.1; is = refl }; status = refl }
 can_be (Some (Pack word name)) input None ask octets can = absurd can
 can_be (Some (Pack word name)) input (Some map) ask octets can =
     let stream = described_stream can.set can.machine can.images in
@@ -191,21 +190,20 @@ can_be (Some (Pack word name)) input (Some map) ask octets can =
       outcome = outcome;
       is = subst (λ (s : Step (List ℕ)). HasText (Some map) s outcome) (sym (packs_give word name map can)) refl;
       status = refl;
-      note = refl;
     }
 can_be (Some (Save board set script)) input None ask octets can = absurd can
 can_be (Some (Save (IsaBoard level) set script)) input (Some map) ask octets can =
-    record { outcome = _; is = saved_then isa level script map can set; status = refl; note = refl }
+    record { outcome = _; is = saved_then isa level script map can set; status = refl }
 can_be (Some (Save (ClockBoard version) set script)) input (Some map) ask octets can =
-    record { outcome = _; is = saved_then clock version script map can set; status = refl; note = refl }
+    record { outcome = _; is = saved_then clock version script map can set; status = refl }
 can_be (Some (Load (IsaBoard level) script)) input None ask octets can = absurd can.0
 can_be (Some (Load (IsaBoard level) script)) None (Some map) ask octets can = absurd can.1
 can_be (Some (Load (IsaBoard level) script)) (Some bytes) (Some map) ask octets can =
-    record { outcome = _; is = loaded_then isa level script map can.0 bytes can.1.0 can.1.1 can.1.2; status = refl; note = refl }
+    record { outcome = _; is = loaded_then isa level script map can.0 bytes can.1.0 can.1.1 can.1.2; status = refl }
 can_be (Some (Load (ClockBoard version) script)) input None ask octets can = absurd can.0
 can_be (Some (Load (ClockBoard version) script)) None (Some map) ask octets can = absurd can.1
 can_be (Some (Load (ClockBoard version) script)) (Some bytes) (Some map) ask octets can =
-    record { outcome = _; is = loaded_then clock version script map can.0 bytes can.1.0 can.1.1 can.1.2; status = refl; note = refl }
+    record { outcome = _; is = loaded_then clock version script map can.0 bytes can.1.0 can.1.1 can.1.2; status = refl }
 can_be (Some (Play level script)) input None ask octets can = absurd can
 can_be (Some (Play level script)) input (Some map) ask octets can =
     let read = can in
@@ -216,10 +214,9 @@ can_be (Some (Play level script)) input (Some map) ask octets can =
       is = subst (λ (s : Step (List ScriptLine)). PlaysBy level s (Some map) end.0)
           (sym (script_gives (Some level) map script read.text read.lines read.held read.short read.reads)) end.1;
       status = ap (λ (o : Outcome). o.status) end.1.outcome;
-      note = ap (λ (o : Outcome). o.note) end.1.outcome;
     }
 can_be (Some (Drill level seed count)) input held ask octets can =
-    record { outcome = done (drill_line level seed count) held 0; is = refl; status = refl; note = refl }
+    record { outcome = done (drill_line level seed count) held 0; is = refl; status = refl }
 can_be (Some (Check old new)) input held ask octets can =
     let outcome = done compatible_text held 0 in
     let agrees : HasText held (compared can.0) outcome = subst (λ (m : Option Mismatch). HasText held (verdict m) outcome) (sym can.2) refl in
@@ -227,7 +224,6 @@ can_be (Some (Check old new)) input held ask octets can =
       outcome = outcome;
       is = subst (λ (s : Step (Both Set)). HasText held (next s compared) outcome) (sym can.1) agrees;
       status = refl;
-      note = refl;
     }
 can_be (Some (Counter old new)) input held ask octets can =
     let outcome = done (counter_text can.0.old can.0.new (computed can.0.old can.0.new)) held 0 in
@@ -236,7 +232,6 @@ can_be (Some (Counter old new)) input held ask octets can =
       outcome = outcome;
       is = subst (λ (s : Step (Both Set)). CountersBy s held outcome) (sym can.1) (text_counters held (Gives can.0) outcome fit refl);
       status = refl;
-      note = refl;
     }
 
 -- no more bytes than there are
@@ -265,39 +260,40 @@ room_kept (Some most) p' (Some old) (Some new) faults n text room short appends 
 never_rose : (before now : ℕ) → now ≡ 0 → Rose before now → ⊥
 never_rose before now none rose = omega (arith, none, rose)
 
--- a line of at most 14 bytes
-line_short : (line : List ℕ) (n : ℕ) → length line ≤ 14 → length (take n line) ≤ 14
-line_short line n short = omega (arith, short, length-take n line)
+-- a line of at most so many bytes
+line_short : (line : List ℕ) (k n : ℕ) → length line ≤ n → length (take k line) ≤ n
+line_short line k n short = omega (arith, short, length-take k line)
 
-note_room : (line : List ℕ) (old new : Outlet) → length line ≤ 14 → HasRoom old 14 → AppendsPrefix old.written new.written line → new.promise ≡ old.promise
+note_room : (line : List ℕ) (old new : Outlet) (n : ℕ) → length line ≤ n → HasRoom old n → AppendsPrefix old.written new.written line → new.promise ≡ old.promise
     → KeepsPromise new.promise new.written new.faults → new.faults ≡ 0
-note_room line old new short room part same keeps =
-    room_kept old.promise new.promise old.written new.written new.faults 14 (take part.0 line) room (line_short line part.0 short) part.2 same keeps
+note_room line old new n short room part same keeps =
+    room_kept old.promise new.promise old.written new.written new.faults n (take part.0 line) room (line_short line part.0 n short) part.2 same keeps
 
-part_room : (note : List ℕ) (old new : Outlet) → note ≡ [] → HasRoom old 14 → HasPart note old.written new.written → new.promise ≡ old.promise
+part_room : (note : List ℕ) (old new : Outlet) (n : ℕ) → 14 ≤ n → length note ≤ n → HasRoom old n → HasPart note old.written new.written → new.promise ≡ old.promise
     → KeepsPromise new.promise new.written new.faults → new.faults ≡ 0
-part_room note old new none room (inl part) same keeps = note_room note old new (omega (arith, ap length none)) room part same keeps
-part_room note old new none room (inr (inl part)) same keeps = note_room read_fault old new (omega arith) room part same keeps
-part_room note old new none room (inr (inr (inl part))) same keeps = note_room write_fault old new (omega arith) room part same keeps
-part_room note old new none room (inr (inr (inr (inl part)))) same keeps = note_room shelf_fault old new (omega arith) room part same keeps
-part_room note old new none room (inr (inr (inr (inr part)))) same keeps = note_room out_of_memory old new (omega arith) room part same keeps
+part_room note old new n enough short room (inl part) same keeps = note_room note old new n short room part same keeps
+part_room note old new n enough short room (inr (inl part)) same keeps = note_room read_fault old new n (omega (arith, enough)) room part same keeps
+part_room note old new n enough short room (inr (inr (inl part))) same keeps = note_room write_fault old new n (omega (arith, enough)) room part same keeps
+part_room note old new n enough short room (inr (inr (inr (inl part)))) same keeps = note_room shelf_fault old new n (omega (arith, enough)) room part same keeps
+part_room note old new n enough short room (inr (inr (inr (inr part)))) same keeps = note_room out_of_memory old new n (omega (arith, enough)) room part same keeps
 
 -- what is written on notes of a call that stops is short
-notes_short : (status : ℕ) (old new : Outside) (o : Outcome) → o.note ≡ [] → HasRoom old.notes 14 → new.notes.promise ≡ old.notes.promise
+notes_short : (status : ℕ) (old new : Outside) (o : Outcome) (n : ℕ) → 14 ≤ n → length o.note ≤ n → HasRoom old.notes n → new.notes.promise ≡ old.notes.promise
     → KeepsPromise new.notes.promise new.notes.written new.notes.faults → StopsAt status old new o → new.notes.faults ≡ 0
-notes_short status old new o none room same keeps why = by why
+notes_short status old new o n enough short room same keeps why = by why
   where
     line : (text : List ℕ) → length text ≤ 14 → Appends old.notes.written new.notes.written text → new.notes.faults ≡ 0
-    line text short appends = room_kept old.notes.promise new.notes.promise old.notes.written new.notes.written new.notes.faults 14 text room short appends same keeps
+    line text few appends =
+        room_kept old.notes.promise new.notes.promise old.notes.written new.notes.written new.notes.faults n text room (omega (arith, few, enough)) appends same keeps
 
     by : StopsAt status old new o → new.notes.faults ≡ 0
     by (inl read) = line read_fault (omega arith) read.3
     by (inr (inl write)) = line write_fault (omega arith) write.2
-    by (inr (inr (inl notes))) = part_room o.note old.notes new.notes none room notes.1 same keeps
+    by (inr (inr (inl notes))) = part_room o.note old.notes new.notes n enough short room notes.1 same keeps
     by (inr (inr (inr (inl shelf)))) = line shelf_fault (omega arith) shelf.2
     by (inr (inr (inr (inr memory)))) = line out_of_memory (omega arith) memory.1
 
-module _ (status : ℕ) (old new : Outside) (o : Outcome) (none : o.note ≡ []) (ample : IsAmple old o) (kept : PromisesKept new) (stay : Stands old new) where
+module _ (status : ℕ) (old new : Outside) (o : Outcome) (ample : IsAmple old o) (kept : PromisesKept new) (stay : Stands old new) where
   out_short : (text : List ℕ) → length text ≤ length (text_of o.parts) → Appends old.out.written new.out.written text → new.out.faults ≡ 0
   out_short text short appends =
       room_kept old.out.promise new.out.promise old.out.written new.out.written new.out.faults (length (text_of o.parts)) text ample.out short appends stay.out.promise kept.out
@@ -317,14 +313,13 @@ module _ (status : ℕ) (old new : Outside) (o : Outcome) (none : o.note ≡ [])
   rises_never : DoesOrStops status old new o → NoneRises old new
   rises_never (inl does) =
       none-rises (out_short (text_of o.parts) (omega arith) does.text)
-      (room_kept old.notes.promise new.notes.promise old.notes.written new.notes.written new.notes.faults 14 o.note ample.notes (omega (arith, ap length none)) does.note stay.notes.promise kept.notes)
+      (room_kept old.notes.promise new.notes.promise old.notes.written new.notes.written new.notes.faults (max 14 (length o.note)) o.note ample.notes (le-max_right 14 (length o.note)) does.note stay.notes.promise kept.notes)
   rises_never (inr stops) =
-      none-rises (come_short stops.come) (notes_short status old new o none ample.notes stay.notes.promise kept.notes stops.why)
+      none-rises (come_short stops.come)
+      (notes_short status old new o (max 14 (length o.note)) (le-max_left 14 (length o.note)) (le-max_right 14 (length o.note)) ample.notes stay.notes.promise kept.notes stops.why)
 
 pub ample_holds : AmpleLaw
-ample_holds words status old new can ample kept a =
-    let d = can_be (asked_of words) old.input.left old.shelf.held (words_ask words) a.octets can in
-    rises_never status old new d.outcome d.note (ample d.outcome d.is) kept a.stands (a.outcome d.outcome d.is)
+ample_holds words status old new o is ample kept a = rises_never status old new o ample kept a.stands (a.outcome o is)
 
 comes : (status : ℕ) (old new : Outside) (o : Outcome) → o.status ≡ 0 → NoneRises old new → DoesOrStops status old new o → (status ≡ 0) ⊎ (status ≡ 10)
 comes status old new o done_so never (inl does) = inl (does.same ∙ done_so)

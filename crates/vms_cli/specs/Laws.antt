@@ -1,5 +1,5 @@
 -- What follows of all calls, and of packing and showing one after the other.
-use Rattle.std.specs.Prelude.{◌≡◌, ◌⊎◌, ℕ, ◌+◌, ◌<◌, ◌≤◌, true, List, length, Option, Some, None, Ok, IfSome, IsSomeAnd}
+use Rattle.std.specs.Prelude.{◌≡◌, ◌⊎◌, ℕ, ◌+◌, ◌<◌, ◌≤◌, max, true, List, length, Option, Some, None, Ok, IfSome, IsSomeAnd}
 use Rattle.vms_io.specs.Causes.{KeepsPromise, Rose}
 use Rattle.vms_io.specs.Shelves.{Held, HoldsAll}
 use Rattle.vms_io.specs.Told.{Outlet}
@@ -140,11 +140,11 @@ CompleteLaw = (words : List (List ℕ)) (status : ℕ) (old new : Outside) → C
 abbrev pub HasRoom : Outlet → ℕ → Type 0
 HasRoom sink bytes = IsSomeAnd sink.promise (λ room. IsSomeAnd sink.written (λ old. length old + bytes < room))
 
--- no object lists failing calls, and out and notes have room: for the text of the outcome, and for the line of a fault
+-- no object lists failing calls, and out and notes have room: for the text of the outcome, and for its line or that of a fault
 pub record IsAmple (old : Outside) (o : Outcome) : Type 0 where
   pub input : old.input.promise ≡ true
   pub out : HasRoom old.out (length (text_of o.parts))
-  pub notes : HasRoom old.notes 14
+  pub notes : HasRoom old.notes (max 14 (length o.note))
   pub shelf : old.shelf.promise ≡ true
 
 -- each object keeps its promise, as the laws of the traits have it
@@ -154,10 +154,10 @@ pub record PromisesKept (now : Outside) : Type 0 where
   pub notes : KeepsPromise now.notes.promise now.notes.written now.notes.faults
   pub shelf : now.shelf.promise ≡ true → now.shelf.faults ≡ 0
 
--- so it is where nothing can fail: then no count rises
+-- whatever the outcome is, no count rises where nothing can fail
 abbrev pub AmpleLaw : Type 0
-AmpleLaw = (words : List (List ℕ)) (status : ℕ) (old new : Outside) → CanBeDone (asked_of words) old.input.left old.shelf.held
-    → ((o : Outcome) → HasOutcome (asked_of words) old.input.left old.shelf.held o → IsAmple old o)
+AmpleLaw = (words : List (List ℕ)) (status : ℕ) (old new : Outside) (o : Outcome)
+    → HasOutcome (asked_of words) old.input.left old.shelf.held o → IsAmple old o
     → PromisesKept new → Answers words status old new → NoneRises old new
 
 -- ---- check, and then show

@@ -26,7 +26,8 @@ pub fn complete_law()
     ensures { CompleteLaw }
 {}
 
-/// Where no object lists failing calls, and out has room for the outcome's text and notes for a line, no count of faults rises.
+/// Whatever the outcome is, if it is known: where no object lists failing calls, and out has room for the outcome's text and notes
+/// for its line and for that of a fault, no count of faults rises.
 #[tactic(auto, using(crate::proofs::OutcomeLaws::ample_holds))]
 pub fn ample_law()
     ensures { AmpleLaw }
