@@ -1,5 +1,5 @@
 -- What is written of a board.
-use Rattle.std.proofs.Common.{◌≡◌, ℕ, ◌-◌, ◌<◌, ◌≤◌, ℤ, length, arith, List, Option, Some, Result, Err, sym, ap, ◌∙◌, subst}
+use Rattle.std.proofs.Common.{◌≡◌, ℕ, ◌-◌, ◌<◌, ◌≤◌, ℤ, length, arith, List, Option, Some, None, Result, Err, sym, ap, ◌∙◌, subst}
 use Rattle.std.specs.List.{slice_get}
 use Rattle.vms_io.proofs.WritingLemmas.{stops_as}
 use Rattle.vms_io.specs.Told.{Outlet}
@@ -10,7 +10,7 @@ use Rattle.vms_spec.specs.Sets.{Set}
 use Rattle.vms_spec.specs.Streams.{written, AreReady}
 use Rattle.vms_board.proofs.Imaging.{at_below}
 use Rattle.vms_board.specs.Family.{Family, MaySaveIn, Stands, images_saved}
-use Rattle.vms_board.specs.Saving.{saved_stream, Saves}
+use Rattle.vms_board.specs.Saving.{saved_stream, stream_with, Saves}
 use Rattle.vms_board.specs.declared.save.SaveFault.{SaveFault}
 use Rattle.vms_board.specs.declared.save.SaveFault.TheVariants as faults
 
@@ -40,6 +40,18 @@ module _ {S : Type 0} (f : Family S) where
       ∙ ap (λ (l : List Image). written (f.set s) (Some (f.machine (f.number m))) l (Some text)) (h ∙ i)
       ∙ ap (λ (x : List ℕ). written (f.set s) (Some (f.machine (f.number m))) (images_saved f s m) (Some x))
       (u ∙ t ∙ ap (λ (x : Set). described_text x listed) e ∙ ap (λ (l : List Image). described_text (f.set s) l) (g ∙ i))
+
+  -- what is written of them without a description
+  pub bare_bytes : (s : ℕ) (m : S) (set : Set) (made sent : List Image) (machine : ℕ)
+      → slice_get (f.set s).machines (f.number m - 1) ≡ Some (f.machine (f.number m)) → machine ≡ f.number m - 1
+      → set ≡ f.set s → made ≡ images_saved f s m → sent ≡ made
+      → written set (slice_get set.machines machine) sent None ≡ stream_with f s m None
+  unfolding stream_with
+  bare_bytes s m set made sent machine named is e i h =
+      ap (λ (n : ℕ). written set (slice_get set.machines n) sent None) is
+      ∙ ap (λ (x : Set). written x (slice_get x.machines (f.number m - 1)) sent None) e
+      ∙ ap (λ (o : Option (List ℕ)). written (f.set s) o sent None) named
+      ∙ ap (λ (l : List Image). written (f.set s) (Some (f.machine (f.number m))) l None) (h ∙ i)
 
   pub ready_are : (s : ℕ) (m : S) (set : Set) (images : List Image) → AreReady (f.set s) (images_saved f s m) → set ≡ f.set s → images ≡ images_saved f s m → AreReady set images
   ready_are s m set images r e i =

@@ -1,7 +1,7 @@
 -- The family of the boards clk-1 and clk-2 is such as code asks for.
 use Rattle.std.proofs.Common.{◌≡◌, ℕ, zero, suc, ◌-◌, ◌≤◌, Some, refl, arith}
 use Rattle.std.specs.List.{slice_get}
-use Rattle.dev_clock.proofs.ClockLaws.{clock_goes_on}
+use Rattle.dev_clock.proofs.ClockLaws.{answers_tell_int, clock_goes_on}
 use Rattle.dev_clock.proofs.RestoredLaws.{restored_is_sound}
 use Rattle.dev_clock.specs.Sound.{IsSound}
 use Rattle.dev_clock.specs.State.{power_on}
@@ -41,6 +41,7 @@ clock_stands = record {
   numbered = λ m sound. sound.devices.clock.version;
   begun = begun;
   stays = clock_goes_on.version;
+  told_int = answers_tell_int.int;
   kept = λ version lists m e. restored_is_sound.version version (cells_of lists) m e;
   ready = saved_are_ready.images;
   told = λ images kept. normal_may_be_restored.cells images kept.one_each (λ k d image there here. (kept.each k d image there here).normal);

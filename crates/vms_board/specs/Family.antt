@@ -1,5 +1,5 @@
 -- Boards of one kind: their sets, how a board goes on, and what of it is saved and restored.
-use Rattle.std.specs.Prelude.{◌≡◌, ℕ, ◌-◌, ◌≤◌, List, map, Some, Result, Ok, ℤ}
+use Rattle.std.specs.Prelude.{◌≡◌, ℕ, ◌-◌, ◌≤◌, Bool, List, map, Some, Result, Ok, ℤ}
 use Rattle.std.specs.List.{slice_get}
 use Rattle.dev_base.specs.Levels.{IsUpTo, ReachesSet}
 use Rattle.dev_board.specs.declared.event.Answer.{Answer}
@@ -21,6 +21,13 @@ pub record Family (S : Type 0) : Type 0 where
   -- the number of a board, and its moment
   pub number : S → ℕ
   pub moment : S → ℕ
+  -- its interrupt output, OUT of a counter of the timer chip at the present moment, the ports that have a device, how many bytes may
+  -- arrive on the serial line before one is lost, and the time of a character on it
+  pub int : S → Bool
+  pub output : ℕ → S → Bool
+  pub has_port : ℕ → S → Bool
+  pub room : S → ℕ
+  pub character : S → ℕ
   -- the board of a number at power on, and what an event does
   pub power_on : ℕ → S
   pub step : Event → S → Answer × S
@@ -53,6 +60,7 @@ module _ {S : Type 0} (f : Family S) where
     pub numbered : (m : S) → IsSound m → IsNumber (f.number m)
     pub begun : (number : ℕ) → f.number (f.power_on number) ≡ number
     pub stays : (event : Event) (m : S) → f.number (f.step event m).1 ≡ f.number m
+    pub told_int : (event : Event) (m : S) → (f.step event m).0.int ≡ f.int (f.step event m).1
     pub kept : (number : ℕ) (lists : List (List ℤ)) (m : S) → f.restored number lists ≡ Ok m → f.number m ≡ number
     pub ready : (set : ℕ) (m : S) → IsSound m → MaySaveIn m set → AreReady (f.set set) (images_saved set m)
     pub told : (images : List Image) → AreKept (f.set f.newest) images → AreTold (lists_in images)

@@ -7,7 +7,7 @@ use Rattle.std.specs.List.{slice_get}
 use Rattle.dev_base.specs.declared.limits.TheConstants.{NEWEST}
 use Rattle.dev_board.specs.Sound.{IsSound}
 use Rattle.dev_board.specs.State.{power_on}
-use Rattle.dev_board.proofs.ClockLaws.{clock_goes_on}
+use Rattle.dev_board.proofs.ClockLaws.{answers_tell_int, clock_goes_on}
 use Rattle.dev_board.proofs.RestoredLaws.{restored_is_sound}
 use Rattle.dev_images.proofs.BoardReady.{saved_are_ready}
 use Rattle.dev_images.proofs.NormalBoard.{normal_may_be_restored}
@@ -66,6 +66,7 @@ isa_stands = record {
   numbered = λ m sound. sound.devices.level;
   begun = λ level. power_on-level level;
   stays = clock_goes_on.level;
+  told_int = answers_tell_int.int;
   kept = λ level lists m e. restored_is_sound.level level (cells_of lists) m e;
   ready = saved_are_ready.images;
   told = λ images kept. normal_may_be_restored.cells images kept.one_each (λ k d image there here. (kept.each k d image there here).normal);

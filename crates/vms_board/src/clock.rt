@@ -59,6 +59,26 @@ impl Machine for ClockDevices {
         self.now()
     }
 
+    fn int(&self) -> bool {
+        self.int()
+    }
+
+    fn output(&self, counter: u8) -> bool {
+        self.output(counter)
+    }
+
+    fn has_port(&self, port: u16) -> bool {
+        self.has_port(port)
+    }
+
+    fn room(&self) -> u8 {
+        self.room()
+    }
+
+    fn character(&self) -> u64 {
+        self.character()
+    }
+
     fn cells(&self, set: u8) -> ClockCells {
         self.cells(set)
     }

@@ -17,9 +17,9 @@ use Rattle.vms_stream.specs.Streams.{Takes}
 use Rattle.vms_check_laws.proofs.Upgraded.{upgrade_stands}
 use Rattle.vms_board.specs.Family.{Family, MaySaveIn, Stands, images_saved, lists_in}
 use Rattle.vms_board.specs.Restoring.{TakesBoard, Back, Refused, Restores}
-use Rattle.vms_board.specs.Saving.{saved_text, saved_stream}
+use Rattle.vms_board.specs.Saving.{saved_text, saved_stream, stream_with}
 use Rattle.vms_board_streams.proofs.BytesLaws.{same_ok, never_each}
-use Rattle.vms_board_streams.specs.Streams.{StreamsStand, StreamComesBack, StreamsComeBack, BoardsGoOn, IsContinued, HasRoomFor, answers_to, trace_of, stream_with, images_carried}
+use Rattle.vms_board_streams.specs.Streams.{StreamsStand, StreamComesBack, StreamsComeBack, BoardsGoOn, IsContinued, HasRoomFor, answers_to, trace_of, images_carried}
 use Rattle.vms_check.proofs.SelfLaws.{is_among}
 
 -- ---- one accepted name

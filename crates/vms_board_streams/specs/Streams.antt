@@ -8,12 +8,12 @@ use Rattle.vms_check.specs.Comparing.{Compatible}
 use Rattle.vms_script.specs.Trace.{trace_line}
 use Rattle.vms_spec.specs.Images.{Image}
 use Rattle.vms_kinds.specs.Bytes.{IsBytes}
-use Rattle.vms_spec.specs.Streams.{longest_text, written}
+use Rattle.vms_spec.specs.Streams.{longest_text}
 use Rattle.vms_spec.specs.WellFormed.{WellFormed}
 use Rattle.vms_spec.specs.declared.Reason.{Reason}
 use Rattle.vms_board.specs.Family.{Family, MaySaveIn, images_saved, lists_in}
 use Rattle.vms_board.specs.Restoring.{Restore, Back, Refused, Restores}
-use Rattle.vms_board.specs.Saving.{saved_text, saved_stream}
+use Rattle.vms_board.specs.Saving.{saved_text, saved_stream, stream_with}
 use Rattle.vms_board_streams.specs.declared.memory.TheConstants.{STREAM_ROOM}
 
 -- a description section has room for the text
@@ -34,11 +34,6 @@ module _ {S : Type 0} (f : Family S) where
   abbrev pub after_events : List Event → S → S
   after_events events m = after_by f.step events m
 
-  -- the stream that is written of a board under a set, with this description text or without one; a board saves itself with
-  -- its own
-  unfoldable pub stream_with : ℕ → S → Option (List ℕ) → List ℕ
-  stream_with set m text = written (f.set set) (Some (f.machine (f.number m))) (images_saved f set m) text
-
   -- the images of a board under a set, carried to the newest
   abbrev pub images_carried : ℕ → S → List Image
   images_carried set m = carried (f.set set) (f.set f.newest) (images_saved f set m)
@@ -51,9 +46,9 @@ module _ {S : Type 0} (f : Family S) where
 
   -- on this stream of a board they leave the trace of that board itself going on, and all bytes are taken
   pub record IsContinued (set : ℕ) (m : S) (text : Option (List ℕ)) (events : List Event) : Type 0 where
-    pub there : GoesOn (f.number m) (stream_with set m text) events (length (stream_with set m text)) (trace_of (answers_to events m))
-    pub only : (taken : ℕ) (trace : List ℕ) → GoesOn (f.number m) (stream_with set m text) events taken trace
-        → (taken ≡ length (stream_with set m text)) × (trace ≡ trace_of (answers_to events m))
+    pub there : GoesOn (f.number m) (stream_with f set m text) events (length (stream_with f set m text)) (trace_of (answers_to events m))
+    pub only : (taken : ℕ) (trace : List ℕ) → GoesOn (f.number m) (stream_with f set m text) events taken trace
+        → (taken ≡ length (stream_with f set m text)) × (trace ≡ trace_of (answers_to events m))
 
   -- the stream that is written of a sound board under any set from its number on doesn't fill the room for one, and is bytes
   pub record StreamsAreShort (IsSound : S → Type 0) : Type 0 where

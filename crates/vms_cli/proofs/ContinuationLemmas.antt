@@ -12,7 +12,8 @@ use Rattle.vms_board_commands.specs.Load.{Loads, LoadsBy, Traces}
 use Rattle.vms_board_commands.specs.Scripts.{scripted}
 use Rattle.vms_board_streams.proofs.ClockLaws.{boards_go_on as clocks_go_on}
 use Rattle.vms_board_streams.proofs.IsaLaws.{boards_go_on}
-use Rattle.vms_board_streams.specs.Streams.{BoardsGoOn, stream_with}
+use Rattle.vms_board.specs.Saving.{stream_with}
+use Rattle.vms_board_streams.specs.Streams.{BoardsGoOn}
 use Rattle.vms_commands.specs.Outcomes.{Outcome, Outside, DoesOrStops, done}
 use Rattle.vms_commands.specs.Steps.{Step, Untold, Gives, Ends}
 use Rattle.vms_script.specs.Lines.{ScriptLine}

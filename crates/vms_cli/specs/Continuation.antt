@@ -7,7 +7,8 @@ use Rattle.vms_board.specs.Clock.{clock}
 use Rattle.vms_board.specs.Family.{Family}
 use Rattle.vms_board.specs.Isa.{isa}
 use Rattle.vms_board_commands.specs.Scripts.{scripted}
-use Rattle.vms_board_streams.specs.Streams.{HasRoomFor, stream_with}
+use Rattle.vms_board.specs.Saving.{stream_with}
+use Rattle.vms_board_streams.specs.Streams.{HasRoomFor}
 use Rattle.vms_commands.specs.Outcomes.{Outcome, Outside, DoesOrStops, done}
 use Rattle.vms_commands.specs.Steps.{Step, Untold, Gives, Ends}
 use Rattle.vms_script.specs.Lines.{ScriptLine}
