@@ -13,18 +13,18 @@ use Rattle.vms_board.proofs.board.MachineBoard.save_bare_by.Goals.{After-deref}
 
 pub write_stream-requires-clause-machine : goal.write_stream-requires-clause-machine
 write_stream-requires-clause-machine g c =
-    machine_below g.M.Machine.family g.met.M.Machine.stands c.self.inside.devices c.args.self.now.state c.args.set (described c.args.own.now) c.machine.result
-    c.self.invariant.sound (ap (λ b. b.state) c.self.view_is) c.requires.may c.machine.ensures c.requires.own
+    machine_below g.M.Machine.family g.met.M.Machine.stands c.self.inside.devices c.args.self.now.state c.args.set (described c.args.own.now) c.machine-machine.result
+    c.self.invariant.sound (ap (λ b. b.state) c.self.view_is) c.requires.may c.machine-machine.ensures c.requires.own
 
 -- what is written is the board's stream without a description
-bytes_are : (g : Over) (c : goal.After-deref g) → written (described c.args.own.now) (slice_get (described c.args.own.now).machines c.machine.result) (map state_of c.deref.result.now) None ≡ stream_with g.M.Machine.family c.args.set c.args.self.now.state None
+bytes_are : (g : Over) (c : goal.After-deref g) → written (described c.args.own.now) (slice_get (described c.args.own.now).machines c.machine-machine.result) (map state_of c.deref.result.now) None ≡ stream_with g.M.Machine.family c.args.set c.args.self.now.state None
 bytes_are g c =
     let f = g.M.Machine.family in
     let m = c.args.self.now.state in
     let same = ap (λ b. b.state) c.self.view_is in
     let named = machine_named f g.met.M.Machine.stands c.self.inside.devices m c.args.set c.self.invariant.sound same c.requires.may in
     bare_bytes f c.args.set m (described c.args.own.now) (map state_of c.in_ok-images.images.items) (map state_of c.deref.result.now)
-    c.machine.result named (c.machine.ensures ∙ ap (λ x. f.number x - 1) same) c.requires.own c.in_ok-images.ensures.states (ap (map state_of) c.deref.ensures.value)
+    c.machine-machine.result named (c.machine-machine.ensures ∙ ap (λ x. f.number x - 1) same) c.requires.own c.in_ok-images.ensures.states (ap (map state_of) c.deref.ensures.value)
 
 pub returns-in_err-write_stream : goal.returns-in_err-write_stream
 returns-in_err-write_stream g c =
