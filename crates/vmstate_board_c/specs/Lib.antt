@@ -1,0 +1,5 @@
+pub mod Answers
+pub mod Kinds
+pub mod Reasons
+pub mod Seals
+pub mod Streams

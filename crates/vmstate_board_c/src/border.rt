@@ -1,0 +1,185 @@
+// Making and freeing a board, and what happens to it.
+ghost use Rattle.std.specs.Prelude.{◌≡◌, IsTrue, IfSome, Some, None};
+ghost use Rattle.dev_board.specs.Step.{names_wire};
+ghost use Rattle.dev_board.specs.declared.event.Event.TheVariants.{Read, Write, Byte};
+ghost use Rattle.vmstate_board_c.specs.Answers.{IsAccess, Made, acknowledges, acts, acts_after, board_of, event_at, time_to, wire_at};
+ghost use Rattle.vmstate_board_c.specs.Kinds.{is_made, power_on_of};
+
+use crate::answer::{CAnswer, answered, nothing};
+use crate::handle::Handle;
+use crate::held::Held;
+use crate::kinds::{AnyBoard, is_kind};
+use crate::status::{DONE, NO_BOARD, NO_MEMORY, NONE_SUCH, PAST};
+use dev_board::{Event, is_wire};
+use std::alloc::Global;
+use std::mem;
+
+/// Makes the board of kind `kind` and level `level` at power on, and frees the board that the handle owns, if any.
+///
+/// The status is 2 if there is no such board, and 10 if memory runs out; the handle is as it was then.
+#[unsafe(no_mangle)]
+pub extern "C" fn vmstate_board_new(alloc: Global, handle: &mut Handle, kind: u8, level: u8) -> u32
+    ensures { Made kind level (board_of handle.old) (board_of handle.new) result }
+{
+    if !is_kind(kind, level) {
+        return NONE_SUCH;
+    }
+    match made(alloc, kind, level) {
+        Some(held) => {
+            drop(mem::replace(handle, Handle::of(held)).into_box());
+            DONE
+        }
+        None => NO_MEMORY,
+    }
+}
+
+// A board at power on, on the heap.
+fn made(alloc: Global, kind: u8, level: u8) -> Option<Box<Held>>
+    requires { IsTrue (is_made kind level) }
+    ensures { IfSome result (λ held. held.value.board ≡ power_on_of kind level) }
+{
+    let board = AnyBoard::new(alloc, kind, level).ok()?;
+    Box::new(alloc, Held { board }).ok()
+}
+
+/// Frees the board that the handle owns, if any.
+#[unsafe(no_mangle)]
+pub extern "C" fn vmstate_board_free(alloc: Global, handle: &mut Handle)
+    ensures { board_of handle.new ≡ None }
+{
+    drop(handle.take(alloc));
+}
+
+/// Lets time pass up to `moment`, and reads a port.
+#[unsafe(no_mangle)]
+pub extern "C" fn vmstate_board_in(
+    alloc: Global,
+    handle: &mut Handle,
+    moment: u64,
+    port: u16,
+) -> CAnswer
+    ensures { (result, board_of handle.new) ≡ event_at moment (Read port) (board_of handle.old) }
+{
+    access(alloc, handle, moment, Event::Read { port })
+}
+
+/// Lets time pass up to `moment`, and writes a byte to a port.
+#[unsafe(no_mangle)]
+pub extern "C" fn vmstate_board_out(
+    alloc: Global,
+    handle: &mut Handle,
+    moment: u64,
+    port: u16,
+    value: u8,
+) -> CAnswer
+    ensures { (result, board_of handle.new)
+        ≡ event_at moment (Write port value) (board_of handle.old) }
+{
+    access(alloc, handle, moment, Event::Write { port, value })
+}
+
+/// Lets time pass up to `moment`, at which a byte arrives on the serial line.
+#[unsafe(no_mangle)]
+pub extern "C" fn vmstate_board_receive(
+    alloc: Global,
+    handle: &mut Handle,
+    moment: u64,
+    value: u8,
+) -> CAnswer
+    ensures { (result, board_of handle.new) ≡ event_at moment (Byte value) (board_of handle.old) }
+{
+    access(alloc, handle, moment, Event::Byte { value })
+}
+
+/// Lets time pass up to `moment`, at which a wire rises or falls.
+///
+/// The status is 2 if `input` is none of 1, 3, 5, 6, 7 and 8 to 15.
+#[unsafe(no_mangle)]
+pub extern "C" fn vmstate_board_wire(
+    alloc: Global,
+    handle: &mut Handle,
+    moment: u64,
+    input: u8,
+    up: bool,
+) -> CAnswer
+    ensures { (result, board_of handle.new) ≡ wire_at moment input up (board_of handle.old) }
+{
+    if !is_wire(input) {
+        return nothing(NONE_SUCH);
+    }
+    access(alloc, handle, moment, Event::Wire { input, up })
+}
+
+/// Lets time pass up to `moment`.
+#[unsafe(no_mangle)]
+pub extern "C" fn vmstate_board_advance(alloc: Global, handle: &mut Handle, moment: u64) -> CAnswer
+    ensures { (result, board_of handle.new) ≡ time_to moment (board_of handle.old) }
+{
+    let Some(mut held) = handle.take(alloc) else {
+        return nothing(NO_BOARD);
+    };
+    let now = held.board.now();
+    let answer = if moment < now {
+        nothing(PAST)
+    } else {
+        act(&mut held.board, Event::Wait { ns: moment - now })
+    };
+    *handle = Handle::of(held);
+    answer
+}
+
+/// Acknowledges an interrupt: the value is its vector.
+#[unsafe(no_mangle)]
+pub extern "C" fn vmstate_board_ack(alloc: Global, handle: &mut Handle) -> CAnswer
+    ensures { (result, board_of handle.new) ≡ acknowledges (board_of handle.old) }
+{
+    let Some(mut held) = handle.take(alloc) else {
+        return nothing(NO_BOARD);
+    };
+    let answer = act(&mut held.board, Event::Ack);
+    *handle = Handle::of(held);
+    answer
+}
+
+// Lets an event happen at a moment.
+#[inline(always)]
+fn access(alloc: Global, handle: &mut Handle, moment: u64, event: Event) -> CAnswer
+    requires wire { IsTrue (names_wire event) }
+    requires access { IsAccess event }
+    ensures { (result, board_of handle.new) ≡ event_at moment event (board_of handle.old) }
+{
+    let Some(mut held) = handle.take(alloc) else {
+        return nothing(NO_BOARD);
+    };
+    let now = held.board.now();
+    let answer = if moment == now {
+        act(&mut held.board, event)
+    } else if moment < now {
+        nothing(PAST)
+    } else {
+        act_later(&mut held.board, moment - now, event)
+    };
+    *handle = Handle::of(held);
+    answer
+}
+
+// Lets an event happen now.
+#[inline(always)]
+fn act(board: &mut AnyBoard, event: Event) -> CAnswer
+    requires { IsTrue (names_wire event) }
+    ensures { (result, Some board.new) ≡ acts event board.old }
+{
+    let answer = board.event(event);
+    answered(answer.value, answer.int, answer.sent.as_slice())
+}
+
+// Lets time pass, and then an event happen, by which no byte leaves.
+fn act_later(board: &mut AnyBoard, ns: u64, event: Event) -> CAnswer
+    requires wire { IsTrue (names_wire event) }
+    requires access { IsAccess event }
+    ensures { (result, Some board.new) ≡ acts_after ns event board.old }
+{
+    let passed = board.event(Event::Wait { ns });
+    let answer = board.event(event);
+    answered(answer.value, answer.int, passed.sent.as_slice())
+}

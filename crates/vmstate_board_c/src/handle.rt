@@ -1,0 +1,61 @@
+// What C keeps: a board or none.
+ghost use Rattle.std.specs.Prelude.{◌≡◌, Option, Some, None, MatchOption};
+ghost use Rattle.std.specs.Option.{is_some};
+
+use crate::held::Held;
+use crate::parts::Parts;
+use crate::seal::Seal;
+use std::alloc::Global;
+use std::mem;
+
+/// A board of the caller's, or none. All bytes 0 are none.
+#[repr(C)]
+#[derive(Drop)]
+pub struct Handle {
+    seal: Seal,
+    is_made: bool,
+    ghost tie: { is_some seal.held ≡ is_made },
+}
+
+impl Handle {
+    /// Returns a handle of no board.
+    pub(crate) fn none(alloc: Global) -> Handle
+        ensures { result.seal.held ≡ None }
+    {
+        Handle {
+            seal: Seal::none(alloc),
+            is_made: false,
+        }
+    }
+
+    /// Returns a handle that owns a board.
+    pub(crate) fn of(held: Box<Held>) -> Handle
+        ensures { result.seal.held ≡ Some held.value }
+    {
+        Handle {
+            seal: Seal::of_parts(Parts::of(held)),
+            is_made: true,
+        }
+    }
+
+    /// Returns the board, if there is one.
+    pub(crate) fn into_box(self) -> Option<Box<Held>>
+        ensures { MatchOption result (self.seal.held ≡ None) (λ held. self.seal.held ≡ Some held.value) }
+    {
+        let Handle { seal, is_made } = self;
+        if is_made {
+            Some(seal.into_parts().into_box())
+        } else {
+            None
+        }
+    }
+
+    /// Returns the board, if there is one, and leaves a handle of none.
+    pub(crate) fn take(&mut self, alloc: Global) -> Option<Box<Held>>
+        ensures taken { MatchOption result (self.old.seal.held ≡ None)
+            (λ held. self.old.seal.held ≡ Some held.value) }
+        ensures none { self.new.seal.held ≡ None }
+    {
+        mem::replace(self, Handle::none(alloc)).into_box()
+    }
+}

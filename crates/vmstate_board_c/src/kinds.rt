@@ -1,0 +1,135 @@
+// Boards of both kinds.
+ghost use Rattle.std.specs.Prelude.{◌≡◌, ◌<◌, IsTrue, IfOk};
+ghost use Rattle.dev_board.specs.Step.{names_wire};
+ghost use Rattle.vmstate_board_c.specs.Kinds.{character_of, has_port_of, int_of, is_made, level_of, now_of, output_of, power_on_of, room_of, step_of};
+
+use dev_board::{Answer, Event};
+use std::alloc::Global;
+use vms_board::{Board, ClockBoard, NoMemory};
+
+/// A board of one of the two kinds.
+#[derive(Drop)]
+pub enum AnyBoard {
+    /// `isa-1` to `isa-4`.
+    Isa(Board),
+    /// `clk-1` and `clk-2`.
+    Clock(ClockBoard),
+}
+
+/// The number of the kind of `isa-1` to `isa-4`.
+const ISA: u8 = 0;
+
+/// The number of the kind of `clk-1` and `clk-2`.
+const CLOCK: u8 = 1;
+
+/// Tells whether there are boards of kind `kind` and level `level`.
+pub(crate) fn is_kind(kind: u8, level: u8) -> bool
+    ensures { result ≡ is_made kind level }
+{
+    match kind {
+        ISA => 1 <= level && level <= 4,
+        CLOCK => 1 <= level && level <= 2,
+        _ => false,
+    }
+}
+
+impl AnyBoard {
+    /// Returns the board of kind `kind` and level `level` at power on.
+    ///
+    /// # Errors
+    ///
+    /// [`NoMemory`] if memory runs out.
+    pub(crate) fn new(alloc: Global, kind: u8, level: u8) -> Result<AnyBoard, NoMemory>
+        requires { IsTrue (is_made kind level) }
+        ensures { IfOk result (λ board. board ≡ power_on_of kind level) }
+    {
+        if kind == ISA {
+            Ok(AnyBoard::Isa(Board::new(alloc, level)?))
+        } else {
+            Ok(AnyBoard::Clock(ClockBoard::new(alloc, level)?))
+        }
+    }
+
+    /// Lets an event happen, and answers.
+    #[inline(always)]
+    pub(crate) fn event(&mut self, event: Event) -> Answer
+        requires { IsTrue (names_wire event) }
+        ensures { (result, self.new) ≡ step_of event self.old }
+    {
+        match self {
+            AnyBoard::Isa(board) => board.event(event),
+            AnyBoard::Clock(board) => board.event(event),
+        }
+    }
+
+    /// Returns the present moment.
+    pub(crate) fn now(&self) -> u64
+        ensures { result ≡ now_of self.now }
+    {
+        match self {
+            AnyBoard::Isa(board) => board.now(),
+            AnyBoard::Clock(board) => board.now(),
+        }
+    }
+
+    /// Returns the level, or the version of the clock chip.
+    pub(crate) fn level(&self) -> u8
+        ensures { result ≡ level_of self.now }
+    {
+        match self {
+            AnyBoard::Isa(board) => board.number(),
+            AnyBoard::Clock(board) => board.number(),
+        }
+    }
+
+    /// Tells whether the interrupt output is high.
+    pub(crate) fn int(&self) -> bool
+        ensures { result ≡ int_of self.now }
+    {
+        match self {
+            AnyBoard::Isa(board) => board.int(),
+            AnyBoard::Clock(board) => board.int(),
+        }
+    }
+
+    /// Tells whether OUT of counter `counter` is high at the present moment.
+    pub(crate) fn output(&self, counter: u8) -> bool
+        requires { counter < 3 }
+        ensures { result ≡ output_of counter self.now }
+    {
+        match self {
+            AnyBoard::Isa(board) => board.output(counter),
+            AnyBoard::Clock(board) => board.output(counter),
+        }
+    }
+
+    /// Tells whether a device is behind the port `port`.
+    pub(crate) fn has_port(&self, port: u16) -> bool
+        ensures { result ≡ has_port_of port self.now }
+    {
+        match self {
+            AnyBoard::Isa(board) => board.has_port(port),
+            AnyBoard::Clock(board) => board.has_port(port),
+        }
+    }
+
+    /// Returns how many bytes may arrive on the serial line before one is lost.
+    pub(crate) fn room(&self) -> u8
+        ensures { result ≡ room_of self.now }
+    {
+        match self {
+            AnyBoard::Isa(board) => board.room(),
+            AnyBoard::Clock(board) => board.room(),
+        }
+    }
+
+    /// Returns the time of one character on the serial line.
+    pub(crate) fn character(&self) -> u64
+        ensures { result ≡ character_of self.now }
+    {
+        match self {
+            AnyBoard::Isa(board) => board.character(),
+            AnyBoard::Clock(board) => board.character(),
+        }
+    }
+}

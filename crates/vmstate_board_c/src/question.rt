@@ -1,0 +1,112 @@
+// Questions to a board.
+ghost use Rattle.std.specs.Prelude.{◌≡◌};
+ghost use Rattle.vmstate_board_c.specs.Answers.{board_of, flag as flag_of, number as number_of, output_told, told};
+ghost use Rattle.vmstate_board_c.specs.Kinds.{character_of, has_port_of, int_of, level_of, now_of, room_of};
+
+use crate::answer::{CNumber, flag, no_number, number};
+use crate::handle::Handle;
+use crate::status::{NO_BOARD, NONE_SUCH};
+use std::alloc::Global;
+
+/// Tells whether the interrupt output is high, as 1 or 0.
+#[unsafe(no_mangle)]
+pub extern "C" fn vmstate_board_int(alloc: Global, handle: &mut Handle) -> CNumber
+    ensures same { board_of handle.new ≡ board_of handle.old }
+    ensures number { result ≡ told (λ m. flag_of (int_of m)) (board_of handle.old) }
+{
+    let Some(held) = handle.take(alloc) else {
+        return no_number(NO_BOARD);
+    };
+    let answer = flag(held.board.int());
+    *handle = Handle::of(held);
+    answer
+}
+
+/// Returns how many bytes may arrive on the serial line before one is lost.
+#[unsafe(no_mangle)]
+pub extern "C" fn vmstate_board_room(alloc: Global, handle: &mut Handle) -> CNumber
+    ensures same { board_of handle.new ≡ board_of handle.old }
+    ensures number { result ≡ told (λ m. number_of (room_of m)) (board_of handle.old) }
+{
+    let Some(held) = handle.take(alloc) else {
+        return no_number(NO_BOARD);
+    };
+    let answer = number(u64::from(held.board.room()));
+    *handle = Handle::of(held);
+    answer
+}
+
+/// Returns the time of one character on the serial line, in nanoseconds.
+#[unsafe(no_mangle)]
+pub extern "C" fn vmstate_board_character(alloc: Global, handle: &mut Handle) -> CNumber
+    ensures same { board_of handle.new ≡ board_of handle.old }
+    ensures number { result ≡ told (λ m. number_of (character_of m)) (board_of handle.old) }
+{
+    let Some(held) = handle.take(alloc) else {
+        return no_number(NO_BOARD);
+    };
+    let answer = number(held.board.character());
+    *handle = Handle::of(held);
+    answer
+}
+
+/// Tells whether a device of the board is behind the port `port`, as 1 or 0.
+#[unsafe(no_mangle)]
+pub extern "C" fn vmstate_board_has_port(alloc: Global, handle: &mut Handle, port: u16) -> CNumber
+    ensures same { board_of handle.new ≡ board_of handle.old }
+    ensures number { result ≡ told (λ m. flag_of (has_port_of port m)) (board_of handle.old) }
+{
+    let Some(held) = handle.take(alloc) else {
+        return no_number(NO_BOARD);
+    };
+    let answer = flag(held.board.has_port(port));
+    *handle = Handle::of(held);
+    answer
+}
+
+/// Returns the board's moment.
+#[unsafe(no_mangle)]
+pub extern "C" fn vmstate_board_now(alloc: Global, handle: &mut Handle) -> CNumber
+    ensures same { board_of handle.new ≡ board_of handle.old }
+    ensures number { result ≡ told (λ m. number_of (now_of m)) (board_of handle.old) }
+{
+    let Some(held) = handle.take(alloc) else {
+        return no_number(NO_BOARD);
+    };
+    let answer = number(held.board.now());
+    *handle = Handle::of(held);
+    answer
+}
+
+/// Returns the board's level, or the version of its clock chip.
+#[unsafe(no_mangle)]
+pub extern "C" fn vmstate_board_level(alloc: Global, handle: &mut Handle) -> CNumber
+    ensures same { board_of handle.new ≡ board_of handle.old }
+    ensures number { result ≡ told (λ m. number_of (level_of m)) (board_of handle.old) }
+{
+    let Some(held) = handle.take(alloc) else {
+        return no_number(NO_BOARD);
+    };
+    let answer = number(u64::from(held.board.level()));
+    *handle = Handle::of(held);
+    answer
+}
+
+/// Tells whether OUT of counter `counter`, 0 to 2, is high at the board's moment, as 1 or 0.
+///
+/// The status is 2 if there is no such counter.
+#[unsafe(no_mangle)]
+pub extern "C" fn vmstate_board_output(alloc: Global, handle: &mut Handle, counter: u8) -> CNumber
+    ensures same { board_of handle.new ≡ board_of handle.old }
+    ensures number { result ≡ output_told counter (board_of handle.old) }
+{
+    if counter > 2 {
+        return no_number(NONE_SUCH);
+    }
+    let Some(held) = handle.take(alloc) else {
+        return no_number(NO_BOARD);
+    };
+    let answer = flag(held.board.output(counter));
+    *handle = Handle::of(held);
+    answer
+}
