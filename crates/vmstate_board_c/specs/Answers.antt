@@ -9,7 +9,7 @@ use Rattle.vmstate_board_c.specs.Kinds.{is_made, now_of, output_of, power_on_of,
 use Rattle.vmstate_board_c.specs.declared.answer.CAnswer.{CAnswer}
 use Rattle.vmstate_board_c.specs.declared.answer.CNumber.{CNumber}
 use Rattle.vmstate_board_c.specs.declared.handle.Handle.{Handle}
-use Rattle.vmstate_board_c.specs.declared.kinds.AnyBoard.{AnyBoard}
+use Rattle.vmstate_board_c.specs.declared.held.AnyBoard.{AnyBoard}
 
 -- the board that a handle owns, if it owns one
 abbrev pub board_of : Handle → Option AnyBoard
@@ -47,8 +47,8 @@ passes moment board = acts (Wait (moment - now_of board)) board
 abbrev pub acts_after : ℕ → Event → AnyBoard → CAnswer × Option AnyBoard
 acts_after ns event board =
     let first = step_of (Wait ns) board in
-    let then = step_of event first.1 in
-    (said then.0.value then.0.int (first.0.sent.items ++ then.0.sent.items), Some then.1)
+    let last = step_of event first.1 in
+    (said last.0.value last.0.int (first.0.sent.items ++ last.0.sent.items), Some last.1)
 
 -- an event at a moment that isn't before the board's; at the board's own moment it is an event now
 abbrev pub acts_at : ℕ → Event → AnyBoard → CAnswer × Option AnyBoard

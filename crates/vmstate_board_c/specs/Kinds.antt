@@ -8,8 +8,8 @@ use Rattle.vms_board.specs.Clock.{clock}
 use Rattle.vms_board.specs.Family.{Family}
 use Rattle.vms_board.specs.Isa.{isa}
 use Rattle.vms_board.specs.Standing.{Standing}
-use Rattle.vmstate_board_c.specs.declared.kinds.AnyBoard.{AnyBoard}
-use Rattle.vmstate_board_c.specs.declared.kinds.AnyBoard.TheVariants.{Isa, Clock}
+use Rattle.vmstate_board_c.specs.declared.held.AnyBoard.{AnyBoard}
+use Rattle.vmstate_board_c.specs.declared.held.AnyBoard.TheVariants.{Isa, Clock}
 
 -- there are boards isa-1 to isa-4, which are of kind 0, and clk-1 and clk-2, of kind 1
 abbrev pub is_made : (kind level : ℕ) → Bool

@@ -13,8 +13,8 @@ use Rattle.vms_io.specs.Told.{Intake}
 use Rattle.vmstate_board_c.specs.Answers.{no_number}
 use Rattle.vmstate_board_c.specs.Reasons.{reason_number, rule_of}
 use Rattle.vmstate_board_c.specs.declared.answer.CNumber.{CNumber}
-use Rattle.vmstate_board_c.specs.declared.kinds.AnyBoard.{AnyBoard}
-use Rattle.vmstate_board_c.specs.declared.kinds.AnyBoard.TheVariants.{Isa, Clock}
+use Rattle.vmstate_board_c.specs.declared.held.AnyBoard.{AnyBoard}
+use Rattle.vmstate_board_c.specs.declared.held.AnyBoard.TheVariants.{Isa, Clock}
 use Rattle.vmstate_board_c.specs.declared.stream.CRestored.{CRestored}
 
 -- ---- saving

@@ -7,8 +7,8 @@ ghost use Rattle.vmstate_board_c.specs.Kinds.{is_made, power_on_of};
 
 use crate::answer::{CAnswer, answered, nothing};
 use crate::handle::Handle;
-use crate::held::Held;
-use crate::kinds::{AnyBoard, is_kind};
+use crate::held::{AnyBoard, Held};
+use crate::kinds::is_kind;
 use crate::status::{DONE, NO_BOARD, NO_MEMORY, NONE_SUCH, PAST};
 use dev_board::{Event, is_wire};
 use std::alloc::Global;
@@ -118,12 +118,7 @@ pub extern "C" fn vmstate_board_advance(alloc: Global, handle: &mut Handle, mome
     let Some(mut held) = handle.take(alloc) else {
         return nothing(NO_BOARD);
     };
-    let now = held.board.now();
-    let answer = if moment < now {
-        nothing(PAST)
-    } else {
-        act(&mut held.board, Event::Wait { ns: moment - now })
-    };
+    let answer = pass(&mut held.board, moment);
     *handle = Handle::of(held);
     answer
 }
@@ -151,16 +146,37 @@ fn access(alloc: Global, handle: &mut Handle, moment: u64, event: Event) -> CAns
     let Some(mut held) = handle.take(alloc) else {
         return nothing(NO_BOARD);
     };
-    let now = held.board.now();
-    let answer = if moment == now {
-        act(&mut held.board, event)
-    } else if moment < now {
-        nothing(PAST)
-    } else {
-        act_later(&mut held.board, moment - now, event)
-    };
+    let answer = act_at(&mut held.board, moment, event);
     *handle = Handle::of(held);
     answer
+}
+
+// Lets time pass up to a moment that isn't before the board's.
+fn pass(board: &mut AnyBoard, moment: u64) -> CAnswer
+    ensures { (result, Some board.new) ≡ time_to moment (Some board.old) }
+{
+    let now = board.now();
+    if moment < now {
+        return nothing(PAST);
+    }
+    act(board, Event::Wait { ns: moment - now })
+}
+
+// Lets an event happen at a moment that isn't before the board's.
+#[inline(always)]
+fn act_at(board: &mut AnyBoard, moment: u64, event: Event) -> CAnswer
+    requires wire { IsTrue (names_wire event) }
+    requires access { IsAccess event }
+    ensures { (result, Some board.new) ≡ event_at moment event (Some board.old) }
+{
+    let now = board.now();
+    if moment == now {
+        return act(board, event);
+    }
+    if moment < now {
+        return nothing(PAST);
+    }
+    act_later(board, moment - now, event)
 }
 
 // Lets an event happen now.
@@ -174,6 +190,7 @@ fn act(board: &mut AnyBoard, event: Event) -> CAnswer
 }
 
 // Lets time pass, and then an event happen, by which no byte leaves.
+#[tactic(auto, using(crate::proofs::Silent::later_said))]
 fn act_later(board: &mut AnyBoard, ns: u64, event: Event) -> CAnswer
     requires wire { IsTrue (names_wire event) }
     requires access { IsAccess event }

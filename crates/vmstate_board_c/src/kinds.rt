@@ -3,18 +3,10 @@ ghost use Rattle.std.specs.Prelude.{◌≡◌, ◌<◌, IsTrue, IfOk};
 ghost use Rattle.dev_board.specs.Step.{names_wire};
 ghost use Rattle.vmstate_board_c.specs.Kinds.{character_of, has_port_of, int_of, is_made, level_of, now_of, output_of, power_on_of, room_of, step_of};
 
+use crate::held::AnyBoard;
 use dev_board::{Answer, Event};
 use std::alloc::Global;
 use vms_board::{Board, ClockBoard, NoMemory};
-
-/// A board of one of the two kinds.
-#[derive(Drop)]
-pub enum AnyBoard {
-    /// `isa-1` to `isa-4`.
-    Isa(Board),
-    /// `clk-1` and `clk-2`.
-    Clock(ClockBoard),
-}
 
 /// The number of the kind of `isa-1` to `isa-4`.
 const ISA: u8 = 0;

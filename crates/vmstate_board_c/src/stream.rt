@@ -6,7 +6,7 @@ ghost use Rattle.vmstate_board_c.specs.Streams.{HasRestored, HasSaved, IsRestore
 use crate::answer::{CNumber, no_number};
 use crate::growing::Growing;
 use crate::handle::Handle;
-use crate::kinds::AnyBoard;
+use crate::held::AnyBoard;
 use crate::lent::Lent;
 use crate::reason::{reason_number, rule_of};
 use crate::status::{DONE, NO_BOARD, NO_MEMORY, NONE_SUCH, REFUSED, TOO_SMALL};

@@ -1,0 +1,56 @@
+-- By an access no byte leaves a board.
+use Rattle.std.proofs.Common.{◌≡◌, ℕ, ◌==◌, List, [], ◌++◌, Some, refl, sym, ap, ◌∙◌, append-nil}
+use Rattle.dev_base.proofs.Choices.{either}
+use Rattle.dev_board.specs.State.{State}
+use Rattle.dev_board.specs.Step.{acted, after_act, step}
+use Rattle.dev_board.specs.declared.event.Answer.{Answer}
+use Rattle.dev_board.specs.declared.event.Event.{Event}
+use Rattle.dev_board.specs.declared.event.Event.TheVariants.{Read, Write, Byte, Wait, Wire, Ack}
+use Rattle.dev_clock.specs.State.{ClockState}
+use Rattle.dev_clock.specs.Step.{acted as clock_acted, follows_line, saying, step as clock_step}
+use Rattle.dev_clock.specs.declared.devices.TheConstants.{CLOCK_INPUT}
+use Rattle.vms_rtc.specs.Chip.{is_port}
+use Rattle.vmstate_board_c.specs.Answers.{IsAccess, acts_after, said}
+use Rattle.vmstate_board_c.specs.Kinds.{step_of}
+use Rattle.vmstate_board_c.specs.declared.answer.CAnswer.{CAnswer}
+use Rattle.vmstate_board_c.specs.declared.held.AnyBoard.{AnyBoard}
+use Rattle.vmstate_board_c.specs.declared.held.AnyBoard.TheVariants.{Isa, Clock}
+
+silent-isa : (event : Event) (m : State) → IsAccess event → (step event m).0.sent.items ≡ []
+unfolding step after_act acted
+silent-isa (Read port) m h = refl
+silent-isa (Write port value) m h = refl
+silent-isa (Byte value) m h = refl
+silent-isa (Wait ns) m h = absurd h
+silent-isa (Wire input up) m h = refl
+silent-isa Ack m h = refl
+
+-- an answer without bytes
+abbrev IsSilent : Answer × ClockState → Type 0
+IsSilent done = done.0.sent.items ≡ []
+
+silent-acted : (event : Event) (m : ClockState) → IsAccess event → IsSilent (clock_acted event m)
+unfolding clock_acted saying
+silent-acted (Read port) m h = either IsSilent (is_port port) _ _ refl (silent-isa (Read port) m.board tt)
+silent-acted (Write port value) m h = either IsSilent (is_port port) _ _ refl (silent-isa (Write port value) m.board tt)
+silent-acted (Byte value) m h = silent-isa (Byte value) m.board tt
+silent-acted (Wait ns) m h = absurd h
+silent-acted (Wire input up) m h = either IsSilent (input == CLOCK_INPUT) _ _ refl (silent-isa (Wire input up) m.board tt)
+silent-acted Ack m h = silent-isa Ack m.board tt
+
+silent-clock : (event : Event) (m : ClockState) → IsAccess event → (clock_step event m).0.sent.items ≡ []
+unfolding clock_step follows_line
+silent-clock event m h = silent-acted event m h
+
+silent : (event : Event) (board : AnyBoard) → IsAccess event → (step_of event board).0.sent.items ≡ []
+silent event (Isa board) h = silent-isa event board.state h
+silent event (Clock board) h = silent-clock event board.state h
+
+-- time passes, and then there is an access: all that left did so before it
+pub later_said : (ns : ℕ) (event : Event) (old passed_by new : AnyBoard) (passed answer : Answer) (result : CAnswer) → IsAccess event
+    → (passed, passed_by) ≡ step_of (Wait ns) old → (answer, new) ≡ step_of event passed_by
+    → result ≡ said answer.value answer.int passed.sent.items → (result, Some new) ≡ acts_after ns event old
+later_said ns event old passed_by new passed answer result h e f r =
+    let none : answer.sent.items ≡ [] = ap (λ (x : Answer × AnyBoard). x.0.sent.items) f ∙ silent event passed_by h in
+    let bytes : passed.sent.items ++ answer.sent.items ≡ passed.sent.items = ap (λ (l : List ℕ). passed.sent.items ++ l) none ∙ append-nil passed.sent.items in
+    rw (← e, ← f) (ap (λ (c : CAnswer). (c, Some new)) (r ∙ ap (said answer.value answer.int) (sym bytes)))
