@@ -9,6 +9,7 @@ pub mod Reached
 pub mod RestoredLaws
 pub mod RuleLaws
 pub mod SavedLaws
+pub mod SheetNumbers
 pub mod SoundLaws
 pub mod StayLaws
 pub mod WireBits

@@ -2,6 +2,7 @@ pub mod Laws
 pub mod Ports
 pub mod Saved
 pub mod SavedLaws
+pub mod SheetNumbers
 pub mod Sound
 pub mod State
 pub mod Step

@@ -1,6 +1,7 @@
 // Laws of the definitions, each stated by a function without a body.
 ghost use Rattle.dev_board.specs.Laws.{PortsAre, SoundStays, WiresStay, ClockGoesOn, AnswersTellInt, AlikeStays, Likeness};
 ghost use Rattle.dev_board.specs.SavedLaws.{SavedAreCells, SavedComesBack, SavedGoesOn, RestoredIsSound, SoundMeetsRules};
+ghost use Rattle.dev_board.specs.SheetNumbers.{NumbersAre};
 
 /// What stands behind each I/O port: the pair behind its own, the three counters behind 0x40 to 0x42 and their control port
 /// at 0x43, the serial port's registers behind 0x3f8 to 0x3ff, and nothing behind any other.
@@ -77,4 +78,11 @@ pub fn restored_law()
 #[tactic(auto, using(crate::proofs::RuleLaws::sound_meets_rules))]
 pub fn rules_law()
     ensures { SoundMeetsRules }
+{}
+
+/// States which inputs of the pair are wires and which ones devices drive, and the places of the devices among those of a set,
+/// which a refusal names.
+#[tactic(auto, using(crate::proofs::SheetNumbers::numbers_are))]
+pub fn numbers_law()
+    ensures { NumbersAre }
 {}

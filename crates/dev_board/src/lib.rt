@@ -17,8 +17,8 @@ pub use cells::BoardCells;
 pub use devices::Devices;
 pub use event::{Answer, Event};
 pub use laws::{
-    alike_law, cells_law, clock_law, continuation_law, int_law, likeness_law, ports_law,
-    restored_law, rules_law, saved_law, sound_law, wires_law,
+    alike_law, cells_law, clock_law, continuation_law, int_law, likeness_law, numbers_law,
+    ports_law, restored_law, rules_law, saved_law, sound_law, wires_law,
 };
 pub use misfit::Misfit;
 pub use wires::is_wire;

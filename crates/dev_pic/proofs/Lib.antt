@@ -9,6 +9,7 @@ pub mod PlaceLemmas
 pub mod PollLaws
 pub mod RestoredLaws
 pub mod SavedLaws
+pub mod SheetNumbers
 pub mod StepLaws
 pub mod WinnerLaws
 pub mod WinnerLemmas

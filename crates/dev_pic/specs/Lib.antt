@@ -5,5 +5,6 @@ pub mod Laws
 pub mod Ocw2
 pub mod Pair
 pub mod Saved
+pub mod SheetNumbers
 pub mod Sound
 pub mod Winner

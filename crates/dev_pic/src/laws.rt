@@ -1,5 +1,6 @@
 // Laws of the definitions that the contracts of the pair cite. Each function does nothing; its clause is a law.
 ghost use Rattle.dev_pic.specs.Laws.{WinnerIsLeastRequest, MaskedNeverWins, LevelInputsAre, ServedBlocksLower, EoiEndsHighest, InitializesByWords, AckWithoutWinner, TakesWinner, PollsOnce, NestsSpecially, RotatesAtOnce, TakesLinesOver, LinesAreTaken, LinesAreKept, StepsKeepRegisters, StepsKeepLevel, SoundMeetsRules, SavedAreCells, SavedIsRestored, FaultsAreTold, RestoredIsSound};
+ghost use Rattle.dev_pic.specs.SheetNumbers.{NumbersAre};
 
 /// The winner is the requested input of highest priority, where it comes strictly before every input in
 /// service, and no other input is one ("Interrupt Request Register (IRR) and In-Service Register (ISR)",
@@ -132,4 +133,10 @@ pub fn fault_law()
 #[tactic(auto, using(crate::proofs::RestoredLaws::restored_is_sound))]
 pub fn restored_law()
     ensures { RestoredIsSound }
+{}
+
+/// States from which levels on there are edge/level registers, 2, and the level mode of ICW1, 4.
+#[tactic(auto, using(crate::proofs::SheetNumbers::numbers_are))]
+pub fn numbers_law()
+    ensures { NumbersAre }
 {}

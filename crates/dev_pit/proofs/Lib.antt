@@ -11,6 +11,7 @@ pub mod PlainSound
 pub mod ReadBackLaw
 pub mod RestoredLaw
 pub mod SavedLaw
+pub mod SheetNumbers
 pub mod SoundLaws
 pub mod SoundSteps
 pub mod StatusLaw

@@ -9,4 +9,5 @@ pub mod Laws
 pub mod Mode
 pub mod Pit
 pub mod Saved
+pub mod SheetNumbers
 pub mod Sound

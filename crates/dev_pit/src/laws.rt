@@ -1,5 +1,6 @@
 // Laws of the definitions, each stated by a function without a body.
 ghost use Rattle.dev_pit.specs.Laws.{TicksGoOn, SecondsHaveTicks, EdgeInParts, EdgeTurnsHigh, CountingGoesOn, TerminalCountStays, StatusTells, LatchStays, ReadBackByLevel, SoundStays, StepsKeepLevel, SoundMeetsRules, SavedAreCells, SavedIsRestored, RestoredIsSound};
+ghost use Rattle.dev_pit.specs.SheetNumbers.{NumbersAre};
 
 /// Ticks never go back, and each second has 1,193,182 of them.
 #[tactic(auto, using(crate::proofs::Edges::ticks_go_on, crate::proofs::Edges::seconds_have_ticks))]
@@ -88,4 +89,11 @@ pub fn saved_law()
 #[tactic(auto, using(crate::proofs::RestoredLaw::restored_is_sound))]
 pub fn restored_law()
     ensures { RestoredIsSound }
+{}
+
+/// States the numbers by which the chip goes: 1,193,182 ticks a second, level and set 2 from which on there are the read-back
+/// command and latched statuses, and how many cells the chip and one of its counters have.
+#[tactic(auto, using(crate::proofs::SheetNumbers::numbers_are))]
+pub fn numbers_law()
+    ensures { NumbersAre }
 {}

@@ -18,7 +18,7 @@ mod ticks;
 
 pub use laws::{
     cells_law, counting_law, edge_parts_law, edge_turns_high_law, latch_law, level_law,
-    read_back_law, restored_law, rules_law, saved_law, sound_law, status_law, terminal_count_law,
-    ticks_law,
+    numbers_law, read_back_law, restored_law, rules_law, saved_law, sound_law, status_law,
+    terminal_count_law, ticks_law,
 };
 pub use pit::Pit;

@@ -1,0 +1,6 @@
+-- The numbers are the constants' by their definition.
+use Rattle.std.proofs.Common.{refl}
+use Rattle.dev_board.specs.SheetNumbers.{NumbersAre}
+
+pub numbers_are : NumbersAre
+numbers_are = record { wires = refl; timer_input = refl; serial_input = refl; driven = refl; timer = refl; master = refl; pit = refl; serial = refl }
