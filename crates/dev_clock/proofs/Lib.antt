@@ -2,6 +2,8 @@ pub mod AlikeLaws
 pub mod ClockLaws
 pub mod Misfits
 pub mod RestoredLaws
+pub mod RuleLaws
 pub mod SavedLaws
 pub mod SlaveLine
+pub mod SheetNumbers
 pub mod SoundLaws

@@ -30,11 +30,11 @@ use Rattle.dev_clock.specs.declared.cells.ClockCells.{ClockCells}
 use Rattle.dev_clock.specs.declared.saved.TheConstants.{CLOCK_DEVICE, LINE_RULE, LINES_CELL}
 
 -- devices are made of a chip and of a board's that were restored
-record IsMadeOf (of_clock : Result Rtc Misfit) (of_board : Result State Misfit) (m : ClockState) : Type 0 where
-  clock : of_clock ≡ Ok m.clock
-  board : of_board ≡ Ok m.board
+pub record IsMadeOf (of_clock : Result Rtc Misfit) (of_board : Result State Misfit) (m : ClockState) : Type 0 where
+  pub clock : of_clock ≡ Ok m.clock
+  pub board : of_board ≡ Ok m.board
 
-made_of : (of_clock : Result Rtc Misfit) (of_board : Result State Misfit) (m : ClockState) → joined of_clock of_board ≡ Ok m → IsMadeOf of_clock of_board m
+pub made_of : (of_clock : Result Rtc Misfit) (of_board : Result State Misfit) (m : ClockState) → joined of_clock of_board ≡ Ok m → IsMadeOf of_clock of_board m
 unfolding joined
 made_of (Err misfit) of_board m e = cc
 made_of (Ok clock) (Err misfit) m e = cc

@@ -26,15 +26,15 @@ use Rattle.dev_clock.specs.State.{ClockState}
 use Rattle.dev_clock.specs.declared.saved.TheConstants.{CLOCK_DEVICE, LINES_CELL}
 
 -- the chip where its rules hold, and the devices where no fault is found
-line-kept : (line : Bool) (clock : Rtc) (outcome : Result Rtc ℕ) → outcome ≡ Ok clock → line ≡ line_of clock → with_line line outcome ≡ Ok clock
+pub line-kept : (line : Bool) (clock : Rtc) (outcome : Result Rtc ℕ) → outcome ≡ Ok clock → line ≡ line_of clock → with_line line outcome ≡ Ok clock
 unfolding with_line
 line-kept line clock outcome e l = rw (e, same-refl line (line_of clock) l) refl
 
-device-kept : (place : ℕ) (clock : Rtc) (outcome : Result Rtc ℕ) → outcome ≡ Ok clock → by_device place outcome ≡ Ok clock
+pub device-kept : (place : ℕ) (clock : Rtc) (outcome : Result Rtc ℕ) → outcome ≡ Ok clock → by_device place outcome ≡ Ok clock
 unfolding by_device
 device-kept place clock outcome e = rw e refl
 
-both-kept : (clock : Rtc) (board : State) (of_clock : Result Rtc Misfit) (of_board : Result State Misfit) → of_clock ≡ Ok clock → of_board ≡ Ok board → joined of_clock of_board ≡ Ok (record { clock = clock; board = board })
+pub both-kept : (clock : Rtc) (board : State) (of_clock : Result Rtc Misfit) (of_board : Result State Misfit) → of_clock ≡ Ok clock → of_board ≡ Ok board → joined of_clock of_board ≡ Ok (record { clock = clock; board = board })
 unfolding joined
 both-kept clock board of_clock of_board a b = rw (a, b) refl
 

@@ -1,7 +1,10 @@
 -- Laws of saving and restoring a clock board's devices that contracts name.
-use Rattle.std.specs.Prelude.{◌≡◌, ℕ, List, Ok}
+use Rattle.std.specs.Prelude.{◌≡◌, ℕ, List, Ok, ◌↔◌}
 use Rattle.dev_base.specs.Levels.{IsUpTo}
+use Rattle.dev_base.specs.declared.limits.TheConstants.{NEWEST}
+use Rattle.dev_board.specs.SavedLaws.{IsTold as IsToldBoard}
 use Rattle.dev_board.specs.declared.event.Event.{Event}
+use Rattle.vms_rtc.specs.Laws.{IsTold as IsToldClock}
 use Rattle.vms_rtc.specs.declared.limits.TheConstants.{NEWEST_CLOCK}
 use Rattle.dev_clock.specs.Saved.{MaySaveUnder, saved, carried, AreSavedCells, AreClockCells, restored}
 use Rattle.dev_clock.specs.Sound.{IsSound, Alike}
@@ -35,3 +38,15 @@ pub record RestoredIsSound : Type 0 where
   pub sound : (version : ℕ) (cells : ClockCells) (m : ClockState) → IsUpTo NEWEST_CLOCK version → AreClockCells cells
       → restored version cells ≡ Ok m → IsSound m
   pub version : (version : ℕ) (cells : ClockCells) (m : ClockState) → restored version cells ≡ Ok m → m.clock.version ≡ version
+
+-- devices that a stream can tell: the chip and the board are such, and the board has the newest level
+pub record IsTold (m : ClockState) : Type 0 where
+  pub clock : IsToldClock m.clock
+  pub board : IsToldBoard m.board
+  pub level : m.board.level ≡ NEWEST
+
+-- devices are sound exactly where a stream can tell them, and no rule fails, nor that of the lines, of what the newest clock
+-- set saves of them
+pub record SoundMeetsRules : Type 0 where
+  pub devices : (m : ClockState) → IsSound m
+      ↔ (IsTold m × ((back : ClockState) × (restored m.clock.version (saved NEWEST_CLOCK m) ≡ Ok back)))

@@ -1,6 +1,7 @@
 // Laws of the definitions, each stated by a function without a body.
 ghost use Rattle.dev_clock.specs.Laws.{SoundStays, ClockGoesOn, AnswersTellInt, AlikeStays};
-ghost use Rattle.dev_clock.specs.SavedLaws.{SavedAreCells, SavedComesBack, SavedGoesOn, RestoredIsSound};
+ghost use Rattle.dev_clock.specs.SavedLaws.{SavedAreCells, SavedComesBack, SavedGoesOn, RestoredIsSound, SoundMeetsRules};
+ghost use Rattle.dev_clock.specs.SheetNumbers.{NumbersAre};
 
 /// The devices are sound at power on, and each event and each list of events keeps them so.
 #[tactic(auto, using(crate::proofs::SoundLaws::sound_stays_on))]
@@ -50,4 +51,18 @@ pub fn continuation_law()
 #[tactic(auto, using(crate::proofs::RestoredLaws::restored_is_sound))]
 pub fn restored_law()
     ensures { RestoredIsSound }
+{}
+
+/// Devices that a stream can tell are sound exactly where no rule fails, nor that of the lines, of what the newest clock set
+/// saves of them.
+#[tactic(auto, using(crate::proofs::RuleLaws::sound_meets_rules))]
+pub fn rules_law()
+    ensures { SoundMeetsRules }
+{}
+
+/// States the input of the pair that the chip drives, the place of the chip among the devices of a set, and the number of its
+/// rule on that input, which a refusal names.
+#[tactic(auto, using(crate::proofs::SheetNumbers::numbers_are))]
+pub fn numbers_law()
+    ensures { NumbersAre }
 {}

@@ -10,5 +10,6 @@ mod saved;
 pub use cells::ClockCells;
 pub use devices::ClockDevices;
 pub use laws::{
-    alike_law, cells_law, clock_law, continuation_law, int_law, restored_law, saved_law, sound_law,
+    alike_law, cells_law, clock_law, continuation_law, int_law, numbers_law, restored_law,
+    rules_law, saved_law, sound_law,
 };

@@ -1,0 +1,84 @@
+-- The devices are sound exactly where their cells in the newest clock set meet the rules and the lines agree.
+use Rattle.std.proofs.Common.{◌≡◌, ℕ, Ok, sym, ap, subst, ◌∙◌}
+use Rattle.dev_base.proofs.RuleLaws.{AllTrue, judged-ok, none_failing}
+use Rattle.dev_base.specs.Bits.{has}
+use Rattle.dev_base.specs.declared.limits.TheConstants.{NEWEST}
+use Rattle.dev_board.proofs.RuleLaws.{sound_meets_rules as board-meets}
+use Rattle.dev_board.specs.Saved.{saved as board_saved, restored as board_restored}
+use Rattle.dev_board.specs.Sound.{IsSound as IsSoundBoard}
+use Rattle.dev_board.specs.State.{State}
+use Rattle.dev_pic.specs.Cells.{saved_cells as chip_cells, first_cells}
+use Rattle.dev_pic.specs.Pair.{lines_of}
+use Rattle.vms_rtc.proofs.RuleLaws.{sound_meets_rules as clock-meets, same-chip}
+use Rattle.vms_rtc.proofs.SavedLaws.{restored-own}
+use Rattle.vms_rtc.specs.Cells.{saved_cells}
+use Rattle.vms_rtc.specs.Chip.{line_of}
+use Rattle.vms_rtc.specs.Saved.{rules, chip_of, restored as clock_restored}
+use Rattle.vms_rtc.specs.Sound.{IsSound as IsSoundClock}
+use Rattle.vms_rtc.specs.declared.limits.TheConstants.{NEWEST_CLOCK}
+use Rattle.dev_clock.proofs.RestoredLaws.{IsMadeOf, made_of, IsLined, clock-lined}
+use Rattle.dev_clock.proofs.SavedLaws.{line-kept, device-kept, both-kept}
+use Rattle.dev_clock.proofs.SlaveLine.{slave-bit}
+use Rattle.dev_clock.specs.Saved.{saved, slave_line, clock_back, restored}
+use Rattle.dev_clock.specs.SavedLaws.{IsTold, SoundMeetsRules}
+use Rattle.dev_clock.specs.Sound.{IsSound}
+use Rattle.dev_clock.specs.State.{ClockState}
+use Rattle.dev_clock.specs.declared.saved.TheConstants.{CLOCK_DEVICE}
+
+-- the slave's line among what is saved of a sound board
+slave-there : (board : State) → IsSoundBoard board → slave_line (board_saved NEWEST board).slave.items ≡ has (lines_of board.pair) 8
+unfolding board_saved chip_cells first_cells
+slave-there board s = sym (slave-bit board.pair s.pair)
+
+-- sound devices
+module _ (m : ClockState) (s : IsSound m) where
+  chip-own : clock_restored m.clock.version (saved_cells NEWEST_CLOCK m.clock) ≡ Ok m.clock
+  unfolding saved_cells
+  chip-own = restored-own m.clock s.devices.clock
+
+  board-own : (back : State) × (board_restored NEWEST (board_saved NEWEST m.board) ≡ Ok back)
+  board-own =
+      subst (λ (level : ℕ). (back : State) × (board_restored level (board_saved NEWEST m.board) ≡ Ok back)) s.devices.level ((board-meets.board m.board).0 s.board).1
+
+  told : IsTold m
+  told = record { clock = ((clock-meets.chip m.clock).0 s.devices.clock).0; board = ((board-meets.board m.board).0 s.board).0; level = s.devices.level }
+
+  back : (n : ClockState) × (restored m.clock.version (saved NEWEST_CLOCK m) ≡ Ok n)
+  unfolding saved
+  back = (
+    record { clock = m.clock; board = board-own.0 },
+    both-kept m.clock board-own.0 _ _ (device-kept CLOCK_DEVICE m.clock _ (line-kept _ m.clock _ chip-own (slave-there m.board s.board ∙ s.line))) board-own.1,
+  )
+
+-- the other way
+module _ (m : ClockState) (t : IsTold m) (n : ClockState) (e : restored m.clock.version (saved NEWEST_CLOCK m) ≡ Ok n) where
+  made : IsMadeOf (clock_back m.clock.version (slave_line (board_saved NEWEST m.board).slave.items) (saved_cells NEWEST_CLOCK m.clock)) (board_restored NEWEST (board_saved NEWEST m.board)) n
+  unfolding saved
+  made = made_of _ _ n e
+
+  sound-board : IsSoundBoard m.board
+  sound-board =
+      (board-meets.board m.board).1
+      (t.board, (n.board, ap (λ (level : ℕ). board_restored level (board_saved NEWEST m.board)) t.level ∙ made.board))
+
+  is-lined : IsLined (slave_line (board_saved NEWEST m.board).slave.items) (clock_restored m.clock.version (saved_cells NEWEST_CLOCK m.clock)) n.clock
+  is-lined = clock-lined m.clock.version _ (saved_cells NEWEST_CLOCK m.clock) n.clock made.clock
+
+  judged : AllTrue (rules m.clock.version (saved_cells NEWEST_CLOCK m.clock)) × (chip_of m.clock.version (saved_cells NEWEST_CLOCK m.clock) ≡ n.clock)
+  judged = judged-ok (rules m.clock.version (saved_cells NEWEST_CLOCK m.clock)) (chip_of m.clock.version (saved_cells NEWEST_CLOCK m.clock)) n.clock is-lined.found
+
+  same-clock : n.clock ≡ m.clock
+  same-clock = sym judged.1 ∙ same-chip m.clock t.clock
+
+  sound-clock : IsSoundClock m.clock
+  sound-clock = (clock-meets.chip m.clock).1 (t.clock, none_failing (rules m.clock.version (saved_cells NEWEST_CLOCK m.clock)) judged.0)
+
+  sound : IsSound m
+  sound = record {
+    devices = record { clock = sound-clock; level = t.level };
+    board = sound-board;
+    line = sym (slave-there m.board sound-board) ∙ is-lined.kept ∙ ap line_of same-clock;
+  }
+
+pub sound_meets_rules : SoundMeetsRules
+sound_meets_rules = record { devices = λ m. ((λ s. (told m s, back m s)), (λ h. sound m h.0 h.1.0 h.1.1)) }
