@@ -1,5 +1,4 @@
 pub mod Bounds
-pub mod ElementLaws
 pub mod EntryLong
 pub mod FieldNeeds
 pub mod Fits

@@ -4,4 +4,3 @@ pub mod Tree
 pub mod Needs
 pub mod Listing
 pub mod Laws
-pub mod OfElements

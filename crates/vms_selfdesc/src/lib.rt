@@ -8,6 +8,6 @@ mod fields;
 mod laws;
 mod tree;
 
-pub use laws::{clock_law, elements_law, shipped_law, short_law};
+pub use laws::{clock_law, shipped_law, short_law};
 pub use tree::describe;
 pub use vms_io::NoMemory;
