@@ -16,6 +16,7 @@ pub mod Limits
 pub mod OutcomeLaws
 pub mod PackLemmas
 pub mod PathRoom
+pub mod ProgramLemmas
 pub mod RoundTrips
 pub mod RowLemmas
 pub mod RowTables

@@ -1,5 +1,5 @@
 -- How a run of the program ends, once the call is made and its texts are flushed.
-use Rattle.std.specs.Prelude.{◌≡◌, ℕ, false, List, [], Option, None}
+use Rattle.std.specs.Prelude.{◌≡◌, ◌⊎◌, ℕ, false, List, [], Option, None}
 use Rattle.std.specs.Io.KnownBytes.{Keeps}
 use Rattle.vms_io.specs.Ahead.{ahead}
 use Rattle.vms_io.specs.Causes.{AppendsPrefix}
@@ -26,11 +26,14 @@ pub record TellsLate (line notes : Option (List ℕ)) : Type 0 where
   pub told : AppendsPrefix first whole write_fault
   pub flushed : KeepsFront whole notes
 
+-- the line is flushed, or notes failed after a front of it
+abbrev pub NotesEnd : (answered : ℕ) (line : Option (List ℕ)) (status : ℕ) (notes : Option (List ℕ)) → Type 0
+NotesEnd answered line status notes = ((status ≡ answered) × Keeps line notes) ⊎ ((status ≡ 6) × KeepsFront line notes)
+
 -- What the writers have at the end, and the status, by the status that the call answered and the text and the line that it wrote:
--- both writers took all; notes failed at the flush; or out did, and so notes tell `write fault` in place of the call's line.
+-- out took all, and notes so, or notes failed at the flush; or out failed, and notes tell `write fault` in place of the line.
 pub data Ends (answered : ℕ) (text line : Option (List ℕ)) (status : ℕ) (out notes : Option (List ℕ)) : Type 0 where
-  AllFlushed : status ≡ answered → Keeps text out → Keeps line notes → Ends answered text line status out notes
-  NotesLate : status ≡ 6 → Keeps text out → KeepsFront line notes → Ends answered text line status out notes
+  OutFlushed : Keeps text out → NotesEnd answered line status notes → Ends answered text line status out notes
   OutLate : status ≡ 6 → KeepsFront text out → TellsLate line notes → Ends answered text line status out notes
 
 -- the call is made, and then its texts are flushed

@@ -3,7 +3,7 @@ ghost use Rattle.std.specs.Prelude.{◌≡◌, IfOk, None, OnErr, IsSomeAnd};
 ghost use Rattle.vms_io.specs.Told.{Stock, intake, outlet, stock};
 ghost use Rattle.vms_io.specs.Writers.{writer_of};
 ghost use Rattle.vms_cli.specs.Answers.{Answers};
-ghost use Rattle.vms_cli.specs.Program.{Ends, Ran, outside};
+ghost use Rattle.vms_cli.specs.Program.{Ends, NotesEnd, Ran, TellsLate, outside};
 
 use crate::Words;
 use crate::top::{tell, vmstate};
@@ -88,15 +88,31 @@ fn flush<W: Write + Drop, E: Write + Drop>(
         (⟦<StdSink<E> as Sink>⟧.written notes.old) result
         (W.contents (writer_of out.new)) (E.contents (writer_of notes.new)) }
 {
-    if let Err(_) = out.flush() {
-        // this line in place of the call's, of which nothing was flushed, or a beginning
-        notes.discard();
-        let _told = tell(notes, &Ending::WriteFault);
-        let _flushed = notes.flush();
-        return Ending::WriteFault.status();
+    match out.flush() {
+        Ok(()) => flush_notes(answered, notes),
+        Err(_) => tell_late(notes),
     }
+}
+
+// Flushes the line, once the text is flushed.
+fn flush_notes<E: Write + Drop>(answered: u8, notes: &mut StdSink<E>) -> u8
+    ensures { NotesEnd answered (⟦<StdSink<E> as Sink>⟧.written notes.old) result
+        (E.contents (writer_of notes.new)) }
+{
     match notes.flush() {
         Ok(()) => answered,
         Err(_) => Ending::WriteFault.status(),
     }
+}
+
+// Writes the line of a write fault in place of the call's, of which nothing was flushed yet, or a beginning.
+fn tell_late<E: Write + Drop>(notes: &mut StdSink<E>) -> u8
+    ensures status { result ≡ 6 }
+    ensures told { TellsLate (⟦<StdSink<E> as Sink>⟧.written notes.old)
+        (E.contents (writer_of notes.new)) }
+{
+    notes.discard();
+    let _told = tell(notes, &Ending::WriteFault);
+    let _flushed = notes.flush();
+    Ending::WriteFault.status()
 }

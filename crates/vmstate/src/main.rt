@@ -68,6 +68,13 @@ mod tests {
         }
     }
 
+    fn with_room(alloc: Global, room: usize) -> Full {
+        Full {
+            bytes: Vec::new(alloc),
+            room,
+        }
+    }
+
     // The status of a run of `drill isa-1 1 1` with so much room for out and notes, and what stands on them.
     fn drilled(alloc: Global, out: usize, notes: usize) -> Result<(u8, Vec<u8>, Vec<u8>), Fail> {
         let mut words = Words::new(alloc);
@@ -75,17 +82,13 @@ mod tests {
             words.push(word)?;
         }
         let shelf = MemShelf::new(alloc, Vec::new(alloc));
-        let full = |room| Full {
-            bytes: Vec::new(alloc),
-            room,
-        };
         let input = b"".as_slice();
         let (status, out, notes) = program(
             alloc,
             Ok((words, shelf)),
             input,
-            full(out),
-            full(notes),
+            with_room(alloc, out),
+            with_room(alloc, notes),
         );
         Ok((status, out.bytes, notes.bytes))
     }
@@ -95,13 +98,22 @@ mod tests {
         let alloc = rt.alloc();
         let (status, out, notes) = drilled(alloc, 100, 100)?;
         assert_eq!(rt; status, 0);
-        assert!(rt; out.as_slice().starts_with(b"isa-1 seed 1 events 1 ") && notes.is_empty());
+        assert!(rt;
+            out.as_slice()
+                .starts_with(b"isa-1 seed 1 events 1 ".as_slice())
+                && notes.is_empty()
+        );
         let (status, out, notes) = drilled(alloc, 6, 100)?;
         assert_eq!(rt; status, 6);
-        assert!(rt; out.as_slice() == b"isa-1 " && notes.as_slice() == b"write fault\n");
+        assert!(rt;
+            out.as_slice() == b"isa-1 ".as_slice()
+                && notes.as_slice() == b"write fault\n".as_slice()
+        );
         let (status, out, notes) = drilled(alloc, 6, 5)?;
         assert_eq!(rt; status, 6);
-        assert!(rt; out.as_slice() == b"isa-1 " && notes.as_slice() == b"write");
+        assert!(rt;
+            out.as_slice() == b"isa-1 ".as_slice() && notes.as_slice() == b"write".as_slice()
+        );
         Ok(())
     }
 

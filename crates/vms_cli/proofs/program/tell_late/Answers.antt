@@ -1,0 +1,11 @@
+use Rattle.vms_cli.proofs.ProgramLemmas.{told_late}
+use Rattle.vms_cli.proofs.program.tell_late.Goals as goal
+
+pub returns-clause-told : goal.returns-clause-told
+returns-clause-told g c = record {
+  first = _;
+  whole = _;
+  cut = c.discard.ensures.front;
+  told = told_late _ _ _ c.tell-_told.ensures.tells;
+  flushed = c.flush-_flushed.ensures.front;
+}
