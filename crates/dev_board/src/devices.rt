@@ -6,7 +6,6 @@ ghost use Rattle.dev_pic.specs.Pair.{int_of};
 ghost use Rattle.dev_pit.specs.Pit.{pit_out};
 ghost use Rattle.dev_serial.specs.Access.{room_of};
 ghost use Rattle.dev_serial.specs.Line.{character_time};
-ghost use Rattle.dev_serial.specs.declared.mode.TheConstants.{LONGEST_CHARACTER};
 
 use crate::event::{Answer, Event};
 use crate::parts::Parts;
@@ -110,8 +109,7 @@ impl Devices {
 
     /// Returns the time of one character on the serial line, in nanoseconds.
     pub fn character(&self) -> u64
-        ensures time { result ≡ character_time self.now.serial.divisor self.now.serial.lcr }
-        ensures longest { result ≤ LONGEST_CHARACTER }
+        ensures { result ≡ character_time self.now.serial.divisor self.now.serial.lcr }
     {
         self.parts.character()
     }

@@ -8,7 +8,6 @@ ghost use Rattle.dev_pic.specs.Pair.{int_of, settled_pair};
 ghost use Rattle.dev_pit.specs.Pit.{pit_out};
 ghost use Rattle.dev_serial.specs.Access.{room_of};
 ghost use Rattle.dev_serial.specs.Line.{character_time};
-ghost use Rattle.dev_serial.specs.declared.mode.TheConstants.{LONGEST_CHARACTER};
 ghost use Rattle.dev_serial.specs.Port.{line_of};
 
 use crate::event::{Answer, Event};
@@ -164,8 +163,7 @@ impl Parts {
 
     /// Returns the time of one character on the serial line.
     pub(crate) fn character(&self) -> u64
-        ensures time { result ≡ character_time self.now.serial.divisor self.now.serial.lcr }
-        ensures longest { result ≤ LONGEST_CHARACTER }
+        ensures { result ≡ character_time self.now.serial.divisor self.now.serial.lcr }
     {
         self.serial.character()
     }
