@@ -1,5 +1,5 @@
 -- By an access no byte leaves a board.
-use Rattle.std.proofs.Common.{◌≡◌, ℕ, ◌==◌, List, [], ◌++◌, Some, refl, sym, ap, ◌∙◌, append-nil}
+use Rattle.std.proofs.Common.{◌≡◌, ℕ, List, [], ◌++◌, Some, refl, sym, ap, ◌∙◌, append-nil}
 use Rattle.dev_base.proofs.Choices.{either}
 use Rattle.dev_board.specs.State.{State}
 use Rattle.dev_board.specs.Step.{acted, after_act, step}
@@ -8,8 +8,6 @@ use Rattle.dev_board.specs.declared.event.Event.{Event}
 use Rattle.dev_board.specs.declared.event.Event.TheVariants.{Read, Write, Byte, Wait, Wire, Ack}
 use Rattle.dev_clock.specs.State.{ClockState}
 use Rattle.dev_clock.specs.Step.{acted as clock_acted, follows_line, saying, step as clock_step}
-use Rattle.dev_clock.specs.declared.devices.TheConstants.{CLOCK_INPUT}
-use Rattle.vms_rtc.specs.Chip.{is_port}
 use Rattle.vmstate_board_c.specs.Answers.{IsAccess, acts_after, said}
 use Rattle.vmstate_board_c.specs.Kinds.{step_of}
 use Rattle.vmstate_board_c.specs.declared.answer.CAnswer.{CAnswer}
@@ -31,11 +29,11 @@ IsSilent done = done.0.sent.items ≡ []
 
 silent-acted : (event : Event) (m : ClockState) → IsAccess event → IsSilent (clock_acted event m)
 unfolding clock_acted saying
-silent-acted (Read port) m h = either IsSilent (is_port port) _ _ refl (silent-isa (Read port) m.board tt)
-silent-acted (Write port value) m h = either IsSilent (is_port port) _ _ refl (silent-isa (Write port value) m.board tt)
+silent-acted (Read port) m h = either IsSilent _ _ _ refl (silent-isa (Read port) m.board tt)
+silent-acted (Write port value) m h = either IsSilent _ _ _ refl (silent-isa (Write port value) m.board tt)
 silent-acted (Byte value) m h = silent-isa (Byte value) m.board tt
 silent-acted (Wait ns) m h = absurd h
-silent-acted (Wire input up) m h = either IsSilent (input == CLOCK_INPUT) _ _ refl (silent-isa (Wire input up) m.board tt)
+silent-acted (Wire input up) m h = either IsSilent _ _ _ refl (silent-isa (Wire input up) m.board tt)
 silent-acted Ack m h = silent-isa Ack m.board tt
 
 silent-clock : (event : Event) (m : ClockState) → IsAccess event → (clock_step event m).0.sent.items ≡ []
