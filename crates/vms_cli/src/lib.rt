@@ -10,14 +10,14 @@ mod counter;
 mod kinds;
 pub mod laws;
 mod pack;
-mod program;
+mod running;
 mod show;
 mod top;
 mod two_sets;
 mod values_notes;
 mod words;
 
-pub use program::program;
+pub use running::program;
 pub use top::{tell, vmstate};
 pub(crate) use words::Command;
 pub use words::Words;

@@ -1,5 +1,5 @@
 use Rattle.vms_cli.proofs.ProgramLemmas.{told_late}
-use Rattle.vms_cli.proofs.program.tell_late.Goals as goal
+use Rattle.vms_cli.proofs.running.tell_late.Goals as goal
 
 pub returns-clause-told : goal.returns-clause-told
 returns-clause-told g c = record {

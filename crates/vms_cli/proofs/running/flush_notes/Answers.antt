@@ -1,6 +1,6 @@
 use Rattle.std.proofs.Common.{refl, inl, inr}
 use Rattle.vms_cli.proofs.ProgramLemmas.{kept_flushed}
-use Rattle.vms_cli.proofs.program.flush_notes.Goals as goal
+use Rattle.vms_cli.proofs.running.flush_notes.Goals as goal
 
 pub returns-in-Ok : goal.returns-in-Ok
 returns-in-Ok g c = inl (refl, kept_flushed _ _ _ c.in-Ok.ensures.bytes c.in-Ok.ensures.handed)

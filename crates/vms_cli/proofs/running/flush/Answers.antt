@@ -1,6 +1,6 @@
 use Rattle.vms_cli.specs.Program.{OutFlushed, OutLate}
 use Rattle.vms_cli.proofs.ProgramLemmas.{kept_flushed}
-use Rattle.vms_cli.proofs.program.flush.Goals as goal
+use Rattle.vms_cli.proofs.running.flush.Goals as goal
 
 pub returns-in-Ok : goal.returns-in-Ok
 returns-in-Ok g c = OutFlushed (kept_flushed _ _ _ c.in-Ok.ensures.bytes c.in-Ok.ensures.handed) c.flush_notes.ensures
