@@ -24,13 +24,14 @@ IsThere (Some board) = IsBoard board
 -- a number that a word has is in its range
 after-range : (front word : List ℕ) (first count n : ℕ) → number_after front first count word ≡ Some n → (first ≤ n) × (n < first + count)
 after-range front word first zero n e = cc
-after-range front word first (suc count) n e = by (bytes_eq word (front ++ decimal first)) refl where
-  found : (b : Bool) → Option ℕ
+after-range front word first (suc count) n e = by (bytes_eq word (front ++ decimal first)) refl (after-range front word (suc first) count n) where
+  found : Bool → Option ℕ
   found b = if b then Some first else number_after front (suc first) count word
 
-  by : (b : Bool) → bytes_eq word (front ++ decimal first) ≡ b → (first ≤ n) × (n < first + suc count)
-  by true t = let is : Some first ≡ Some n = sym (ap found t) ∙ e in let same : first ≡ n = cc in (omega (arith, same), omega (arith, same))
-  by false t = let r = after-range front word (suc first) count n (sym (ap found t) ∙ e) in (omega (arith, r.0), omega (arith, r.1))
+  by : (b : Bool) → bytes_eq word (front ++ decimal first) ≡ b → (number_after front (suc first) count word ≡ Some n → (suc first ≤ n) × (n < suc first + count))
+      → (first ≤ n) × (n < first + suc count)
+  by true t next = let is : Some first ≡ Some n = sym (ap found t) ∙ e in let same : first ≡ n = cc in (omega (arith, same), omega (arith, same))
+  by false t next = let r = next (sym (ap found t) ∙ e) in (omega (arith, r.0), omega (arith, r.1))
 
 either-there : (x y : Option BoardWord) → IsThere x → IsThere y → IsThere (or_else x y)
 either-there None y p q = q

@@ -21,25 +21,26 @@ first_word front word first count b e = ap (λ (x : Bool). if x then Some first 
 -- a word with a number of the range
 pub numbered : (front : List ℕ) (first count n : ℕ) → first ≤ n → n < first + count → n < 2 ^ 64 → number_after front first count (front ++ decimal n) ≡ Some n
 numbered front first zero n le lt small = absurd (omega (arith, le, lt))
-numbered front first (suc count) n le lt small = by (bytes_eq word (front ++ decimal first)) refl where
-  word : List ℕ
-  word = front ++ decimal n
-
-  by : (b : Bool) → bytes_eq word (front ++ decimal first) ≡ b → number_after front first (suc count) word ≡ Some n
-  by true e =
-      let same : n ≡ first = decimal_injective n first small (omega (arith, le, small)) (append_cancel_left front (decimal n) (decimal first) ((bytes_eq-Decides word (front ++ decimal first)).0 e)) in
-      first_word front word first count true e ∙ ap Some (sym same)
-  by false e =
-      let other : first ≡ n → ⊥ = λ same. let f : true ≡ false = sym ((bytes_eq-Decides word (front ++ decimal first)).1 (ap (λ (k : ℕ). front ++ decimal k) (sym same))) ∙ e in cc in
-      first_word front word first count false e ∙ numbered front (suc first) count n (omega (arith, le, other)) (omega (arith, lt)) small
+numbered front first (suc count) n le lt small = by (bytes_eq (front ++ decimal n) (front ++ decimal first)) refl (λ le lt. numbered front (suc first) count n le lt small) where
+  by : (b : Bool) → bytes_eq (front ++ decimal n) (front ++ decimal first) ≡ b
+      → (suc first ≤ n → n < suc first + count → number_after front (suc first) count (front ++ decimal n) ≡ Some n)
+      → number_after front first (suc count) (front ++ decimal n) ≡ Some n
+  by true e next =
+      let same : n ≡ first = decimal_injective n first small (omega (arith, le, small)) (append_cancel_left front (decimal n) (decimal first) ((bytes_eq-Decides (front ++ decimal n) (front ++ decimal first)).0 e)) in
+      first_word front (front ++ decimal n) first count true e ∙ ap Some (sym same)
+  by false e next =
+      let other : first ≡ n → ⊥ = λ same. let f : true ≡ false = sym ((bytes_eq-Decides (front ++ decimal n) (front ++ decimal first)).1 (ap (λ (k : ℕ). front ++ decimal k) (sym same))) ∙ e in cc in
+      first_word front (front ++ decimal n) first count false e ∙ next (omega (arith, le, other)) (omega (arith, lt))
 
 -- a word with no number of the range
 pub unnumbered : (front word : List ℕ) (first count : ℕ) → ((n : ℕ) → first ≤ n → n < first + count → word ≡ front ++ decimal n → ⊥) → number_after front first count word ≡ None
 unnumbered front word first zero none = refl
-unnumbered front word first (suc count) none = by (bytes_eq word (front ++ decimal first)) refl where
-  by : (b : Bool) → bytes_eq word (front ++ decimal first) ≡ b → number_after front first (suc count) word ≡ None
-  by true e = absurd (none first (omega arith) (omega arith) ((bytes_eq-Decides word (front ++ decimal first)).0 e))
-  by false e = first_word front word first count false e ∙ unnumbered front word (suc first) count (λ n le lt is. none n (omega (arith, le)) (omega (arith, lt)) is)
+unnumbered front word first (suc count) none = by (bytes_eq word (front ++ decimal first)) refl (unnumbered front word (suc first) count) where
+  by : (b : Bool) → bytes_eq word (front ++ decimal first) ≡ b
+      → (((n : ℕ) → suc first ≤ n → n < suc first + count → word ≡ front ++ decimal n → ⊥) → number_after front (suc first) count word ≡ None)
+      → number_after front first (suc count) word ≡ None
+  by true e next = absurd (none first (omega arith) (omega arith) ((bytes_eq-Decides word (front ++ decimal first)).0 e))
+  by false e next = first_word front word first count false e ∙ next (λ n le lt is. none n (omega (arith, le)) (omega (arith, lt)) is)
 
 -- ---- digits that were read
 
