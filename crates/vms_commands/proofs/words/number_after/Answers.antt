@@ -40,4 +40,4 @@ returns-in_default-number_of-3-clause-number c =
     let word : c.as_bytes.result.now ≡ c.args.word.now = search rules in
     let few : Fits w8 c.args.last = search rules in
     let front = strip_prefix_is Decides-eqb c.as_bytes.result.now c.args.front.now (Some c.in-Some.digits) c.in-Some.ensures.cases in
-    no_number c.args.front.now c.args.word.now c.args.first c.args.last c.in-Some.digits.now (sym word ∙ front) (omega (arith, few)) c.in_default-number_of.field-0 c.in_default-number_of.ensures
+    no_number c.args.front.now c.args.word.now c.args.first c.args.last c.in-Some.digits.now (sym word ∙ front) (omega (arith, few)) _ c.in_default-number_of.ensures
