@@ -1,0 +1,202 @@
+"""The words of `vmstate-qemu`, and what each command does."""
+from __future__ import annotations
+
+import argparse
+import contextlib
+import json
+import os
+import sys
+from typing import Any, Callable, Dict, List, Optional
+
+from . import cut, edit, listing, values
+from .errors import DONE, FAULT, WORDS, Trouble, printable
+from .files import write_out
+from .program import Shelf, path_of
+from .qmp import Session
+from .save import save
+from .stream import Section, Stream, open_stream
+
+ABOUT = """\
+Lists, shows, edits, saves and compares the device states in QEMU's migration streams, with any devices. It calls the
+proved program `vmstate`. The pages docs/qemu.md, docs/sets.md and docs/compatibility.md say more.
+
+STREAM is a file that QMP's `migrate` wrote; a file of `xen-save-devices-state` or of `save`, together with a like
+stream (--like) or a set (--set); a qcow2 image with a snapshot (--snapshot); or - for standard input. SECTION is a
+name that `list` prints, as serial or dma@1, or the name of the section's description, as e1000."""
+
+STATUSES = """\
+statuses: 0 done (check: compatible; diff: no difference); 1 a stream is refused; 2 bad words; 3 a set, a dump or a
+value is refused; 4 not compatible, or different; 5 a file, QEMU or the program failed."""
+
+
+def stream_words(parser: argparse.ArgumentParser) -> None:
+    """Adds the words that say how a stream is read."""
+    parser.add_argument("--like", metavar="STREAM", help="read a stream without a description by that of this one")
+    parser.add_argument("--set", metavar="SET", help="read a stream without a description by this description file")
+    parser.add_argument("--snapshot", metavar="NAME", help="the snapshot in a qcow2 image, made by `savevm`")
+
+
+def opened(words: argparse.Namespace, path: str) -> Stream:
+    """Returns the stream at `path`, read as the words say."""
+    from .measure import Measured
+    sizes = Measured(words.set, path_of(words.vmstate)) if words.set else None
+    return open_stream(path, words.like, words.snapshot, sizes)
+
+
+def chosen(stream: Stream, names: List[str]) -> List[Section]:
+    """Returns the sections that were named, or all."""
+    return [stream.find(name) for name in names] if names else stream.sections
+
+
+def put_json(value: Any) -> None:
+    """Prints a value as JSON."""
+    json.dump(value, sys.stdout, indent=1)
+    print()
+
+
+def do_list(words: argparse.Namespace) -> int:
+    """Prints where each section is, and how much of it has names."""
+    stream = opened(words, words.stream)
+    if words.json:
+        put_json(listing.as_object(stream))
+    else:
+        sys.stdout.write(listing.as_text(stream))
+    return DONE
+
+
+def do_show(words: argparse.Namespace) -> int:
+    """Prints the numbers of the sections."""
+    stream = opened(words, words.stream)
+    sections = chosen(stream, words.section)
+    if words.json:
+        put_json({"file": stream.source.path, "machine": stream.machine,
+                  "sections": [values.as_object(stream, section) for section in sections]})
+        return DONE
+    if stream.machine is not None and not words.section:
+        print(f"machine {printable(stream.machine)}")
+    for section in sections:
+        sys.stdout.writelines(line + "\n" for line in values.text_lines(stream, section))
+    return DONE
+
+
+def target(words: argparse.Namespace) -> str:
+    """Returns the file that the edited stream goes to."""
+    if words.in_place == (words.output is not None):
+        raise Trouble("say either --in-place or --output FILE", WORDS)
+    return words.stream if words.in_place else words.output
+
+
+def do_edit(words: argparse.Namespace) -> int:
+    """Changes numbers of one section."""
+    path = target(words)
+    stream = opened(words, words.stream)
+    section = stream.find(words.section)
+    changes = words.change or edit.in_editor(stream, section)
+    with Shelf(path_of(words.vmstate)) as shelf:
+        old = stream.body(section)
+        new = edit.new_body(shelf, section, old, edit.numbers_of(section, changes))
+    return finish(stream, section, old, new, path, words)
+
+
+def finish(stream: Stream, section: Section, old: bytes, new: bytes, path: str, words: argparse.Namespace) -> int:
+    """Writes the stream with the new body, and says what differs."""
+    edit.written(stream, section, new, path, words.in_place)
+    differ = [at for at, (one, other) in enumerate(zip(old, new)) if one != other]
+    where = f", the first at {section.body[0] + differ[0]}" if differ else ""
+    print(f"{printable(path)}: {len(differ)} bytes of {printable(section.word)} differ{where}; every other byte is as it "
+          "was", file=sys.stderr)
+    return DONE
+
+
+def do_cut(words: argparse.Namespace) -> int:
+    """Writes the sections alone as a stream."""
+    stream = opened(words, words.stream)
+    write_out(words.output, cut.cut(stream, chosen(stream, words.section)))
+    return DONE
+
+
+def do_put(words: argparse.Namespace) -> int:
+    """Puts a packed section in its place."""
+    path = target(words)
+    stream = opened(words, words.stream)
+    section = stream.find(words.section)
+    with open(words.packed, "rb") as file:
+        new = cut.body_of_packed(file.read(), stream, section, printable(words.packed))
+    return finish(stream, section, stream.body(section), new, path, words)
+
+
+def do_save(words: argparse.Namespace) -> int:
+    """Saves the devices of a running VM."""
+    session = Session(words.socket)
+    try:
+        print(save(session, words.file, words.stop).sentence(words.file), file=sys.stderr)
+    finally:
+        session.close()
+    return DONE
+
+
+def parser() -> argparse.ArgumentParser:
+    """Returns what reads the words."""
+    top = argparse.ArgumentParser(prog="vmstate-qemu", description=ABOUT, epilog=STATUSES,
+                                  formatter_class=argparse.RawDescriptionHelpFormatter)
+    top.add_argument("--vmstate", metavar="PROGRAM", help="the program vmstate, else the variable VMSTATE or the path")
+    commands = top.add_subparsers(dest="command", metavar="COMMAND", required=True)
+
+    def command(name: str, does: Callable[[argparse.Namespace], int], about: str) -> argparse.ArgumentParser:
+        """Adds a command."""
+        added = commands.add_parser(name, help=about, description=about[:1].upper() + about[1:] + ".")
+        added.set_defaults(does=does)
+        return added
+
+    one = command("save", do_save, "save the devices of a running VM, which goes on unharmed")
+    one.add_argument("socket", metavar="QMP-SOCKET", help="the Unix socket of QEMU's -qmp unix:..")
+    one.add_argument("file", metavar="FILE", help="the file that is written whole or not at all")
+    one.add_argument("--stop", action="store_true", help="stop the VM first, and let it go on if it was running")
+
+    one = command("list", do_list, "print each section's offset, length and version, and how much of it has names")
+    one.add_argument("stream", metavar="STREAM")
+    one = command("show", do_show, "print the numbers of all sections, or of some, without a set")
+    one.add_argument("stream", metavar="STREAM")
+    one.add_argument("section", metavar="SECTION", nargs="*")
+    one = command("edit", do_edit, "change numbers of one section, and nothing else; without PATH=VALUE in $EDITOR")
+    one.add_argument("stream", metavar="STREAM")
+    one.add_argument("section", metavar="SECTION")
+    one.add_argument("change", metavar="PATH=VALUE", nargs="*", help="a number, or all bytes of a token as 0x..")
+    one = command("cut", do_cut, "write sections alone as a stream, under the names of their descriptions")
+    one.add_argument("stream", metavar="STREAM")
+    one.add_argument("section", metavar="SECTION", nargs="*")
+    one.add_argument("--output", "-o", metavar="FILE", help="else standard output")
+    one = command("put", do_put, "put a section that was cut and packed back in its place")
+    one.add_argument("stream", metavar="STREAM")
+    one.add_argument("section", metavar="SECTION")
+    one.add_argument("packed", metavar="PACKED")
+    for name in ("edit", "put"):
+        commands.choices[name].add_argument("--output", "-o", metavar="FILE", help="the new stream")
+        commands.choices[name].add_argument("--in-place", action="store_true", help="the new stream replaces STREAM")
+    for name in ("list", "show"):
+        commands.choices[name].add_argument("--json", action="store_true")
+    for name in ("list", "show", "edit", "cut", "put"):
+        stream_words(commands.choices[name])
+    return top
+
+
+def main(arguments: Optional[List[str]] = None) -> int:
+    """Does what the words say, and returns the status."""
+    words = parser().parse_args(arguments)
+    try:
+        status = words.does(words)
+        sys.stdout.flush()
+        return status
+    except Trouble as error:
+        print(f"vmstate-qemu: {error}", file=sys.stderr)
+        return error.status
+    except BrokenPipeError:
+        with contextlib.suppress(OSError):
+            os.dup2(os.open(os.devnull, os.O_WRONLY), sys.stdout.fileno())
+        return FAULT
+    except OSError as error:
+        print(f"vmstate-qemu: {printable(str(error.filename or 'standard output'))}: {error.strerror}", file=sys.stderr)
+        return FAULT
+    except KeyboardInterrupt:
+        print("vmstate-qemu: interrupted", file=sys.stderr)
+        return FAULT

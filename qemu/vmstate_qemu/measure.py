@@ -1,0 +1,71 @@
+"""Sections of a stream without a description, measured by the program and a set."""
+from __future__ import annotations
+
+import json
+import re
+from typing import Any, Dict, Tuple
+
+from .description import Part
+from .donor import opaque
+from .errors import FAULT, TEXT, Refused, Trouble, printable
+from .program import Shelf
+from .source import Source
+
+HEAD = b"QEVM\0\0\0\3"
+LONGEST = 1 << 24
+
+
+def read_json(path: str) -> Any:
+    """Returns the JSON value in the file at `path`.
+
+    # Errors
+
+    Trouble: it can't be read, or is no JSON.
+    """
+    try:
+        with open(path, "rb") as file:
+            return json.loads(file.read())
+    except OSError as error:
+        raise Trouble(f"{printable(path)}: {error.strerror}", FAULT) from None
+    except (ValueError, RecursionError) as error:
+        raise Trouble(f"{printable(path)}: no JSON: {error}", TEXT) from None
+
+
+class Measured:
+    """A set, of which `vmstate show` says for each section where it ends."""
+
+    def __init__(self, path: str, program: str) -> None:
+        whole = read_json(path)
+        self.path = printable(path)
+        self.shelf = Shelf(program)
+        try:
+            self.structs = whole["structs"]
+            self.devices: Dict[Tuple[str, int], Any] = {
+                (device["desc"]["name"], device["instance"]): device for device in whole["devices"]}
+        except (KeyError, TypeError):
+            raise Trouble(f"{self.path}: no description set", TEXT) from None
+
+    def body(self, source: Source, name: str, instance: int, version: int, at: int, start: int) -> Tuple[Part, int]:
+        """Returns the body at `at` as bytes, and where it ends: where the program wants the next section.
+
+        # Errors
+
+        Refused: the set has no such section, or the program refuses it.
+        """
+        device = self.devices.get((name, instance))
+        if device is None:
+            raise Refused(start, printable(name), f"the set {self.path} has no section of this name")
+        self.shelf.put("one.json", {"machines": [], "structs": self.structs, "devices": [device]})
+        given = HEAD + source.read_some(start, LONGEST)
+        answer = self.shelf.call("show", "one.json", given=given)
+        found = re.fullmatch(r"refused at (\d+) in (.*): (\w+)", answer.notes)
+        if answer.status == 0:
+            end = source.size - 1
+        elif found and found[3] in ("UnknownSection", "RepeatedSection") and int(found[1]) > 8:
+            end = int(found[1]) - 8 + start
+        elif found:
+            raise Refused(int(found[1]) - 8 + start, printable(name), f"{found[3]} under the set {self.path}")
+        else:
+            raise Trouble(f"{self.path}: {answer.notes}", TEXT)
+        end -= 5 * (source.read_some(end - 5, 5) == b"\x7e" + source.read(start + 1, 4))
+        return opaque(name, version, end - at), end

@@ -1,0 +1,89 @@
+"""Streams that are read at any offset, without being held in memory: files, pipes and snapshots of disk images."""
+from __future__ import annotations
+
+import os
+import shutil
+import stat
+import sys
+import tempfile
+from typing import Iterator, Optional
+
+from . import qcow2
+from .errors import FAULT, Refused, Trouble, printable
+from .files import reason
+
+CHUNK = 1 << 20
+STANDARD_INPUT = "-"
+
+
+class Source:
+    """A stream in a file: its size, and its bytes at any offset."""
+
+    def __init__(self, path: str, snapshot: Optional[str] = None) -> None:
+        """Opens the stream at `path`, or standard input for `-`.
+
+        A pipe is copied to a temporary file first, and a line on standard error says so. If the file is a qcow2 image,
+        the stream is that of its snapshot `snapshot`, or of its only one.
+
+        # Errors
+
+        Trouble: the file can't be read, or the image has no such snapshot.
+        """
+        self.path = path
+        self.name = "standard input" if path == STANDARD_INPUT else printable(path)
+        self.pieces: Optional[qcow2.Pieces] = None
+        try:
+            self.file = sys.stdin.buffer if path == STANDARD_INPUT else open(path, "rb")
+            if stat.S_ISDIR(os.fstat(self.file.fileno()).st_mode):
+                raise Trouble(f"{self.name}: is a folder", FAULT)
+            if not stat.S_ISREG(os.fstat(self.file.fileno()).st_mode):
+                self.file = self.spooled()
+            self.number = self.file.fileno()
+            self.size = os.fstat(self.number).st_size
+        except OSError as error:
+            raise Trouble(f"{self.name}: {reason(error)}", FAULT) from None
+        if self.read_some(0, 4) == qcow2.MAGIC:
+            self.pieces = qcow2.snapshot_pieces(self, snapshot)
+            self.size = self.pieces.size
+        elif snapshot is not None:
+            raise Trouble(f"{self.name}: is no qcow2 image, so it has no snapshot", FAULT)
+
+    def spooled(self):
+        """Returns a temporary file with all that comes from the pipe."""
+        copy = tempfile.TemporaryFile(prefix="vmstate-qemu-")
+        shutil.copyfileobj(self.file, copy, CHUNK)
+        copy.flush()
+        print(f"{self.name}: a pipe; its {copy.tell()} bytes were copied to a temporary file", file=sys.stderr)
+        return copy
+
+    def read_some(self, at: int, length: int) -> bytes:
+        """Returns up to `length` bytes at offset `at`: fewer only at the end of the file."""
+        try:
+            if self.pieces is not None:
+                return self.pieces.read(self.number, at, length)
+            return os.pread(self.number, length, at)
+        except OSError as error:
+            raise Trouble(f"{self.name}: {reason(error)}", FAULT) from None
+
+    def read(self, at: int, length: int, where: str = "") -> bytes:
+        """Returns the `length` bytes at offset `at`.
+
+        # Errors
+
+        Refused: the stream ends before, in the section `where`.
+        """
+        got = self.read_some(at, length) if 0 <= at <= self.size and at + length <= self.size else b""
+        if len(got) != length:
+            raise Refused(min(at, self.size), where, "the stream ends here")
+        return got
+
+    def number_at(self, at: int, length: int, where: str = "") -> int:
+        """Returns the big-endian number of `length` bytes at offset `at`."""
+        return int.from_bytes(self.read(at, length, where), "big")
+
+    def chunks(self, at: int, end: int) -> Iterator[bytes]:
+        """Yields the bytes from `at` to `end`, at most a MiB at a time."""
+        while at < end:
+            got = self.read(at, min(CHUNK, end - at))
+            yield got
+            at += len(got)
