@@ -8,8 +8,8 @@ import os
 import sys
 from typing import Any, Callable, Dict, List, Optional
 
-from . import cut, edit, listing, values
-from .errors import DONE, FAULT, WORDS, Trouble, printable
+from . import cut, edit, inputs, listing, measure, mending, values
+from .errors import DIFFERENT, DONE, FAULT, WORDS, Trouble, printable
 from .files import write_out
 from .program import Shelf, path_of
 from .qmp import Session
@@ -38,8 +38,7 @@ def stream_words(parser: argparse.ArgumentParser) -> None:
 
 def opened(words: argparse.Namespace, path: str) -> Stream:
     """Returns the stream at `path`, read as the words say."""
-    from .measure import Measured
-    sizes = Measured(words.set, path_of(words.vmstate)) if words.set else None
+    sizes = measure.Measured(words.set, path_of(words.vmstate)) if words.set else None
     return open_stream(path, words.like, words.snapshot, sizes)
 
 
@@ -135,6 +134,29 @@ def do_save(words: argparse.Namespace) -> int:
     return DONE
 
 
+def do_check(words: argparse.Namespace) -> int:
+    """Says whether NEW reads what OLD writes, with every fault."""
+    report = inputs.checked(words.old, words.new, words.old_dump, words.new_dump, path_of(words.vmstate))
+    if words.json:
+        put_json(report.as_object())
+    else:
+        sys.stdout.write(report.as_text())
+    return DIFFERENT if report.faults or (words.strict and report.findings) else DONE
+
+
+def do_explain(words: argparse.Namespace) -> int:
+    """Says with names what one line of `vmstate check` means."""
+    old, new = inputs.read_set(words.old), inputs.read_set(words.new)
+    fault = mending.explained(words.line, old, new)
+    if words.json:
+        put_json({"rule": fault.rule, "says": fault.says, "old": fault.old, "new": fault.new, "line": fault.line})
+        return DONE
+    print(f"rule {fault.rule}: {fault.says}")
+    for side, names in (("OLD", fault.old), ("NEW", fault.new)):
+        print(f"{side}: {', '.join(printable(name) for name in names) or '-'}")
+    return DONE
+
+
 def parser() -> argparse.ArgumentParser:
     """Returns what reads the words."""
     top = argparse.ArgumentParser(prog="vmstate-qemu", description=ABOUT, epilog=STATUSES,
@@ -170,10 +192,20 @@ def parser() -> argparse.ArgumentParser:
     one.add_argument("stream", metavar="STREAM")
     one.add_argument("section", metavar="SECTION")
     one.add_argument("packed", metavar="PACKED")
+    one = command("check", do_check, "say whether NEW reads what OLD writes: all faults of two dumps, streams or sets")
+    one.add_argument("old", metavar="OLD", help="a file of -dump-vmstate, a stream, or a description file")
+    one.add_argument("new", metavar="NEW", help="the same of the newer QEMU")
+    one.add_argument("--old-dump", metavar="DUMP", help="what -dump-vmstate says of OLD, if OLD is a stream")
+    one.add_argument("--new-dump", metavar="DUMP", help="the same of NEW")
+    one.add_argument("--strict", action="store_true", help="remarks count too: status 4 if there is one")
+    one = command("explain", do_explain, "say with names what a line of `vmstate check` means")
+    one.add_argument("old", metavar="OLD", help="the description file that was checked")
+    one.add_argument("new", metavar="NEW")
+    one.add_argument("line", metavar="LINE", help="as `not compatible: rule 7 at device 0 field 1 against ..`")
     for name in ("edit", "put"):
         commands.choices[name].add_argument("--output", "-o", metavar="FILE", help="the new stream")
         commands.choices[name].add_argument("--in-place", action="store_true", help="the new stream replaces STREAM")
-    for name in ("list", "show"):
+    for name in ("list", "show", "check", "explain"):
         commands.choices[name].add_argument("--json", action="store_true")
     for name in ("list", "show", "edit", "cut", "put"):
         stream_words(commands.choices[name])

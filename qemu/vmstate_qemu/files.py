@@ -2,13 +2,14 @@
 from __future__ import annotations
 
 import contextlib
+import json
 import os
 import shutil
 import sys
 import tempfile
-from typing import BinaryIO, Iterator, Optional
+from typing import Any, BinaryIO, Iterator, Optional
 
-from .errors import FAULT, Trouble, printable
+from .errors import FAULT, TEXT, Trouble, printable
 
 
 def reason(error: OSError) -> str:
@@ -61,3 +62,19 @@ def write_out(path: Optional[str], text: bytes) -> None:
         return
     with replacing(path) as file:
         file.write(text)
+
+
+def read_json(path: str) -> Any:
+    """Returns the JSON value in the file at `path`.
+
+    # Errors
+
+    Trouble: it can't be read, or is no JSON.
+    """
+    try:
+        with open(path, "rb") as file:
+            return json.loads(file.read())
+    except OSError as error:
+        raise Trouble(f"{printable(path)}: {reason(error)}", FAULT) from None
+    except (ValueError, RecursionError) as error:
+        raise Trouble(f"{printable(path)}: no JSON: {error}", TEXT) from None

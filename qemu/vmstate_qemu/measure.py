@@ -1,34 +1,18 @@
 """Sections of a stream without a description, measured by the program and a set."""
 from __future__ import annotations
 
-import json
 import re
 from typing import Any, Dict, Tuple
 
 from .description import Part
 from .donor import opaque
-from .errors import FAULT, TEXT, Refused, Trouble, printable
+from .errors import TEXT, Refused, Trouble, printable
+from .files import read_json
 from .program import Shelf
 from .source import Source
 
 HEAD = b"QEVM\0\0\0\3"
 LONGEST = 1 << 24
-
-
-def read_json(path: str) -> Any:
-    """Returns the JSON value in the file at `path`.
-
-    # Errors
-
-    Trouble: it can't be read, or is no JSON.
-    """
-    try:
-        with open(path, "rb") as file:
-            return json.loads(file.read())
-    except OSError as error:
-        raise Trouble(f"{printable(path)}: {error.strerror}", FAULT) from None
-    except (ValueError, RecursionError) as error:
-        raise Trouble(f"{printable(path)}: no JSON: {error}", TEXT) from None
 
 
 class Measured:
