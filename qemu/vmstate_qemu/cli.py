@@ -8,13 +8,15 @@ import os
 import sys
 from typing import Any, Callable, Dict, List, Optional
 
-from . import cut, edit, inputs, listing, measure, mending, values
-from .errors import DIFFERENT, DONE, FAULT, WORDS, Trouble, printable
+from . import comparing, cut, edit, folder, inputs, listing, measure, mending, sets, values
+from .errors import DIFFERENT, DONE, FAULT, REFUSED, WORDS, Trouble, printable
 from .files import write_out
+from .nodes import Dump
 from .program import Shelf, path_of
+from .progress import Progress
 from .qmp import Session
 from .save import save
-from .stream import Section, Stream, open_stream
+from .stream import Section, Stream, donor_devices, open_stream
 
 ABOUT = """\
 Lists, shows, edits, saves and compares the device states in QEMU's migration streams, with any devices. It calls the
@@ -23,6 +25,8 @@ proved program `vmstate`. The pages docs/qemu.md, docs/sets.md and docs/compatib
 STREAM is a file that QMP's `migrate` wrote; a file of `xen-save-devices-state` or of `save`, together with a like
 stream (--like) or a set (--set); a qcow2 image with a snapshot (--snapshot); or - for standard input. SECTION is a
 name that `list` prints, as serial or dma@1, or the name of the section's description, as e1000."""
+
+LONGEST_SET = 1 << 20
 
 STATUSES = """\
 statuses: 0 done (check: compatible; diff: no difference); 1 a stream is refused; 2 bad words; 3 a set, a dump or a
@@ -134,6 +138,50 @@ def do_save(words: argparse.Namespace) -> int:
     return DONE
 
 
+def do_diff(words: argparse.Namespace) -> int:
+    """Prints what differs between two streams."""
+    found = list(comparing.differences(opened(words, words.a), opened(words, words.b), words.section))
+    if words.json:
+        put_json([each.as_object() for each in found])
+    else:
+        sys.stdout.writelines(each.text() + "\n" for each in found)
+    return DIFFERENT if found else DONE
+
+
+def do_folder(words: argparse.Namespace) -> int:
+    """Judges the files of a folder."""
+    program = path_of(words.vmstate) if words.set else None
+    chosen_set = os.path.abspath(words.set) if words.set else None
+    judge = folder.Judge(program, chosen_set, donor_devices(words.like) if words.like else None)
+    paths = [os.path.abspath(path) for path in folder.files_of(words.folder)]
+    found = list(folder.verdicts(judge, paths, words.jobs, Progress(words.progress or None)))
+    if words.json:
+        put_json(folder.summary(found))
+    else:
+        sys.stdout.write(folder.as_text(found))
+    return REFUSED if any(each.status for each in found) else DONE
+
+
+def do_set(words: argparse.Namespace) -> int:
+    """Writes a description set of sections of a stream or of a dump."""
+    dump = inputs.read_dump(words.dump)
+    found = inputs.read(words.stream) if not words.like and not words.snapshot and words.stream != "-" else \
+        open_stream(words.stream, words.like, words.snapshot)
+    if isinstance(found, Stream):
+        maker = sets.of_stream(found, chosen(found, words.section), dump)
+    elif isinstance(found, Dump) and words.section:
+        maker = sets.of_dump(found, words.section)
+    else:
+        raise Trouble(f"{printable(words.stream)}: a set is made of a stream, or of a dump and names in it", WORDS)
+    for note in maker.notes:
+        print(f"vmstate-qemu: {note}", file=sys.stderr)
+    text = json.dumps(maker.whole(), indent=1).encode() + b"\n"
+    if len(text) > LONGEST_SET:
+        text = json.dumps(maker.whole(), separators=(",", ":")).encode() + b"\n"
+    write_out(words.output, text)
+    return DONE
+
+
 def do_check(words: argparse.Namespace) -> int:
     """Says whether NEW reads what OLD writes, with every fault."""
     report = inputs.checked(words.old, words.new, words.old_dump, words.new_dump, path_of(words.vmstate))
@@ -192,6 +240,23 @@ def parser() -> argparse.ArgumentParser:
     one.add_argument("stream", metavar="STREAM")
     one.add_argument("section", metavar="SECTION")
     one.add_argument("packed", metavar="PACKED")
+    one = command("diff", do_diff, "print what differs between two streams, by device and name")
+    one.add_argument("a", metavar="A")
+    one.add_argument("b", metavar="B")
+    one.add_argument("section", metavar="SECTION", nargs="*")
+    one = command("folder", do_folder, "judge every file of a folder, with a summary by reason")
+    one.add_argument("folder", metavar="DIR")
+    one.add_argument("--set", metavar="SET", help="judge by `vmstate show SET`, else by the streams' own descriptions")
+    one.add_argument("--like", metavar="STREAM", help="read streams without a description by that of this one")
+    one.add_argument("--jobs", metavar="N", type=int, default=os.cpu_count() or 1, help="that many processes")
+    one.add_argument("--progress", action="store_true", help="show the bar even where no terminal is")
+    one = command("set", do_set, "write a description set of sections for vmstate's show, pack and check")
+    one.add_argument("stream", metavar="STREAM|DUMP", help="a stream, or a file of -dump-vmstate with SECTION")
+    one.add_argument("section", metavar="SECTION", nargs="*")
+    one.add_argument("--dump", metavar="DUMP", help="a file of -dump-vmstate, for versions, minimums and subsections")
+    one.add_argument("--like", metavar="STREAM", help="read a stream without a description by that of this one")
+    one.add_argument("--snapshot", metavar="NAME", help="the snapshot in a qcow2 image, made by `savevm`")
+    one.add_argument("--output", "-o", metavar="FILE", help="else standard output")
     one = command("check", do_check, "say whether NEW reads what OLD writes: all faults of two dumps, streams or sets")
     one.add_argument("old", metavar="OLD", help="a file of -dump-vmstate, a stream, or a description file")
     one.add_argument("new", metavar="NEW", help="the same of the newer QEMU")
@@ -205,9 +270,9 @@ def parser() -> argparse.ArgumentParser:
     for name in ("edit", "put"):
         commands.choices[name].add_argument("--output", "-o", metavar="FILE", help="the new stream")
         commands.choices[name].add_argument("--in-place", action="store_true", help="the new stream replaces STREAM")
-    for name in ("list", "show", "check", "explain"):
+    for name in ("list", "show", "diff", "check", "explain", "folder"):
         commands.choices[name].add_argument("--json", action="store_true")
-    for name in ("list", "show", "edit", "cut", "put"):
+    for name in ("list", "show", "edit", "cut", "put", "diff"):
         stream_words(commands.choices[name])
     return top
 

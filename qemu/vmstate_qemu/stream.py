@@ -138,20 +138,30 @@ def open_stream(path: str, like: Optional[str] = None, snapshot: Optional[str] =
 
     Refused: the stream isn't as QEMU writes it, or doesn't fit the description. Trouble: a file can't be read.
     """
-    source = Source(path, snapshot)
+    devices = donor_devices(like) if like is not None else None
+    return read_stream(Source(path, snapshot), devices, sizes)
+
+
+def read_stream(source: Source, like: Optional[Tuple[Device, ...]] = None,
+                sizes: Optional[donors.Fits] = None) -> Stream:
+    """Finds the sections of a stream, by its own description, by the devices of another one, or by `sizes`.
+
+    # Errors
+
+    Refused: the stream isn't as QEMU writes it, or doesn't fit the description.
+    """
     stream = opened(source)
     found = find(source)
     if found is not None:
         stream.page_size = found.page_size
         stream.end = found.at - 1
-        if source.read(stream.end, 1) != b"\0":
+        if stream.end < stream.start or source.read(stream.end, 1) != b"\0":
             raise Refused(stream.end, "", "no end mark is before the description")
         stream.sections = backwards(source, found, stream.start)
         return stream
     if like is None and sizes is None:
         raise Refused(source.size, "", "no description is at the end; give a stream like it (--like) or a set (--set)")
-    fits = sizes if sizes is not None else donors.Donor(donor_devices(like))
-    forwards(stream, fits)
+    forwards(stream, sizes if sizes is not None else donors.Donor(like))
     return stream
 
 
