@@ -14,6 +14,7 @@ WIDTHS = {"u8": 1, "u16": 2, "u32": 4, "u64": 8, "i8": 1, "i16": 2, "i32": 4, "i
 KINDS = {"uint8": "u8", "uint16": "u16", "uint32": "u32", "uint64": "u64", "int8": "i8", "int16": "i16",
          "int32": "i32", "int64": "i64", "bool": "bool", "timer": "timer"}
 MARK = 0x06
+NO_CONTROL = bytes(range(0x20, 0x100))
 LONGEST_TEXT = 1 << 28
 MOST_BYTES = 1 << 48
 MOST_ELEMENTS = 1 << 22
@@ -153,6 +154,8 @@ def devices_of(text: bytes) -> Tuple[int, Tuple[Device, ...]]:
         raise Damaged(f"no JSON: {error}") from None
     if not isinstance(whole, dict):
         raise Damaged("no JSON object")
+    if "page_size" not in whole:
+        raise Damaged("it is vmstate's own, not QEMU's, and `vmstate analyze` reads it")
     found: List[Device] = []
     for value in member(whole, "devices", list):
         if not isinstance(value, dict):
@@ -161,7 +164,7 @@ def devices_of(text: bytes) -> Tuple[int, Tuple[Device, ...]]:
         if not 1 <= len(name.encode("utf-8", "surrogateescape")) <= 255:
             raise Damaged("a device of it has no name, or one of more than 255 bytes")
         found.append(Device(name, member(value, "instance_id", int), part_of(value, name)))
-    return member(whole, "page_size", int, 4096), tuple(found)
+    return member(whole, "page_size", int), tuple(found)
 
 
 def find(source: Source) -> Optional[Description]:
@@ -179,7 +182,7 @@ def find(source: Source) -> Optional[Description]:
             try:
                 page_size, devices = devices_of(source.read(mark + 5, end - mark - 5))
             except (Damaged, UnicodeEncodeError) as error:
-                raise Refused(mark, "", f"the description is damaged: {error}") from None
+                raise Refused(mark, "", f"the description isn't as QEMU writes it: {error}") from None
             return Description(mark, page_size, devices)
     return None
 
@@ -201,9 +204,9 @@ def last_control(source: Source, end: int) -> int:
     stop = max(end - LONGEST_TEXT, 0)
     while end > stop:
         start = max(end - 65536, stop)
-        found = re.search(rb"[\0-\x1f][^\0-\x1f]*\Z", source.read(start, end - start))
-        if found:
-            return start + found.start()
+        some = source.read(start, end - start).rstrip(NO_CONTROL)
+        if some:
+            return start + len(some) - 1
         end = start
     return 0
 

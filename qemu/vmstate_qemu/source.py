@@ -6,6 +6,7 @@ import shutil
 import stat
 import sys
 import tempfile
+import weakref
 from typing import Iterator, Optional
 
 from . import qcow2
@@ -33,12 +34,14 @@ class Source:
         self.name = "standard input" if path == STANDARD_INPUT else printable(path)
         self.pieces: Optional[qcow2.Pieces] = None
         try:
-            self.file = sys.stdin.buffer if path == STANDARD_INPUT else open(path, "rb")
-            if stat.S_ISDIR(os.fstat(self.file.fileno()).st_mode):
+            self.number = os.dup(0) if path == STANDARD_INPUT else os.open(path, os.O_RDONLY)
+            weakref.finalize(self, os.close, self.number)
+            mode = os.fstat(self.number).st_mode
+            if stat.S_ISDIR(mode):
                 raise Trouble(f"{self.name}: is a folder", FAULT)
-            if not stat.S_ISREG(os.fstat(self.file.fileno()).st_mode):
-                self.file = self.spooled()
-            self.number = self.file.fileno()
+            if not stat.S_ISREG(mode):
+                self.number = self.spooled()
+                weakref.finalize(self, os.close, self.number)
             self.size = os.fstat(self.number).st_size
         except OSError as error:
             raise Trouble(f"{self.name}: {reason(error)}", FAULT) from None
@@ -48,13 +51,13 @@ class Source:
         elif snapshot is not None:
             raise Trouble(f"{self.name}: is no qcow2 image, so it has no snapshot", FAULT)
 
-    def spooled(self):
-        """Returns a temporary file with all that comes from the pipe."""
-        copy = tempfile.TemporaryFile(prefix="vmstate-qemu-")
-        shutil.copyfileobj(self.file, copy, CHUNK)
-        copy.flush()
-        print(f"{self.name}: a pipe; its {copy.tell()} bytes were copied to a temporary file", file=sys.stderr)
-        return copy
+    def spooled(self) -> int:
+        """Returns the descriptor of a temporary file with all that comes from the pipe."""
+        with tempfile.TemporaryFile(prefix="vmstate-qemu-") as copy, os.fdopen(os.dup(self.number), "rb") as pipe:
+            shutil.copyfileobj(pipe, copy, CHUNK)
+            copy.flush()
+            print(f"{self.name}: a pipe; its {copy.tell()} bytes were copied to a temporary file", file=sys.stderr)
+            return os.dup(copy.fileno())
 
     def read_some(self, at: int, length: int) -> bytes:
         """Returns up to `length` bytes at offset `at`: fewer only at the end of the file."""
