@@ -58,7 +58,7 @@ class Check(Case):
     def test_fields_that_moved_into_a_structure_are_no_fault(self):
         def moved(new):
             fields = new["isa-pit"]["Description"]["Fields"]
-            inner = {"name": "inner", "version_id": 1, "minimum_version_id": 1, "Fields": fields[:1]}
+            inner = {"name": "inner", "version_id": 3, "minimum_version_id": 1, "Fields": fields[:1]}
             fields[:1] = [{"field": "inner", "version_id": 0, "field_exists": False, "size": 64, "Description": inner}]
         self.assertEqual(self.findings(moved), [])
 

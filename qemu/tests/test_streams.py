@@ -170,7 +170,7 @@ class Sets(Case):
     def test_the_numbers_are_those_of_vmstate(self):
         stream = open_stream(ISAPC)
         with Shelf(path_of()) as shelf:
-            for word in ("serial", "i8254", "ps2kbd", "pckbd"):
+            for word in ("serial", "i8254", "mc146818rtc", "ipmi-interface"):
                 section = stream.find(word)
                 shelf.put("made.json", sets.of_stream(stream, [section], None).whole())
                 shown = shelf.call("show", "made.json", given=cut(stream, [section])).out.decode()

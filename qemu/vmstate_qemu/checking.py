@@ -2,7 +2,7 @@
 from __future__ import annotations
 
 import re
-from dataclasses import asdict, dataclass, field
+from dataclasses import asdict, dataclass, field, replace
 from typing import Any, Dict, Iterator, List, Optional, Tuple
 
 from .errors import printable
@@ -106,6 +106,8 @@ class Pair:
         keys: Dict[str, Any] = {"since": each.since} if each.since else {}
         if each.kind == "struct":
             keys.update(kind="struct", struct=0)
+        elif each.is_open:
+            return {"kind": "u8", "count": self.code(0), **keys}
         elif each.kind == "unused" and each.size <= MOST_UNUSED:
             return {"kind": "unused", "size": max(each.size, 1), **keys}
         elif each.kind in ("bytes", "unused") or (each.kind == "u8" and each.count is not None):
@@ -166,6 +168,7 @@ def compare(shelf: Shelf, old: Node, new: Node, section: str, path: str, report:
         return
     old = known_alone(old, new, section, path, report)
     old, new = opened_structures(old, new), opened_structures(new, old)
+    old, new = without_tested(old, new, section, path, report, 0), without_tested(new, old, section, path, report, 1)
     pair = Pair(old, new)
     for sets in pair.sets():
         faults, is_whole = all_faults(shelf, *sets)
@@ -175,14 +178,19 @@ def compare(shelf: Shelf, old: Node, new: Node, section: str, path: str, report:
         if mine.since > other.since:
             report.remark(section, path, "NEW has the field in older versions too",
                           f"{mine.name} from version {mine.since}", f"from version {other.since}")
+        if mine.is_open and other.is_open and mine.size != other.size:
+            report.remark(section, path, "a function of QEMU writes it, with another length in each state",
+                          *(f"{each.name} ({described(each)})" for each in (mine, other)))
         if mine.node is not None and other.node is not None:
             inner = f"{path}.{mine.name}"
             structure_remarks(mine.node, other.node, section, inner, report)
             compare(shelf, without_versions(mine.node), without_versions(other.node), section, inner, report)
     for sub in old.subsections:
-        other_sub = next((each for each in new.subsections if each.name == sub.name), None)
-        if other_sub is not None:
-            compare(shelf, sub, other_sub, section, sub.name, report)
+        its = next((each for each in new.subsections if each.name == sub.name), None)
+        if its is not None and sub.is_stream == its.is_stream:
+            compare(shelf, sub, its, section, sub.name, report)
+        elif its is not None:
+            compare(shelf, sub.said or sub, its.said or its, section, sub.name, report)
 
 
 def known_alone(old: Node, new: Node, section: str, path: str, report: Report) -> Node:
@@ -193,8 +201,22 @@ def known_alone(old: Node, new: Node, section: str, path: str, report: Report) -
     for sub in old.subsections:
         if sub.name not in known:
             report.remark(section, path, "the subsection didn't come in NEW; whether NEW knows it, a dump says", sub.name)
-    return Node(old.name, old.version, old.minimum, old.fields,
-                tuple(sub for sub in old.subsections if sub.name in known), old.is_whole)
+    return replace(old, subsections=tuple(sub for sub in old.subsections if sub.name in known))
+
+
+def without_tested(node: Node, other: Node, section: str, path: str, report: Report, side: int) -> Node:
+    """Returns the node without fields that a function of QEMU asks for and `other` doesn't have, which are remarks.
+
+    A dump has all fields. So this is about streams, of which each has the fields that its VM needs.
+    """
+    there = {each.name for each in other.fields}
+    alone = [each for each in node.fields if each.is_tested and each.name not in there]
+    if not alone or not (node.is_stream or other.is_stream):
+        return node
+    for each in alone:
+        report.remark(section, path, "the field is in one stream alone; a function of QEMU decides",
+                      *("", each.name)[1 - side:])
+    return replace(node, fields=tuple(each for each in node.fields if each not in alone))
 
 
 def structure_remarks(old: Node, new: Node, section: str, path: str, report: Report) -> None:

@@ -163,7 +163,10 @@ def devices_of(text: bytes) -> Tuple[int, Tuple[Device, ...]]:
         name = member(value, "name", str)
         if not 1 <= len(name.encode("utf-8", "surrogateescape")) <= 255:
             raise Damaged("a device of it has no name, or one of more than 255 bytes")
-        found.append(Device(name, member(value, "instance_id", int), part_of(value, name)))
+        instance = member(value, "instance_id", int)
+        if instance >> 32:
+            raise Damaged("a device of it has an instance of more than 32 bits")
+        found.append(Device(name, instance, part_of(value, name)))
     return member(whole, "page_size", int), tuple(found)
 
 
@@ -239,7 +242,7 @@ def elements(entry: Entry, part: Part, base: str, at: int) -> Iterator[Leaf]:
     if entry.count is None:
         yield from leaves(part, base + ".", at)
         return
-    if entry.count > MOST_ELEMENTS:
+    if part.length and entry.count > MOST_ELEMENTS:
         raise Damaged("an array of it has more than four million structures")
     for index in range(entry.count if part.length else 0):
         yield from leaves(part, f"{base}[{index}].", at + index * part.length)

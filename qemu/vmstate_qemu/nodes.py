@@ -2,12 +2,13 @@
 from __future__ import annotations
 
 import re
-from dataclasses import dataclass, replace
+from dataclasses import dataclass, field, replace
 from typing import Any, Dict, List, Optional, Tuple
 
 from .description import Entry, Part
 from .errors import TEXT, Trouble, printable
 
+FIXED = {"buffer", "bitmap", "pci config", "pci irq state", "float64", "CPU_Double_U"}
 BY_SIZE = {1: "u8", 2: "u16", 4: "u32", 8: "u64"}
 
 
@@ -15,7 +16,8 @@ BY_SIZE = {1: "u8", 2: "u16", 4: "u32", 8: "u64"}
 class NodeField:
     """A field: `size` bytes for each of `count` elements, of one `kind`: a number's, `bytes`, `unused` or `struct`.
 
-    `is_tested` is true if a function of QEMU says whether it is there.
+    `is_tested` is true if a function of QEMU says whether it is there, and `is_open` if one writes as many bytes as the
+    state needs.
     """
 
     name: str
@@ -25,11 +27,15 @@ class NodeField:
     since: int = 0
     node: Optional["Node"] = None
     is_tested: bool = False
+    is_open: bool = False
 
 
 @dataclass(frozen=True)
 class Node:
-    """A device, structure or subsection. `is_whole` is false if there may be subsections that aren't listed."""
+    """A device, structure or subsection, of a stream or of a dump.
+
+    `is_whole` is false if there may be subsections that aren't listed. `said` is what a dump says of one of a stream.
+    """
 
     name: str
     version: int
@@ -37,6 +43,8 @@ class Node:
     fields: Tuple[NodeField, ...]
     subsections: Tuple["Node", ...]
     is_whole: bool
+    is_stream: bool = False
+    said: Optional["Node"] = field(default=None, compare=False)
 
 
 @dataclass(frozen=True)
@@ -104,7 +112,7 @@ def node_of(part: Part, known: Optional[Node] = None) -> Node:
     names = {sub.name for sub in came}
     more = tuple(sub for sub in known.subsections if sub.name not in names) if known else ()
     minimum = known.minimum if known and known.minimum <= part.version else part.version
-    return Node(part.name, part.version, minimum, tuple(fields), came + more, known is not None)
+    return Node(part.name, part.version, minimum, tuple(fields), came + more, known is not None, True, known)
 
 
 def named(known: Optional[Node], name: str) -> Optional[Node]:
@@ -119,10 +127,10 @@ def base_name(name: str) -> str:
 
 def take(waiting: List[NodeField], name: str) -> Optional[NodeField]:
     """Takes the next field of this name, and those before it, from the fields of a dump."""
-    for index, field in enumerate(waiting):
-        if base_name(field.name) == name:
+    for index, each in enumerate(waiting):
+        if base_name(each.name) == name:
             del waiting[:index + 1]
-            return field
+            return each
     return None
 
 
@@ -157,7 +165,7 @@ def joined_fields(run: List[Entry], said: Optional[NodeField]) -> List[NodeField
     if first.type == "unused_buffer":
         return [NodeField(first.name, "unused", length, None, since, None, is_tested)]
     if first.kind is None:
-        return [NodeField(first.name, "bytes", length, None, since, None, is_tested)]
+        return [NodeField(first.name, "bytes", length, None, since, None, is_tested, first.type not in FIXED)]
     count = first.count if first.index is None else len(run)
     return [NodeField(first.name, first.kind, first.size, count, since, None, is_tested)]
 
@@ -179,7 +187,7 @@ def merged(one: Node, other: Node) -> Optional[Node]:
 
 def without_versions(node: Node) -> Node:
     """Returns the node as one of version 1 with the fields that are there at its own version."""
-    fields = tuple(replace(field, since=0) for field in node.fields if field.since <= node.version)
+    fields = tuple(replace(each, since=0) for each in node.fields if each.since <= node.version)
     return replace(node, version=1, minimum=1, fields=fields)
 
 
@@ -188,10 +196,10 @@ def opened_structures(node: Node, other: Node) -> Node:
 
     They take the same bytes: QEMU has moved fields into structures, and out of them, between versions.
     """
-    names, there = {field.name for field in node.fields}, {field.name for field in other.fields}
+    names, there = {each.name for each in node.fields}, {each.name for each in other.fields}
     fields: List[NodeField] = []
-    for field in node.fields:
-        inner = field.node.fields if field.node is not None and field.count is None else ()
-        moved = field.name not in there and inner and inner[0].name in there - names
-        fields += [each for each in inner if each.since <= field.node.version] if moved else [field]
+    for each in node.fields:
+        inner = each.node.fields if each.node is not None and each.count is None else ()
+        moved = each.name not in there and inner and inner[0].name in there - names
+        fields += [one for one in inner if one.since <= each.node.version] if moved else [each]
     return replace(node, fields=tuple(fields))

@@ -2,7 +2,7 @@
 from __future__ import annotations
 
 import re
-from dataclasses import dataclass, field
+from dataclasses import dataclass, field, replace
 from typing import Any, Dict, List, Optional, Set, Tuple
 
 from .cut import own_names
@@ -67,7 +67,7 @@ class Maker:
 
     def described(self, section: Section, name: str, known: Optional[Node]) -> Dict[str, Any]:
         """Returns the members of a description by its fields."""
-        part = section.part
+        part, known = hoisted(section.part), hoisted_node(known)
         inline = last_inline(part, name)
         fields = self.fields(part.entries, known, 0)
         for sub in part.subsections[:inline]:
@@ -172,6 +172,26 @@ class Maker:
         return [{"name": f"part.{index}", "kind": "struct",
                  "struct": self.structure(f"{name}.{index}", version, fields[at:at + 200])}
                 for index, at in enumerate(range(0, len(fields), 200))]
+
+
+def hoisted(part: Part) -> Part:
+    """Returns the part with the subsections of its last field as its own, where that is a structure: the same bytes."""
+    last = part.entries[-1] if part.entries else None
+    if last is None or last.part is None or last.count is not None or last.index is not None:
+        return part
+    inner = replace(last.part, subsections=())
+    return replace(part, entries=part.entries[:-1] + (replace(last, part=inner, size=inner.length),),
+                   subsections=last.part.subsections + part.subsections)
+
+
+def hoisted_node(node: Optional[Node]) -> Optional[Node]:
+    """Returns the same of what a dump says."""
+    last = node.fields[-1] if node is not None and node.fields else None
+    if last is None or last.node is None:
+        return node
+    inner = replace(last.node, subsections=())
+    return replace(node, fields=node.fields[:-1] + (replace(last, node=inner),),
+                   subsections=last.node.subsections + node.subsections)
 
 
 def plain(name: str) -> str:
