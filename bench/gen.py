@@ -14,8 +14,8 @@ SCRIPT_LIMIT = 4 << 20
 
 # A run: the size, the words, and the file that is standard input, or None.
 Run = collections.namedtuple("Run", "size words stdin")
-# A row of the table: what it does, and its runs; the last is the whole.
-Case = collections.namedtuple("Case", "work runs")
+# A row of the table: what it does, its runs, of which the last is the whole, and the status that each must end with.
+Case = collections.namedtuple("Case", "work runs status")
 
 
 def be32(n):
@@ -242,12 +242,12 @@ class Inputs:
     def parts(self):
         return [part * self.less for _, part in PARTS]
 
-    def sized(self, work, run):
+    def sized(self, work, run, status=0):
         """A case whose run of a size is run(part) of a fourth, a half, a whole: words and standard input."""
-        return Case(work, [Run(size, *run(part * self.less)) for size, part in PARTS])
+        return Case(work, [Run(size, *run(part * self.less)) for size, part in PARTS], status)
 
     def single(self, work, words, stdin=None):
-        return Case(work, [Run(1, words, stdin)])
+        return Case(work, [Run(1, words, stdin)], 0)
 
     def sets(self):
         """`show` and `pack` of one kind of set after the other."""
@@ -285,8 +285,8 @@ class Inputs:
                 names = [self.put("old%d.json" % p, old), self.put("new%d.json" % p, new)]
                 return [command] + (names[::-1] if back else names), None
             return run
-        yield self.sized("a set file of 1 MiB with tests, and no stream", no_stream("tests", with_tests))
-        yield self.sized("a set file of 1 MiB of `{}`, and no stream", no_stream("empties", empty_objects))
+        yield self.sized("a set file of 1 MiB with tests, and no stream", no_stream("tests", with_tests), 1)
+        yield self.sized("a set file of 1 MiB of `{}`, and no stream", no_stream("empties", empty_objects), 3)
         yield self.sized("`check` of 64 devices with 256 fields", two("check"))
         yield self.sized("`check` of two set files of 1 MiB with tests", twice("tests", with_tests))
         yield self.sized("`check` of two set files of 1 MiB with former names that end alike", twice("former", with_former))
@@ -310,7 +310,7 @@ class Inputs:
         yield self.sized("`load` with a script of 1,048,576 lines of `ack`", lambda p: (["load", "isa-4", "acks%d" % p], "board"))
         yield self.sized("`load` of a clock board with 200,000 lines", lambda p: (["load", "clk-2", "script%d" % p], "clock"))
         yield self.sized("`play` of a script of 1,048,576 lines of `ack`", lambda p: (["play", "isa-4", "acks%d" % p], None))
-        yield self.sized("`play` of 256 saves and restores", lambda p: (["play", "isa-4", self.put("saves%d" % p, saves * (256 // p))], None))
+        yield self.sized("`play` of 256 saves and restores", lambda p: (["play", "isa-2", self.put("saves%d" % p, saves * (256 // p))], None))
         yield self.sized("`drill` of 1,000,000 events", lambda p: (["drill", "isa-4", "7", str(1000000 // p)], None))
         yield self.single("`show @4` of a board's stream", ["show", "@4"], "board")
         yield self.single("`pack @4` of a board's values", ["pack", "@4", "board.values"])
