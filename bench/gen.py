@@ -258,7 +258,7 @@ class Inputs:
                  ("2,048 structures with 16 validations", "checked", validated, 2048))
         for work, tag, make, full in kinds:
             for part in self.parts():
-                s = make(full // part)
+                s = make(max(1, full // part))
                 assert len(s.file()) <= FILE_LIMIT and len(s.values()) <= FILE_LIMIT
                 self.put("%s%d.json" % (tag, part), s.file())
                 self.put("%s%d.stream" % (tag, part), s.streams())
@@ -301,7 +301,8 @@ class Inputs:
         self.put("line", b"byte 41\n")
         self.put("board", self.ask(["save", "isa-4", "@4", "empty"]))
         self.put("clock", self.ask(["save", "clk-2", "@c2", "empty"]))
-        self.put("board.values", self.ask(["show", "@4"], "board"))
+        self.put("older", self.ask(["save", "isa-3", "@4", "line"]))
+        self.put("older.values", self.ask(["show", "@4"], "older"))
         saves = b"save @2 kept\nwait 1000000\nrestore kept\n"
         yield self.single("`save` of a script of one line", ["save", "isa-4", "@4", "line"])
         yield self.single("`save` of a clock board", ["save", "clk-2", "@c2", "line"])
@@ -312,9 +313,9 @@ class Inputs:
         yield self.sized("`play` of a script of 1,048,576 lines of `ack`", lambda p: (["play", "isa-4", "acks%d" % p], None))
         yield self.sized("`play` of 256 saves and restores", lambda p: (["play", "isa-2", self.put("saves%d" % p, saves * (256 // p))], None))
         yield self.sized("`drill` of 1,000,000 events", lambda p: (["drill", "isa-4", "7", str(1000000 // p)], None))
-        yield self.single("`show @4` of a board's stream", ["show", "@4"], "board")
-        yield self.single("`pack @4` of a board's values", ["pack", "@4", "board.values"])
-        yield self.single("`convert @3` of a board's stream", ["convert", "@3"], "board")
+        yield self.single("`show @4` of a board's stream", ["show", "@4"], "older")
+        yield self.single("`pack @4` of a board's values", ["pack", "@4", "older.values"])
+        yield self.single("`convert @3` of a board's stream", ["convert", "@3"], "older")
 
     def listings(self):
         """Streams with their descriptions."""
@@ -322,7 +323,7 @@ class Inputs:
             self.put("one%d.described" % p, self.ask(["pack", "one%d.json" % p, "one%d.values" % p]))
             self.put("zeros%d" % p, HEAD + bytes(100000000 // p - 8))
         yield self.sized("`analyze` of 16,384 numbers in one array", lambda p: (["analyze"], "one%d.described" % p))
-        yield self.sized("`analyze` of 100,000,000 bytes without a description", lambda p: (["analyze"], "zeros%d" % p))
+        yield self.sized("`analyze` of 100,000,000 bytes without a description", lambda p: (["analyze"], "zeros%d" % p), 1)
 
     def starts(self):
         small = HEAD + section_head(0, "timer") + bytes(8) + b"\x7e" + be32(0) + b"\0"
