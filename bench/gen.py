@@ -298,24 +298,26 @@ class Inputs:
         for p in self.parts():
             self.put("script%d" % p, script(200000 // p))
             self.put("acks%d" % p, b"ack\n" * (SCRIPT_LIMIT // 4 // p))
+            self.put("saves%d" % p, b"save @2 kept\nwait 1000000\nrestore kept\n" * (256 // p))
         self.put("line", b"byte 41\n")
-        self.put("board", self.ask(["save", "isa-4", "@4", "empty"]))
+        self.put("board", self.ask(["save", "isa-3", "@3", "empty"]))
         self.put("clock", self.ask(["save", "clk-2", "@c2", "empty"]))
-        self.put("older", self.ask(["save", "isa-3", "@4", "line"]))
-        self.put("older.values", self.ask(["show", "@4"], "older"))
-        saves = b"save @2 kept\nwait 1000000\nrestore kept\n"
-        yield self.single("`save` of a script of one line", ["save", "isa-4", "@4", "line"])
+        self.put("board.values", self.ask(["show", "@3"], "board"))
+
+        def of(*words, stdin=None):
+            return lambda p: ([*words[:-1], "%s%d" % (words[-1], p)], stdin)
+        yield self.single("`save` of a script of one line", ["save", "isa-3", "@3", "line"])
         yield self.single("`save` of a clock board", ["save", "clk-2", "@c2", "line"])
-        yield self.sized("`save` of a script of 200,000 lines", lambda p: (["save", "isa-4", "@4", "script%d" % p], None))
-        yield self.sized("`load` with a script of 200,000 lines", lambda p: (["load", "isa-4", "script%d" % p], "board"))
-        yield self.sized("`load` with a script of 1,048,576 lines of `ack`", lambda p: (["load", "isa-4", "acks%d" % p], "board"))
-        yield self.sized("`load` of a clock board with 200,000 lines", lambda p: (["load", "clk-2", "script%d" % p], "clock"))
-        yield self.sized("`play` of a script of 1,048,576 lines of `ack`", lambda p: (["play", "isa-4", "acks%d" % p], None))
-        yield self.sized("`play` of 256 saves and restores", lambda p: (["play", "isa-2", self.put("saves%d" % p, saves * (256 // p))], None))
-        yield self.sized("`drill` of 1,000,000 events", lambda p: (["drill", "isa-4", "7", str(1000000 // p)], None))
-        yield self.single("`show @4` of a board's stream", ["show", "@4"], "older")
-        yield self.single("`pack @4` of a board's values", ["pack", "@4", "older.values"])
-        yield self.single("`convert @3` of a board's stream", ["convert", "@3"], "older")
+        yield self.sized("`save` of a script of 200,000 lines", of("save", "isa-3", "@3", "script"))
+        yield self.sized("`load` with a script of 200,000 lines", of("load", "isa-3", "script", stdin="board"))
+        yield self.sized("`load` with a script of 1,048,576 lines of `ack`", of("load", "isa-3", "acks", stdin="board"))
+        yield self.sized("`load` of a clock board with 200,000 lines", of("load", "clk-2", "script", stdin="clock"))
+        yield self.sized("`play` of a script of 1,048,576 lines of `ack`", of("play", "isa-3", "acks"))
+        yield self.sized("`play` of 256 saves and restores", of("play", "isa-2", "saves"))
+        yield self.sized("`drill` of 1,000,000 events", lambda p: (["drill", "isa-3", "7", str(1000000 // p)], None))
+        yield self.single("`show @3` of a board's stream", ["show", "@3"], "board")
+        yield self.single("`pack @3` of a board's values", ["pack", "@3", "board.values"])
+        yield self.single("`convert @3` of a board's stream", ["convert", "@3"], "board")
 
     def listings(self):
         """Streams with their descriptions."""
