@@ -1,0 +1,6 @@
+use Rattle.dev_board.specs.View.{parts_view}
+use Rattle.dev_board.proofs.KeepLaws.{loaded}
+use Rattle.dev_board.proofs.parts.Parts.output.Goals as goal
+
+pub out-requires-clause-loaded : goal.out-requires-clause-loaded
+out-requires-clause-loaded c = loaded (parts_view c.self.inside) c.self.invariant
