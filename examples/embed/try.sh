@@ -1,8 +1,10 @@
 #!/bin/sh
-# Builds the static library and both programs, and runs them under valgrind: sh examples/embed/try.sh [FOLDER]
+# Builds both static libraries and the programs over them, and runs these under valgrind: sh examples/embed/try.sh [FOLDER]
 #
-# FOLDER has the library libvmstate_c.a already, and nothing is proved then. Needs rt, gcc, cargo and valgrind; `vmstate` on the
-# path, if it is there, is started for comparison.
+# A library can only be built proved, and so is all below it: from nothing that takes two hours of processor time. The libraries are
+# kept in crates/vmstate_c/out and crates/vmstate_board_c/out, and a second run takes seconds. FOLDER has libvmstate_c.a and
+# libvmstate_board_c.a already, and nothing is proved then. Needs rt, gcc, cargo and valgrind; `vmstate` on the path, if it is there,
+# is started for comparison.
 set -eu
 here=$(cd "$(dirname "$0")" && pwd)
 top=$(cd "$here/../.." && pwd)
@@ -11,9 +13,14 @@ work=$(mktemp -d)
 trap 'rm -rf "$work"' EXIT
 if [ $# -gt 0 ]; then
     library=$(cd "$1" && pwd)
+    board_library=$library
 else
-    (cd "$top/crates/vmstate_c" && rt lib >"$work/lib.log" 2>&1) || { tail -n 40 "$work/lib.log"; exit 1; }
+    for crate in vmstate_c vmstate_board_c; do
+        echo "-- $crate: proved and built, where it isn't there yet"
+        (cd "$top/crates/$crate" && rt lib)
+    done
     library=$top/crates/vmstate_c/out
+    board_library=$top/crates/vmstate_board_c/out
 fi
 set_file=$top/examples/box.json
 stream=$top/examples/box.stream
@@ -21,7 +28,8 @@ saved=$top/examples/isa-2-line.stream
 
 gcc -Wall -Wextra -O2 -o "$work/embed" "$here/embed.c" "$library/libvmstate_c.a" "$kit/c/liblibc_c.a"
 gcc -Wall -Wextra -O2 -o "$work/border" "$here/border.c" "$library/libvmstate_c.a" "$kit/c/liblibc_c.a"
-(cd "$here/rust" && VMSTATE_LIBS="$library:$kit/c" CARGO_TARGET_DIR="$work/target" cargo build -q --release --offline --locked)
+gcc -Wall -Wextra -O2 -o "$work/board" "$here/board.c" "$board_library/libvmstate_board_c.a" "$kit/c/liblibc_c.a"
+(cd "$here/rust" && VMSTATE_LIBS="$library:$board_library:$kit/c" CARGO_TARGET_DIR="$work/target" cargo build -q --release --offline --locked)
 
 clean() {
     valgrind -q --leak-check=full --error-exitcode=9 "$@"
@@ -36,6 +44,10 @@ cmp "$work/wanted.out" "$work/rust.out"
 echo "as C"
 echo "-- at the border"
 clean "$work/border"
+echo "-- a board in C"
+clean "$work/board"
+echo "-- a board in Rust"
+clean "$work/target/release/board"
 echo "-- a call beside a start of the program"
 clean "$work/embed" "$set_file" "$stream" "$saved" 1000 >"$work/loop.out"
 "$work/embed" "$set_file" "$stream" "$saved" 100000

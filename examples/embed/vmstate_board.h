@@ -49,9 +49,6 @@ enum vmstate_board_status {
 /* The last moment that a board has: that of 4,000,000,000 seconds. */
 #define VMSTATE_BOARD_LAST UINT64_C(4000000000000000000)
 
-/* Nothing is due, at any moment. */
-#define VMSTATE_BOARD_NEVER UINT64_MAX
-
 /* What an event answers: the value of a read or an acknowledge, else 0; 1 where the interrupt output is high after the event, else
  * 0; and the bytes that left the serial port, first out first, at most 17. Bytes of `sent` from `count` on are 0. At any status
  * but 0 all else is 0. */
@@ -107,11 +104,6 @@ struct vmstate_board_number vmstate_board_int(struct vmstate_board *board);
 /* 1 where OUT of a counter of the 8254, 0 to 2, is high at the board's moment, else 0. That of counter 2 is bit 5 of port 61, which a
  * board doesn't have. Statuses: NONE_SUCH too. */
 struct vmstate_board_number vmstate_board_output(struct vmstate_board *board, uint8_t counter);
-
-/* The moment at which time alone first shows something: up to any moment before, vmstate_board_advance answers the interrupt output
- * as it is and no byte, and at that moment it answers another output or bytes. VMSTATE_BOARD_NEVER where it never does. It holds
- * until the next event. */
-struct vmstate_board_number vmstate_board_due(struct vmstate_board *board);
 
 /* How many bytes may arrive now before one is lost: 0 to 16 with FIFOs, else 0 or 1. It is 0 in loop mode, where bytes that arrive
  * are ignored. */
