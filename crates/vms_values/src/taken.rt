@@ -30,7 +30,7 @@ use vms_desc::{Count, DescSet, Field, Part};
 use vms_image::Image;
 use vms_kinds::{Item, Kind};
 use vms_spec::ValuesReason;
-use vms_walk::PartAt;
+use vms_walk::{PartAt, is_above};
 use vms_words::next_line;
 
 /// What is read of a device so far, and what is left of the text.
