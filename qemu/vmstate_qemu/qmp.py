@@ -31,9 +31,17 @@ class Session:
         self.socket = socket.socket(socket.AF_UNIX)
         try:
             self.socket.connect(path)
+            self.socket.setblocking(False)
+            self.greet()
         except OSError as error:
+            self.close()
             raise Trouble(f"{self.name}: {reason(error)}", FAULT) from None
-        self.socket.setblocking(False)
+        except Trouble:
+            self.close()
+            raise
+
+    def greet(self) -> None:
+        """Waits for the greeting, and answers it."""
         greeting = self.message(GREETING_SECONDS)
         if greeting is None:
             raise Trouble(f"{self.name}: no greeting within {GREETING_SECONDS:.0f} s: this is no QMP socket, or another "
