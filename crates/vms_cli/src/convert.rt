@@ -16,7 +16,7 @@ use std::alloc::Global;
 use vms_commands::{
     Ending, NoteLine, SetWord, append_section, mismatch_line, refused_line, set_of,
 };
-use vms_convert::{ConvertFault, Converter};
+use vms_convert::{ConvertFault, convert_with, newest_loader};
 use vms_desc::DescSet;
 use vms_io::{MemSink, Shelf, Sink, Source};
 use vms_values::print_path;
@@ -52,9 +52,9 @@ fn convert_to<I: Source, O: Sink>(
         (ending_of result) }
 {
     let path = MemSink::new(alloc, PATH_ROOM, Vec::new(alloc))?;
-    let mut converter = Converter::new(alloc)?;
-    let converted = converter.convert(alloc, input, to, out);
-    with_line(alloc, converter.set(), path, converted)
+    let mut loader = newest_loader(alloc)?;
+    let converted = convert_with(alloc, input, to, &mut loader, out);
+    with_line(alloc, loader.set(), path, converted)
 }
 
 // What the call answered, with the line of its fault.

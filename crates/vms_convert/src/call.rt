@@ -1,5 +1,5 @@
 // The call.
-ghost use Rattle.std.specs.Prelude.{◌≡◌, ◌<◌, IfSome, length, map};
+ghost use Rattle.std.specs.Prelude.{◌≡◌, ◌<◌, IfOk, IfSome, length, map};
 ghost use Rattle.dev_base.specs.declared.limits.TheConstants.{NEWEST};
 ghost use Rattle.vms_check.specs.Comparing.{Compatible};
 ghost use Rattle.vms_desc.specs.Described.{described};
@@ -43,58 +43,49 @@ pub fn convert<S: Source, K: Sink>(
         let empty = outlet K.Sink sink.old in let full = outlet K.Sink sink.new in
         Converts (described to.now) (shipped_set NEWEST) before after empty full result }
 {
-    let mut converter = Converter::new(alloc)?;
-    converter.convert(alloc, source, to, sink)
+    let mut loader = newest_loader(alloc)?;
+    convert_with(alloc, source, to, &mut loader, sink)
 }
 
-/// A reader of the newest shipped set's streams for [`convert`], which a caller makes before the input is read and whose
-/// set names what a fault speaks of.
-#[derive(Drop)]
-pub struct Converter {
-    loader: LeanLoader,
-    ghost newest: { loads loader ≡ shipped_set NEWEST },
+/// Makes a loader of the newest shipped set for [`convert_with`], with all memory that reading takes.
+///
+/// # Errors
+///
+/// [`NoMemory`] if memory runs out.
+pub fn newest_loader(alloc: Global) -> Result<LeanLoader, NoMemory>
+    ensures { IfOk result (λ loader. loads loader ≡ shipped_set NEWEST) }
+{
+    let newest = DescSet::shipped(alloc, NEWEST)?;
+    LeanLoader::new(alloc, newest)
 }
 
-impl Converter {
-    /// Makes the newest shipped set and takes the memory for the images of one stream.
-    ///
-    /// # Errors
-    ///
-    /// [`NoMemory`] if memory runs out.
-    pub fn new(alloc: Global) -> Result<Converter, NoMemory> {
-        let newest = DescSet::shipped(alloc, NEWEST)?;
-        let loader = LeanLoader::new(alloc, newest)?;
-        Ok(Converter { loader })
+/// Converts as [`convert`] does, by a loader that its caller has made. So the caller has the newest set, of which a fault
+/// speaks by number.
+///
+/// # Requires
+///
+/// `loader` is one of the newest shipped set, as [`newest_loader`] makes it.
+///
+/// # Errors
+///
+/// Those of [`convert`].
+pub fn convert_with<S: Source, K: Sink>(
+    alloc: Global,
+    source: &mut S,
+    to: &DescSet,
+    loader: &mut LeanLoader,
+    sink: &mut K,
+) -> Result<(), ConvertFault>
+    requires { loads loader.old ≡ shipped_set NEWEST }
+    ensures converts { let before = intake S.Source source.old in let after = intake S.Source source.new in
+        let empty = outlet K.Sink sink.old in let full = outlet K.Sink sink.new in
+        Converts (described to.now) (shipped_set NEWEST) before after empty full result }
+    ensures set { loads loader.new ≡ shipped_set NEWEST }
+{
+    if let Verdict::Refused(mismatch) = check(to, loader.set()) {
+        return Err(ConvertFault::NotCompatible(mismatch));
     }
-
-    /// Returns the newest shipped set.
-    pub fn set(&self) -> &DescSet
-        ensures { described result.now ≡ shipped_set NEWEST }
-    {
-        self.loader.set()
-    }
-
-    /// Converts one stream from `source` to the set `to`, as [`convert`] does.
-    ///
-    /// # Errors
-    ///
-    /// Those of [`convert`].
-    pub fn convert<S: Source, K: Sink>(
-        &mut self,
-        alloc: Global,
-        source: &mut S,
-        to: &DescSet,
-        sink: &mut K,
-    ) -> Result<(), ConvertFault>
-        ensures { let before = intake S.Source source.old in let after = intake S.Source source.new in
-            let empty = outlet K.Sink sink.old in let full = outlet K.Sink sink.new in
-            Converts (described to.now) (shipped_set NEWEST) before after empty full result }
-    {
-        if let Verdict::Refused(mismatch) = check(to, self.loader.set()) {
-            return Err(ConvertFault::NotCompatible(mismatch));
-        }
-        convert_by(alloc, source, to, &mut self.loader, sink)
-    }
+    convert_by(alloc, source, to, loader, sink)
 }
 
 // The same by a loader of the newest set, where that reads what the target writes.
@@ -110,7 +101,7 @@ fn convert_by<S: Source, K: Sink>(
     ensures converts { let before = intake S.Source source.old in let after = intake S.Source source.new in
         let empty = outlet K.Sink sink.old in let full = outlet K.Sink sink.new in
         Converts (described to.now) (shipped_set NEWEST) before after empty full result }
-    ensures set { loads loader.new ≡ loads loader.old }
+    ensures set { loads loader.new ≡ shipped_set NEWEST }
 {
     let machine = loader.load(source, None)?;
     convert_kept(alloc, to, loader, machine, sink)

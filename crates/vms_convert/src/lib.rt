@@ -14,6 +14,6 @@ mod returning;
 mod returns;
 mod taking;
 
-pub use call::{Converter, convert};
+pub use call::{convert, convert_with, newest_loader};
 pub use fault::ConvertFault;
 pub use pairing::partners;
