@@ -62,7 +62,7 @@ module _ (set : Set) where
 
   -- as many names as cells
   long_in : (ss : List Shape) → AreWalked ss → (item : Item) → length (names_of (item_elements ss item [] (pos 0) [] 0)) ≡ item_size (cells_in ss) item
-  long_in ss walked item = names_long _ ∙ ap length (item_walks ss walked item [] (pos 0) [] [] 0 0).cells_are
+  long_in ss walked item = names_long (item_elements ss item [] (pos 0) [] 0) ∙ ap length (item_walks ss walked item [] (pos 0) [] [] 0 0).cells_are
 
   -- an item that a part may use has the names that it has among all
   item_in : (k : ℕ) → k ≤ length set.structs → (item : Item) → uses_below k item ≡ true → (caps : List ℕ) (z : ℤ) (n : List ℤ) (a : ℕ)
