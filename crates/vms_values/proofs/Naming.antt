@@ -140,11 +140,8 @@ module _ (set : Set) where
       let some : 0 < size = positive (capacity_of f.count) size left small in
       let rest : r < size = mod-lt left some in
       let index : q < capacity_of f.count = fewer q (capacity_of f.count) size r left divided small in
-      let first : 0 + q ≡ q = omega arith in
-      let product : q * item_size (cells_in ss) f.item ≡ q * size = ap (λ (s : ℕ). q * s) step_is in
-      ap (λ (n : ℕ). get_or (names_of (field_elements ss all 0 no_parent [] k 0 f)) n []) (sym (ap (λ (s : ℕ). q * s + r) step_is ∙ divided))
-      ∙ array_name f (stand_of k f 0 no_parent) (item_elements ss f.item (counted k all) f.default []) (item_names set f.item) (item_size (cells_in ss) f.item) names (item_long f.item ∙ sym step_is) q 0 (capacity_of f.count) 0 r index (omega (arith, rest, step_is))
-      ∙ ap (λ (e : ℕ). (f.name ++ index_text f.count e) ++ get_or (item_names set f.item) r []) first
+      array_name f (stand_of k f 0 no_parent) (item_elements ss f.item (counted k all) f.default []) (item_names set f.item) (item_size (cells_in ss) f.item) names (item_long f.item ∙ sym step_is) q 0 (capacity_of f.count) 0 r left q index (omega (arith, rest, step_is))
+      (sym (ap (λ (s : ℕ). q * s + r) step_is ∙ divided)) (omega arith)
 
   pub record NextNames (part : Part) (k left : ℕ) (f : Field) : Type 0 where
     pub uses : uses_below (length set.structs) f.item ≡ true
