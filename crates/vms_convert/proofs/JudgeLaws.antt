@@ -197,7 +197,7 @@ module _ (to new : Set) (images : List Image) (r : Returns) (p : ComesBack to ne
   given = numbers_in (carried to new states)
 
   well : WellFormed new
-  well = subst (λ (s : Set). WellFormed s) (sym p.newest) shipped_holds.4.well
+  well = subst (λ (s : Set). WellFormed s) (sym p.newest) shipped_holds.1.1.1.1.0.well
 
   long : length wants ≡ length new.devices
   long = recast_long to new.devices (numbers_in images) (length-map images (λ (image : Image). image.numbers) ∙ p.kept.one_each)
