@@ -28,7 +28,8 @@ class Folder(Case):
         self.gives(["cut", ISAPC, "serial", "-o", os.path.join(folder, "good one")])
         self.gives(["cut", ISAPC, "serial", "pcspk", "-o", os.path.join(folder, "another")])
         got, out, notes = called("folder", "--progress", "--jobs", "2", "--set", made, folder)
-        self.assertEqual((got, out.splitlines()[0].endswith("another: refused at 44 in -: UnknownSection")), (1, True), out)
+        self.assertEqual(got, 1, out)
+        self.assertTrue(out.splitlines()[0].endswith("another: refused at 44 in -: UnknownSection"), out)
         self.assertEqual(out.splitlines()[1:], ["       1 refused in -: UnknownSection", "       1 read"])
         self.assertIn("2/2 1 refused, 0 s left", notes)
 

@@ -122,7 +122,8 @@ class Deceiving(Case):
         path = self.made(section(b"a", b""), b"\0", described({**device("a", 0), "fields": [nothing]}))
         self.assertEqual(self.gives(["show", path]), "section a 0 v1\n")
         deep = b'{"devices":' + b"[" * 100000 + b"]" * 100000 + b"}"
-        self.says(["list", self.made(section(b"a", b""), b"\0\6", struct.pack(">I", len(deep)), deep)], 1, "isn't as QEMU writes it")
+        path = self.made(section(b"a", b""), b"\0\6", struct.pack(">I", len(deep)), deep)
+        self.says(["list", path], 1, "isn't as QEMU writes it")
         for _ in range(200):
             part = {"vmsd_name": "s", "version": 1,
                     "fields": [{"name": "x", "type": "struct", "size": 0, "struct": part}]}
@@ -144,11 +145,28 @@ class Deceiving(Case):
         self.says(["list", path], 1, "vmstate analyze")
 
 
+class Unknown(Case):
+    """Subsections that the other stream doesn't have."""
+
+    def test_they_are_bytes_up_to_the_footer(self):
+        inner = b"\5\3a/x\0\0\0\1" + b"\x7e\0\0\0\1\4zz"
+        like = self.put("like", HEAD + section(b"a", b"12") + section(b"b", b"3", b"\0\0\0\2") + b"\0"
+                        + described(device("a", 2), device("b", 1)))
+        path = self.put("one", HEAD + section(b"a", b"12" + inner) + section(b"b", b"3", b"\0\0\0\2") + b"\0")
+        self.assertEqual(self.gives(["show", path, "--like", like]),
+                         "section a 0 v1\ndata = 0x3132\nsub a/x v1\na/x:data = 0x7e00000001047a7a\n"
+                         "section b 0 v1\ndata = 0x33\n")
+        self.says(["show", path, "--like", like, "c"], 2, "no section is c")
+        cut = self.put("cut", HEAD + section(b"a", b"12" + inner))
+        self.says(["show", cut, "--like", like], 1, "a subsection a/x, which the other stream doesn't have")
+
+
 class Unfooted(Case):
     """Streams of old machines, without footers."""
 
     def test_they_are_read(self):
-        bare = [b"\4\0\0\0\1\1" + name + struct.pack(">II", 0, 1) + body for name, body in ((b"a", b"12"), (b"b", b"3"))]
+        bare = [b"\4\0\0\0\1\1" + name + struct.pack(">II", 0, 1) + body
+                for name, body in ((b"a", b"12"), (b"b", b"3"))]
         path = self.put("bare", HEAD + b"".join(bare) + b"\0" + described(device("a", 2), device("b", 1)))
         self.assertEqual(self.gives(["show", path]), "section a 0 v1\ndata = 0x3132\nsection b 0 v1\ndata = 0x33\n")
 

@@ -14,7 +14,8 @@ STREAM = b"QEVM\0\0\0\3\0"
 class Vm:
     """A server at a socket that answers QMP's commands, and notes them in `commands`."""
 
-    def __init__(self, path: str, status: str = "running", greeting: bytes = b'{"QMP": {}}\n', **answers: object) -> None:
+    def __init__(self, path: str, status: str = "running", greeting: bytes = b'{"QMP": {}}\n',
+                 **answers: object) -> None:
         self.commands: list = []
         self.status, self.greeting, self.answers = status, greeting, answers
         self.server = socket.socket(socket.AF_UNIX)

@@ -30,7 +30,8 @@ class Listed(Case):
         words = [row["word"] for row in rows]
         self.assertEqual(len(words), len(set(words)), "a word names one section alone")
         self.assertEqual(words[:3] + words[19:23],
-                         ["timer", "slirp", "cpu_common", "isa-ide@0#1", "isa-ide@0#2", "ipmi-bmc-sim", "ipmi-interface"])
+                         ["timer", "slirp", "cpu_common",
+                          "isa-ide@0#1", "isa-ide@0#2", "ipmi-bmc-sim", "ipmi-interface"])
         stream = open_stream(ISAPC)
         self.assertEqual([stream.find(word).at for word in words], [row["offset"] for row in rows])
         self.assertIn("   100%       3  serial\n", self.gives(["list", ISAPC]))
@@ -110,7 +111,8 @@ class Edited(Case):
 
     def test_what_is_no_number_of_the_section_changes_nothing(self):
         copy = self.put("copy", read(ISAPC))
-        for change, text in (("state.scr=256", "state.scr: not in the range of u8"), ("state.scr=-1", "not in the range"),
+        for change, text in (("state.scr=256", "state.scr: not in the range of u8"),
+                             ("state.scr=-1", "not in the range"),
                              ("state.nothing=1", "serial has no state.nothing"), ("state.scr=x", "x is no number"),
                              ("state.scr[1]=1", "serial has no state.scr[1]")):
             self.says(["edit", "--in-place", copy, "serial", change], 3, text)

@@ -200,7 +200,8 @@ def known_alone(old: Node, new: Node, section: str, path: str, report: Report) -
     known = {sub.name for sub in new.subsections}
     for sub in old.subsections:
         if sub.name not in known:
-            report.remark(section, path, "the subsection didn't come in NEW; whether NEW knows it, a dump says", sub.name)
+            report.remark(section, path, "the subsection didn't come in NEW; whether NEW knows it, a dump says",
+                          sub.name)
     return replace(old, subsections=tuple(sub for sub in old.subsections if sub.name in known))
 
 

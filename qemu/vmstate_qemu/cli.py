@@ -6,7 +6,7 @@ import contextlib
 import json
 import os
 import sys
-from typing import Any, Callable, Dict, List, Optional
+from typing import Any, Callable, List, Optional
 
 from . import comparing, cut, edit, folder, inputs, listing, measure, mending, sets, values
 from .errors import DIFFERENT, DONE, FAULT, REFUSED, WORDS, Trouble, printable
@@ -106,8 +106,8 @@ def finish(stream: Stream, section: Section, old: bytes, new: bytes, path: str, 
     edit.written(stream, section, new, path, words.in_place)
     differ = [at for at, (one, other) in enumerate(zip(old, new)) if one != other]
     where = f", the first at {section.body[0] + differ[0]}" if differ else ""
-    print(f"{printable(path)}: {len(differ)} bytes of {printable(section.word)} differ{where}; every other byte is as it "
-          "was", file=sys.stderr)
+    print(f"{printable(path)}: {len(differ)} bytes of {printable(section.word)} differ{where}; "
+          "every other byte is as it was", file=sys.stderr)
     return DONE
 
 
@@ -205,6 +205,9 @@ def do_explain(words: argparse.Namespace) -> int:
     return DONE
 
 
+Commands = Callable[[str, Callable[[argparse.Namespace], int], str], argparse.ArgumentParser]
+
+
 def parser() -> argparse.ArgumentParser:
     """Returns what reads the words."""
     top = argparse.ArgumentParser(prog="vmstate-qemu", description=ABOUT, epilog=STATUSES,
@@ -218,28 +221,27 @@ def parser() -> argparse.ArgumentParser:
         added.set_defaults(does=does)
         return added
 
+    add_looking(command)
+    add_changing(command)
+    add_comparing(command)
+    for name in ("list", "show", "diff", "check", "explain", "folder"):
+        commands.choices[name].add_argument("--json", action="store_true")
+    for name in ("list", "show", "edit", "cut", "put", "diff"):
+        stream_words(commands.choices[name])
+    return top
+
+
+def add_looking(command: Commands) -> None:
+    """Adds the commands that save a VM, and that look at streams."""
     one = command("save", do_save, "save the devices of a running VM, which goes on unharmed")
     one.add_argument("socket", metavar="QMP-SOCKET", help="the Unix socket of QEMU's -qmp unix:..")
     one.add_argument("file", metavar="FILE", help="the file that is written whole or not at all")
     one.add_argument("--stop", action="store_true", help="stop the VM first, and let it go on if it was running")
-
     one = command("list", do_list, "print each section's offset, length and version, and how much of it has names")
     one.add_argument("stream", metavar="STREAM")
     one = command("show", do_show, "print the numbers of all sections, or of some, without a set")
     one.add_argument("stream", metavar="STREAM")
     one.add_argument("section", metavar="SECTION", nargs="*")
-    one = command("edit", do_edit, "change numbers of one section, and nothing else; without PATH=VALUE in $EDITOR")
-    one.add_argument("stream", metavar="STREAM")
-    one.add_argument("section", metavar="SECTION")
-    one.add_argument("change", metavar="PATH=VALUE", nargs="*", help="a number, or all bytes of a token as 0x..")
-    one = command("cut", do_cut, "write sections alone as a stream, under the names of their descriptions")
-    one.add_argument("stream", metavar="STREAM")
-    one.add_argument("section", metavar="SECTION", nargs="*")
-    one.add_argument("--output", "-o", metavar="FILE", help="else standard output")
-    one = command("put", do_put, "put a section that was cut and packed back in its place")
-    one.add_argument("stream", metavar="STREAM")
-    one.add_argument("section", metavar="SECTION")
-    one.add_argument("packed", metavar="PACKED")
     one = command("diff", do_diff, "print what differs between two streams, by device and name")
     one.add_argument("a", metavar="A")
     one.add_argument("b", metavar="B")
@@ -250,6 +252,29 @@ def parser() -> argparse.ArgumentParser:
     one.add_argument("--like", metavar="STREAM", help="read streams without a description by that of this one")
     one.add_argument("--jobs", metavar="N", type=int, default=os.cpu_count() or 1, help="that many processes")
     one.add_argument("--progress", action="store_true", help="show the bar even where no terminal is")
+
+
+def add_changing(command: Commands) -> None:
+    """Adds the commands that change a section, or cut it out and put it back."""
+    edits = command("edit", do_edit, "change numbers of one section, and nothing else; without PATH=VALUE in $EDITOR")
+    edits.add_argument("stream", metavar="STREAM")
+    edits.add_argument("section", metavar="SECTION")
+    edits.add_argument("change", metavar="PATH=VALUE", nargs="*", help="a number, or all bytes of a token as 0x..")
+    puts = command("put", do_put, "put a section that was cut and packed back in its place")
+    puts.add_argument("stream", metavar="STREAM")
+    puts.add_argument("section", metavar="SECTION")
+    puts.add_argument("packed", metavar="PACKED")
+    for one in (edits, puts):
+        one.add_argument("--output", "-o", metavar="FILE", help="the new stream")
+        one.add_argument("--in-place", action="store_true", help="the new stream replaces STREAM")
+    one = command("cut", do_cut, "write sections alone as a stream, under the names of their descriptions")
+    one.add_argument("stream", metavar="STREAM")
+    one.add_argument("section", metavar="SECTION", nargs="*")
+    one.add_argument("--output", "-o", metavar="FILE", help="else standard output")
+
+
+def add_comparing(command: Commands) -> None:
+    """Adds the commands about sets and versions."""
     one = command("set", do_set, "write a description set of sections for vmstate's show, pack and check")
     one.add_argument("stream", metavar="STREAM|DUMP", help="a stream, or a file of -dump-vmstate with SECTION")
     one.add_argument("section", metavar="SECTION", nargs="*")
@@ -267,19 +292,23 @@ def parser() -> argparse.ArgumentParser:
     one.add_argument("old", metavar="OLD", help="the description file that was checked")
     one.add_argument("new", metavar="NEW")
     one.add_argument("line", metavar="LINE", help="as `not compatible: rule 7 at device 0 field 1 against ..`")
-    for name in ("edit", "put"):
-        commands.choices[name].add_argument("--output", "-o", metavar="FILE", help="the new stream")
-        commands.choices[name].add_argument("--in-place", action="store_true", help="the new stream replaces STREAM")
-    for name in ("list", "show", "diff", "check", "explain", "folder"):
-        commands.choices[name].add_argument("--json", action="store_true")
-    for name in ("list", "show", "edit", "cut", "put", "diff"):
-        stream_words(commands.choices[name])
-    return top
+
+
+def words_of(arguments: Optional[List[str]]) -> argparse.Namespace:
+    """Returns the words as they are read. Those of a list may follow an option too."""
+    reader = parser()
+    words, more = reader.parse_known_args(arguments)
+    many = getattr(words, "change", getattr(words, "section", None))
+    if more and (not isinstance(many, list) or any(word.startswith("-") for word in more)):
+        reader.error(f"unknown words: {' '.join(more)}")
+    if more:
+        many += more
+    return words
 
 
 def main(arguments: Optional[List[str]] = None) -> int:
     """Does what the words say, and returns the status."""
-    words = parser().parse_args(arguments)
+    words = words_of(arguments)
     try:
         status = words.does(words)
         sys.stdout.flush()

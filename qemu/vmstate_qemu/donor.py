@@ -1,7 +1,7 @@
 """Sections of a stream without a description, read by that of another stream, or measured by the program and a set."""
 from __future__ import annotations
 
-import dataclasses
+from dataclasses import dataclass, replace
 from typing import Dict, List, Protocol, Tuple
 
 from .description import Device, Entry, Part
@@ -9,13 +9,26 @@ from .errors import Refused, printable
 from .source import Source
 
 SUBSECTION = 0x05
+FURTHEST = 1 << 24
+
+
+@dataclass(frozen=True)
+class Head:
+    """The head of a section: its offset `at`, and that of the body after it."""
+
+    name: str
+    instance: int
+    version: int
+    identity: bytes
+    at: int
+    body: int
 
 
 class Fits(Protocol):
     """What knows where the body of a section ends."""
 
-    def body(self, source: Source, name: str, instance: int, version: int, at: int, start: int) -> Tuple[Part, int]:
-        """Returns what is in the body at offset `at` of the section that begins at `start`, and where it ends."""
+    def body(self, source: Source, head: Head) -> Tuple[Part, int]:
+        """Returns what is in the body of the section with this head, and where it ends."""
 
 
 class Donor:
@@ -28,24 +41,54 @@ class Donor:
             self.exact.setdefault((device.name, device.instance), []).append(device.part)
             self.named.setdefault(device.name, device.part)
 
-    def body(self, source: Source, name: str, instance: int, version: int, at: int, start: int) -> Tuple[Part, int]:
+    def body(self, source: Source, head: Head) -> Tuple[Part, int]:
         """Returns the part of the donor that fits, with the subsections that came here, and where the body ends.
 
         # Errors
 
-        Refused: the donor has no such section, or a subsection came that it doesn't have.
+        Refused: the donor has no such section, or one of another version.
         """
-        same = self.exact.get((name, instance), [])
-        known = same.pop(0) if len(same) > 1 else same[0] if same else self.named.get(name)
+        same = self.exact.get((head.name, head.instance), [])
+        known = same.pop(0) if len(same) > 1 else same[0] if same else self.named.get(head.name)
+        where = printable(head.name)
         if known is None:
-            raise Refused(start, printable(name), "the other stream has no section of this name")
-        if known.version and known.version != version:
-            raise Refused(start, printable(name), f"it has version {version}, and {known.version} in the other stream")
-        part, end = fitted(known, source, at, name)
+            raise Refused(head.at, where, "the other stream has no section of this name")
+        if known.version and known.version != head.version:
+            raise Refused(head.at, where, f"it has version {head.version}, and {known.version} in the other stream")
+        part, end = fitted(known, source, head.body, where)
         if source.read_some(end, 1) == bytes([SUBSECTION]):
-            sub = source.read(end + 2, source.number_at(end + 1, 1)).decode("utf-8", "replace")
-            raise Refused(end, printable(name), f"a subsection {printable(sub)}, which the other stream doesn't have")
+            return self.with_unknown(part, source, end, head)
         return part, end
+
+    def with_unknown(self, part: Part, source: Source, at: int, head: Head) -> Tuple[Part, int]:
+        """Returns the part with a subsection at `at` that the donor doesn't have, as bytes up to the footer.
+
+        The footer is the first one of this section behind which the end mark or a section of the donor begins.
+
+        # Errors
+
+        Refused: there is none within 16 MiB.
+        """
+        where = printable(head.name)
+        length = source.number_at(at + 1, 1, where)
+        sub = source.read(at + 2, length, where).decode("utf-8", "surrogateescape")
+        version, body = source.number_at(at + 2 + length, 4, where), at + 6 + length
+        some, footer = source.read_some(body, FURTHEST), b"\x7e" + head.identity
+        found = some.find(footer)
+        while found >= 0 and not self.goes_on(source, body + found + 5):
+            found = some.find(footer, found + 1)
+        if found < 0:
+            raise Refused(at, where, f"a subsection {printable(sub)}, which the other stream doesn't have")
+        unknown = Part(sub, version, (Entry("data", "buffer", found, None, None, None),), ())
+        return replace(part, subsections=part.subsections + (unknown,)), body + found
+
+    def goes_on(self, source: Source, at: int) -> bool:
+        """Whether the end of the stream is at `at`, or a section that the donor has."""
+        head = source.read_some(at, 270)
+        if head == b"\0":
+            return True
+        name = head[6:6 + head[5]].decode("utf-8", "surrogateescape") if len(head) > 6 else ""
+        return head[:1] == b"\4" and name in self.named
 
 
 def fitted(part: Part, source: Source, at: int, where: str) -> Tuple[Part, int]:
@@ -59,7 +102,7 @@ def fitted(part: Part, source: Source, at: int, where: str) -> Tuple[Part, int]:
         for index in range(1 if entry.count is None else entry.count):
             inner, end = fitted(entry.part, source, at, where)
             number = index if entry.count is not None else entry.index
-            entries.append(dataclasses.replace(entry, part=inner, size=end - at, count=None, index=number))
+            entries.append(replace(entry, part=inner, size=end - at, count=None, index=number))
             at = end
     came: List[Part] = []
     known = {sub.name.encode(): sub for sub in part.subsections}
@@ -70,7 +113,7 @@ def fitted(part: Part, source: Source, at: int, where: str) -> Tuple[Part, int]:
             break
         inner, at = fitted(sub, source, at + 6 + length, where)
         came.append(inner)
-    return dataclasses.replace(part, entries=tuple(entries), subsections=tuple(came)), at
+    return replace(part, entries=tuple(entries), subsections=tuple(came)), at
 
 
 def holds_subsections(part: Part) -> bool:

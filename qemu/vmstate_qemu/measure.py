@@ -5,7 +5,7 @@ import re
 from typing import Any, Dict, Tuple
 
 from .description import Part
-from .donor import opaque
+from .donor import Head, opaque
 from .errors import TEXT, Refused, Trouble, printable
 from .files import read_json
 from .program import Shelf
@@ -29,27 +29,27 @@ class Measured:
         except (KeyError, TypeError):
             raise Trouble(f"{self.path}: no description set", TEXT) from None
 
-    def body(self, source: Source, name: str, instance: int, version: int, at: int, start: int) -> Tuple[Part, int]:
-        """Returns the body at `at` as bytes, and where it ends: where the program wants the next section.
+    def body(self, source: Source, head: Head) -> Tuple[Part, int]:
+        """Returns the body as bytes, and where it ends: where the program wants the next section.
 
         # Errors
 
         Refused: the set has no such section, or the program refuses it.
         """
-        device = self.devices.get((name, instance))
+        device = self.devices.get((head.name, head.instance))
         if device is None:
-            raise Refused(start, printable(name), f"the set {self.path} has no section of this name")
+            raise Refused(head.at, printable(head.name), f"the set {self.path} has no section of this name")
         self.shelf.put("one.json", {"machines": [], "structs": self.structs, "devices": [device]})
-        given = HEAD + source.read_some(start, LONGEST)
+        given = HEAD + source.read_some(head.at, LONGEST)
         answer = self.shelf.call("show", "one.json", given=given)
         found = re.fullmatch(r"refused at (\d+) in (.*): (\w+)", answer.notes)
         if answer.status == 0:
             end = source.size - 1
         elif found and found[3] in ("UnknownSection", "RepeatedSection") and int(found[1]) > 8:
-            end = int(found[1]) - 8 + start
+            end = int(found[1]) - 8 + head.at
         elif found:
-            raise Refused(int(found[1]) - 8 + start, printable(name), f"{found[3]} under the set {self.path}")
+            raise Refused(int(found[1]) - 8 + head.at, printable(head.name), f"{found[3]} under the set {self.path}")
         else:
             raise Trouble(f"{self.path}: {answer.notes}", TEXT)
-        end -= 5 * (source.read_some(end - 5, 5) == b"\x7e" + source.read(start + 1, 4))
-        return opaque(name, version, end - at), end
+        end -= 5 * (source.read_some(end - 5, 5) == b"\x7e" + head.identity)
+        return opaque(head.name, head.version, end - head.body), end

@@ -91,10 +91,12 @@ def dumped(value: Dict[str, Any]) -> Node:
     for each in value.get("Fields", []):
         size, inner = int(each["size"]), each.get("Description")
         kind = "struct" if inner else "unused" if each["field"] == "unused" else BY_SIZE.get(size, "bytes")
-        fields.append(NodeField(str(each["field"]), kind, size, None, int(each["version_id"]),
-                                dumped(inner) if inner else None, bool(each["field_exists"])))
+        node = dumped(inner) if inner else None
+        fields.append(NodeField(str(each["field"]), kind, size, None, int(each["version_id"]), node,
+                                bool(each["field_exists"])))
     subs = tuple(dumped(each) for each in value.get("Subsections", []))
-    return Node(str(value["name"]), int(value["version_id"]), int(value["minimum_version_id"]), tuple(fields), subs, True)
+    versions = int(value["version_id"]), int(value["minimum_version_id"])
+    return Node(str(value["name"]), *versions, tuple(fields), subs, True)
 
 
 def node_of(part: Part, known: Optional[Node] = None) -> Node:

@@ -97,7 +97,7 @@ def changed(shelf: Shelf, piece: List[Item], body: bytes, numbers: Dict[int, int
 
 
 def lines_of(piece: List[Item]):
-    """Yields, for each number of a piece, its line in the text, counted from 0, its item, and its offset in the body."""
+    """Yields each number of a piece: its line in the text, counted from 0, its item, and its offset in the body."""
     line = 1
     for item in piece:
         for index in range(item.count):

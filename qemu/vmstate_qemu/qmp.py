@@ -44,8 +44,8 @@ class Session:
         """Waits for the greeting, and answers it."""
         greeting = self.message(GREETING_SECONDS)
         if greeting is None:
-            raise Trouble(f"{self.name}: no greeting within {GREETING_SECONDS:.0f} s: this is no QMP socket, or another "
-                          "client holds it", FAULT)
+            raise Trouble(f"{self.name}: no greeting within {GREETING_SECONDS:.0f} s: this is no QMP socket, or "
+                          "another client holds it", FAULT)
         if not isinstance(greeting.get("QMP"), dict):
             raise Trouble(f"{self.name}: this is no QMP socket", FAULT)
         self.execute("qmp_capabilities")
@@ -55,7 +55,7 @@ class Session:
         self.socket.close()
 
     def message(self, seconds: Optional[float], meanwhile: Optional[Callable[[], None]] = None) -> Optional[Dict]:
-        """Returns the next message, or none if none comes within `seconds`; calls `meanwhile` while it waits.
+        """Returns the next message, or none if none comes within `seconds`. Calls `meanwhile` while it waits.
 
         # Errors
 

@@ -19,16 +19,16 @@ class Window:
 
     source: Source
     start: int = 0
-    bytes: bytes = b""
+    some: bytes = b""
 
     def number(self, at: int, length: int) -> int:
         """Returns the big-endian number of `length` bytes at offset `at`."""
         inside = at - self.start
-        if inside < 0 or inside + length > len(self.bytes):
-            self.start, self.bytes, inside = at, self.source.read_some(at, WINDOW), 0
-        if inside + length > len(self.bytes):
+        if inside < 0 or inside + length > len(self.some):
+            self.start, self.some, inside = at, self.source.read_some(at, WINDOW), 0
+        if inside + length > len(self.some):
             raise Refused(at, "ram", "the stream ends here")
-        return int.from_bytes(self.bytes[inside:inside + length], "big")
+        return int.from_bytes(self.some[inside:inside + length], "big")
 
 
 def past_records(source: Source, at: int, page_size: int, ignores_shared: bool = False) -> int:

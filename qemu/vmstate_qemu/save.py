@@ -13,7 +13,8 @@ from .files import reason
 from .progress import Progress
 from .qmp import Session
 
-BUSY = {"setup", "active", "cancelling", "postcopy-active", "postcopy-paused", "device", "wait-unplug", "pre-switchover"}
+BUSY = {"setup", "active", "cancelling", "postcopy-active", "postcopy-paused", "device", "wait-unplug",
+        "pre-switchover"}
 NO_STATE = {"inmigrate", "prelaunch-incoming", "finish-migrate"}
 
 
@@ -99,6 +100,7 @@ def write_devices(session: Session, path: str) -> None:
     progress, started = Progress(), time.monotonic()
 
     def meanwhile() -> None:
+        """Says how much there is of the file."""
         with contextlib.suppress(OSError):
             progress.say(f"saving: {os.stat(path).st_size} bytes, {time.monotonic() - started:.0f} s")
 
@@ -135,6 +137,7 @@ def stood_still(session: Session) -> Optional[float]:
     """Returns the seconds between the first event STOP and the last event RESUME, or none if they didn't come."""
 
     def moment(event: Dict[str, Any]) -> float:
+        """Returns the time of an event, in seconds."""
         stamp = event.get("timestamp", {})
         return stamp.get("seconds", 0) + stamp.get("microseconds", 0) / 1e6
 

@@ -7,6 +7,7 @@ from typing import Dict, Iterator, List, Optional, Tuple
 from . import donor as donors
 from . import ram
 from .description import Damaged, Description, Device, Leaf, Part, find, leaves
+from .donor import Head
 from .errors import WORDS, Refused, Trouble, printable
 from .source import Source
 
@@ -79,7 +80,9 @@ class Stream:
         return self.source.read(start, end - start)
 
     def find(self, word: str) -> Section:
-        """Returns the section that `word` names: NAME, NAME@INSTANCE, NAME@INSTANCE#NTH, or the name of its description.
+        """Returns the section that `word` names.
+
+        A word is NAME, NAME@INSTANCE, NAME@INSTANCE#NTH, or the name of the section's description.
 
         # Errors
 
@@ -211,7 +214,8 @@ def read_extras(stream: Stream) -> None:
                 stream.ignores_shared |= source.read(at + 1, length) == IGNORE_SHARED
                 at += 1 + length
         else:
-            raise Refused(stream.start, "", f"the configuration has an unknown part {printable(name.decode('latin-1'))}")
+            raise Refused(stream.start, "", f"the configuration has an unknown part {printable(name.decode('latin-1'))}"
+                          )
         stream.start = at
 
 
@@ -265,31 +269,34 @@ def forwards(stream: Stream, fits: donors.Fits) -> None:
         stream.front.append(unit)
         at = unit.at + unit.length
     while source.read_some(at, 1) == bytes([FULL]):
-        name, instance, version, body = head_at(source, at)
-        part, end = fits.body(source, name, instance, version, body, at)
+        head = head_at(source, at)
+        part, end = fits.body(source, head)
+        if end > source.size:
+            raise Refused(source.size, printable(head.name), "the stream ends here")
         footer = source.read_some(end, 5)
         if is_footed is None:
             is_footed = footer[:1] == bytes([FOOTER])
-        if is_footed and footer != bytes([FOOTER]) + source.read(at + 1, 4):
-            raise Refused(end, printable(name), "the section doesn't fit what is known of it: no footer is here")
+        if is_footed and footer != bytes([FOOTER]) + head.identity:
+            raise Refused(end, printable(head.name), "the section doesn't fit what is known of it: no footer is here")
         end += 5 * is_footed
-        stream.sections.append(Section(name, instance, version, source.read(at + 1, 4), at, end - at, is_footed, part))
+        stream.sections.append(Section(head.name, head.instance, head.version, head.identity, at, end - at, is_footed,
+                                       part))
         at = end
     if source.read_some(at, 1) != b"\0":
         raise Refused(at, "", "no section and no end mark begins here")
     stream.end = at
 
 
-def head_at(source: Source, at: int) -> Tuple[str, int, int, int]:
-    """Returns the name, instance and version of the section that begins at `at`, and the offset of its body."""
+def head_at(source: Source, at: int) -> Head:
+    """Returns the head of the section that begins at `at`."""
     length = source.number_at(at + 5, 1)
     name = source.read(at + 6, length).decode("utf-8", "surrogateescape")
     after = at + 6 + length
-    return name, source.number_at(after, 4), source.number_at(after + 4, 4), after + 8
+    return Head(name, source.number_at(after, 4), source.number_at(after + 4, 4), source.read(at + 1, 4), at, after + 8)
 
 
 def front_units(stream: Stream, stop: int) -> Iterator[Front]:
-    """Yields the units between the configuration and the devices, which begin at `stop` or at the first full section."""
+    """Yields the units after the configuration, up to `stop` or the first full section, where the devices begin."""
     source, at = stream.source, stream.start
     names: Dict[bytes, str] = {}
     while at < stop:
@@ -300,7 +307,8 @@ def front_units(stream: Stream, stop: int) -> Iterator[Front]:
             identity = source.read(at + 1, 4)
             body = at + 5
             if mark == START:
-                names[identity], _, _, body = head_at(source, at)
+                head = head_at(source, at)
+                names[identity], body = head.name, head.body
             what = names.get(identity, "")
             if what != "ram":
                 raise Refused(at, printable(what), "a section of another kind than RAM, which isn't read")
