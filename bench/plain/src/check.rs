@@ -153,71 +153,17 @@ impl Checker<'_> {
 
     fn fields(&mut self, o: Shown, ov: u32, n: Shown, nv: u32) -> Res {
         for at in 0..o.present.len().max(n.present.len()) {
-            let (Some((ok, of, ot)), Some((nk, nf, nt))) = (o.present.get(at), n.present.get(at)) else {
+            let (Some(old), Some(new)) = (o.present.get(at), n.present.get(at)) else {
                 return match o.present.get(at) {
                     Some((k, ..)) => fail(5, o.place(Some(*k)), n.place(None)),
                     None => fail(6, o.place(None), n.place(Some(n.present[at].0))),
                 };
             };
-            let here = |rule| fail(rule, o.place(Some(*ok)), n.place(Some(*nk)));
-            let loose = matched_by_unused(of, nf);
-            if !loose {
-                let counts = match (of.count, nf.count) {
-                    (Count::One, Count::One) => true,
-                    (Count::Fixed(a), Count::Fixed(b)) => a == b,
-                    (Count::Counted { by: a, .. }, Count::Counted { by: b, .. }) => {
-                        o.position[a as usize] == n.position[b as usize]
-                    }
-                    _ => false,
-                };
-                if !counts {
-                    return here(7);
-                }
-                let kinds = match (of.item, nf.item) {
-                    (Item::Num(a), Item::Num(b)) | (Item::Equal(a, _), Item::Equal(b, _)) => a == b,
-                    (Item::Unused(a), Item::Unused(b)) => a == b,
-                    (Item::Struct(_), Item::Struct(_)) => true,
-                    _ => false,
-                };
-                if !kinds {
-                    return here(8);
-                }
+            if let Some(rule) = field_rule(&o, old, &n, new) {
+                return fail(rule, o.place(Some(old.0)), n.place(Some(new.0)));
             }
-            if ot != nt {
-                return here(9);
-            }
-            if loose {
-                continue;
-            }
-            if of.name != nf.name && !nf.former.contains(&of.name) {
-                return here(10);
-            }
-            if let (Count::Counted { capacity: a, .. }, Count::Counted { capacity: b, .. }) =
-                (of.count, nf.count)
-            {
-                if b < a {
-                    return here(11);
-                }
-            }
-            if let (Item::Num(kind), Count::One, false) = (of.item, of.count, n.hidden.is_empty()) {
-                let bound = of.least.map_or(kind.range().1, |m| m as i128);
-                let h = n.hidden[*nk];
-                if h != u32::MAX && (h as i128) < bound {
-                    return here(11);
-                }
-            }
-            match (of.item, nf.item) {
-                (Item::Equal(_, a), Item::Equal(_, b)) if a != b => return here(12),
-                (Item::Struct(a), Item::Struct(b)) if !self.done.contains(&(a, b)) => {
-                    let (s, t) = (&self.old.structs[a as usize], &self.new.structs[b as usize]);
-                    self.fields(
-                        Shown::new(s, s.version, Part::Struct(a as usize)),
-                        s.version,
-                        Shown::new(t, t.version, Part::Struct(b as usize)),
-                        t.version,
-                    )?;
-                    self.done.insert((a, b));
-                }
+            match (old.1.item, new.1.item) {
+                (Item::Struct(a), Item::Struct(b)) if !self.done.contains(&(a, b)) => self.structs(a, b)?,
                 _ => {}
             }
         }
@@ -232,9 +178,84 @@ impl Checker<'_> {
         }
         Ok(())
     }
+
+    fn structs(&mut self, a: u32, b: u32) -> Res {
+        let (s, t) = (&self.old.structs[a as usize], &self.new.structs[b as usize]);
+        let old = Shown::new(s, s.version, Part::Struct(a as usize));
+        let new = Shown::new(t, t.version, Part::Struct(b as usize));
+        self.fields(old, s.version, new, t.version)?;
+        self.done.insert((a, b));
+        Ok(())
+    }
 }
 
-/// New's Unused of n bytes matches old's Equal of n bytes and old's numbers that take n bytes.
+fn same_counts(o: &Shown, of: &Field, n: &Shown, nf: &Field) -> bool {
+    match (of.count, nf.count) {
+        (Count::One, Count::One) => true,
+        (Count::Fixed(a), Count::Fixed(b)) => a == b,
+        (Count::Counted { by: a, .. }, Count::Counted { by: b, .. }) => {
+            o.position[a as usize] == n.position[b as usize]
+        }
+        _ => false,
+    }
+}
+
+fn same_kinds(of: &Field, nf: &Field) -> bool {
+    match (of.item, nf.item) {
+        (Item::Num(a), Item::Num(b)) | (Item::Equal(a, _), Item::Equal(b, _)) => a == b,
+        (Item::Unused(a), Item::Unused(b)) => a == b,
+        (Item::Struct(_), Item::Struct(_)) => true,
+        _ => false,
+    }
+}
+
+/// Returns whether the newer side has less room than the older, for an array or for what a number counts.
+fn is_smaller(of: &Field, n: &Shown, nk: usize, nf: &Field) -> bool {
+    match (of.count, nf.count, of.item) {
+        (Count::Counted { capacity: a, .. }, Count::Counted { capacity: b, .. }, _) => b < a,
+        (Count::One, _, Item::Num(kind)) if !n.hidden.is_empty() => {
+            let bound = of.least.map_or(kind.range().1, |m| m as i128);
+            let room = n.hidden[nk];
+            room != u32::MAX && (room as i128) < bound
+        }
+        _ => false,
+    }
+}
+
+/// Returns the first of the rules 7 to 12 that fails at two fields of one position.
+fn field_rule(
+    o: &Shown,
+    old: &(usize, &Field, Reduced),
+    n: &Shown,
+    new: &(usize, &Field, Reduced),
+) -> Option<u8> {
+    let ((_, of, ot), (nk, nf, nt)) = (old, new);
+    let loose = matched_by_unused(of, nf);
+    if !loose && !same_counts(o, of, n, nf) {
+        return Some(7);
+    }
+    if !loose && !same_kinds(of, nf) {
+        return Some(8);
+    }
+    if ot != nt {
+        return Some(9);
+    }
+    if loose {
+        return None;
+    }
+    if of.name != nf.name && !nf.former.contains(&of.name) {
+        return Some(10);
+    }
+    if is_smaller(of, n, *nk, nf) {
+        return Some(11);
+    }
+    match (of.item, nf.item) {
+        (Item::Equal(_, a), Item::Equal(_, b)) if a != b => Some(12),
+        _ => None,
+    }
+}
+
+/// Returns whether `n` is unused bytes, as many as the constant or the numbers of `o` take.
 fn matched_by_unused(o: &Field, n: &Field) -> bool {
     let Item::Unused(bytes) = n.item else { return false };
     let times = match o.count {

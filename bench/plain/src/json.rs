@@ -11,7 +11,7 @@ pub enum Value<'a> {
     Text(Cow<'a, str>),
     List(Vec<Value<'a>>),
     /// Sorted by key; of a key that came twice the last value.
-    Object(Vec<(Cow<'a, str>, Value<'a>)>),
+    Object(Members<'a>),
 }
 
 pub struct Syntax;
@@ -27,6 +27,39 @@ pub fn read(text: &[u8]) -> Result<Value<'_>, Syntax> {
         Ok(v)
     } else {
         Err(Syntax)
+    }
+}
+
+/// The members of an object by their keys.
+type Members<'a> = Vec<(Cow<'a, str>, Value<'a>)>;
+
+/// Returns the members by key; of a key that came twice the last one.
+fn sorted(mut members: Members) -> Members {
+    members.sort_by(|a, b| a.0.cmp(&b.0)); // stable: equal keys stay in the order of the text
+    let mut kept: Members = Vec::with_capacity(members.len());
+    for e in members {
+        match kept.last_mut() {
+            Some(last) if last.0 == e.0 => *last = e,
+            _ => kept.push(e),
+        }
+    }
+    kept
+}
+
+/// Returns the number of a spelling, as serde_json has it: a whole number of 64 bits, else a float.
+fn number_of<'a>(s: &str, negative: bool, whole: bool) -> Result<Value<'a>, Syntax> {
+    if whole && !negative {
+        if let Ok(n) = s.parse() {
+            return Ok(Value::Uint(n));
+        }
+    } else if whole && s != "-0" {
+        if let Ok(n) = s.parse() {
+            return Ok(Value::Neg(n));
+        }
+    }
+    match s.parse::<f64>() {
+        Ok(x) if x.is_finite() => Ok(Value::Float),
+        _ => Err(Syntax),
     }
 }
 
@@ -101,7 +134,7 @@ impl<'a> Reader<'a> {
             return Err(Syntax);
         }
         self.at += 1;
-        let mut out: Vec<(Cow<'a, str>, Value<'a>)> = Vec::new();
+        let mut out: Members<'a> = Vec::new();
         self.space();
         if self.peek() == b'}' {
             self.at += 1;
@@ -129,15 +162,7 @@ impl<'a> Reader<'a> {
         }
         self.at += 1;
         if !out.windows(2).all(|w| w[0].0 < w[1].0) {
-            out.sort_by(|a, b| a.0.cmp(&b.0)); // stable: equal keys stay in text order
-            let mut kept: Vec<(Cow<'a, str>, Value<'a>)> = Vec::with_capacity(out.len());
-            for e in out {
-                match kept.last_mut() {
-                    Some(last) if last.0 == e.0 => *last = e,
-                    _ => kept.push(e),
-                }
-            }
-            out = kept;
+            out = sorted(out);
         }
         Ok(Value::Object(out))
     }
@@ -177,22 +202,7 @@ impl<'a> Reader<'a> {
             }
             self.digits()?;
         }
-        let s = &self.text[start..self.at];
-        if whole {
-            if !negative {
-                if let Ok(n) = s.parse() {
-                    return Ok(Value::Uint(n));
-                }
-            } else if s != "-0" {
-                if let Ok(n) = s.parse() {
-                    return Ok(Value::Neg(n));
-                }
-            }
-        }
-        match s.parse::<f64>() {
-            Ok(x) if x.is_finite() => Ok(Value::Float),
-            _ => Err(Syntax),
-        }
+        number_of(&self.text[start..self.at], negative, whole)
     }
 
     fn hex4(&mut self) -> Result<u32, Syntax> {
@@ -203,6 +213,34 @@ impl<'a> Reader<'a> {
         }
         self.at += 4;
         Ok(n)
+    }
+
+    /// Returns the character that the escape `e` stands for.
+    fn escape(&mut self, e: u8) -> Result<char, Syntax> {
+        Ok(match e {
+            b'"' | b'\\' | b'/' => e as char,
+            b'b' => '\u{8}',
+            b'f' => '\u{c}',
+            b'n' => '\n',
+            b'r' => '\r',
+            b't' => '\t',
+            b'u' => {
+                let mut n = self.hex4()?;
+                if (0xd800..0xdc00).contains(&n) {
+                    if !self.b[self.at..].starts_with(b"\\u") {
+                        return Err(Syntax);
+                    }
+                    self.at += 2;
+                    let low = self.hex4()?;
+                    if !(0xdc00..0xe000).contains(&low) {
+                        return Err(Syntax);
+                    }
+                    n = 0x10000 + ((n - 0xd800) << 10) + (low - 0xdc00);
+                }
+                char::from_u32(n).ok_or(Syntax)?
+            }
+            _ => return Err(Syntax),
+        })
     }
 
     fn string(&mut self) -> Result<Cow<'a, str>, Syntax> {
@@ -227,30 +265,7 @@ impl<'a> Reader<'a> {
                     self.at += 1;
                     let e = *self.b.get(self.at).ok_or(Syntax)?;
                     self.at += 1;
-                    own.push(match e {
-                        b'"' | b'\\' | b'/' => e as char,
-                        b'b' => '\u{8}',
-                        b'f' => '\u{c}',
-                        b'n' => '\n',
-                        b'r' => '\r',
-                        b't' => '\t',
-                        b'u' => {
-                            let mut n = self.hex4()?;
-                            if (0xd800..0xdc00).contains(&n) {
-                                if !self.b[self.at..].starts_with(b"\\u") {
-                                    return Err(Syntax);
-                                }
-                                self.at += 2;
-                                let low = self.hex4()?;
-                                if !(0xdc00..0xe000).contains(&low) {
-                                    return Err(Syntax);
-                                }
-                                n = 0x10000 + ((n - 0xd800) << 10) + (low - 0xdc00);
-                            }
-                            char::from_u32(n).ok_or(Syntax)?
-                        }
-                        _ => return Err(Syntax),
-                    });
+                    own.push(self.escape(e)?);
                     start = self.at;
                 }
                 0..=0x1f => return Err(Syntax),

@@ -74,7 +74,8 @@ impl Bad {
     }
 }
 
-fn check_fields(d: &Desc, part: Part, struct_limit: usize) -> Result<(), IllFormed> {
+/// Returns for each field the least capacity that it counts.
+fn least_capacities(d: &Desc) -> Vec<i128> {
     let mut least: Vec<i128> = vec![i128::MAX; d.fields.len()];
     for f in &d.fields {
         if let Count::Counted { by, capacity } = f.count {
@@ -82,6 +83,44 @@ fn check_fields(d: &Desc, part: Part, struct_limit: usize) -> Result<(), IllForm
             *l = (*l).min(capacity as i128);
         }
     }
+    least
+}
+
+/// Adds what fails of field `k` but for its names.
+fn check_field(d: &Desc, k: usize, struct_limit: usize, least: i128, bad: &mut Bad) {
+    let f = &d.fields[k];
+    if let Some(t) = &f.test {
+        bad.when(4, !own_ok(d, t, k));
+        bad.when(7, too_big(t));
+    }
+    match f.count {
+        Count::Counted { by, capacity } => {
+            let kind = matches!(d.fields[by as usize].item, Item::Num(U8 | U16 | U32));
+            bad.when(4, !((by as usize) < k && may_be_named(d, by) && kind));
+            bad.when(8, capacity < 1);
+        }
+        Count::Fixed(n) => bad.when(8, n < 1),
+        Count::One => {}
+    }
+    match f.item {
+        Item::Num(kind) => bad.when(6, !kind.holds(f.default)),
+        Item::Equal(kind, value) => bad.when(6, f.default != 0 || !kind.holds(value)),
+        Item::Unused(n) => {
+            bad.when(6, f.default != 0);
+            bad.when(7, !(1..=4096).contains(&n));
+        }
+        Item::Struct(s) => {
+            bad.when(5, s as usize >= struct_limit);
+            bad.when(6, f.default != 0);
+        }
+    }
+    bad.when(6, f.default > least);
+    bad.when(7, f.former.len() > 8);
+    bad.when(8, matches!(f.item, Item::Equal(..) | Item::Unused(_)) && f.count != Count::One);
+}
+
+fn check_fields(d: &Desc, part: Part, struct_limit: usize) -> Result<(), IllFormed> {
+    let least = least_capacities(d);
     let mut seen: HashSet<&str> = HashSet::with_capacity(d.fields.len());
     for (k, f) in d.fields.iter().enumerate() {
         let mut bad = Bad::default();
@@ -89,36 +128,7 @@ fn check_fields(d: &Desc, part: Part, struct_limit: usize) -> Result<(), IllForm
             bad.when(1, !name_ok(n, 32));
             bad.when(2, !seen.insert(n));
         }
-        if let Some(t) = &f.test {
-            bad.when(4, !own_ok(d, t, k));
-            bad.when(7, too_big(t));
-        }
-        match f.count {
-            Count::Counted { by, capacity } => {
-                let counts = (by as usize) < k
-                    && may_be_named(d, by)
-                    && matches!(d.fields[by as usize].item, Item::Num(U8 | U16 | U32));
-                bad.when(4, !counts);
-                bad.when(8, capacity < 1);
-            }
-            Count::Fixed(n) => bad.when(8, n < 1),
-            Count::One => {}
-        }
-        match f.item {
-            Item::Num(kind) => bad.when(6, !kind.holds(f.default)),
-            Item::Equal(kind, value) => bad.when(6, f.default != 0 || !kind.holds(value)),
-            Item::Unused(n) => {
-                bad.when(6, f.default != 0);
-                bad.when(7, !(1..=4096).contains(&n));
-            }
-            Item::Struct(s) => {
-                bad.when(5, s as usize >= struct_limit);
-                bad.when(6, f.default != 0);
-            }
-        }
-        bad.when(6, f.default > least[k]);
-        bad.when(7, f.former.len() > 8);
-        bad.when(8, matches!(f.item, Item::Equal(..) | Item::Unused(_)) && f.count != Count::One);
+        check_field(d, k, struct_limit, least[k], &mut bad);
         bad.at(Place(part, Some(k)))?;
     }
     let mut bad = Bad::default();

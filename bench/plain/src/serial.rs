@@ -204,6 +204,20 @@ impl Serial {
         }
     }
 
+    fn control_fifos(&mut self, v: u8) {
+        let on = v & 1 != 0;
+        if on != self.fifo || on && v & 2 != 0 {
+            self.rx.clear();
+            self.timeout = None;
+        }
+        if on != self.fifo || on && v & 4 != 0 {
+            self.thr_empty |= !self.tx.is_empty();
+            self.tx.clear();
+        }
+        self.fifo = on;
+        self.trigger = if on { v >> 6 } else { 0 };
+    }
+
     pub fn write(&mut self, offset: u16, v: u8, now: u64) {
         let dlab = self.lcr & 0x80 != 0;
         match offset {
@@ -227,19 +241,7 @@ impl Serial {
                     self.thr_empty = self.tx.is_empty();
                 }
             }
-            2 if self.level >= 2 => {
-                let on = v & 1 != 0;
-                if on != self.fifo || on && v & 2 != 0 {
-                    self.rx.clear();
-                    self.timeout = None;
-                }
-                if on != self.fifo || on && v & 4 != 0 {
-                    self.thr_empty |= !self.tx.is_empty();
-                    self.tx.clear();
-                }
-                self.fifo = on;
-                self.trigger = if on { v >> 6 } else { 0 };
-            }
+            2 if self.level >= 2 => self.control_fifos(v),
             3 => self.lcr = v,
             4 => self.mcr = v & 0x1f,
             7 => self.scr = v,

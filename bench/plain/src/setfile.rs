@@ -4,9 +4,12 @@ use std::borrow::Cow;
 use std::cell::OnceCell;
 use std::collections::HashMap;
 
-use crate::desc::{Atom, Count, Desc, DescSet, Device, Field, Item, Kind, Place, Rel, Sub, Test};
+use crate::desc::{DescSet, Device, Item, Kind, Place, Rel};
 use crate::json::{self, Value};
 use crate::rules::{well_formed, IllFormed};
+use names::{finish_desc, numbered};
+
+mod names;
 
 pub enum FileFault {
     Syntax,
@@ -179,15 +182,15 @@ fn relation(v: Value) -> Res<Rel> {
 const FIELD_KEYS: [&str; 10] =
     ["capacity", "count", "counted", "default", "equal", "former", "since", "size", "struct", "test"];
 
-fn field<'a>(v: Value<'a>) -> Res<RawField<'a>> {
-    let o = object(v, &["kind", "name"], &FIELD_KEYS)?;
+/// Returns the kind that a field's members name, if it is one of numbers, or nothing if they don't go together;
+/// with it whether the kind is a word at all.
+fn field_kind(o: &Members) -> Res<(Option<Kind>, bool)> {
     let has = |key: &str| o.iter().any(|(k, _)| k == key);
     let word = o.iter().find_map(|(k, x)| match (&**k, x) {
         ("kind", Value::Text(t)) => Some(&**t),
         _ => None,
     });
     let kind = word.and_then(Kind::of);
-    let known = kind.is_some() || matches!(word, Some("unused" | "struct"));
     let mut bad =
         has("counted") != has("capacity") || has("count") && has("counted") || has("equal") && has("default");
     bad |= match (kind, word) {
@@ -199,6 +202,12 @@ fn field<'a>(v: Value<'a>) -> Res<RawField<'a>> {
     if bad {
         return shape();
     }
+    Ok((kind, kind.is_some() || matches!(word, Some("unused" | "struct"))))
+}
+
+fn field<'a>(v: Value<'a>) -> Res<RawField<'a>> {
+    let o = object(v, &["kind", "name"], &FIELD_KEYS)?;
+    let (kind, known) = field_kind(&o)?;
     let mut f = RawField {
         name: Cow::Borrowed(""),
         former: vec![],
@@ -275,116 +284,6 @@ fn device<'a>(v: Value<'a>) -> Res<(RawDesc<'a>, u32)> {
 fn members<'a, const N: usize>(o: Members<'a>) -> [Value<'a>; N] {
     let mut values = o.into_iter().map(|m| m.1);
     std::array::from_fn(|_| values.next().unwrap())
-}
-
-// The second walk: names.
-
-impl RawDesc<'_> {
-    fn named(&self, name: &str) -> Res<u32> {
-        if self.fields.len() <= 8 {
-            let found = self.fields.iter().position(|f| f.name == name);
-            return found.map(|i| i as u32).ok_or(Shape(Vec::new()));
-        }
-        let index = self.index.get_or_init(|| {
-            let mut m = HashMap::with_capacity(self.fields.len());
-            for (i, f) in self.fields.iter().enumerate() {
-                m.entry(f.name.to_string()).or_insert(i as u32);
-            }
-            m
-        });
-        index.get(name).copied().ok_or(Shape(Vec::new()))
-    }
-}
-
-fn resolve(t: &RawTest, own: &RawDesc, parent: Option<&RawDesc>) -> Res<Test> {
-    Ok(match t {
-        RawTest::AtLeast(n) => Test::AtLeast(*n),
-        RawTest::Below(n) => Test::Below(*n),
-        RawTest::Cell { parent: from, name, mask, rel, value } => {
-            let field = if *from {
-                at(parent.unwrap().named(name), "parent")?
-            } else {
-                at(own.named(name), "field")?
-            };
-            Test::Cell(Atom {
-                parent: *from,
-                field,
-                mask: *mask,
-                rel: *rel,
-                value: *value,
-                offset: 0,
-                cut: 0,
-            })
-        }
-        RawTest::Not(a) => Test::Not(Box::new(at(resolve(a, own, parent), "not")?)),
-        RawTest::Two { and, a, b } => {
-            let key = if *and { "and" } else { "or" };
-            let a = Box::new(at(at(resolve(a, own, parent), "0"), key)?);
-            let b = Box::new(at(at(resolve(b, own, parent), "1"), key)?);
-            if *and {
-                Test::And(a, b)
-            } else {
-                Test::Or(a, b)
-            }
-        }
-    })
-}
-
-fn numbered<T, U>(list: impl IntoIterator<Item = T>, f: impl Fn(T) -> Res<U>) -> Res<Vec<U>> {
-    list.into_iter()
-        .enumerate()
-        .map(|(i, x)| {
-            f(x).map_err(|mut p| {
-                p.0.push(i.to_string());
-                p
-            })
-        })
-        .collect()
-}
-
-fn finish_field(f: &RawField, own: &RawDesc) -> Res<Field> {
-    let count = match f.count {
-        RawCount::One => Count::One,
-        RawCount::Fixed(n) => Count::Fixed(n),
-        RawCount::Counted(ref by, capacity) => Count::Counted { by: at(own.named(by), "counted")?, capacity },
-    };
-    let test = match &f.test {
-        Some(t) => Some(at(resolve(t, own, None), "test")?),
-        None => None,
-    };
-    Ok(Field {
-        name: f.name.to_string(),
-        former: f.former.iter().map(|n| n.to_string()).collect(),
-        item: f.item,
-        count,
-        since: f.since,
-        test,
-        default: f.default,
-        offset: 0,
-        step: 0,
-        least: None,
-    })
-}
-
-/// The raw description is used up, so that its memory serves the next one.
-fn finish_desc(mut d: RawDesc, parent: Option<&RawDesc>) -> Res<(Desc, Option<Test>, Vec<Sub>)> {
-    let subs = std::mem::take(&mut d.subs);
-    let d = &d;
-    let fields = at(numbered(&d.fields, |f| finish_field(f, d)), "fields")?;
-    let needed = match &d.needed {
-        Some(t) => Some(at(resolve(t, d, parent), "needed")?),
-        None => None,
-    };
-    let subs = at(
-        numbered(subs, |s| {
-            let (desc, needed, _) = finish_desc(s, Some(d))?;
-            Ok(Sub { desc, needed: needed.unwrap(), base: 0 })
-        }),
-        "subsections",
-    )?;
-    let validate = at(numbered(&d.validate, |t| resolve(t, d, None)), "validate")?;
-    let desc = Desc { validate, ..Desc::new(&d.name, d.version, d.minimum.unwrap_or(d.version), fields) };
-    Ok((desc, needed, subs))
 }
 
 fn parts(v: Value) -> Res<DescSet> {

@@ -196,52 +196,76 @@ impl Lines<'_> {
     }
 }
 
+/// The line of a section or subsection, and which it is.
+struct Head {
+    line: u32,
+    device: usize,
+    sub: Option<usize>,
+}
+
+impl Lines<'_> {
+    fn machine(&mut self) -> Result<Option<usize>, Bad> {
+        if !self.text.starts_with(b"machine ") {
+            return Ok(None);
+        }
+        let set = self.set;
+        let found = set.machines.iter().position(|m| self.is(format!("machine {m}").as_bytes()));
+        match found {
+            None => Err(Bad { line: 1, reason: Reason::Form }),
+            machine => Ok(machine),
+        }
+    }
+
+    fn device(&mut self, i: usize, image: &mut Image, heads: &mut Vec<Head>) -> Result<(), Bad> {
+        let d = &self.set.devices[i];
+        self.expect(format!("section {} {} v{}", d.desc.name, d.instance, d.desc.version).as_bytes())?;
+        heads.push(Head { line: self.line, device: i, sub: None });
+        self.cells(&d.desc, &mut image.cells, true)?;
+        for (j, s) in d.subs.iter().enumerate() {
+            if self.is(format!("sub {} v{}", s.desc.name, s.desc.version).as_bytes()) {
+                image.subs[j] = Some(s.desc.version);
+            } else {
+                self.expect(format!("sub {} -", s.desc.name).as_bytes())?;
+            }
+            heads.push(Head { line: self.line, device: i, sub: Some(j) });
+            self.cells(&s.desc, &mut image.cells[s.base..], true)?;
+        }
+        Ok(())
+    }
+}
+
+/// Checks the validations of a section or subsection, and whether the subsection is there as it is needed.
+fn judge(set: &DescSet, head: &Head, image: &Image) -> Result<(), Bad> {
+    let bad = |reason| Err(Bad { line: head.line, reason });
+    let d = &set.devices[head.device];
+    let Some(j) = head.sub else {
+        return if set.valid(&d.desc, d.desc.version, &image.cells) { Ok(()) } else { bad(Reason::Invalid) };
+    };
+    let s = &d.subs[j];
+    let (own, came) = (&image.cells[s.base..], image.subs[j].is_some());
+    if came && !set.valid(&s.desc, s.desc.version, own) {
+        return bad(Reason::Invalid);
+    }
+    let needed = s.needed.holds(s.desc.version, own, &image.cells);
+    let n = s.desc.cells;
+    if needed != came || !needed && own[..n] != d.defaults[s.base..s.base + n] {
+        return bad(Reason::Needed);
+    }
+    Ok(())
+}
+
+/// Returns the machine and the images of a values text, or its first bad line.
 pub fn read(set: &DescSet, text: &[u8]) -> Result<(Option<usize>, Vec<Image>), Bad> {
     let mut l = Lines { set, text, line: 0, path: Vec::with_capacity(256) };
     let mut images = Image::all(set);
     let mut heads = Vec::new();
-    let mut machine = None;
-    if text.starts_with(b"machine ") {
-        machine = set.machines.iter().position(|m| l.is(format!("machine {m}").as_bytes()));
-        if machine.is_none() {
-            return Err(Bad { line: 1, reason: Reason::Form });
-        }
-    }
-    for (i, d) in set.devices.iter().enumerate() {
-        let image = &mut images[i];
-        l.expect(format!("section {} {} v{}", d.desc.name, d.instance, d.desc.version).as_bytes())?;
-        heads.push((l.line, i, None));
-        l.cells(&d.desc, &mut image.cells, true)?;
-        for (j, s) in d.subs.iter().enumerate() {
-            if l.is(format!("sub {} v{}", s.desc.name, s.desc.version).as_bytes()) {
-                image.subs[j] = Some(s.desc.version);
-            } else {
-                l.expect(format!("sub {} -", s.desc.name).as_bytes())?;
-            }
-            heads.push((l.line, i, Some(j)));
-            l.cells(&s.desc, &mut image.cells[s.base..], true)?;
-        }
+    let machine = l.machine()?;
+    for (i, image) in images.iter_mut().enumerate() {
+        l.device(i, image, &mut heads)?;
     }
     if !l.text.is_empty() {
         return Err(Bad { line: l.line + 1, reason: Reason::Form });
     }
-    for (line, i, j) in heads {
-        let (d, image) = (&set.devices[i], &images[i]);
-        let (desc, own, came) = match j {
-            None => (&d.desc, &image.cells[..], true),
-            Some(j) => (&d.subs[j].desc, &image.cells[d.subs[j].base..], image.subs[j].is_some()),
-        };
-        if came && !set.valid(desc, desc.version, own) {
-            return Err(Bad { line, reason: Reason::Invalid });
-        }
-        if let Some(j) = j {
-            let s = &d.subs[j];
-            let needed = s.needed.holds(s.desc.version, own, &image.cells);
-            let n = s.desc.cells;
-            if needed != came || !needed && own[..n] != d.defaults[s.base..s.base + n] {
-                return Err(Bad { line, reason: Reason::Needed });
-            }
-        }
-    }
+    heads.iter().try_for_each(|head| judge(set, head, &images[head.device]))?;
     Ok((machine, images))
 }
