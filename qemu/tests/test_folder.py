@@ -49,7 +49,7 @@ class Words(Case):
             self.assertIn("usage: vmstate-qemu", self.gives(words))
 
     def test_bad_words_have_status_2(self):
-        for words in ([], ["nothing"], ["list"], ["edit", ISAPC], ["folder", ".", "--jobs", "x"]):
+        for words in ([], ["nothing"], ["list"], ["edit", ISAPC], ["folder", ".", "--jobs", "x"], ["folder", ".", "--jobs", "0"]):
             self.assertEqual(called(*words)[0], 2, words)
 
     def test_files_that_are_not_there(self):

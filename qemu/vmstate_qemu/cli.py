@@ -5,6 +5,7 @@ import argparse
 import contextlib
 import json
 import os
+import signal
 import sys
 from typing import Any, Callable, List, Optional
 
@@ -130,6 +131,8 @@ def do_put(words: argparse.Namespace) -> int:
 
 def do_save(words: argparse.Namespace) -> int:
     """Saves the devices of a running VM."""
+    for number in (signal.SIGTERM, signal.SIGHUP):
+        signal.signal(number, signal.default_int_handler)
     session = Session(words.socket)
     try:
         print(save(session, words.file, words.stop).sentence(words.file), file=sys.stderr)
@@ -205,6 +208,13 @@ def do_explain(words: argparse.Namespace) -> int:
     return DONE
 
 
+def jobs(word: str) -> int:
+    """Returns the number of processes that a word says, 1 to 256."""
+    if not word.isdecimal() or not 1 <= int(word) <= 256:
+        raise argparse.ArgumentTypeError("1 to 256")
+    return int(word)
+
+
 Commands = Callable[[str, Callable[[argparse.Namespace], int], str], argparse.ArgumentParser]
 
 
@@ -250,7 +260,7 @@ def add_looking(command: Commands) -> None:
     one.add_argument("folder", metavar="DIR")
     one.add_argument("--set", metavar="SET", help="judge by `vmstate show SET`, else by the streams' own descriptions")
     one.add_argument("--like", metavar="STREAM", help="read streams without a description by that of this one")
-    one.add_argument("--jobs", metavar="N", type=int, default=os.cpu_count() or 1, help="that many processes")
+    one.add_argument("--jobs", metavar="N", type=jobs, default=os.cpu_count() or 1, help="that many processes")
     one.add_argument("--progress", action="store_true", help="show the bar even where no terminal is")
 
 

@@ -3,6 +3,7 @@ from __future__ import annotations
 
 import os
 import re
+import signal
 from collections import Counter
 from concurrent.futures import ProcessPoolExecutor
 from dataclasses import asdict, dataclass
@@ -115,7 +116,8 @@ def verdicts(judge: Judge, paths: List[str], jobs: int, progress: Progress) -> I
 
 
 def in_folder(judge: Judge) -> None:
-    """Goes to the folder of the set, since the program takes a name without a path."""
+    """Goes to the folder of the set, since the program takes a name without a path. An interrupt ends the caller."""
+    signal.signal(signal.SIGINT, signal.SIG_IGN)
     if judge.set is not None:
         os.chdir(os.path.dirname(judge.set) or ".")
 

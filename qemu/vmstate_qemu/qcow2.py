@@ -16,6 +16,7 @@ OFFSET = 0x00FFFFFFFFFFFE00
 COMPRESSED = 1 << 62
 EXTERNAL_DATA, EXTENDED_L2 = 1 << 2, 1 << 4
 MOST_SNAPSHOTS = 65536
+LARGEST = 1 << 44
 
 
 @dataclass(frozen=True)
@@ -72,7 +73,7 @@ class Image:
 
     def at(self, at: int, length: int) -> bytes:
         """Returns the `length` bytes of the file at offset `at`."""
-        got = os.pread(self.source.number, length, at) if at >= 0 else b""
+        got = os.pread(self.source.number, length, at) if at < LARGEST else b""
         if len(got) != length:
             raise self.trouble(f"the image ends before {at + length}")
         return got
@@ -92,6 +93,8 @@ class Image:
 
     def pieces(self, snapshot: Snapshot) -> Pieces:
         """Returns where the state of `snapshot` is: behind the end of its disk."""
+        if snapshot.state > LARGEST:
+            raise self.trouble(f"snapshot {printable(snapshot.name)} has a state of more than 16 TiB")
         cluster, per_table = 1 << self.bits, (1 << self.bits) // self.entry
         span = cluster * per_table
         disk = self.size if snapshot.disk is None else snapshot.disk

@@ -109,10 +109,10 @@ class Stream:
 
 
 def by_name(sections: List[Section], word: str) -> List[Section]:
-    """Returns the sections of this name, where `@INSTANCE` and `#NTH` may follow."""
+    """Returns the sections of this name, where `@INSTANCE` and `#NTH` may follow. Without them it's the instance 0."""
     exact = [each for each in sections if each.name == word]
     if exact:
-        return exact[:1] if len({each.instance for each in exact}) == len(exact) else exact
+        return [each for each in exact if each.instance == 0] or exact
     front, mark, nth = word.rpartition("#")
     if not mark or not nth.isdigit():
         front, nth = word, ""
