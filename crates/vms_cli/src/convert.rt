@@ -60,11 +60,11 @@ fn convert_to<I: Source, O: Sink>(
 // What the call answered, with the line of its fault.
 fn with_line(
     alloc: Global,
-    newest: &DescSet,
+    set: &DescSet,
     path: MemSink,
     converted: Result<(), ConvertFault>,
 ) -> Result<(), Ending>
-    requires newest { described newest.now ≡ newest }
+    requires newest { described set.now ≡ newest }
     requires path { store path ≡ no_path }
     requires named { NamesCell converted }
     ensures { EndsLike converted (ending_of result) }
@@ -74,9 +74,9 @@ fn with_line(
         Err(ConvertFault::NotCompatible(mismatch)) => {
             Err(Ending::NotCompatible(mismatch_line(alloc, mismatch)?))
         }
-        Err(ConvertFault::Refused(refusal)) => Err(Ending::Refused(refused_line(newest, &refusal))),
+        Err(ConvertFault::Refused(refusal)) => Err(Ending::Refused(refused_line(set, &refusal))),
         Err(ConvertFault::WouldLose { section, cell }) => {
-            Err(Ending::WouldLose(lost_line(newest, path, section, cell)))
+            Err(Ending::WouldLose(lost_line(set, path, section, cell)))
         }
         Err(ConvertFault::ReadFault) => Err(Ending::ReadFault),
         Err(ConvertFault::WriteFault) => Err(Ending::WriteFault),
