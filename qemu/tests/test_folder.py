@@ -21,7 +21,7 @@ class Folder(Case):
         self.assertNotIn("pwned", os.listdir("."))
 
     def test_a_folder_is_judged_by_a_set(self):
-        made = self.path("made.json")
+        made = self.path("made $(set)")
         self.gives(["set", ISAPC, "serial", "-o", made])
         folder = self.path("streams")
         os.mkdir(folder)
@@ -32,6 +32,9 @@ class Folder(Case):
         self.assertTrue(out.splitlines()[0].endswith("another: refused at 44 in -: UnknownSection"), out)
         self.assertEqual(out.splitlines()[1:], ["       1 refused in -: UnknownSection", "       1 read"])
         self.assertIn("2/2 1 refused, 0 s left", notes)
+        self.assertEqual(json.loads(self.gives(["folder", "--json", "--set", "@4", folder], 1))["reasons"],
+                         {"refused in -: BadMark": 1, "refused in serial/0: Truncated": 1})
+        self.says(["folder", "--set", self.put("bad", b"{}"), folder], 3, "bad: set set.json: Shape at file")
 
     def test_a_folder_is_judged_by_a_stream_like_its_own(self):
         folder = self.path("streams")

@@ -153,11 +153,15 @@ def do_diff(words: argparse.Namespace) -> int:
 
 def do_folder(words: argparse.Namespace) -> int:
     """Judges the files of a folder."""
-    program = path_of(words.vmstate) if words.set else None
-    chosen_set = os.path.abspath(words.set) if words.set else None
-    judge = folder.Judge(program, chosen_set, donor_devices(words.like) if words.like else None)
     paths = [os.path.abspath(path) for path in folder.files_of(words.folder)]
-    found = list(folder.verdicts(judge, paths, words.jobs, Progress(words.progress or None)))
+    progress = Progress(words.progress or None)
+    if words.set:
+        with Shelf(path_of(words.vmstate)) as shelf:
+            judge = folder.judge_by(shelf, words.set)
+            found = list(folder.verdicts(judge, paths, words.jobs, progress))
+    else:
+        judge = folder.Judge(donor_devices(words.like) if words.like else None)
+        found = list(folder.verdicts(judge, paths, words.jobs, progress))
     if words.json:
         put_json(folder.summary(found))
     else:

@@ -64,6 +64,20 @@ def write_out(path: Optional[str], text: bytes) -> None:
         file.write(text)
 
 
+def read_bytes(path: str) -> bytes:
+    """Returns the bytes of the file at `path`.
+
+    # Errors
+
+    Trouble: it can't be read.
+    """
+    try:
+        with open(path, "rb") as file:
+            return file.read()
+    except OSError as error:
+        raise Trouble(f"{printable(path)}: {reason(error)}", FAULT) from None
+
+
 def read_json(path: str) -> Any:
     """Returns the JSON value in the file at `path`.
 
@@ -71,10 +85,8 @@ def read_json(path: str) -> Any:
 
     Trouble: it can't be read, or is no JSON.
     """
+    text = read_bytes(path)
     try:
-        with open(path, "rb") as file:
-            return json.loads(file.read())
-    except OSError as error:
-        raise Trouble(f"{printable(path)}: {reason(error)}", FAULT) from None
+        return json.loads(text)
     except (ValueError, RecursionError) as error:
         raise Trouble(f"{printable(path)}: no JSON: {error}", TEXT) from None

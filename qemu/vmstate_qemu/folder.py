@@ -11,8 +11,9 @@ from functools import partial
 from typing import Any, Dict, Iterator, List, Optional, Tuple
 
 from . import description, stream
-from .errors import FAULT, REFUSED, Trouble, printable
-from .files import reason
+from .errors import FAULT, REFUSED, TEXT, Trouble, printable
+from .files import read_bytes, reason
+from .program import Shelf
 from .progress import Progress
 
 BATCH = 32
@@ -34,11 +35,15 @@ class Verdict:
 
 @dataclass(frozen=True)
 class Judge:
-    """How a file is judged: by `program` and `set`, or by its own description or that of the stream `like`."""
+    """How a file is judged: by its own description or that of the stream `like`, or by `program` and `set`.
 
-    program: Optional[str]
-    set: Optional[str]
-    like: Optional[Tuple[description.Device, ...]]
+    `set` is a word of the program, and `shelf` the folder in which the program is called.
+    """
+
+    like: Optional[Tuple[description.Device, ...]] = None
+    program: Optional[str] = None
+    set: Optional[str] = None
+    shelf: Optional[str] = None
 
     def verdict(self, path: str) -> Verdict:
         """Returns what is said of the file at `path`."""
@@ -57,7 +62,7 @@ class Judge:
             actions = [(os.POSIX_SPAWN_DUP2, file.fileno(), 0), (os.POSIX_SPAWN_DUP2, nowhere.fileno(), 1),
                        (os.POSIX_SPAWN_DUP2, write_end, 2)]
             try:
-                words = [self.program, "show", os.path.basename(self.set)]
+                words = [self.program, "show", self.set]
                 number = os.posix_spawn(self.program, words, os.environ,
                                         file_actions=actions)
             finally:
@@ -81,6 +86,20 @@ class Judge:
         for section in found.sections:
             section.leaves()
         return 0, ""
+
+
+def judge_by(shelf: Shelf, word: str) -> Judge:
+    """Returns the judge by the set that `word` names: a description file anywhere, or one that the program has, as @4.
+
+    # Errors
+
+    Trouble: it can't be read, or is no set.
+    """
+    name = word if re.fullmatch("@[0-4]|@c[12]", word) else shelf.put("set.json", read_bytes(word))
+    answer = shelf.call("check", name, name)
+    if answer.status:
+        raise Trouble(f"{printable(word)}: {answer.notes}", TEXT)
+    return Judge(None, shelf.program, name, shelf.folder.name)
 
 
 def files_of(folder: str) -> List[str]:
@@ -118,8 +137,8 @@ def verdicts(judge: Judge, paths: List[str], jobs: int, progress: Progress) -> I
 def in_folder(judge: Judge) -> None:
     """Goes to the folder of the set, since the program takes a name without a path. An interrupt ends the caller."""
     signal.signal(signal.SIGINT, signal.SIG_IGN)
-    if judge.set is not None:
-        os.chdir(os.path.dirname(judge.set) or ".")
+    if judge.shelf is not None:
+        os.chdir(judge.shelf)
 
 
 def summary(found: List[Verdict]) -> Dict[str, Any]:

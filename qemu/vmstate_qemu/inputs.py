@@ -10,6 +10,7 @@ from .nodes import Dump, Node, dump_of, is_dump, node_of
 from .program import Shelf
 from .stream import MAGIC, Stream, open_stream
 
+MEMBERS = ("machines", "structs", "devices")
 Input = Union[Stream, Dump, Dict[str, Any]]
 
 
@@ -33,7 +34,7 @@ def read(path: str) -> Input:
 
 def as_set(value: Any, path: str) -> Dict[str, Any]:
     """Returns the JSON value if it has the members of a description file."""
-    if not isinstance(value, dict) or not {"machines", "structs", "devices"} <= set(value):
+    if not isinstance(value, dict) or any(not isinstance(value.get(each), list) for each in MEMBERS):
         raise Trouble(f"{printable(path)}: no stream, no -dump-vmstate and no description file", TEXT)
     return value
 

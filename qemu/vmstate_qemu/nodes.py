@@ -80,7 +80,7 @@ def dump_of(value: Dict[str, Any], name: str) -> Dump:
             if key != "vmschkmachine" and "Description" in each:
                 types[key] = dumped(each["Description"])
                 versions[key] = (int(each["version_id"]), int(each["minimum_version_id"]))
-    except (KeyError, TypeError, ValueError, AttributeError, RecursionError) as error:
+    except (KeyError, TypeError, ValueError, OverflowError, AttributeError, RecursionError) as error:
         raise Trouble(f"{name}: not as -dump-vmstate writes it: {printable(str(error))}", TEXT) from None
     return Dump(machine, types, versions)
 
