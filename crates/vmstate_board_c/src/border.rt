@@ -52,6 +52,7 @@ pub extern "C" fn vmstate_board_free(alloc: Global, handle: &mut Handle)
 
 /// Lets time pass up to `moment`, and reads a port.
 #[unsafe(no_mangle)]
+#[tactic(auto, unfolding(dev_board::specs::Step::names_wire))]
 pub extern "C" fn vmstate_board_in(
     alloc: Global,
     handle: &mut Handle,
@@ -65,6 +66,7 @@ pub extern "C" fn vmstate_board_in(
 
 /// Lets time pass up to `moment`, and writes a byte to a port.
 #[unsafe(no_mangle)]
+#[tactic(auto, unfolding(dev_board::specs::Step::names_wire))]
 pub extern "C" fn vmstate_board_out(
     alloc: Global,
     handle: &mut Handle,
@@ -80,6 +82,7 @@ pub extern "C" fn vmstate_board_out(
 
 /// Lets time pass up to `moment`, at which a byte arrives on the serial line.
 #[unsafe(no_mangle)]
+#[tactic(auto, unfolding(dev_board::specs::Step::names_wire))]
 pub extern "C" fn vmstate_board_receive(
     alloc: Global,
     handle: &mut Handle,
@@ -95,6 +98,7 @@ pub extern "C" fn vmstate_board_receive(
 ///
 /// The status is 2 if `input` is none of 1, 3, 5, 6, 7 and 8 to 15.
 #[unsafe(no_mangle)]
+#[tactic(auto, unfolding(dev_board::specs::Step::names_wire))]
 pub extern "C" fn vmstate_board_wire(
     alloc: Global,
     handle: &mut Handle,
@@ -125,6 +129,7 @@ pub extern "C" fn vmstate_board_advance(alloc: Global, handle: &mut Handle, mome
 
 /// Acknowledges an interrupt: the value is its vector.
 #[unsafe(no_mangle)]
+#[tactic(auto, unfolding(dev_board::specs::Step::names_wire))]
 pub extern "C" fn vmstate_board_ack(alloc: Global, handle: &mut Handle) -> CAnswer
     ensures { (result, board_of handle.new) ≡ acknowledges (board_of handle.old) }
 {
@@ -152,6 +157,7 @@ fn access(alloc: Global, handle: &mut Handle, moment: u64, event: Event) -> CAns
 }
 
 // Lets time pass up to a moment that isn't before the board's.
+#[tactic(auto, unfolding(dev_board::specs::Step::names_wire))]
 fn pass(board: &mut AnyBoard, moment: u64) -> CAnswer
     ensures { (result, Some board.new) ≡ time_to moment (Some board.old) }
 {
@@ -190,7 +196,7 @@ fn act(board: &mut AnyBoard, event: Event) -> CAnswer
 }
 
 // Lets time pass, and then an event happen, by which no byte leaves.
-#[tactic(auto, using(crate::proofs::Silent::later_said))]
+#[tactic(auto, unfolding(dev_board::specs::Step::names_wire))]
 fn act_later(board: &mut AnyBoard, ns: u64, event: Event) -> CAnswer
     requires wire { IsTrue (names_wire event) }
     requires access { IsAccess event }
