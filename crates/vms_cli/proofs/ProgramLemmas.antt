@@ -1,8 +1,7 @@
 -- The flush of the program's texts.
-use Rattle.std.proofs.Common.{◌≡◌, ℕ, List, length, Option, sym, subst, take_all, le_refl, inl, inr}
+use Rattle.std.proofs.Common.{◌≡◌, ℕ, List, length, Option, None, sym, subst, take_all, le_refl, inl, inr}
 use Rattle.std.specs.Io.KnownBytes.{Appends, Keeps}
 use Rattle.vms_io.specs.Causes.{AppendsPrefix}
-use Rattle.vms_io.specs.Told.{Outlet}
 use Rattle.vms_commands.specs.Endings.{Tells}
 use Rattle.vms_commands.specs.Lines.{write_fault}
 use Rattle.vms_commands.specs.declared.ending.Ending.TheVariants as endings
@@ -16,6 +15,7 @@ appends_front : (old new : Option (List ℕ)) (line : List ℕ) → Appends old 
 appends_front old new line h = (length line, le_refl (length line), subst (λ (l : List ℕ). Appends old new l) (sym (take_all (length line) line (le_refl (length line)))) h)
 
 -- what notes were told where out failed at the flush
-pub told_late : (notes notes' : Outlet) (status : ℕ) → Tells notes notes' endings.WriteFault status → AppendsPrefix notes.written notes'.written write_fault
-told_late notes notes' status (inl told) = appends_front notes.written notes'.written write_fault told.1
-told_late notes notes' status (inr told) = told.2
+pub told_late : (old new : Option (List ℕ)) (faults faults' status : ℕ)
+    → Tells (record { written = old; faults = faults; promise = None }) (record { written = new; faults = faults'; promise = None }) endings.WriteFault status → AppendsPrefix old new write_fault
+told_late old new faults faults' status (inl told) = appends_front old new write_fault told.1
+told_late old new faults faults' status (inr told) = told.2

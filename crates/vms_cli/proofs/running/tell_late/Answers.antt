@@ -6,6 +6,6 @@ returns-clause-told g c = record {
   first = _;
   whole = _;
   cut = c.discard.ensures.front;
-  told = told_late _ _ _ c.tell-told.ensures.tells;
+  told = told_late _ _ _ _ _ c.tell-told.ensures.tells;
   flushed = c.flush-flushed.ensures.front;
 }
