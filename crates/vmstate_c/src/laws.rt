@@ -3,7 +3,6 @@ ghost use Rattle.vmstate_c.specs.Laws.{CompleteLaw};
 
 /// If the input and the files have what the words ask for, the status is 0, or 10 if memory runs out, or 100 if one of
 /// the rooms is too small.
-#[tactic(auto, using(crate::proofs::CompleteLaws::complete_holds))]
 pub fn complete_law()
     ensures { CompleteLaw }
 {}
