@@ -176,7 +176,9 @@ fn an_error_of_a_writer_is_told(rt: HostRuntime) -> Result<(), Fail> {
     let bytes = many(alloc)?;
     let mut sink = taking(alloc, 5);
     assert!(rt; !write_on(&mut sink, &bytes));
-    assert!(rt; sink.get_ref().took.as_slice() == &bytes[..3_996]);
+    let took = sink.get_ref().took.as_slice();
+    assert!(rt; took.len() == 3_996);
+    assert!(rt; bytes.as_slice().starts_with(took));
     Ok(())
 }
 
