@@ -1,4 +1,4 @@
--- How many cells a chip has.
+-- The number of cells of a chip.
 use Rattle.std.proofs.Common.{ℕ, ◌≤◌, List, ℤ, ◌++◌, length, arith}
 use Rattle.std.specs.Prelude.{nat_le}
 use Rattle.dev_pit.specs.Cells.{channel_cells, status_cells, three_cells}

@@ -37,7 +37,7 @@ starts n before after h l =
       within = omega (arith, div-mul-le_self after n);
     }
 
--- the place in the period at its first tick, and at the tick before
+-- The position in the period is 0 at its first tick, and n - 1 at the tick before.
 at_first : (n q : ℕ) → 2 ≤ n → q * n % n ≡ 0
 at_first n q h = let first : 0 < n = omega arith in subst (λ (x : ℕ). x % n ≡ 0) (omega arith) (mod-mul-add q n 0 first)
 
@@ -49,7 +49,7 @@ before_first n q h l =
     let same : p * n + (n - 1) ≡ (p + 1) * n - 1 = omega arith in
     rw e (rw (← same) (mod-mul-add p n (n - 1) last))
 
--- where the tick before is the last of a period, a quotient grew
+-- If the tick before is the last of a period, the quotient grew.
 grown-from_last : (n before after tick : ℕ) → 2 ≤ n → before < tick → tick ≤ after → (tick - 1) % n ≡ n - 1 → before / n < after / n
 grown-from_last n before after tick h above within last =
     let first : 0 < n = omega arith in
@@ -62,7 +62,7 @@ grown-from_last n before after tick h above within last =
     let b : q + 1 ≤ after / n = le-div (q + 1) after n first high in
     omega (arith, a, b)
 
--- the next place in a period, but for its last tick
+-- The next position in a period, except at its last tick.
 next_place : (n tick : ℕ) → 0 < tick → (tick - 1) % n + 1 < n → tick % n ≡ (tick - 1) % n + 1
 next_place n tick h l =
     let parts : (tick - 1) / n * n + (tick - 1) % n ≡ tick - 1 = div-add-mod' (tick - 1) n in
@@ -102,7 +102,7 @@ square-below : (count k : ℕ) → (count == 1) ≡ false → out_at SquareWave 
 unfolding out_at
 square-below count k one e = grind (arith, nat_tests)
 
--- the modes with periods, where `low_last`, `high_first` and `last` say what OUT is in the mode
+-- The modes with periods; `low_last`, `high_first` and `last` say what OUT is in the mode.
 periodic-turns : (mode : Mode) (count before after : ℕ) → (count == 1) ≡ false → ((k : ℕ) → k % period count ≡ period count - 1 → out_at mode count k ≡ false) → ((k : ℕ) → k % period count ≡ 0 → out_at mode count k ≡ true) → before / period count < after / period count → Turns mode count before after
 periodic-turns mode count before after one low_last high_first l =
     let h : 2 ≤ period count = two count one in
@@ -133,7 +133,7 @@ square-grown count before after one t =
     (cases_lt ((t.tick - 1) % n + 1) n) in
     grown-from_last n before after t.tick h t.above t.within last
 
--- where a count of 1 is asked about, OUT is high at each tick
+-- For a count of 1, OUT is high at each tick.
 no_turns : (mode : Mode) (count before after : ℕ) → ((k : ℕ) → out_at mode count k ≡ true) → Turns mode count before after → ⊥
 no_turns mode count before after high t = let e : out_at mode count (t.tick - 1) ≡ true = high (t.tick - 1) in let l : out_at mode count (t.tick - 1) ≡ false = t.low in cc
 
@@ -234,7 +234,7 @@ rises-from_turns SquareWave count before after t =
 rises-from_turns SoftwareStrobe count before after t = strobe-rises count before after t
 rises-from_turns HardwareStrobe count before after t = absurd (no_turns HardwareStrobe count before after (λ k. strobe-high count k) t)
 
--- the same at a counter and moments
+-- The same for a counter and moments.
 since-turns : (load : Option ℕ) (mode : Mode) (count from to : ℕ) → edge_since load mode count from to ≡ true → (start : ℕ) × (load ≡ Some start) × Turns mode count (ticks start from) (ticks start to)
 since-turns None mode count from to e = cc
 since-turns (Some load) mode count from to e = (load, refl, turns-from_rises mode count _ _ e)

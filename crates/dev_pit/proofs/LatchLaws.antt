@@ -56,7 +56,7 @@ written-holds : (value held now : ℕ) (counter : Counter) → Holds held counte
 unfolding written
 written-holds value held now counter h = by-holds counter.access value held now counter h
 
--- a read that gives a status or a first byte keeps it
+-- A read that returns a status or a first byte keeps it.
 counted_by-holds : (access : Access) (count held : ℕ) (counter : Counter) → is_last access counter ≡ false → Holds held counter → Holds held (counted_by access count counter).1
 counted_by-holds LowByte count held counter e h = cc
 counted_by-holds HighByte count held counter e h = cc
@@ -110,7 +110,7 @@ call-holds k held now (reads j) pit l c p r h =
     h
 call-holds k held now (writes port value) pit l c p r h = write-holds k held now port value pit l (c.0.0, c.0.1, c.1) p h
 
--- what is read of a latched count is the same at any moment
+-- What is read of a latched count is the same at any moment.
 read_by-held : (status : Option ℕ) (now later held : ℕ) (counter : Counter) → counter.latch ≡ Some held → read_by status now counter ≡ read_by status later counter
 read_by-held None now later held counter e = rw e refl
 read_by-held (Some status) now later held counter e = refl

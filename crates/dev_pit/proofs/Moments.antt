@@ -21,7 +21,7 @@ pub loaded_by-later : (load : Option ℕ) (now later : ℕ) → LoadedBy now loa
 loaded_by-later None now later h l = tt
 loaded_by-later (Some load) now later h l = omega arith
 
--- a counter of a chip that is loaded by a moment
+-- a counter that wasn't loaded after a moment
 pub record Loaded (now : ℕ) (counter : Counter) : Type 0 where
   pub by : LoadedBy now counter.loaded_at
 
@@ -79,7 +79,7 @@ controlled-loaded (ReadBack count status first second third) now pit h =
 pub pit-later : (now later : ℕ) (pit : Pit) → IsLoadedBy now pit → now ≤ later → IsLoadedBy later pit
 pit-later now later pit h l k within = loaded_by-later (counter_of k pit).loaded_at now later (h k within) l
 
--- a counter that is there is the same whatever is given for one that isn't
+-- A counter that exists doesn't depend on the default given for one that doesn't.
 there : (k : ℕ) (default : Counter) (pit : Pit) → k < length pit.counters → slice_index_or pit.counters k default ≡ counter_of k pit
 there k default pit h = get_or_default pit.counters k default powered_on h
 

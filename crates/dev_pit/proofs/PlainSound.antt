@@ -1,4 +1,4 @@
--- What the rules say of a counter itself.
+-- What the rules say about a counter itself.
 use Rattle.std.proofs.Common.{◌≡◌, ℕ, ◌≤◌, ◌==◌, Bool, true, false, not, ◌&&◌, ◌||◌, Option, Some, None, refl, arith}
 use Rattle.std.proofs.lemmas.Bool.{le-leb}
 use Rattle.std.proofs.lemmas.Bool.Decides.{nat_tests}
@@ -14,7 +14,7 @@ use Rattle.dev_pit.specs.declared.mode.Access.TheVariants.{LowByte, HighByte, Lo
 use Rattle.dev_pit.specs.declared.mode.Mode.{Mode}
 use Rattle.dev_pit.specs.declared.mode.Mode.TheVariants.{TerminalCount, OneShot, RateGenerator, SquareWave, SoftwareStrobe, HardwareStrobe}
 
--- a status is latched from the level of the 8254 on
+-- a status is latched only from the first level of the 8254 on
 abbrev pub StatusFits : ℕ → Option ℕ → Type 0
 StatusFits level None = Unit {0}
 StatusFits level (Some status) = READ_BACK_LEVEL ≤ level

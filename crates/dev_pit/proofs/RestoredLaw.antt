@@ -1,4 +1,4 @@
--- What is restored is sound.
+-- A restored chip is sound.
 use Rattle.std.proofs.Common.{◌≡◌, ℕ, ◌+◌, ◌^◌, ◌<◌, ◌≤◌, ◌==◌, Bool, true, false, not, ◌&&◌, Ok, List, ◌∷◌, slice_index_or, ℤ, refl, arith, subst, ⊎_elim, ◌||◌, []}
 use Rattle.std.proofs.lemmas.Bool.Decides.{nat_tests}
 use Rattle.std.specs.Prelude.{nat_le}
@@ -25,7 +25,7 @@ use Rattle.dev_pit.specs.declared.pit.Pit.{Pit}
 use Rattle.dev_pit.proofs.Chips.{each_of}
 use Rattle.dev_pit.proofs.PlainSound.{PlainSound, StatusFits, TogglesFit, sound-from_plain}
 
--- the fields of a channel in their ranges
+-- the fields of a channel, each in its range
 record HasRanges (channel : Channel) : Type 0 where
   count : channel.count < 2 ^ 16
   load_time : channel.load_time < 2 ^ 64
@@ -97,7 +97,7 @@ channel-ranges cells h =
     (ranges-at cells 1 (range 11 (omega arith)) (range 16 (omega arith)) (range 19 (omega arith)) (range 21 (omega arith)) (range 37 (omega arith)))
     (ranges-at cells 2 (range 22 (omega arith)) (range 27 (omega arith)) (range 30 (omega arith)) (range 32 (omega arith)) (range 38 (omega arith)))
 
--- a rule of three channels is one of each
+-- A rule that holds for three channels holds for each.
 each : (rule : Channel → Bool) (cells : List ℤ) → three_hold rule cells ≡ true → (k : ℕ) → k < 3 → rule (channel_at k cells) ≡ true
 each rule cells e =
     let a : (rule (channel_at 0 cells) ≡ true) × ((rule (channel_at 1 cells) && rule (channel_at 2 cells)) ≡ true) = and_parts _ _ e in

@@ -1,4 +1,4 @@
--- What was saved is restored as it was.
+-- A saved chip is restored as it was.
 use Rattle.std.proofs.Common.{◌≡◌, ℕ, ◌^◌, ◌+◌, ◌<◌, ◌≤◌, ◌==◌, Bool, true, false, cond, Option, Some, None, Ok, List, [], ◌∷◌, ◌++◌, length, ℤ, pos, refl, ap, sym, subst, ◌∙◌, arith}
 use Rattle.std.proofs.lemmas.Bool.Decides.{nat_tests}
 use Rattle.std.specs.Prelude.{nat_le, is_some}
@@ -48,12 +48,12 @@ held-back : (held : Option ℕ) → held_if (is_some held) (held_or held 0) ≡ 
 held-back None = refl
 held-back (Some held) = refl
 
--- a counter of its own fields
+-- A counter is that of its own fields.
 pub counter-back : (counter : Counter) → counter_from (channel_of counter) ≡ counter
 unfolding counter_from channel_of
 counter-back counter = simp (mode-back, access-back, held-back)
 
--- the channels of the cells that they gave, in the newest set
+-- The cells of three channels, in the newest set, give these channels.
 first-back : (first second third : Channel) → channel_at 0 (three_cells NEWEST first second third) ≡ first
 unfolding channel_at three_cells channel_cells status_cells
 first-back first second third = simp flag-back
@@ -82,7 +82,7 @@ pit_of-saved pit three =
       counter-back (counter_of 2 pit),
     ) (ap (λ counters. record pit { counters = counters }) (three_counters pit.counters powered_on three))
 
--- all rules hold of a sound chip
+-- All rules hold for a sound chip.
 met : (now : ℕ) (pit : Pit) → IsSoundPit now pit → AllTrue (rules pit.level now (pit_cells NEWEST pit))
 unfolding pit_cells
 met now pit s =
@@ -96,7 +96,7 @@ pub restored-newest : (now : ℕ) (pit : Pit) → IsSoundPit now pit → restore
 restored-newest now pit s =
     judged-all (rules pit.level now (pit_cells NEWEST pit)) (pit_of pit.level (pit_cells NEWEST pit)) (met now pit s) ∙ ap Ok (pit_of-saved pit s.count)
 
--- the cells of a chip are of their kinds
+-- The cells of a chip fit their kinds.
 channel-of : (counter : Counter) → HasWidths counter → AreOf channel_kinds (channel_cells (channel_of counter))
 unfolding channel_cells channel_of
 channel-of counter h =
@@ -119,7 +119,7 @@ set-of set first second third a b c =
     (of_both channel_kinds _ (channel_cells (channel_of third)) _ (channel-of third c)
     (of_where (nat_le STATUS_SET set) status_kinds (status_cells (channel_of first) (channel_of second) (channel_of third)) (status-of first second third a b c))))
 
--- an absent cell is 0
+-- An absent cell is 0.
 no_held : (held : Option ℕ) → (flag_number (is_some held) == 1) ≡ false → held_or held 0 ≡ 0
 no_held None e = refl
 no_held (Some held) e = cc
@@ -149,7 +149,7 @@ cells-of set now pit s =
 pub saved_are_cells : SavedAreCells
 saved_are_cells = record { of_set = λ numbers pit can s. cells-of numbers.set numbers.moment pit s }
 
--- a chip is sound where its cells break no rule, and the other way
+-- A chip is sound if its cells break no rule, and conversely.
 is_sound : (now : ℕ) (pit : Pit) → IsLevel pit.level → now ≤ LAST_MOMENT → length pit.counters ≡ 3 → IsPitCells (pit_cells NEWEST pit) × (first_failing (rules pit.level now (pit_cells NEWEST pit)) ≡ None) → IsSoundPit now pit
 is_sound now pit l m three h =
     let restored = judged-all (rules pit.level now (pit_cells NEWEST pit)) (pit_of pit.level (pit_cells NEWEST pit)) (all_true (rules pit.level now (pit_cells NEWEST pit)) h.1) ∙ ap Ok (pit_of-saved pit three) in
@@ -160,7 +160,7 @@ sound_meets_rules = record {
   pit = λ now pit l m three. ((λ s. (cells-of NEWEST now pit s, none_failing (rules pit.level now (pit_cells NEWEST pit)) (met now pit s))), is_sound now pit l m three);
 }
 
--- cells that are carried are those of the newest set, where what the set lacks is 0
+-- Carried cells are those of the newest set, if what the set lacks is 0.
 tests-carried : (first second third : Channel) (has : Bool) → (has ≡ false → status_cells first second third ≡ (pos 0 ∷ pos 0 ∷ pos 0 ∷ pos 0 ∷ pos 0 ∷ pos 0 ∷ [])) → carried_by (places 0 33 ++ cond has (places 33 6) six_defaults) (channel_cells first ++ channel_cells second ++ channel_cells third ++ cond has (status_cells first second third) []) ≡ channel_cells first ++ channel_cells second ++ channel_cells third ++ status_cells first second third
 unfolding channel_cells status_cells
 tests-carried first second third true zeros = refl

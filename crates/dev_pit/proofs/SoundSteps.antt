@@ -185,7 +185,7 @@ turned level now read_high latch counter e h s = record {
   toggles = subst (λ (a : Access). TogglesFit a read_high counter.held_low) (sym e) tt;
 }
 
--- a sound counter, in the shape of an answer
+-- a sound counter, as the second part of an answer
 record Sounds (level now : ℕ) (answer : ℕ × Counter) : Type 0 where
   after : PlainSound level now answer.1
 

@@ -1,4 +1,4 @@
--- The status byte tells its four parts.
+-- The status byte holds its four parts.
 use Rattle.std.proofs.Common.{◌≡◌, ℕ, ◌+◌, ◌*◌, ◌/◌, ◌%◌, ◌≤◌, ◌==◌, ap, ◌∙◌, arith}
 use Rattle.dev_base.specs.Cells.{flag_number}
 use Rattle.dev_pit.specs.Counter.{out_of, status_of}
@@ -9,7 +9,7 @@ use Rattle.dev_base.proofs.CellLaws.{flag-back}
 use Rattle.dev_pit.proofs.SoundSteps.{flag-small}
 use Rattle.dev_pit.proofs.PlainSound.{mode-small, access-small}
 
--- the parts of a byte that is put together of them
+-- the parts of a byte that is composed of them
 module _ (out access mode bcd : ℕ) (o : out ≤ 1) (a : access ≤ 3) (m : mode ≤ 5) (b : bcd ≤ 1) where
   abbrev byte : ℕ
   byte = 128 * out + 16 * access + 2 * mode + bcd

@@ -1,4 +1,4 @@
-// The cells of the chip.
+// The cells that the chip is saved in.
 ghost use Rattle.std.specs.Prelude.{◌≡◌, ◌≤◌, length};
 ghost use Rattle.dev_pit.specs.Cells.{channel_cells, status_cells, three_cells, channel_at, IsChannelAt};
 
@@ -7,7 +7,7 @@ use crate::limits::{CELLS, CHANNEL_CELLS, STATUS_SET};
 use dev_base::{append, byte_at, flag_at, moment_at, word_at};
 use vms_kinds::DevCells;
 
-// The cells of the statuses of three channels.
+// Returns the cells for the statuses of three channels: the three flags, then the three bytes.
 #[tactic(auto, unfolding(crate::specs::Cells::status_cells))]
 fn statuses_of(first: &Channel, second: &Channel, third: &Channel) -> [i128; 6]
     ensures { result ≡ status_cells first.now second.now third.now }
@@ -23,7 +23,12 @@ fn statuses_of(first: &Channel, second: &Channel, third: &Channel) -> [i128; 6]
 }
 
 impl Channel {
-    /// Channel k, 0 to 2, of the cells of the newest set.
+    /// Returns channel `k`, 0 to 2, from the cells of a chip in the newest set.
+    ///
+    /// # Requires
+    ///
+    /// `k` is below 3, `cells` has the length of the newest set, and the channel's cells fit their
+    /// kinds.
     #[tactic(auto, unfolding(crate::specs::Cells::channel_at))]
     pub fn at(cells: &DevCells, k: usize) -> Channel
         requires { IsChannelAt k cells.now.items }
@@ -48,7 +53,7 @@ impl Channel {
         }
     }
 
-    /// The cells of the channel, without its status.
+    /// Returns the cells of the channel, without those of its status.
     #[tactic(auto, unfolding(crate::specs::Cells::channel_cells))]
     pub fn cells(&self) -> [i128; CHANNEL_CELLS]
         ensures { result ≡ channel_cells self.now }
@@ -68,7 +73,8 @@ impl Channel {
         ]
     }
 
-    /// The cells of three channels, and of their statuses in a set that has them.
+    /// Returns the cells of three channels in set `set`, with their statuses if `set` has cells for
+    /// them.
     #[tactic(auto, using(crate::proofs::CellCounts::three_cells_fit), unfolding(crate::specs::Cells::three_cells))]
     pub fn cells_of(set: u8, first: &Channel, second: &Channel, third: &Channel) -> DevCells
         ensures cells { result.items ≡ three_cells set first.now second.now third.now }

@@ -1,4 +1,4 @@
-// What a byte at the control port asks for.
+// What a byte written to the control port means.
 ghost use Rattle.std.specs.Prelude.{◌≡◌};
 ghost use Rattle.dev_pit.specs.Control.{control_word, IsWord};
 
@@ -8,18 +8,19 @@ use dev_base::has;
 /// A byte written to the control word register.
 #[derive(Clone, Copy, Debug, PartialEq, Eq)]
 pub(crate) enum ControlWord {
-    /// "Counter Latch Command": latches the count of one counter.
+    /// "Counter Latch Command": latches the count of counter `counter`, 0 to 2.
     LatchCount {
         counter: u8,
     },
-    /// "Control Word Format": sets the mode of one counter.
+    /// "Control Word Format": sets the mode of counter `counter`, 0 to 2.
     SetMode {
         counter: u8,
         access: Access,
         mode: Mode,
         bcd: bool,
     },
-    /// "Read-Back Command", of the 8254 alone: latches counts, statuses or both of the chosen counters.
+    /// "Read-Back Command", on the 8254 only: latches counts, statuses or both of the chosen
+    /// counters.
     ReadBack {
         count: bool,
         status: bool,
@@ -30,8 +31,10 @@ pub(crate) enum ControlWord {
 }
 
 impl ControlWord {
-    /// The meaning of a byte: bits 7 and 6 choose a counter, or at 3 the read-back command, and bits 5 and
-    /// 4 are RW, or at 0 the counter latch command.
+    /// Returns the control word that the byte `value` means ("Control Word Format").
+    ///
+    /// Bits 7 and 6 choose a counter; if they are 3, the byte is a read-back command. Otherwise
+    /// bits 5 and 4 are RW; if they are 0, the byte is a counter latch command.
     #[tactic(auto, unfolding(crate::specs::Control::control_word))]
     pub fn of(value: u8) -> ControlWord
         ensures word { result ≡ control_word value }

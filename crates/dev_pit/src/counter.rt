@@ -1,4 +1,4 @@
-// One counter.
+// One counter of the chip.
 ghost use Rattle.std.specs.Prelude.{◌≡◌, ◌<◌, ◌≤◌, ◌+◌, ◌*◌, ◌/◌, ◌%◌, IsTrue, ◌↔◌};
 ghost use Rattle.dev_pit.specs.Count.{down as down_of, square as square_of};
 
@@ -8,21 +8,22 @@ use dev_base::LAST_MOMENT;
 
 /// The registers of a counter ("Counter" in "Internal Block Diagram of a Counter").
 ///
-/// The count that it counts down is not kept: it follows from the written count and the ticks since it
-/// was loaded.
+/// The live count isn't kept. It follows from the written count and the ticks since it was loaded.
 #[derive(Clone, Copy, Debug, PartialEq, Eq)]
 pub(crate) struct Counter {
-    /// The written count, from the count register; 0 stands for 65,536.
+    /// The written count, from the count register; 0 means 65,536.
     pub count: u16,
+    /// The mode in which it counts.
     pub mode: Mode,
+    /// Which bytes of a count are read and written.
     pub access: Access,
-    /// Whether counting in four decades was asked for; it is kept and has no effect.
+    /// Whether counting in four decades was requested; it is kept and has no effect.
     pub bcd: bool,
-    /// The moment at which the count was loaded, in nanoseconds, if it was since the mode was set.
+    /// The moment of the load, in nanoseconds; none if nothing was loaded since the mode was set.
     pub loaded_at: Option<u64>,
-    /// Whether the next read of two gives the most significant byte.
+    /// Whether the next read of two returns the most significant byte.
     pub read_high: bool,
-    /// The least significant byte of a new count, where the other is still to come.
+    /// The least significant byte of a new count whose other byte hasn't been written yet.
     pub held_low: Option<u8>,
     /// The latched count, in the output latch.
     pub latch: Option<u16>,
@@ -33,7 +34,7 @@ pub(crate) struct Counter {
 impl Counter {
     ghost use Rattle.dev_pit.specs.Counter.{LoadedBy, live_of, out_of, edge_of, status_of, powered_on, latched, status_latched, read_back, programmed, loaded, written, read_of, counted_of};
 
-    /// The counter at power on.
+    /// Returns a counter at power on: mode 0, RW 3, nothing loaded and nothing latched.
     #[tactic(auto, unfolding(crate::specs::Counter::powered_on))]
     pub fn new() -> Counter
         ensures { result ≡ powered_on }
@@ -51,7 +52,7 @@ impl Counter {
         }
     }
 
-    /// Tells whether the counter was not loaded after a moment.
+    /// Tells whether the counter wasn't loaded after the moment `now`.
     pub fn is_loaded_by(&self, now: u64) -> bool
         ensures { IsTrue result ↔ LoadedBy now self.now.loaded_at }
     {
@@ -61,7 +62,7 @@ impl Counter {
         }
     }
 
-    /// The live count, as 16 bits.
+    /// Returns the live count at `now`, as 16 bits.
     #[tactic(auto, unfolding(crate::specs::Counter::live_of, crate::specs::Count::live_at))]
     pub fn live(&self, now: u64) -> u16
         requires loaded { LoadedBy now self.now.loaded_at }
@@ -82,7 +83,7 @@ impl Counter {
         }
     }
 
-    /// The level of OUT; true is high.
+    /// Returns the level of OUT at `now`; true is high.
     #[tactic(auto, unfolding(crate::specs::Counter::out_of, crate::specs::Count::out_at))]
     pub fn out(&self, now: u64) -> bool
         requires loaded { LoadedBy now self.now.loaded_at }
@@ -125,8 +126,10 @@ impl Counter {
         }
     }
 
-    /// The status byte ("Status Byte"): OUT in bit 7, RW in bits 5 and 4, the mode in bits 3 to 1, BCD in
-    /// bit 0. Bit 6, the null count, is 0, since a count is loaded at once.
+    /// Returns the status byte at `now` ("Status Byte" in the data sheet of the 8254).
+    ///
+    /// OUT is in bit 7, RW in bits 5 and 4, the mode in bits 3 to 1, BCD in bit 0. Bit 6, the null
+    /// count, is 0, since a count is loaded at once.
     #[tactic(auto, unfolding(crate::specs::Counter::status_of))]
     pub fn status_byte(&self, now: u64) -> u8
         requires loaded { LoadedBy now self.now.loaded_at }
@@ -137,7 +140,7 @@ impl Counter {
         128 * out + 16 * self.access.number() + 2 * self.mode.number() + self.bcd as u8
     }
 
-    /// Latches the live count, unless a count is latched.
+    /// Latches the live count at `now`, unless a count is latched.
     #[tactic(auto, unfolding(crate::specs::Counter::latched))]
     pub fn latch_count(&mut self, now: u64)
         requires loaded { LoadedBy now self.old.loaded_at }
@@ -149,7 +152,7 @@ impl Counter {
         }
     }
 
-    /// Latches the status, unless one is latched.
+    /// Latches the status at `now`, unless one is latched.
     #[tactic(auto, unfolding(crate::specs::Counter::status_latched))]
     pub fn latch_status(&mut self, now: u64)
         requires loaded { LoadedBy now self.old.loaded_at }
@@ -161,7 +164,7 @@ impl Counter {
         }
     }
 
-    /// Latches the count, the status or both.
+    /// Latches the count if `count` is true, and the status if `status` is true.
     #[tactic(auto, unfolding(crate::specs::Counter::read_back, crate::specs::Counter::latched))]
     pub fn read_back(&mut self, count: bool, status: bool, now: u64)
         requires loaded { LoadedBy now self.old.loaded_at }
@@ -176,7 +179,7 @@ impl Counter {
         }
     }
 
-    /// Sets the mode; the counter then waits for a count.
+    /// Sets the mode; the counter then waits for a count. The written count is unchanged.
     #[tactic(auto, unfolding(crate::specs::Counter::programmed))]
     pub fn set_mode(&mut self, access: Access, mode: Mode, bcd: bool)
         ensures { self.new ≡ programmed access mode bcd self.old }
@@ -190,7 +193,7 @@ impl Counter {
         };
     }
 
-    /// Loads a count, which is counted down from this moment on in every mode.
+    /// Loads `count`, which is counted down from `now` on in every mode.
     #[tactic(auto, unfolding(crate::specs::Counter::loaded))]
     fn load(&mut self, count: u16, now: u64)
         ensures { self.new ≡ loaded count now self.old }
@@ -199,7 +202,7 @@ impl Counter {
         self.loaded_at = Some(now);
     }
 
-    /// Takes one byte of a count.
+    /// Takes the byte `value` of a new count, and loads the count if this byte completes it.
     #[tactic(auto, unfolding(crate::specs::Counter::written))]
     pub fn write(&mut self, value: u8, now: u64)
         ensures { self.new ≡ written value now self.old }
@@ -215,7 +218,7 @@ impl Counter {
         }
     }
 
-    /// Gives a latched status, and otherwise a byte of the latched or of the live count.
+    /// Returns a latched status, else the next byte of the latched count, else of the live count.
     #[tactic(auto, unfolding(crate::specs::Counter::read_of, crate::specs::Counter::counted_of))]
     pub fn read(&mut self, now: u64) -> u8
         requires loaded { LoadedBy now self.old.loaded_at }
@@ -229,7 +232,7 @@ impl Counter {
         self.read_byte(count)
     }
 
-    /// Gives the byte of a count that is read next.
+    /// Returns the byte of `count` that is read next, and unlatches the count after its last byte.
     #[tactic(auto, unfolding(crate::specs::Counter::counted_of))]
     fn read_byte(&mut self, count: u16) -> u8
         ensures { (result, self.new) ≡ counted_of count self.old }
@@ -255,7 +258,7 @@ impl Counter {
     }
 }
 
-/// The live count, modulo 65,536, of a counter that goes on below 0.
+/// Returns the live count, modulo 65,536, of a counter that counts on below 0.
 fn down(n: u64, k: u64) -> u16
     requires { n ≤ 65536 }
     ensures { result ≡ down_of n k }
@@ -263,7 +266,7 @@ fn down(n: u64, k: u64) -> u16
     ((n + 65_536 - k % 65_536) % 65_536) as u16
 }
 
-/// The live count of a square wave.
+/// Returns the live count of a square wave of period `n` after `k` ticks.
 #[tactic(auto, unfolding(crate::specs::Count::square))]
 fn square(n: u64, k: u64) -> u16
     requires positive { 1 < n }

@@ -1,8 +1,8 @@
 //! The programmable interval timer of a PC: an Intel 8253 at level 1 and an 8254 from level 2 on.
 //!
-//! Three counters count down the ticks of a clock of 1,193,182 Hz. Nothing is counted step by step: a
-//! counter keeps the moment at which it was loaded, and what it shows at a moment follows from the ticks
-//! between the two. Gates are always high, and counting is binary.
+//! Three counters count the ticks of a clock of 1,193,182 Hz. Nothing is counted step by step: a
+//! counter keeps the moment at which it was loaded. What it shows later follows from the ticks
+//! since then. The gates are always high, and counting is binary.
 #![tactic(auto)]
 
 mod cells;

@@ -1,11 +1,12 @@
-// How a counter counts, and which of its bytes are read and written.
+// How a counter counts, and which bytes of its counts are read and written.
 ghost use Rattle.std.specs.Prelude.{◌≡◌, ◌≤◌};
 ghost use Rattle.dev_pit.specs.Mode.{mode_number, mode_of, access_number, access_of};
 
 /// How a counter counts ("Mode Definitions" in the data sheet of the 8254).
 #[derive(Clone, Copy, Debug, PartialEq, Eq)]
 pub(crate) enum Mode {
-    /// Mode 0, interrupt on terminal count: OUT is low until the count is used up, and high from then on.
+    /// Mode 0, interrupt on terminal count: OUT is low until the count is used up, and high from
+    /// then on.
     TerminalCount = 0,
     /// Mode 1, hardware retriggerable one-shot: waits for a trigger, which never comes.
     OneShot = 1,
@@ -20,7 +21,7 @@ pub(crate) enum Mode {
 }
 
 impl Mode {
-    /// The number of the mode, 0 to 5.
+    /// Returns the number of the mode, 0 to 5.
     pub fn number(self) -> u8
         ensures number { result ≡ mode_number self }
         ensures small { result ≤ 5 }
@@ -28,7 +29,8 @@ impl Mode {
         self as u8
     }
 
-    /// The mode of the three mode bits of a control word: 6 is mode 2, and 7 is mode 3.
+    /// Returns the mode that the three mode bits `bits` of a control word mean: 6 is mode 2, and 7
+    /// is mode 3.
     pub fn of(bits: u8) -> Mode
         ensures { result ≡ mode_of bits }
     {
@@ -55,7 +57,7 @@ pub(crate) enum Access {
 }
 
 impl Access {
-    /// The two bits RW, 1 to 3.
+    /// Returns the two bits RW, as a number from 1 to 3.
     pub fn number(self) -> u8
         ensures number { result ≡ access_number self }
         ensures small { result ≤ 3 }
@@ -63,7 +65,7 @@ impl Access {
         self as u8
     }
 
-    /// The access of the two bits RW, where they are not 0.
+    /// Returns the access that the two bits RW, `bits`, mean if they aren't 0.
     pub fn of(bits: u8) -> Access
         ensures { result ≡ access_of bits }
     {

@@ -6,7 +6,7 @@ use crate::counter::Counter;
 use crate::limits::READ_BACK_LEVEL;
 use dev_base::LAST_MOMENT;
 
-/// The port of counter 0; those of the others follow.
+/// The port of counter 0; those of counters 1 and 2 follow.
 const COUNTER_PORT: u16 = 0x40;
 
 /// The port of control words.
@@ -14,8 +14,9 @@ const CONTROL_PORT: u16 = 0x43;
 
 /// The timer chip: an 8253 at level 1, an 8254 from level 2 on.
 ///
-/// Moments are nanoseconds, at most `LAST_MOMENT`. A call's moment must not be before one at which a
-/// counter was loaded; every call keeps the chip so for each later moment.
+/// Moments are nanoseconds since power on, at most `LAST_MOMENT`. A call's moment must not be
+/// before the moment at which any counter was loaded. After a call this holds for its moment and
+/// every later one.
 #[derive(Clone, Copy, Debug, PartialEq, Eq)]
 pub struct Pit {
     pub(crate) level: u8,
@@ -27,8 +28,13 @@ impl Pit {
     ghost use Rattle.dev_pit.specs.Pit.{IsPort, IsLoadedBy, new_pit, pit_read, pit_written, asked_back, controlled, pit_out, pit_edge};
     ghost use Rattle.dev_base.specs.Levels.{IsLevel};
 
-    /// The chip at power on, at a level from 1 to 4: no counter is loaded, each is in mode 0
-    /// and reads and writes counts of two bytes.
+    /// Returns the chip at power on, at `level` from 1 to 4.
+    ///
+    /// No counter is loaded. Each counter is in mode 0 and reads and writes counts of two bytes.
+    ///
+    /// # Requires
+    ///
+    /// `level` is one that boards have, 1 to 4.
     #[tactic(auto, unfolding(crate::specs::Pit::new_pit, crate::specs::Counter::powered_on))]
     pub fn new(level: u8) -> Pit
         requires { IsLevel level }
@@ -41,14 +47,15 @@ impl Pit {
         }
     }
 
-    /// Tells whether a port is one of the chip's: 0x40 to 0x42 for the counters, 0x43 for control words.
+    /// Tells whether `port` is one of the chip's: 0x40 to 0x42 for counters, 0x43 for control
+    /// words.
     pub fn is_port(port: u16) -> bool
         ensures { IsTrue result ↔ IsPort port }
     {
         matches!(port, 0x40..=0x43)
     }
 
-    /// Tells whether no counter was loaded after this moment.
+    /// Tells whether no counter was loaded after the moment `now`.
     pub fn is_loaded_by(&self, now: u64) -> bool
         ensures { IsTrue result ↔ IsLoadedBy now self.now }
     {
@@ -57,8 +64,14 @@ impl Pit {
             && self.counters[2].is_loaded_by(now)
     }
 
-    /// Reads a byte from the port of a counter, 0 to 2 ("Read Operations" in the data sheet of the 8254):
-    /// a latched status, else a byte of the latched count, else one of the live count.
+    /// Reads a byte from the port of `counter`, 0 to 2 ("Read Operations", data sheet of the 8254).
+    ///
+    /// The byte is the latched status, if there is one. Otherwise it is the next byte of the
+    /// latched count, or of the live count if none is latched.
+    ///
+    /// # Requires
+    ///
+    /// `counter` is below 3, `now` is at most `LAST_MOMENT`, and no counter was loaded after `now`.
     #[tactic(auto, unfolding(crate::specs::Pit::pit_read))]
     pub fn read(&mut self, counter: u8, now: u64) -> u8
         requires counter { counter < 3 }
@@ -70,8 +83,15 @@ impl Pit {
         self.counters[counter as usize].read(now)
     }
 
-    /// Writes to a port ("Write Operations"): a byte of a count to the port of a counter, or a control
-    /// word. A count is loaded as its last byte is written.
+    /// Writes `value` to `port` at the moment `now` ("Write Operations").
+    ///
+    /// A write to a counter's port is a byte of a count; the count is loaded when its last byte is
+    /// written. A write to port 0x43 is a control word.
+    ///
+    /// # Requires
+    ///
+    /// `port` is one of the chip's, `now` is at most `LAST_MOMENT`, and no counter was loaded after
+    /// `now`.
     #[tactic(auto, unfolding(crate::specs::Pit::pit_written))]
     pub fn write(&mut self, port: u16, value: u8, now: u64)
         requires port { IsPort port }
@@ -87,7 +107,11 @@ impl Pit {
         }
     }
 
-    /// Tells whether OUT of a counter, 0 to 2, is high ("Mode Definitions").
+    /// Tells whether OUT of `counter`, 0 to 2, is high at `now` ("Mode Definitions").
+    ///
+    /// # Requires
+    ///
+    /// `counter` is below 3, `now` is at most `LAST_MOMENT`, and no counter was loaded after `now`.
     #[tactic(auto, unfolding(crate::specs::Pit::pit_out))]
     pub fn out(&self, counter: u8, now: u64) -> bool
         requires counter { counter < 3 }
@@ -98,8 +122,14 @@ impl Pit {
         self.counters[counter as usize].out(now)
     }
 
-    /// Tells whether OUT of a counter, 0 to 2, has a rising edge after `from` and not after `to`; an edge
-    /// at `from` itself doesn't count.
+    /// Tells whether OUT of `counter`, 0 to 2, has a rising edge after `from` and not after `to`.
+    ///
+    /// An edge at `from` itself doesn't count.
+    ///
+    /// # Requires
+    ///
+    /// `counter` is below 3, `from` is not after `to`, `to` is at most `LAST_MOMENT`, and no
+    /// counter was loaded after `from`.
     #[tactic(auto, unfolding(crate::specs::Pit::pit_edge))]
     pub fn edge(&self, counter: u8, from: u64, to: u64) -> bool
         requires counter { counter < 3 }
@@ -111,7 +141,7 @@ impl Pit {
         self.counters[counter as usize].edge(from, to)
     }
 
-    // Asks one counter for its count, its status or both.
+    // Latches the count of counter `k`, its status or both.
     #[tactic(auto, unfolding(crate::specs::Pit::asked_back))]
     fn ask_back(&mut self, count: bool, status: bool, k: usize, now: u64)
         requires counter { k < 3 }
@@ -123,7 +153,7 @@ impl Pit {
         self.counters[k].read_back(count, status, now);
     }
 
-    // Does what a control word asks for.
+    // Carries out the control word `word`.
     #[tactic(auto, unfolding(crate::specs::Pit::controlled))]
     fn control(&mut self, word: ControlWord, now: u64)
         requires word { IsWord word }

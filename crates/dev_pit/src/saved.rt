@@ -25,7 +25,12 @@ impl Pit {
     ghost use Rattle.dev_pit.specs.Cells.{pit_cells};
     ghost use Rattle.dev_pit.specs.Saved.{CanSave, CanRestore, restored_pit};
 
-    /// The cells of the chip under the pass's set, which is at or above its level.
+    /// Returns the cells of the chip in the pass's set, which is at or above the chip's level.
+    ///
+    /// # Requires
+    ///
+    /// `pass` is at the chip's level, its set is from that level to the newest, and its moment is at
+    /// most `LAST_MOMENT`.
     #[tactic(auto, unfolding(crate::specs::Cells::pit_cells))]
     pub fn cells(&self, pass: &Pass) -> DevCells
         requires { CanSave pass.now self.now }
@@ -40,11 +45,20 @@ impl Pit {
         )
     }
 
-    /// The chip of cells of the newest set, at the pass's level and moment, or the number of the first
-    /// rule that fails for any counter:
+    /// Returns the chip that `cells`, of the newest set, describe at the level and moment of
+    /// `pass`.
+    ///
+    /// # Requires
+    ///
+    /// `pass` has a level and a moment that boards have and names the newest set. Each of `cells`
+    /// fits its kind, and the absent ones are at their defaults.
+    ///
+    /// # Errors
+    ///
+    /// The number of the first rule that fails for any counter:
     ///
     /// 1. The mode is at most 5, and RW is 1, 2 or 3.
-    /// 2. The load time is at most now, and is 0 where the counter isn't loaded.
+    /// 2. The load time is at most now, and is 0 if the counter isn't loaded.
     /// 3. A status that isn't latched is 0, and an 8253 has none latched.
     /// 4. Only a counter of RW 3 is between the two bytes of a read or of a write.
     #[tactic(auto, unfolding(dev_base::specs::Rules::judged_by, crate::specs::Saved::pit_of))]

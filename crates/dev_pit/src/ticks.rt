@@ -5,7 +5,11 @@ ghost use Rattle.dev_pit.specs.Count.{ticks as ticks_of, period as period_of};
 use crate::limits::CLOCK_HERTZ;
 use dev_base::{LAST_MOMENT, NANOSECONDS};
 
-/// The whole ticks between two moments, which are given in nanoseconds.
+/// Returns the whole ticks of the clock input between the moments `load` and `now`, in nanoseconds.
+///
+/// # Requires
+///
+/// `load` is not after `now`, and `now` is at most `LAST_MOMENT`.
 #[tactic(auto, unfolding(crate::specs::Count::ticks))]
 pub(crate) fn ticks(load: u64, now: u64) -> u64
     requires order { load ≤ now }
@@ -13,12 +17,12 @@ pub(crate) fn ticks(load: u64, now: u64) -> u64
     ensures ticks { result ≡ ticks_of load now }
     ensures small { result < 4800000000000000 }
 {
-    // Whole seconds and the rest, since 64 bits don't hold the product of the whole.
+    // Whole seconds and the rest separately, since the product of the whole doesn't fit 64 bits.
     let gone = now - load;
     gone / NANOSECONDS * CLOCK_HERTZ + gone % NANOSECONDS * CLOCK_HERTZ / NANOSECONDS
 }
 
-/// The number of ticks that a written count stands for, 1 to 65,536: a count of 0 is the greatest.
+/// Returns the number of ticks, 1 to 65,536, that the written `count` means: 0 means 65,536.
 pub(crate) fn period(count: u16) -> u64
     ensures period { result ≡ period_of count }
     ensures positive { 0 < result }
