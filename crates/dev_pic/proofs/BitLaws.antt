@@ -57,7 +57,7 @@ and_not_false : (b : Bool) → (b && not false) ≡ b
 and_not_false true = refl
 and_not_false false = refl
 
--- an input that is taken out or put in
+-- An input that is taken out or put in.
 pub has-without_same : (r i : ℕ) → i < 8 → has (without_input r i) i ≡ false
 unfolding without_input
 has-without_same r i h =
@@ -86,18 +86,18 @@ pub with_input-lt : (r i : ℕ) → r < 256 → i < 8 → with_input r i < 256
 unfolding with_input
 with_input-lt r i h l = or_of_8 r (2 ^ i) h (pow_lt i l)
 
--- where requests of level inputs are made their lines, they agree
+-- After the requests of level inputs are set to their lines, they agree.
 pub level-lines : (x i e : ℕ) → x < 256 → i < 256 → e < 256 → bit_and (bit_or (bit_and x (255 - e)) (bit_and i e)) e ≡ bit_and i e
 level-lines x i e hx hi he =
     same_from_bits_below 8 _ _ (omega (arith, and_le_r (bit_or (bit_and x (255 - e)) (bit_and i e)) e)) (omega (arith, and_le_r i e))
     (λ k h. simp (bit_at_and, bit_at_or, not_bit e k he h) (omega (arith, bit_at-lt x k, bit_at-lt i k, bit_at-lt e k)))
 
--- to mask twice is to mask once
+-- Masking twice is masking once.
 pub and-twice : (v m : ℕ) → bit_and (bit_and v m) m ≡ bit_and v m
 and-twice v m =
     same_from_bits _ _ (λ k. simp bit_at_and (omega arith))
 
--- what holds of each of eight inputs
+-- What holds for each of eight inputs.
 pub each_input : (P : ℕ → Type 0) → P 0 → P 1 → P 2 → P 3 → P 4 → P 5 → P 6 → P 7 → (i : ℕ) → i < 8 → P i
 each_input P a b c d e f g h zero l = a
 each_input P a b c d e f g h (suc zero) l = b

@@ -11,7 +11,7 @@ pub second_part : (count : ℕ) (first second : List ℤ) → length first ≡ c
 second_part count first second is =
     ap (λ n. drop n (first ++ second)) (sym is) ∙ drop-append_seam first second
 
--- the parts of a list that joins two chips' cells are chips' cells
+-- If a list joins two chips' cells, its parts are chips' cells.
 pub master_cells : (master slave both : List ℤ) → both ≡ master ++ slave → IsChipCells master → IsChipCells (take cell_count both)
 master_cells master slave both joined cells =
     subst (λ (all : List ℤ). IsChipCells (take cell_count all)) (sym joined) (subst IsChipCells (sym (first_part cell_count master slave cells.count)) cells)

@@ -1,4 +1,4 @@
--- What the pair's hooks answer of two chips' cells tells the pair, or the chip and its rule.
+-- What the pair's hooks return for two chips' cells determines the pair, or the chip and its rule.
 use Rattle.std.proofs.Common.{◌≡◌, ℕ, ℤ, ◌<◌, ◌≤◌, List, ◌++◌, take, drop, Option, Some, None, Result, Ok, Err, refl, sym, ap, subst, ◌∙◌, arith}
 use Rattle.vms_hooks.specs.Numbers.{Numbers}
 use Rattle.vms_hooks.specs.declared.fault.HookFault.{HookFault}
@@ -59,7 +59,7 @@ hook-err (Err found) fault within e =
     let most : found.rule ≤ 10 = let m = is.rule.1 in omega (arith, m) in
     ap Err (sym (faults_are_told.fault found is.chip is.rule.0 most) ∙ ap fault_of rule)
 
--- of the cells of both chips, one behind the other
+-- Two chips' cells, one after the other.
 module _ (numbers : Numbers) (master slave : List ℤ) (m : IsChipCells master) where
   parts : restored_pair numbers.level (take cell_count (master ++ slave)) (drop cell_count (master ++ slave)) ≡ restored_pair numbers.level master slave
   parts =
@@ -73,7 +73,8 @@ module _ (numbers : Numbers) (master slave : List ℤ) (m : IsChipCells master) 
   fault-told fault e =
       hook-err (restored_pair numbers.level master slave) fault (pair-fault numbers.level master slave) (ap (λ (outcome : Result PicPair ChipFault). hook_result (by_number outcome)) (sym parts) ∙ e)
 
--- the pair that comes back of what the newest set saves of a pair, which may break rules, is sound and the same
+-- The pair restored from what the newest set saves of a pair, which may break rules, is sound and
+-- the same.
 chip-same : (level : ℕ) (role : Role) (chip back : Chip) → restored level role (saved_cells NEWEST chip) ≡ Ok back → back ≡ chip
 chip-same level role chip back e =
     sym (judged-ok (rules level role (saved_cells NEWEST chip)) (chip_of (saved_cells NEWEST chip)) back e).1 ∙ chip_of-saved chip

@@ -46,7 +46,7 @@ high-input : (inputs i : ℕ) → i < 8 → has (inputs / 256) i ≡ has inputs 
 high-input inputs i h =
     sym (ap (λ n. has n (8 + i)) (bytes inputs) ∙ high-bit (inputs / 256) (inputs % 256) i (omega arith) h)
 
--- the number of the cascade input alone, or of none
+-- The set of the cascade input only, or the empty set.
 cascade-same : (b : Bool) → has (cond b 4 0) 2 ≡ b
 cascade-same true = refl
 cascade-same false = refl
@@ -100,7 +100,7 @@ lines_are_taken = record {
   slave = λ inputs edges input pair bound within. taken-slave inputs edges pair bound input within;
 }
 
--- a chip's lines after each step are those before it
+-- a chip has the same lines after a step as before it
 abbrev Same : Chip → Chip → Type 0
 Same chip after = after.lines ≡ chip.lines
 

@@ -17,7 +17,7 @@ use Rattle.dev_pic.specs.declared.pair.PicPair.{PicPair}
 use Rattle.dev_pic.proofs.BitLaws.{level_inputs-lt, has-and, has-or, has-but_not, has-without_same, has-without_other, has-with_same, and_not_true}
 use Rattle.dev_pic.proofs.WinnerLaws.{winner_of-means, highest_at, highest_none}
 
--- the winner of a chip meets the relation
+-- The winner of a chip meets the relation.
 won : (role : Role) (chip : Chip) (input : ℕ) → winner_at role chip ≡ Some input → IsWinner chip.lowest (requests_of chip) (served_of role chip) input
 unfolding winner_at
 won role chip input e =
@@ -29,7 +29,7 @@ masked_never_wins role chip input bound within masked e =
     let unmasked = has-but_not chip.irr chip.imr input bound within ∙ ap (λ t. has chip.irr input && not t) masked ∙ and_not_true (has chip.irr input) in
     false≢true (sym unmasked ∙ requested)
 
--- outside special mask and special fully nested mode all of isr counts
+-- Except in special mask and special fully nested mode, all of `isr` counts.
 plain_service : (role : Role) (chip : Chip) → chip.special_mask ≡ false → chip.nested ≡ false → served_of role chip ≡ chip.isr
 unfolding served_of
 plain_service Master chip mask nested = simp (mask, nested)
@@ -45,7 +45,7 @@ served_blocks_lower role chip place lower mask nested le within served e =
     let clear = w.before_served place (omega (arith, same)) in
     false≢true (sym (rw (plain_service role chip mask nested) at clear) ∙ served)
 
--- what an end of the service of an input means, whichever input has the lowest priority from then on
+-- What the end of an input's service means, whichever input then has the lowest priority.
 ends_with : (chip : Chip) (input lowest : ℕ) → input < 8 → EndsService input chip (record chip { isr = without_input chip.isr input; lowest = lowest })
 ends_with chip input lowest within = record {
   ended = has-without_same chip.isr input within;
@@ -93,7 +93,7 @@ eoi_words level chip = (refl, refl)
 pub eoi_ends_highest : EoiEndsHighest
 eoi_ends_highest = record { words = eoi_words; highest = ends_highest; rotating = rotates_highest; nothing = ends_nothing }
 
--- the vector of an input is base + that input where base has bits 2 to 0 clear
+-- The vector of an input is `base` plus the input if `base` has bits 2 to 0 clear.
 plain_vector : (level : ℕ) (role : Role) (chip : Chip) (input : ℕ) → input < 8 → HasRegisters level role chip → vector_of chip input ≡ chip.base + input
 plain_vector level role chip input within h =
     let base = h.base in
@@ -113,7 +113,7 @@ slave_unasked pair h taken none =
 pub ack_without_winner : AckWithoutWinner
 ack_without_winner = record { master = master_unasked; slave = slave_unasked }
 
--- parts of a chip that is taken, by whether the input is a level input
+-- Parts of a chip whose input was taken, by whether it is a level input.
 edge_irr : (chip : Chip) (winner : ℕ) → has (level_inputs_of chip) winner ≡ false → (taken winner chip).irr ≡ without_input chip.irr winner
 unfolding taken
 edge_irr chip winner e = rw e
@@ -142,7 +142,7 @@ takes_winner = record {
   served = λ chip winner bound within e. ap (λ r. has r winner) (served_isr chip winner e) ∙ has-with_same chip.isr winner;
 }
 
--- a level input by its line, another by its request
+-- A level input by its line, another by its request.
 by_mode : (requested line level : Bool) → ((requested && not level) || (line && level)) ≡ cond level line requested
 by_mode true true true = refl
 by_mode true true false = refl

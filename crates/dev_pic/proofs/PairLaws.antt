@@ -24,20 +24,20 @@ use Rattle.dev_pic.proofs.StepLaws.{winner-lt, settled-sound, written_even-regis
 record Kept (answer : ℕ × PicPair) : Type 0 where
   kept : PairHasRegisters answer.1
 
--- no level input at power on
+-- There is no level input at power on.
 levels_off : (level : ℕ) (role : Role) → levels_hold level role 0 ≡ true
 unfolding levels_hold
 levels_off level Master = either (λ (b : Bool). b ≡ true) (nat_le ELCR_SINCE level) _ _ refl refl
 levels_off level Slave = either (λ (b : Bool). b ≡ true) (nat_le ELCR_SINCE level) _ _ refl refl
 
--- rule 2 holds of what is kept of a write, at a level with edge/level registers
+-- Rule 2 holds for what a write keeps, at a level with edge/level registers.
 levels_written : (level : ℕ) (role : Role) (value : ℕ) → ELCR_SINCE ≤ level → levels_hold level role (bit_and value (elcr_mask role)) ≡ true
 unfolding levels_hold
 levels_written level role value h =
     let twice = and-twice value (elcr_mask role) in
     grind (arith, nat_tests)
 
--- no level mode at power on
+-- The level mode is off at power on.
 mode_off : (level : ℕ) → mode_holds level false ≡ true
 unfolding mode_holds
 mode_off level = or-true (nat_le LTIM_SINCE level)

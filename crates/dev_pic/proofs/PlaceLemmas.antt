@@ -1,4 +1,4 @@
--- The place of an input in the priority order is that of its bit in a register that was turned.
+-- The place of an input in the priority order is that of its bit in a rotated register.
 use Rattle.std.proofs.Common.{◌≡◌, ℕ, zero, suc, ◌+◌, ◌-◌, ◌*◌, ◌/◌, ◌%◌, ◌^◌, ◌<◌, ◌≤◌, false, ◌==◌, max, refl, arith, ◌∙◌, ap, sym, subst, w8, bit_or, ⊎_elim, inl, inr, ◌⊎◌}
 use Rattle.std.proofs.lemmas.Bool.{cases_lt}
 use Rattle.std.proofs.lemmas.Nat.{div-add-mod', pow_pos}
@@ -9,7 +9,7 @@ use Rattle.std.specs.Int.Count.{trailing_of_zero}
 use Rattle.dev_base.specs.Bits.{has}
 use Rattle.dev_pic.specs.Winner.{input_at, IsFirstPlace}
 
--- a bit of a number that was shifted down, and of one that was shifted up and cut
+-- A bit of a number that was shifted down, and of one that was shifted up and cut.
 down : (n s k : ℕ) → bit_at (n / 2 ^ s) k ≡ bit_at n (s + k)
 down n s k =
     let back : s + k - s ≡ k = omega arith in
@@ -41,7 +41,8 @@ max_right a b e = omega (arith, e)
 max_same : (a b : ℕ) → b ≡ a → max a b ≡ a
 max_same a b e = omega (arith, e)
 
--- a bit of a register that was turned right by s, where its upper part goes down and its lower part j up
+-- A bit of a register that was rotated right by `s`: its upper part goes down and its lower part up
+-- by `j`.
 bit_turned : (n s j k : ℕ) → n < 256 → s + j ≡ 8 → k < 8 → bit_at (bit_or (n / 2 ^ s) (n * 2 ^ j % 2 ^ 8)) k ≡ bit_at n ((s + k) % 8)
 bit_turned n s j k small whole within =
     bit_at_or (n / 2 ^ s) (n * 2 ^ j % 2 ^ 8) k ∙ ⊎_elim low high (cases_lt k j) where
@@ -76,7 +77,7 @@ turned_by n (suc s) k small turns within =
     ap (λ (j : ℕ). bit_at (bit_or (n / 2 ^ suc s) (n * 2 ^ j % 2 ^ 8)) k) up
     ∙ bit_turned n (suc s) (8 - suc s) k small (omega (arith, turns)) within
 
--- the bit at a place is that of the input there
+-- The bit at a place is that of the input there.
 bit_at_place : (lowest inputs place : ℕ) → inputs < 256 → place < 8 → bit_at (rotate_right w8 inputs (lowest + 1)) place ≡ bit_at inputs (input_at lowest place)
 bit_at_place lowest inputs place small within =
     let same : ((lowest + 1) % 8 + place) % 8 ≡ (lowest + 1 + place) % 8 = omega arith in
@@ -107,7 +108,7 @@ some lowest inputs small positive fits =
       there = λ h. by_bit lowest inputs _ 1 small h found.1;
     }
 
--- the lowest bit of a register that was turned right is the first place whose input it has
+-- The lowest bit of a register that was rotated right is the first place whose input is in the set.
 pub is_first : (lowest inputs : ℕ) → inputs < 256 → rotate_right w8 inputs (lowest + 1) < 256 → IsFirstPlace lowest inputs (trailing_zeros w8 (rotate_right w8 inputs (lowest + 1)))
 is_first lowest inputs small fits = ⊎_elim zero_of (λ h. some lowest inputs small h fits) (cases_le _) where
   cases_le : (n : ℕ) → (n ≡ 0) ⊎ (0 < n)

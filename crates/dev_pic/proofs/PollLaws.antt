@@ -28,7 +28,7 @@ poll_none : (role : Role) (is_odd : Bool) (chip : Chip) → chip.poll ≡ true �
 unfolding polled_by
 poll_none role is_odd chip poll is = polled role is_odd chip poll ∙ ap (λ (o : Option ℕ). polled_by o chip) is
 
--- taking an input changes no poll
+-- Taking an input doesn't change `poll`.
 taken_poll : (winner : ℕ) (chip : Chip) → (taken winner chip).poll ≡ chip.poll
 unfolding taken
 taken_poll winner chip = by chip.auto_eoi chip.rotate (has (level_inputs_of chip) winner)
@@ -80,7 +80,7 @@ rotate_words : (level : ℕ) (chip : Chip) → (written_even level 0x80 chip ≡
 unfolding written_even commanded
 rotate_words level chip = (refl, refl)
 
--- a chip that is taken, by its modes
+-- a chip whose input was taken, by its modes
 abbrev taken_in : (auto rotate level : Bool) → ℕ → Chip → Chip
 taken_in auto rotate level winner chip =
     let after = if auto then (if rotate then record chip { lowest = winner } else chip) else record chip { isr = with_input chip.isr winner } in

@@ -1,4 +1,4 @@
--- What is restored is sound.
+-- A restored pair is sound.
 use Rattle.std.proofs.Common.{◌≡◌, ℕ, ◌≤◌, ◌%◌, true, List, ℤ, take, drop, Result, Ok, Err, sym, subst, arith}
 use Rattle.std.proofs.lemmas.Bool.Decides.{nat_tests}
 use Rattle.dev_base.specs.Levels.{IsLevel}
@@ -24,7 +24,7 @@ clear_vectors : (lowest state base : ℕ) → registers_hold lowest state base �
 unfolding registers_hold
 clear_vectors lowest state base h = grind (arith, nat_tests)
 
--- a chip of cells that break no rule is sound
+-- A chip whose cells break no rule is sound.
 pub sound : (level : ℕ) (role : Role) (cells : List ℤ) → IsChipCells cells → AllTrue (rules level role cells) → IsSoundChip level role (chip_of cells)
 unfolding chip_of
 sound level role cells is hold = record {

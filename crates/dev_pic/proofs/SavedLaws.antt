@@ -1,4 +1,4 @@
--- What was saved is restored as it was.
+-- A saved pair is restored as it was.
 use Rattle.std.proofs.Common.{◌≡◌, ℕ, zero, suc, ◌+◌, ◌-◌, ◌<◌, ◌≤◌, ◌==◌, Bool, true, false, cond, List, [], ◌∷◌, ◌++◌, length, take, drop, Ok, refl, ap, sym, subst, ◌∙◌, arith, ℤ, pos}
 use Rattle.std.proofs.lemmas.Bool.{false≢true}
 use Rattle.std.proofs.lemmas.Bool.Decides.{nat_tests}
@@ -26,7 +26,7 @@ use Rattle.dev_pic.specs.declared.pair.PicPair.{PicPair}
 use Rattle.dev_pic.proofs.CellLemmas.{first_part, second_part}
 use Rattle.dev_pic.proofs.RestoredLaws.{sound}
 
--- states are their numbers, back again
+-- A state is that of its own number.
 state-back : (s : InitState) → state_of (state_number s) ≡ s
 state-back Ready = refl
 state-back Icw2 = refl
@@ -39,12 +39,12 @@ state-le Icw2 = omega arith
 state-le Icw3 = omega arith
 state-le WantsIcw4 = omega arith
 
--- the chip of the cells that it gave
+-- A chip is that of its own cells.
 pub chip_of-saved : (chip : Chip) → chip_of (saved_cells NEWEST chip) ≡ chip
 unfolding chip_of saved_cells first_cells
 chip_of-saved chip = simp (flag-back, state-back)
 
--- rule 1 holds of a chip with its registers
+-- Rule 1 holds for a chip with its registers.
 registers-met : (level : ℕ) (role : Role) (chip : Chip) → HasRegisters level role chip → registers_hold chip.lowest (state_number chip.init_state) chip.base ≡ true
 unfolding registers_hold
 registers-met level role chip h =
@@ -53,7 +53,7 @@ registers-met level role chip h =
     let vectors = h.vectors in
     grind (arith, nat_tests)
 
--- all rules hold of a sound chip
+-- All rules hold for a sound chip.
 met : (level : ℕ) (role : Role) (chip : Chip) → IsSoundChip level role chip → AllTrue (rules level role (saved_cells NEWEST chip))
 unfolding saved_cells first_cells
 met level role chip s =
@@ -85,7 +85,7 @@ saved-count set chip = by_tests (nat_le ELCR_SINCE set) (nat_le LTIM_SINCE set) 
   by_tests false true = refl
   by_tests false false = refl
 
--- a chip is sound where its cells break no rule, and the other way
+-- A chip is sound if its cells break no rule, and conversely.
 meets : (level : ℕ) (role : Role) (chip : Chip) → IsSoundChip level role chip → IsChipCells (saved_cells NEWEST chip) × MeetsRules level role chip
 meets level role chip s =
     (set-of level NEWEST role chip s.registers, none_failing (rules level role (saved_cells NEWEST chip)) (met level role chip s))
@@ -101,7 +101,7 @@ restored-newest : (level : ℕ) (role : Role) (chip : Chip) → IsSoundChip leve
 restored-newest level role chip s =
     judged-all (rules level role (saved_cells NEWEST chip)) (chip_of (saved_cells NEWEST chip)) (met level role chip s) ∙ ap Ok (chip_of-saved chip)
 
--- what a set lacks is at its default on a chip of a level that may be saved under it
+-- What a set lacks is at its default on a chip of a level that may be saved in it.
 no-levels : (level elcr : ℕ) (role : Role) → level < ELCR_SINCE → levels_hold level role elcr ≡ true → elcr ≡ 0
 unfolding levels_hold
 no-levels level elcr role l h = grind (arith, nat_tests)
@@ -111,7 +111,7 @@ unfolding mode_holds
 no-mode level true l h = absurd (let e : nat_le LTIM_SINCE level ≡ false = grind (arith, nat_tests) in false≢true (rw e at h))
 no-mode level false l h = refl
 
--- cells that are carried are those of the newest set
+-- Carried cells are those of the newest set.
 tests-carried : (chip : Chip) (a b : Bool) → (b ≡ true → a ≡ true) → (a ≡ false → chip.elcr ≡ 0) → (b ≡ false → chip.ltim ≡ false) → carried_by (places 0 15 ++ cond a (places 15 1) (default_of (pos 0) ∷ []) ++ cond b (places 16 1) (default_of (pos 0) ∷ [])) (first_cells chip ++ cond a (pos chip.elcr ∷ []) [] ++ cond b (pos (flag_number chip.ltim) ∷ []) []) ≡ first_cells chip ++ pos chip.elcr ∷ pos (flag_number chip.ltim) ∷ []
 unfolding first_cells
 tests-carried chip true true order elcr ltim = refl
@@ -127,7 +127,7 @@ carried-saved level set role chip le s =
     (λ e. let l : level < ELCR_SINCE = grind (arith, nat_tests) in no-levels level chip.elcr role l s.registers.levels)
     (λ e. let l : level < LTIM_SINCE = grind (arith, nat_tests) in no-mode level chip.ltim l s.registers.mode)
 
--- the level mode's cell where the subsection isn't needed
+-- The level mode's cell if the subsection isn't needed.
 off : (ltim : Bool) → (flag_number ltim == 1) ≡ false → pos (flag_number ltim) ≡ pos 0
 off true e = absurd (false≢true (sym e))
 off false e = refl
@@ -157,7 +157,7 @@ saved_are_cells = record {
   slave = slave-part;
 }
 
--- a fault of the hooks' number of it
+-- A fault is that of its own number.
 told : (chip rule : ℕ) → chip < 2 → 1 ≤ rule → rule ≤ 10 → fault_of (hook_rule (record { chip = chip; rule = rule })) ≡ record { chip = chip; rule = rule }
 told zero rule c l h = let e : nat_le rule 10 ≡ true = grind (arith, nat_tests) in rw e refl
 told (suc zero) rule c l h =
@@ -169,7 +169,7 @@ told (suc (suc chip)) rule c l h = absurd (omega (arith, c))
 pub faults_are_told : FaultsAreTold
 faults_are_told = record { fault = λ fault c l h. told fault.chip fault.rule c l h }
 
--- the pair's cells that are carried are those of the newest set
+-- The pair's carried cells are those of the newest set.
 pair-carried : (set : ℕ) (pair : PicPair) → IsSoundPair pair → pair.level ≤ set → pair_carried set (pair_cells set pair) ≡ pair_cells NEWEST pair
 pair-carried set pair s le =
     ap (λ cells. carried set cells ++ carried set (drop (length (kinds set)) (pair_cells set pair))) (master-part set pair)

@@ -25,7 +25,7 @@ Inputs : List ℕ → Type 0
 Inputs [] = Unit {0}
 Inputs (x ∷ xs) = (x < 8) × Inputs xs
 
--- what a search finds is one of the list
+-- What a search finds is in the list.
 find-inputs : (q : ℕ → Bool) (xs : List ℕ) → Inputs xs → IfSome (find q xs) (λ w. w < 8)
 unfolding Inputs
 find-inputs q [] a = tt

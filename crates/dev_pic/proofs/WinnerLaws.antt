@@ -6,7 +6,7 @@ use Rattle.dev_base.specs.Bits.{has}
 use Rattle.dev_pic.specs.Laws.{WinnerIsLeastRequest}
 use Rattle.dev_pic.specs.Winner.{input_at, order, before, ready_among, winner_of, highest_of, IsWinner, MeansWinner}
 
--- what a search means, by places of the list
+-- What a search means, by places of the list.
 record FoundAt (p q : ℕ → Bool) (xs : List ℕ) (w : ℕ) : Type 0 where
   place : ℕ
   within : place < length xs
@@ -88,7 +88,7 @@ unfolding winner_of ready_among
 winner_of-means lowest requests served =
     turned lowest requests served _ (means (has served) (has requests) (order lowest))
 
--- no two inputs meet the relation, and none does where there is no winner
+-- No two inputs meet the relation, and none does if there is no winner.
 only_for : (lowest requests served winner : ℕ) (o : Option ℕ) → MeansWinner lowest requests served o → IsWinner lowest requests served winner → o ≡ Some winner
 only_for lowest requests served winner None none w =
     let here = subst (λ (i : ℕ). has requests i ≡ true) w.in_order.1 w.requested in

@@ -32,7 +32,7 @@ find-more lowest inputs place input within is =
     ∙ ap (λ x. cond (has inputs x) (Some x) (find (has inputs) (drop (place + 1) (order lowest)))) (at_place lowest place input within is)
 
 module _ (lowest requests served : ℕ) where
-  -- where no place so far is requested or served, the search goes on behind them
+  -- If no place so far is requested or served, the search continues after them.
   below : (place : ℕ) → place ≤ 8 → ((other : ℕ) → other < place → has requests (input_at lowest other) ≡ false)
       → ((other : ℕ) → other < place → has served (input_at lowest other) ≡ false) → ready_among requests served (drop place (order lowest)) ≡ winner_of lowest requests served
   unfolding winner_of
@@ -45,7 +45,7 @@ module _ (lowest requests served : ℕ) where
       ∙ sym (rw (passed, skipped) at (ready_among-more lowest requests served place (input_at lowest place) (omega arith) refl))
       ∙ below place (omega arith) (λ other h. unasked other (omega arith)) (λ other h. unserved other (omega arith))
 
-  -- the first request wins where it stands before the first input in service
+  -- The first request wins if it comes before the first input in service.
   pub wins : (first other : ℕ) → IsFirstPlace lowest requests first → IsFirstPlace lowest served other → first < other → Some (input_at lowest first) ≡ winner_of lowest requests served
   wins first other asked serving before =
       let passed = serving.before first before in
@@ -53,12 +53,12 @@ module _ (lowest requests served : ℕ) where
       sym (rw (passed, requested) at (ready_among-more lowest requests served first (input_at lowest first) (omega (arith, serving.most, before)) refl))
       ∙ below first asked.most asked.before (λ k h. serving.before k (omega (arith, h, before)))
 
-  -- behind the last place there is nothing
+  -- After the last place there is nothing.
   no_more : None ≡ ready_among requests served (drop 8 (order lowest))
   unfolding ready_among
   no_more = refl
 
-  -- and else nothing does
+  -- Otherwise nothing wins.
   pub loses : (first other : ℕ) → IsFirstPlace lowest requests first → IsFirstPlace lowest served other → other ≤ first → None ≡ winner_of lowest requests served
   loses first other asked serving before = ⊎_elim here ends (cases_lt other 8) where
     here : other < 8 → None ≡ winner_of lowest requests served
@@ -71,14 +71,14 @@ module _ (lowest requests served : ℕ) where
     ends from =
         no_more ∙ below 8 (omega arith) (λ k h. asked.before k (omega (arith, h, before, from))) (λ k h. serving.before k (omega (arith, h, from)))
 
--- nothing is found in the empty set
+-- Nothing is found in the empty set.
 find-nothing : (inputs : List ℕ) → find (has 0) inputs ≡ None
 find-nothing [] = refl
 find-nothing (input ∷ inputs) =
     let missing : has 0 input ≡ false = ap (λ (b : ℕ). b == 1) (bit_at-zero input) in
     rw missing (find-nothing inputs)
 
--- where nothing is requested, nothing wins
+-- If nothing is requested, nothing wins.
 pub nothing_wins : (lowest requests served : ℕ) → requests ≡ 0 → None ≡ winner_of lowest requests served
 unfolding winner_of ready_among
 nothing_wins lowest requests served none =
@@ -95,7 +95,7 @@ module _ (lowest inputs : ℕ) where
       ∙ sym (rw passed at (find-more lowest inputs place (input_at lowest place) (omega arith) refl))
       ∙ find_below place (omega arith) (λ other h. missing other (omega arith))
 
-  -- the first place of a set has its highest input
+  -- The first place of a set has its highest input.
   pub is_highest : (first : ℕ) → IsFirstPlace lowest inputs first → first < 8 → Some (input_at lowest first) ≡ highest_of lowest inputs
   is_highest first is within =
       let there = is.there within in

@@ -13,58 +13,68 @@ use Rattle.dev_pic.specs.declared.levels.TheConstants.{LTIM_SINCE}
 use Rattle.dev_pic.specs.declared.ocw2.Ocw2.{Ocw2}
 use Rattle.dev_pic.specs.declared.ocw2.Ocw2.TheVariants.{NonSpecificEoi, RotateOnNonSpecificEoi, SpecificEoi, RotateOnSpecificEoi, RotateInAutomaticEoi, SetPriority, NoOperation}
 
--- the master's input that has the slave's interrupt output
+-- The master's input that is connected to the slave's interrupt output.
 abbrev pub cascade_input : ℕ
 cascade_input = 2
 
--- the inputs whose ELCR bit can be set
+-- `elcr_mask role` is the set of the inputs whose ELCR bit can be set.
 abbrev pub elcr_mask : Role → ℕ
 elcr_mask Master = 0xf8
 elcr_mask Slave = 0xde
 
--- the level inputs: those of ELCR, and in the level mode all; the others are edge inputs
+-- `level_inputs ltim elcr` is the set of the level inputs: those of ELCR, or all in the level mode.
+-- The others are edge inputs (8259A data sheet, ICW1, LTIM).
 unfoldable pub level_inputs : Bool → ℕ → ℕ
 level_inputs ltim elcr = if ltim then 0xff else elcr
 
+-- `level_inputs_of chip` is the set of the chip's level inputs.
 abbrev pub level_inputs_of : Chip → ℕ
 level_inputs_of chip = level_inputs chip.ltim chip.elcr
 
--- the requests: irr without imr
+-- `requests_of chip` is the set of its requests: `irr` without `imr` (8259A data sheet, "Interrupt
+-- Mask Register (IMR)").
 abbrev pub requests_of : Chip → ℕ
 requests_of chip = but_not chip.irr chip.imr
 
--- what is in service for an end of interrupt: isr, in special mask mode without imr
+-- `in_service_of chip` is what counts as in service for an end of interrupt: `isr`, and in special
+-- mask mode `isr` without `imr` (8259A data sheet, "Special Mask Mode").
 abbrev pub in_service_of : Chip → ℕ
 in_service_of chip = if chip.special_mask then but_not chip.isr chip.imr else chip.isr
 
--- what counts as in service for a request: on the master in special fully nested mode the cascade input does not
+-- `served_of role chip` is what counts as in service for a request. On the master in special fully
+-- nested mode the cascade input doesn't count.
 unfoldable pub served_of : Role → Chip → ℕ
 served_of Master chip =
     if chip.nested then without_input (in_service_of chip) cascade_input else in_service_of chip
 served_of Slave chip = in_service_of chip
 
--- the input that is served next
+-- `winner_at role chip` is the input that is served next, if there is one (8259A data sheet,
+-- "Priority Resolver").
 unfoldable pub winner_at : Role → Chip → Option ℕ
 winner_at role chip = winner_of chip.lowest (requests_of chip) (served_of role chip)
 
--- the chip after the service of an input begins; with automatic EOI it ends at once
+-- `serving winner chip` is the chip after the service of an input begins. With automatic EOI it
+-- ends at once (8259A data sheet, "Automatic End of Interrupt (AEOI) Mode").
 abbrev pub serving : ℕ → Chip → Chip
 serving winner chip =
     if chip.auto_eoi then (if chip.rotate then record chip { lowest = winner } else chip)
     else record chip { isr = with_input chip.isr winner }
 
--- the chip after the winner is taken: an edge input's request ends, a level input's stays
+-- `taken winner chip` is the chip after the winner is taken. An edge input's request ends; a level
+-- input's stays.
 unfoldable pub taken : ℕ → Chip → Chip
 taken winner chip =
     let after = serving winner chip in
     if has (level_inputs_of chip) winner then after else record after { irr = without_input chip.irr winner }
 
--- the inputs that rise: those that are high and were low, and those of the mask
+-- `rising inputs edges chip` is the set of the inputs that rise: those of `edges`, and those that
+-- are high now and were low.
 abbrev pub rising : ℕ → ℕ → Chip → ℕ
 rising inputs edges chip = bit_or (but_not inputs chip.lines) edges
 
--- the chip after it takes new lines over: edge inputs keep their requests and gain the rising ones, and the
--- requests of level inputs are their lines
+-- `settled inputs edges chip` is the chip after its lines are updated (8259A data sheet, "Edge and
+-- Level Triggered Modes"). Edge inputs keep their requests, and the rising ones are requested too.
+-- The requests of level inputs are their lines.
 unfoldable pub settled : ℕ → ℕ → Chip → Chip
 settled inputs edges chip =
     record chip {
@@ -72,21 +82,23 @@ settled inputs edges chip =
       lines = inputs;
     }
 
--- the chip after the service of an input ends, if there is one
+-- `ended input chip` is the chip after the service of the input ends, if there is one (8259A data
+-- sheet, "End of Interrupt (EOI)").
 unfoldable pub ended : Option ℕ → Chip → Chip
 ended None chip = chip
 ended (Some input) chip = record chip { isr = without_input chip.isr input }
 
--- the same, and that input has the lowest priority from then on
+-- `ended_lowest input chip` is the same, and the input gets the lowest priority (8259A data sheet,
+-- "Automatic Rotation").
 unfoldable pub ended_lowest : Option ℕ → Chip → Chip
 ended_lowest None chip = chip
 ended_lowest (Some input) chip = record chip { isr = without_input chip.isr input; lowest = input }
 
--- the input of highest priority in service
+-- `highest_served chip` is the input of highest priority in service, if there is one.
 abbrev pub highest_served : Chip → Option ℕ
 highest_served chip = highest_of chip.lowest (in_service_of chip)
 
--- the chip after a command of OCW2
+-- `commanded command chip` is the chip after a command of OCW2.
 unfoldable pub commanded : Ocw2 → Chip → Chip
 commanded NonSpecificEoi chip = ended (highest_served chip) chip
 commanded RotateOnNonSpecificEoi chip = ended_lowest (highest_served chip) chip
@@ -96,11 +108,13 @@ commanded (RotateInAutomaticEoi rotate) chip = record chip { rotate = rotate }
 commanded (SetPriority input) chip = record chip { lowest = input }
 commanded NoOperation chip = chip
 
--- the level mode after ICW1, whose bit 3 has no effect at levels without it
+-- `ltim_after level value chip` is the level mode after ICW1, whose bit 3 has no effect at levels
+-- without it.
 abbrev pub ltim_after : ℕ → ℕ → Chip → Bool
 ltim_after level value chip = if nat_le LTIM_SINCE level then has value 3 else chip.ltim
 
--- the chip after ICW1, at a level; only level inputs stay requested, in the level mode that it sets
+-- `started level value chip` is the chip after ICW1. Only level inputs, in the level mode that ICW1
+-- sets, stay requested.
 unfoldable pub started : ℕ → ℕ → Chip → Chip
 started level value chip =
     let announced = has value 0 in
@@ -121,7 +135,7 @@ started level value chip =
       nested = announced && chip.nested;
     }
 
--- the chip after OCW3
+-- `selected value chip` is the chip after OCW3.
 unfoldable pub selected : ℕ → Chip → Chip
 selected value chip =
     record chip {
@@ -130,18 +144,19 @@ selected value chip =
       read_isr = (if has value 1 then has value 0 else chip.read_isr);
     }
 
--- the chip after a write to its even port, at a level
+-- `written_even level value chip` is the chip after a write to its even port (A0 low).
 unfoldable pub written_even : ℕ → ℕ → Chip → Chip
 written_even level value chip =
     if has value 4 then started level value chip
     else (if has value 3 then selected value chip
     else commanded (command_of value) chip)
 
--- which word comes after ICW3, or after ICW2 where no ICW3 comes
+-- `after_icw3 chip` says which word comes after ICW3, or after ICW2 if there is no ICW3.
 abbrev pub after_icw3 : Chip → InitState
 after_icw3 chip = if chip.icw4 then Icw4 else Ready
 
--- the chip after a write to its odd port in a state of the initialization
+-- `written_odd_in state value chip` is the chip after a write to its odd port (A0 high) in a state
+-- of the initialization.
 unfoldable pub written_odd_in : InitState → ℕ → Chip → Chip
 written_odd_in Ready value chip = record chip { imr = value }
 written_odd_in Icw2 value chip =
@@ -153,37 +168,43 @@ written_odd_in Icw3 value chip = record chip { init_state = after_icw3 chip }
 written_odd_in Icw4 value chip =
     record chip { auto_eoi = has value 1; nested = has value 4; init_state = Ready }
 
+-- `written_odd value chip` is the same in the chip's own state.
 abbrev pub written_odd : ℕ → Chip → Chip
 written_odd value chip = written_odd_in chip.init_state value chip
 
--- the chip after a write to its edge/level register
+-- `elcr_written role value chip` is the chip after a write to its edge/level register.
 unfoldable pub elcr_written : Role → ℕ → Chip → Chip
 elcr_written role value chip = record chip { elcr = bit_and value (elcr_mask role) }
 
--- the answer to a poll, and the chip after it
+-- `polled_by winner chip` is the byte that a poll returns, and the chip after it (8259A data sheet,
+-- "Poll Command").
 unfoldable pub polled_by : Option ℕ → Chip → ℕ × Chip
 polled_by None chip = (0, record chip { poll = false })
 polled_by (Some winner) chip = (0x80 + winner, taken winner (record chip { poll = false }))
 
--- the register that a port shows
+-- `shown is_odd chip` is the register that a port shows (8259A data sheet, "Reading the 8259A
+-- Status").
 abbrev pub shown : Bool → Chip → ℕ
 shown is_odd chip = if is_odd then chip.imr else (if chip.read_isr then chip.isr else chip.irr)
 
--- the answer to a read of the even or the odd port, and the chip after it
+-- `read_of role is_odd chip` is the byte that a read of a port returns, and the chip after it.
 unfoldable pub read_of : Role → Bool → Chip → ℕ × Chip
 read_of role is_odd chip =
     if chip.poll then polled_by (winner_at role chip) chip else (shown is_odd chip, chip)
 
--- the vector of an input; the sum stays below 256 where base has bits 2 to 0 clear
+-- `vector_of chip input` is the vector of an input. The sum stays below 256 if `base` has bits 2 to
+-- 0 clear.
 abbrev pub vector_of : Chip → ℕ → ℕ
 vector_of chip input = (chip.base + input) % 256
 
--- the answer to an acknowledge of a winner, or of none, and the chip after it
+-- `answered winner chip` is the vector of an acknowledge of the winner, or of none, and the chip
+-- after it (8259A data sheet, "Interrupt Sequence").
 unfoldable pub answered : Option ℕ → Chip → ℕ × Chip
 answered None chip = (vector_of chip 7, chip)
 answered (Some winner) chip = (vector_of chip winner, taken winner chip)
 
--- the master after its cascade input is taken: the remembered line counts as low
+-- `cascaded master` is the master after its cascade input is taken; its remembered line counts as
+-- low.
 unfoldable pub cascaded : Chip → Chip
 cascaded master =
     let after = taken cascade_input master in

@@ -3,7 +3,8 @@ use Rattle.std.specs.Prelude.{ℕ, ◌<◌, ◌/◌, ◌%◌, ◌==◌, true, fa
 use Rattle.dev_pic.specs.declared.ocw2.Ocw2.{Ocw2}
 use Rattle.dev_pic.specs.declared.ocw2.Ocw2.TheVariants.{NonSpecificEoi, RotateOnNonSpecificEoi, SpecificEoi, RotateOnSpecificEoi, RotateInAutomaticEoi, SetPriority, NoOperation}
 
--- the command of bits 7 to 5, for the input of bits 2 to 0
+-- `command_of value` is the command of bits 7 to 5, for the input of bits 2 to 0 (8259A data sheet,
+-- "Operation Control Word 2 (OCW2)").
 abbrev pub command_of : ℕ → Ocw2
 command_of value =
     let bits = value / 32 in
@@ -17,7 +18,7 @@ command_of value =
     else (if bits == 0b110 then SetPriority input
     else NoOperation))))))
 
--- the input that a command names, if it names one, is one of the eight
+-- `HasInput command`: the input that the command names, if it names one, is 0 to 7.
 abbrev pub HasInput : Ocw2 → Type 0
 HasInput (SpecificEoi input) = input < 8
 HasInput (RotateOnSpecificEoi input) = input < 8

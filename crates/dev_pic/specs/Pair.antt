@@ -8,7 +8,7 @@ use Rattle.dev_pic.specs.declared.chip.Role.TheVariants.{Master, Slave}
 use Rattle.dev_pic.specs.declared.levels.TheConstants.{ELCR_SINCE}
 use Rattle.dev_pic.specs.declared.pair.PicPair.{PicPair}
 
--- a chip at power on
+-- The chip at power on.
 unfoldable pub chip_on : Chip
 chip_on = record {
   irr = 0;
@@ -30,55 +30,61 @@ chip_on = record {
   ltim = false;
 }
 
--- the pair at power on
+-- `power_on level` is the pair at power on.
 unfoldable pub power_on : ℕ → PicPair
 power_on level = record { level = level; master = chip_on; slave = chip_on }
 
--- the ports of a pair of a level
+-- `is_port level port` tells whether the port is one of a pair of this level.
 abbrev pub is_port : ℕ → ℕ → Bool
 is_port level port =
     (port == 0x20) || (port == 0x21) || (port == 0xa0) || (port == 0xa1) || (nat_le ELCR_SINCE level && ((port == 0x4d0) || (port == 0x4d1)))
 
--- the slave's interrupt output: high where it has a winner
+-- `slave_int_of pair` is the slave's interrupt output: high if it has a winner.
 unfoldable pub slave_int_of : PicPair → Bool
 slave_int_of pair = is_some (winner_at Slave pair.slave)
 
--- the master's interrupt output: high where it has a winner
+-- `int_of pair` is the master's interrupt output: high if it has a winner.
 unfoldable pub int_of : PicPair → Bool
 int_of pair = is_some (winner_at Master pair.master)
 
--- the remembered lines, the slave's above the master's
+-- `lines_of pair` is the remembered lines: bits 8 to 15 are the slave's, bits 0 to 7 the master's.
 unfoldable pub lines_of : PicPair → ℕ
 lines_of pair = pair.slave.lines * 256 + pair.master.lines
 
--- what the master or the slave answers, as an answer of the pair
+-- `from_master pair answer` is what the master returns and becomes, as an answer of the pair.
 abbrev pub from_master : PicPair → ℕ × Chip → ℕ × PicPair
 from_master pair answer = (answer.0, record pair { master = answer.1 })
 
+-- `from_slave pair answer` is the same for the slave.
 abbrev pub from_slave : PicPair → ℕ × Chip → ℕ × PicPair
 from_slave pair answer = (answer.0, record pair { slave = answer.1 })
 
--- the answer to an acknowledge where the slave's output is the master's winner, and the pair after it
+-- `acked_by_slave pair` is the vector of an acknowledge if the slave's output is the master's
+-- winner, and the pair after it.
 abbrev pub acked_by_slave : PicPair → ℕ × PicPair
 acked_by_slave pair =
     from_slave (record pair { master = cascaded pair.master }) (answered (winner_at Slave pair.slave) pair.slave)
 
--- the answer to an acknowledge for a winner of the master, or for none, and the pair after it
+-- `acked_for winner pair` is the vector of an acknowledge for a winner of the master, or for none,
+-- and the pair after it.
 unfoldable pub acked_for : Option ℕ → PicPair → ℕ × PicPair
 acked_for None pair = from_master pair (answered None pair.master)
 acked_for (Some winner) pair =
     if winner == cascade_input then acked_by_slave pair
     else from_master pair (answered (Some winner) pair.master)
 
+-- `acked pair` is the same for the master's own winner (8259A data sheet, "Interrupt Sequence").
 abbrev pub acked : PicPair → ℕ × PicPair
 acked pair = acked_for (winner_at Master pair.master) pair
 
--- a number of inputs of the master with the cascade input as it is given
+-- `with_cascade is_high inputs` is the set of the master's inputs with the cascade input high or
+-- low.
 abbrev pub with_cascade : Bool → ℕ → ℕ
 with_cascade is_high inputs =
     bit_or (without_input inputs cascade_input) (if is_high then 4 else 0)
 
--- the pair after new lines are taken over, the slave's first: bits 8 to 15 are the slave's, bits 0 to 7 the master's
+-- `settled_pair inputs edges pair` is the pair after its lines are updated, the slave's first. In
+-- both numbers bits 8 to 15 are the slave's, bits 0 to 7 the master's.
 unfoldable pub settled_pair : ℕ → ℕ → PicPair → PicPair
 settled_pair inputs edges pair =
     let after = record pair { slave = settled (inputs / 256) (edges / 256) pair.slave } in
@@ -86,7 +92,7 @@ settled_pair inputs edges pair =
       master = settled (with_cascade (slave_int_of after) (inputs % 256)) (without_input (edges % 256) cascade_input) pair.master;
     }
 
--- the answer to a read of a port of the pair, and the pair after it
+-- `read_pair port pair` is the byte that a read of the port returns, and the pair after it.
 unfoldable pub read_pair : ℕ → PicPair → ℕ × PicPair
 read_pair port pair =
     if port == 0x20 then from_master pair (read_of Master false pair.master)
@@ -96,7 +102,7 @@ read_pair port pair =
     else (if port == 0x4d0 then (pair.master.elcr, pair)
     else (pair.slave.elcr, pair)))))
 
--- the pair after a write to a port of the pair
+-- `written_pair port value pair` is the pair after a write to the port.
 unfoldable pub written_pair : ℕ → ℕ → PicPair → PicPair
 written_pair port value pair =
     if port == 0x20 then record pair { master = written_even pair.level value pair.master }

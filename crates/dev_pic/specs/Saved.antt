@@ -10,53 +10,60 @@ use Rattle.dev_pic.specs.declared.chip.Role.TheVariants.{Master, Slave}
 use Rattle.dev_pic.specs.declared.fault.ChipFault.{ChipFault}
 use Rattle.dev_pic.specs.declared.pair.PicPair.{PicPair}
 
--- the chip of a number, 0 being the master
+-- `chip_at chip pair` is the chip with this number: 0 is the master.
 abbrev pub chip_at : ℕ → PicPair → Chip
 chip_at chip pair = if chip == 0 then pair.master else pair.slave
 
--- a pair may be saved at its own level
+-- `CanSave numbers pair`: the pass may save a pair of this level.
 abbrev pub CanSave : Numbers → PicPair → Type 0
 CanSave numbers pair = MaySave numbers pair.level
 
--- the pair's cells: the master's and then the slave's
+-- `pair_cells set pair` is the list of the pair's cells: the master's, followed by the slave's.
 abbrev pub pair_cells : ℕ → PicPair → List ℤ
 pair_cells set pair = saved_cells set pair.master ++ saved_cells set pair.slave
 
--- the pair's cells of a set at their places in the newest set, each chip's by itself
+-- `pair_carried set cells` is the list of the cells of the newest set that the pair's cells are
+-- carried to, each chip's by itself.
 abbrev pub pair_carried : ℕ → List ℤ → List ℤ
 pair_carried set cells =
     carried set (take (length (kinds set)) cells) ++ carried set (drop (length (kinds set)) cells)
 
--- cells of both chips in the newest set may be restored
+-- `CanRestore numbers cells`: the pass may restore, and the cells are those of two chips in the
+-- newest set.
 pub record CanRestore (numbers : Numbers) (cells : List ℤ) : Type 0 where
   pub pass : MayRestore numbers
   pub master : IsChipCells (take cell_count cells)
   pub slave : IsChipCells (drop cell_count cells)
 
--- the pair of two chips, or the first fault, the master's before the slave's
+-- `pair_of level master slave` is the pair of two restored chips, or the first fault, the master's
+-- before the slave's.
 unfoldable pub pair_of : ℕ → Result Chip ℕ → Result Chip ℕ → Result PicPair ChipFault
 pair_of level (Err rule) slave = Err (record { chip = 0; rule = rule })
 pair_of level (Ok master) (Err rule) = Err (record { chip = 1; rule = rule })
 pair_of level (Ok master) (Ok slave) = Ok (record { level = level; master = master; slave = slave })
 
--- the pair of the cells of its chips, or the first rule that fails
+-- `restored_pair level master slave` is the pair that the cells of two chips describe, or the first
+-- rule that fails.
 abbrev pub restored_pair : ℕ → List ℤ → List ℤ → Result PicPair ChipFault
 restored_pair level master slave =
     pair_of level (restored level Master master) (restored level Slave slave)
 
--- the number of a fault's rule among those of both chips: a rule of the slave has 10 added
+-- `hook_rule fault` is the number of the fault's rule among those of both chips; a rule of the
+-- slave has 10 added.
 abbrev pub hook_rule : ChipFault → ℕ
 hook_rule fault = if fault.chip == 0 then fault.rule else 10 + fault.rule
 
--- the fault of a rule that the hooks number so
+-- `fault_of rule` is the fault that the hooks number so.
 abbrev pub fault_of : ℕ → ChipFault
 fault_of rule = if nat_le rule 10 then record { chip = 0; rule = rule } else record { chip = 1; rule = rule - 10 }
 
+-- `by_number outcome` is the outcome with its fault as the hooks' number.
 unfoldable pub by_number : Result PicPair ChipFault → Result PicPair ℕ
 by_number (Ok pair) = Ok pair
 by_number (Err fault) = Err (hook_rule fault)
 
--- the pair of the pair's cells, or the first rule that fails, as its hooks answer
+-- `hook_restored numbers cells` is the pair that the cells describe, or the first rule that fails,
+-- in the form that a device's hooks return.
 abbrev pub hook_restored : Numbers → List ℤ → Result PicPair HookFault
 hook_restored numbers cells =
     hook_result (by_number (restored_pair numbers.level (take cell_count cells) (drop cell_count cells)))

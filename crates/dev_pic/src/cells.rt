@@ -1,4 +1,4 @@
-// The cells of a chip.
+// The cells that a chip is saved in.
 ghost use Rattle.std.specs.Prelude.{◌≡◌, ◌<◌, ◌≤◌, length, IfErr};
 ghost use Rattle.vms_kinds.specs.declared.Kind.{Kind};
 ghost use Rattle.dev_pic.specs.Cells.{place_of, cell_count, kind_of, number_at, flag_at as flag_at_of, IsChipCells, state_number as state_number_of, state_of as state_of_number, saved_cells, chip_of as chip_of_cells, registers_hold as registers_hold_of, levels_hold as levels_hold_of, requests_hold as requests_hold_of, mode_holds as mode_holds_of, restored};
@@ -9,7 +9,7 @@ use arrayvec::ArrayVec;
 use dev_base::first_failing;
 use vms_kinds::DevCells;
 
-/// A cell of a chip, in the order of the newest set.
+/// A cell of a chip, in the order of the newest set. It holds the field of [`Chip`] with its name.
 #[derive(Clone, Copy)]
 pub(crate) enum Cell {
     Irr,
@@ -32,7 +32,7 @@ pub(crate) enum Cell {
 }
 
 impl Cell {
-    /// The cell's place among those of the newest set.
+    /// Returns the cell's place among those of the newest set.
     fn place(self) -> usize
         ensures place { result ≡ place_of self }
         ensures within { result < cell_count }
@@ -41,7 +41,7 @@ impl Cell {
     }
 }
 
-// A cell that holds a byte.
+// Returns the number of a cell that holds a byte.
 fn byte_at(cells: &DevCells, cell: Cell) -> u8
     requires cells { IsChipCells cells.now.items }
     requires kind { kind_of cell ≡ Kind.U8 }
@@ -50,7 +50,7 @@ fn byte_at(cells: &DevCells, cell: Cell) -> u8
     dev_base::byte_at(cells, cell.place())
 }
 
-// A cell that holds a truth value.
+// Returns the truth value of a cell that holds one.
 fn flag_at(cells: &DevCells, cell: Cell) -> bool
     requires cells { IsChipCells cells.now.items }
     requires kind { kind_of cell ≡ Kind.Bool }
@@ -59,7 +59,7 @@ fn flag_at(cells: &DevCells, cell: Cell) -> bool
     dev_base::flag_at(cells, cell.place())
 }
 
-/// The cells of a chip under a set.
+/// Returns the cells of `chip` in set `set`.
 #[tactic(auto, unfolding(crate::specs::Cells::saved_cells, crate::specs::Cells::first_cells))]
 pub(crate) fn save_chip(set: u8, chip: &Chip) -> DevCells
     ensures cells { result.items ≡ saved_cells set chip.now }
@@ -92,13 +92,14 @@ pub(crate) fn save_chip(set: u8, chip: &Chip) -> DevCells
     cells
 }
 
+// Returns the number of a state of the initialization, 0 to 3.
 fn state_number(state: InitState) -> u8
     ensures { result ≡ state_number_of state }
 {
     state as u8
 }
 
-// The state of a number up to 3; rule 1 refuses the others before.
+// Returns the state with this number, 0 to 3; rule 1 refuses other numbers earlier.
 fn state_of(number: u8) -> InitState
     ensures { result ≡ state_of_number number }
 {
@@ -110,7 +111,7 @@ fn state_of(number: u8) -> InitState
     }
 }
 
-// The chip of cells whose first rule holds.
+// Returns the chip of cells whose first rule holds.
 #[tactic(auto, unfolding(crate::specs::Cells::chip_of))]
 fn chip_of(cells: &DevCells) -> Chip
     requires { IsChipCells cells.now.items }
@@ -137,7 +138,7 @@ fn chip_of(cells: &DevCells) -> Chip
     }
 }
 
-// Rule 1 of a restore.
+// Tells whether rule 1 of a restore holds.
 #[tactic(auto, unfolding(crate::specs::Cells::registers_hold))]
 fn registers_hold(lowest: u8, state: u8, base: u8) -> bool
     ensures { result ≡ registers_hold_of lowest state base }
@@ -145,7 +146,7 @@ fn registers_hold(lowest: u8, state: u8, base: u8) -> bool
     lowest <= 7 && state <= 3 && base % 8 == 0
 }
 
-// Rule 2 of a restore.
+// Tells whether rule 2 of a restore holds.
 #[tactic(auto, unfolding(crate::specs::Cells::levels_hold))]
 fn levels_hold(level: u8, role: Role, elcr: u8) -> bool
     ensures { result ≡ levels_hold_of level role elcr }
@@ -157,7 +158,7 @@ fn levels_hold(level: u8, role: Role, elcr: u8) -> bool
     }
 }
 
-// Rule 3 of a restore.
+// Tells whether rule 3 of a restore holds.
 #[tactic(auto, unfolding(crate::specs::Cells::requests_hold))]
 fn requests_hold(irr: u8, lines: u8, levels: u8) -> bool
     ensures { result ≡ requests_hold_of irr lines levels }
@@ -165,7 +166,7 @@ fn requests_hold(irr: u8, lines: u8, levels: u8) -> bool
     irr & levels == lines & levels
 }
 
-// Rule 4 of a restore.
+// Tells whether rule 4 of a restore holds.
 #[tactic(auto, unfolding(crate::specs::Cells::mode_holds))]
 fn mode_holds(level: u8, ltim: bool) -> bool
     ensures { result ≡ mode_holds_of level ltim }
@@ -173,7 +174,11 @@ fn mode_holds(level: u8, ltim: bool) -> bool
     level >= LTIM_SINCE || !ltim
 }
 
-/// The chip of cells of the newest set, or the number of the first rule that fails, 1 to 4.
+/// Returns the chip that `cells`, of the newest set, describe.
+///
+/// # Errors
+///
+/// The number of the first rule that fails, 1 to 4.
 #[tactic(auto, unfolding(dev_base::specs::Rules::judged_by))]
 pub(crate) fn restore_chip(level: u8, role: Role, cells: &DevCells) -> Result<Chip, u8>
     requires { IsChipCells cells.now.items }

@@ -8,21 +8,24 @@ use crate::ocw2::Ocw2;
 use crate::winner::{first_ready, highest};
 use dev_base::has;
 
-/// The master's input that has the slave's interrupt output.
+/// The master's input that is connected to the slave's interrupt output.
 pub(crate) const CASCADE: u8 = 2;
 
 /// Which of the two chips of a pair.
 #[derive(Clone, Copy, Debug, PartialEq, Eq)]
 pub(crate) enum Role {
+    /// The chip whose output goes to the processor.
     Master,
+    /// The chip whose output is an input of the master.
     Slave,
 }
 
 impl Role {
     ghost use Rattle.dev_pic.specs.Chip.{elcr_mask as elcr_mask_of};
 
-    /// The inputs whose ELCR bit can be set. The others, of the timer, the keyboard, the cascade, the
-    /// clock and the coprocessor, are edge inputs always.
+    /// Returns the inputs whose ELCR bit can be set.
+    ///
+    /// The others are always edge inputs: timer, keyboard, cascade, clock and coprocessor.
     pub fn elcr_mask(self) -> u8
         ensures { result ≡ elcr_mask_of self }
     {
@@ -36,10 +39,13 @@ impl Role {
 /// Which word a write to the odd port is ("Initialization Command Words (ICWs)").
 #[derive(Clone, Copy, Debug, PartialEq, Eq)]
 pub(crate) enum InitState {
-    /// Initialized: OCW1, the mask.
+    /// Initialized; the next word is OCW1, the mask.
     Ready,
+    /// The next word is ICW2.
     Icw2,
+    /// The next word is ICW3.
     Icw3,
+    /// The next word is ICW4.
     Icw4,
 }
 
@@ -52,18 +58,19 @@ pub(crate) struct Chip {
     pub isr: u8,
     /// Interrupt Mask Register.
     pub imr: u8,
-    /// The input lines as they were last taken over.
+    /// The input lines as they were last updated.
     pub lines: u8,
     /// The input of lowest priority, 7 in fully nested mode.
     pub lowest: u8,
     /// The vector of input 0, from ICW2.
     pub base: u8,
+    /// Which word the next write to the odd port is.
     pub init_state: InitState,
     /// Whether ICW1 announced ICW4.
     pub icw4: bool,
-    /// Whether ICW1 said that there is no other chip, so that no ICW3 comes.
+    /// Whether ICW1 said that there is no other chip, so that there is no ICW3.
     pub single: bool,
-    /// Whether a read of the even port gives ISR, and not IRR (OCW3, RR and RIS).
+    /// Whether a read of the even port returns ISR instead of IRR (OCW3, RR and RIS).
     pub read_isr: bool,
     /// Whether the next read is a poll (OCW3, P).
     pub poll: bool,
@@ -81,7 +88,7 @@ pub(crate) struct Chip {
     pub ltim: bool,
 }
 
-/// The inputs whose request is their line, by the level mode and the edge/level register.
+/// Returns the inputs whose request is their line, by the mode `ltim` and the register `elcr`.
 #[tactic(auto, unfolding(crate::specs::Chip::level_inputs))]
 pub(crate) fn level_inputs_by(ltim: bool, elcr: u8) -> u8
     ensures { result ≡ level_inputs ltim elcr }
@@ -93,14 +100,14 @@ impl Chip {
     ghost use Rattle.dev_pic.specs.Ocw2.{HasInput};
     ghost use Rattle.dev_pic.specs.Chip.{level_inputs_of, in_service_of, served_of, winner_at, taken, settled, commanded, ltim_after, started, selected, written_even, written_odd, after_icw3, elcr_written, read_of, answered, cascaded};
 
-    // The inputs whose request is their line. The others are requested by a rising edge.
+    // Returns the inputs whose request is their line. The others are requested by a rising edge.
     fn level_inputs(&self) -> u8
         ensures { result ≡ level_inputs_of self.now }
     {
         level_inputs_by(self.ltim, self.elcr)
     }
 
-    // What counts as in service for an end of interrupt.
+    // Returns what counts as in service for an end of interrupt.
     fn in_service(&self) -> u8
         ensures { result ≡ in_service_of self.now }
     {
@@ -111,7 +118,7 @@ impl Chip {
         }
     }
 
-    // What counts as in service for a request.
+    // Returns what counts as in service for a request.
     #[tactic(auto, unfolding(crate::specs::Chip::served_of))]
     fn served(&self, role: Role) -> u8
         ensures { result ≡ served_of role self.now }
@@ -122,7 +129,7 @@ impl Chip {
         }
     }
 
-    /// The input that is served next, if there is one: then the interrupt output (INT) is high.
+    /// Returns the input that is served next. If there is one, the interrupt output (INT) is high.
     #[tactic(auto, using(crate::proofs::WinnerLemmas::nothing_wins), unfolding(crate::specs::Chip::winner_at))]
     pub fn winner(&self, role: Role) -> Option<u8>
         ensures winner { result ≡ winner_at role self.now }
@@ -135,7 +142,7 @@ impl Chip {
         first_ready(self.lowest, requests, self.served(role))
     }
 
-    /// Takes the winner: its service begins, and an edge input's request ends.
+    /// Takes the input `winner`: its service begins, and an edge input's request ends.
     #[tactic(auto, unfolding(crate::specs::Chip::taken))]
     pub fn take(&mut self, winner: u8)
         requires { winner < 8 }
@@ -151,7 +158,7 @@ impl Chip {
         }
     }
 
-    /// Takes the input lines over. An input in `edges` has risen since the last time, however it stands.
+    /// Updates the lines to `inputs`. An input in `edges` has risen since, whatever its level now.
     #[tactic(auto, unfolding(crate::specs::Chip::settled))]
     pub fn settle(&mut self, inputs: u8, edges: u8)
         ensures { self.new ≡ settled inputs edges self.old }
@@ -162,7 +169,7 @@ impl Chip {
         self.lines = inputs;
     }
 
-    // A command of OCW2.
+    // Carries out a command of OCW2.
     #[tactic(auto, unfolding(crate::specs::Chip::commanded, crate::specs::Chip::ended, crate::specs::Chip::ended_lowest))]
     fn command(&mut self, command: Ocw2)
         requires { HasInput command }
@@ -191,7 +198,7 @@ impl Chip {
         }
     }
 
-    // The level mode after ICW1, whose bit 3 has no effect at levels without it.
+    // Returns the level mode after ICW1, whose bit 3 has no effect at levels without it.
     fn ltim_after(&self, level: u8, value: u8) -> bool
         ensures { result ≡ ltim_after level value self.now }
     {
@@ -202,7 +209,7 @@ impl Chip {
         }
     }
 
-    // ICW1, which begins the initialization.
+    // Takes ICW1, which begins the initialization.
     #[tactic(auto, unfolding(crate::specs::Chip::started))]
     fn start(&mut self, level: u8, value: u8)
         ensures { self.new ≡ started level value self.old }
@@ -228,7 +235,7 @@ impl Chip {
         };
     }
 
-    // OCW3, which selects modes and what a read gives.
+    // Takes OCW3, which selects modes and what a read returns.
     #[tactic(auto, unfolding(crate::specs::Chip::selected))]
     fn select(&mut self, value: u8)
         ensures { self.new ≡ selected value self.old }
@@ -244,7 +251,7 @@ impl Chip {
         }
     }
 
-    /// A write with A0 low, at a level: ICW1, OCW2 or OCW3, by bits 4 and 3.
+    /// Writes `value` with A0 low, at `level`: ICW1, OCW2 or OCW3, by bits 4 and 3.
     #[tactic(auto, unfolding(crate::specs::Chip::written_even))]
     pub fn write_even(&mut self, level: u8, value: u8)
         ensures { self.new ≡ written_even level value self.old }
@@ -258,7 +265,7 @@ impl Chip {
         }
     }
 
-    // The state after ICW3, or after ICW2 where no ICW3 comes.
+    // Returns the state after ICW3, or after ICW2 if there is no ICW3.
     fn after_icw3(&self) -> InitState
         ensures { result ≡ after_icw3 self.now }
     {
@@ -269,7 +276,7 @@ impl Chip {
         }
     }
 
-    /// A write with A0 high: OCW1, or the next word of an initialization.
+    /// Writes `value` with A0 high: OCW1, or the next word of an initialization.
     #[tactic(auto, unfolding(crate::specs::Chip::written_odd_in))]
     pub fn write_odd(&mut self, value: u8)
         ensures { self.new ≡ written_odd value self.old }
@@ -293,7 +300,7 @@ impl Chip {
         }
     }
 
-    /// A write to the chip's edge/level register, which keeps the inputs that can be level inputs.
+    /// Writes `value` to the edge/level register, which keeps the inputs that can be level inputs.
     #[tactic(auto, unfolding(crate::specs::Chip::elcr_written))]
     pub fn write_elcr(&mut self, role: Role, value: u8)
         ensures { self.new ≡ elcr_written role value self.old }
@@ -301,7 +308,9 @@ impl Chip {
         self.elcr = value & role.elcr_mask();
     }
 
-    /// A read of the even or the odd port, which is a poll where OCW3 asked for one ("Poll Command").
+    /// Reads the odd port if `is_odd`, else the even one.
+    ///
+    /// After an OCW3 with P the read is a poll ("Poll Command").
     #[tactic(auto, unfolding(crate::specs::Chip::read_of, crate::specs::Chip::polled_by))]
     pub fn read(&mut self, role: Role, is_odd: bool) -> u8
         ensures { (result, self.new) ≡ read_of role is_odd self.old }
@@ -325,7 +334,9 @@ impl Chip {
         }
     }
 
-    /// Acknowledges a winner, and gives its vector; without one that of input 7 ("default IR7").
+    /// Acknowledges `winner` and returns its vector.
+    ///
+    /// If there is none, it returns the vector of input 7 ("default IR7").
     #[tactic(auto, unfolding(crate::specs::Chip::answered))]
     pub fn answer(&mut self, winner: Option<u8>) -> u8
         requires { IfSome winner (λ winner. winner < 8) }
@@ -341,7 +352,7 @@ impl Chip {
         }
     }
 
-    /// Takes the cascade input of the master, whose remembered line counts as low from then on.
+    /// Takes the cascade input of the master, whose remembered line then counts as low.
     #[tactic(auto, unfolding(crate::specs::Chip::cascaded))]
     pub fn take_cascade(&mut self)
         ensures { self.new ≡ cascaded self.old }

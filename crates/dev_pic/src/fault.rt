@@ -1,10 +1,10 @@
 // A rule that the cells of a chip break.
 ghost use Rattle.std.specs.Prelude.{◌≡◌};
 
-/// A rule that the cells of a chip break.
+/// A rule that the cells of one chip of a pair break.
 #[derive(Clone, Copy, Debug, PartialEq, Eq)]
 pub struct ChipFault {
-    /// 0 for the master, 1 for the slave.
+    /// The chip: 0 is the master, 1 the slave.
     pub chip: u8,
     /// The number of the first rule that fails, 1 to 4.
     pub rule: u8,
@@ -13,8 +13,9 @@ pub struct ChipFault {
 impl ChipFault {
     ghost use Rattle.dev_pic.specs.Saved.{fault_of};
 
-    /// The fault of a rule that the pair's hooks number so: the master's rules by their own numbers, and the
-    /// slave's with 10 added.
+    /// Returns the fault that the pair's hooks number `rule`.
+    ///
+    /// The master's rules have their own numbers; the slave's have 10 added.
     pub fn of_rule(rule: u8) -> ChipFault
         ensures { result ≡ fault_of rule }
     {

@@ -1,4 +1,5 @@
-//! The pair of Intel 8259A interrupt controllers of a PC.
+//! The pair of Intel 8259A interrupt controllers of a PC, as a model whose state can be saved and
+//! restored.
 #![tactic(auto)]
 
 mod bits;

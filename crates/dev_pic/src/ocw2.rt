@@ -1,28 +1,30 @@
 // The commands of OCW2.
 ghost use Rattle.std.specs.Prelude.{◌≡◌};
 
-/// A command of OCW2, by its bits R, SL and EOI ("Operation Control Word 2 (OCW2)"). Inputs are 0 to 7.
+/// A command of OCW2, by its bits R, SL and EOI ("Operation Control Word 2 (OCW2)"). Inputs are 0
+/// to 7.
 #[derive(Clone, Copy, Debug, PartialEq, Eq)]
 pub(crate) enum Ocw2 {
     /// Ends the service of highest priority.
     NonSpecificEoi,
-    /// Ends the service of highest priority, whose input gets the lowest priority.
+    /// Ends the service of highest priority, and gives its input the lowest priority.
     RotateOnNonSpecificEoi,
-    /// Ends the service of this input.
+    /// Ends the service of `input`.
     SpecificEoi { input: u8 },
-    /// Ends the service of this input, which gets the lowest priority.
+    /// Ends the service of `input`, and gives it the lowest priority.
     RotateOnSpecificEoi { input: u8 },
     /// Sets or clears rotation in automatic EOI mode.
     RotateInAutomaticEoi { rotate: bool },
-    /// Gives this input the lowest priority.
+    /// Gives `input` the lowest priority.
     SetPriority { input: u8 },
+    /// Does nothing.
     NoOperation,
 }
 
 impl Ocw2 {
     ghost use Rattle.dev_pic.specs.Ocw2.{HasInput, command_of};
 
-    /// The command of a word.
+    /// Returns the command that the word `value` means.
     pub fn of(value: u8) -> Ocw2
         ensures command { result ≡ command_of value }
         ensures input { HasInput result }

@@ -5,18 +5,25 @@ use crate::bits::without_input;
 use crate::chip::{CASCADE, Chip, InitState, Role};
 use crate::levels::ELCR_SINCE;
 
+/// The master's port with A0 low.
 const MASTER_EVEN: u16 = 0x20;
 
+/// The master's port with A0 high.
 const MASTER_ODD: u16 = 0x21;
 
+/// The slave's port with A0 low.
 const SLAVE_EVEN: u16 = 0xa0;
 
+/// The slave's port with A0 high.
 const SLAVE_ODD: u16 = 0xa1;
 
+/// The master's edge/level register.
 const MASTER_ELCR: u16 = 0x4d0;
 
+/// The slave's edge/level register.
 const SLAVE_ELCR: u16 = 0x4d1;
 
+/// A chip at power on.
 const POWER_ON: Chip = Chip {
     irr: 0,
     isr: 0,
@@ -39,12 +46,15 @@ const POWER_ON: Chip = Chip {
 
 /// The two 8259A of a PC: the slave's interrupt output is input 2 of the master.
 ///
-/// Levels are 1 to 4. From level 2 on there are the chipset's edge/level registers, and at level 4 bit 3 of
+/// Levels are 1 to 4. From level 2 on the chipset has edge/level registers, and at level 4 bit 3 of
 /// ICW1 is the level mode (LTIM).
 #[derive(Clone, Copy, Debug, PartialEq, Eq)]
 pub struct PicPair {
+    /// The level, 1 to 4.
     pub(crate) level: u8,
+    /// The chip whose output goes to the processor.
     pub(crate) master: Chip,
+    /// The chip whose output is input 2 of the master.
     pub(crate) slave: Chip,
 }
 
@@ -52,7 +62,11 @@ impl PicPair {
     ghost use Rattle.dev_base.specs.Levels.{IsLevel};
     ghost use Rattle.dev_pic.specs.Pair.{power_on, is_port, slave_int_of, int_of, lines_of, acked, settled_pair, read_pair, written_pair};
 
-    /// The pair at power on.
+    /// Returns the pair at power on, at `level` from 1 to 4.
+    ///
+    /// # Requires
+    ///
+    /// `level` is one that boards have, 1 to 4.
     #[tactic(auto, unfolding(crate::specs::Pair::power_on, crate::specs::Pair::chip_on))]
     pub fn new(level: u8) -> PicPair
         requires { IsLevel level }
@@ -65,8 +79,10 @@ impl PicPair {
         }
     }
 
-    /// Tells whether a port is one of the pair's: 0x20 and 0x21 of the master, 0xa0 and 0xa1 of the
-    /// slave, and from level 2 on 0x4d0 and 0x4d1, their edge/level registers.
+    /// Tells whether `port` is one of the pair's.
+    ///
+    /// The master has 0x20 and 0x21, the slave 0xa0 and 0xa1. From level 2 on 0x4d0 and 0x4d1 are
+    /// their edge/level registers.
     pub fn is_port(&self, port: u16) -> bool
         ensures { result ≡ is_port self.now.level port }
     {
@@ -77,8 +93,13 @@ impl PicPair {
         }
     }
 
-    /// Reads a port of the pair. A poll takes the winner as an acknowledge does; the edge/level
-    /// registers are never polled.
+    /// Reads a byte from `port` of the pair.
+    ///
+    /// A poll takes the winner as an acknowledge does. The edge/level registers are never polled.
+    ///
+    /// # Requires
+    ///
+    /// `port` is one of the pair's at its level.
     #[tactic(auto, unfolding(crate::specs::Pair::read_pair))]
     pub fn read(&mut self, port: u16) -> u8
         requires { IsTrue (is_port self.old.level port) }
@@ -94,7 +115,11 @@ impl PicPair {
         }
     }
 
-    /// Writes a port of the pair.
+    /// Writes `value` to `port` of the pair.
+    ///
+    /// # Requires
+    ///
+    /// `port` is one of the pair's at its level.
     #[tactic(auto, unfolding(crate::specs::Pair::written_pair))]
     pub fn write(&mut self, port: u16, value: u8)
         requires { IsTrue (is_port self.old.level port) }
@@ -110,7 +135,7 @@ impl PicPair {
         }
     }
 
-    /// Acknowledges an interrupt ("Interrupt Sequence"), and gives the vector.
+    /// Acknowledges an interrupt ("Interrupt Sequence") and returns its vector.
     #[tactic(auto, unfolding(crate::specs::Pair::acked_for))]
     pub fn ack(&mut self) -> u8
         ensures { (result, self.new) ≡ acked self.old }
@@ -126,9 +151,11 @@ impl PicPair {
         }
     }
 
-    /// Takes the input lines over, the slave's first. Bits 8 to 15 of both numbers are the slave's
-    /// inputs and bits 0 to 7 the master's; bit 2 is not used, since the slave's interrupt output is
-    /// that input. An input in `edges` has risen since the last time, however it stands.
+    /// Updates the input lines to `inputs`, the slave's first.
+    ///
+    /// In both arguments bits 8 to 15 are the slave's inputs and bits 0 to 7 the master's. Bit 2 is
+    /// ignored, since that input is the slave's interrupt output. An input in `edges` has risen
+    /// since the last call, whatever its level is now.
     #[tactic(auto, unfolding(crate::specs::Pair::settled_pair))]
     pub fn settle(&mut self, inputs: u16, edges: u16)
         ensures { self.new ≡ settled_pair inputs edges self.old }
@@ -141,7 +168,7 @@ impl PicPair {
         self.master.settle(inputs, without_input(edges, CASCADE));
     }
 
-    /// The master's interrupt output.
+    /// Returns the master's interrupt output; true is high.
     #[tactic(auto, unfolding(crate::specs::Pair::int_of))]
     pub fn int(&self) -> bool
         ensures { result ≡ int_of self.now }
@@ -149,7 +176,7 @@ impl PicPair {
         self.master.winner(Role::Master).is_some()
     }
 
-    /// The slave's interrupt output.
+    /// Returns the slave's interrupt output; true is high.
     #[tactic(auto, unfolding(crate::specs::Pair::slave_int_of))]
     pub fn slave_int(&self) -> bool
         ensures { result ≡ slave_int_of self.now }
@@ -157,7 +184,7 @@ impl PicPair {
         self.slave.winner(Role::Slave).is_some()
     }
 
-    /// The remembered lines: the slave's in bits 8 to 15, the master's in bits 0 to 7.
+    /// Returns the remembered lines: the slave's in bits 8 to 15, the master's in bits 0 to 7.
     #[tactic(auto, unfolding(crate::specs::Pair::lines_of))]
     pub fn lines(&self) -> u16
         ensures { result ≡ lines_of self.now }

@@ -12,12 +12,13 @@ use dev_base::{HasHooks, hook_result};
 use vms_hooks::{HookFault, Hooked, Pass};
 use vms_kinds::DevCells;
 
-/// The numbers of the two chips.
+/// The number of the master among the two chips.
 const MASTER: u8 = 0;
 
+/// The number of the slave among the two chips.
 const SLAVE: u8 = 1;
 
-/// How many cells a chip has in the newest set.
+/// The number of cells of a chip in the newest set.
 const CELL_COUNT: usize = 17;
 
 impl Hooked for PicPair {
@@ -37,7 +38,12 @@ impl PicPair {
     ghost use Rattle.dev_pic.specs.Cells.{saved_cells, IsChipCells};
     ghost use Rattle.dev_pic.specs.Saved.{chip_at, CanSave, restored_pair};
 
-    /// The cells of one chip under the pass's set: 0 is the master, 1 the slave.
+    /// Returns the cells of the chip `chip` in the pass's set: 0 is the master, 1 the slave.
+    ///
+    /// # Requires
+    ///
+    /// `chip` is below 2. `pass` is at the pair's level, its set is from that level to the newest,
+    /// and its moment is at most `LAST_MOMENT`.
     pub fn cells(&self, pass: &Pass, chip: u8) -> DevCells
         requires pass { CanSave pass.now self.now }
         requires chip { chip < 2 }
@@ -50,12 +56,21 @@ impl PicPair {
         }
     }
 
-    /// The pair of its chips' cells in the newest set, or the first rule that fails, the master's
-    /// before the slave's:
+    /// Returns the pair that the cells `master` and `slave`, of the newest set, describe.
+    ///
+    /// # Requires
+    ///
+    /// `pass` has a level and a moment that boards have and names the newest set. Each cell fits
+    /// its kind.
+    ///
+    /// # Errors
+    ///
+    /// [`ChipFault`] with the first rule that fails; the master's rules come before the slave's:
     ///
     /// 1. `lowest` is at most 7, `init_state` at most 3, and `base` has bits 2 to 0 clear.
-    /// 2. `elcr` is 0 at level 1, and from level 2 on within 0xf8 on the master and 0xde on the slave.
-    /// 3. `irr` and `lines` agree on the level inputs: the bits of `elcr`, or all where `ltim` is set.
+    /// 2. `elcr` is 0 at level 1. From level 2 on it is within 0xf8 on the master and 0xde on the
+    ///    slave.
+    /// 3. `irr` and `lines` agree on the level inputs: the bits of `elcr`, or all if `ltim` is set.
     /// 4. `ltim` is false below level 4.
     #[tactic(auto, unfolding(crate::specs::Saved::pair_of))]
     pub fn of_cells(pass: &Pass, master: &DevCells, slave: &DevCells) -> Result<PicPair, ChipFault>
@@ -82,14 +97,14 @@ impl PicPair {
 }
 
 impl HasHooks for PicPair {
-    /// The master's cells and then the slave's.
+    /// Returns the master's cells, followed by the slave's.
     fn save(&self, pass: &Pass) -> DevCells {
         let mut cells = self.cells(pass, MASTER);
         let _fits = cells.try_extend_from_slice(&self.cells(pass, SLAVE));
         cells
     }
 
-    /// A rule of the slave has 10 added to its number.
+    /// Returns the pair that `cells` describe. A rule of the slave has 10 added to its number.
     #[tactic(auto, unfolding(crate::specs::Saved::by_number))]
     fn load(pass: &Pass, cells: &DevCells) -> Result<PicPair, HookFault> {
         let (master, slave) = cells.split_at(CELL_COUNT);
@@ -98,7 +113,7 @@ impl HasHooks for PicPair {
     }
 }
 
-// The number of a fault's rule among those of both chips.
+// Returns the number of the fault's rule among those of both chips.
 fn hook_rule(fault: ChipFault) -> u8
     requires { fault.rule ≤ 4 }
     ensures { result ≡ hook_rule_of fault }
@@ -109,6 +124,7 @@ fn hook_rule(fault: ChipFault) -> u8
     }
 }
 
+// Copies at most 17 cells, those of one chip, into a list of their own.
 fn chip_cells(cells: &[i128]) -> DevCells
     requires { length cells.now ≤ cell_count }
     ensures { result.items ≡ cells.now }

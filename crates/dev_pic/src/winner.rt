@@ -1,8 +1,8 @@
-// Which input is served next.
+// Which input is served next ("Priority Resolver" in the data sheet of the 8259A).
 ghost use Rattle.std.specs.Prelude.{◌≡◌, ◌<◌, IfSome};
 ghost use Rattle.dev_pic.specs.Winner.{input_at as input_at_of, IsFirstPlace, winner_of, highest_of};
 
-/// The input at a place of the priority order; place 0 has the highest priority.
+/// Returns the input at `place` of the priority order; place 0 has the highest priority.
 fn input_at(lowest: u8, place: u8) -> u8
     requires { place < 8 }
     ensures { result ≡ input_at_of lowest place }
@@ -10,7 +10,7 @@ fn input_at(lowest: u8, place: u8) -> u8
     lowest.wrapping_add(1 + place) % 8
 }
 
-/// The first place of the priority order whose input is in a set, 8 where none is.
+/// Returns the first place of the priority order whose input is in `inputs`, or 8 if none is.
 #[tactic(auto, using(crate::proofs::PlaceLemmas::is_first))]
 fn first_place(lowest: u8, inputs: u8) -> u8
     ensures { IsFirstPlace lowest inputs result }
@@ -18,7 +18,7 @@ fn first_place(lowest: u8, inputs: u8) -> u8
     inputs.rotate_right(u32::from(lowest) + 1).trailing_zeros() as u8
 }
 
-/// The first requested input, in priority order, that comes before every input in service.
+/// Returns the first of `requests`, in priority order, if it comes before every input of `served`.
 pub(crate) fn first_ready(lowest: u8, requests: u8, served: u8) -> Option<u8>
     ensures winner { result ≡ winner_of lowest requests served }
     ensures input { IfSome result (λ winner. winner < 8) }
@@ -31,7 +31,7 @@ pub(crate) fn first_ready(lowest: u8, requests: u8, served: u8) -> Option<u8>
     }
 }
 
-/// The input of highest priority in a set.
+/// Returns the input of highest priority in `inputs`, if there is one.
 pub(crate) fn highest(lowest: u8, inputs: u8) -> Option<u8>
     ensures highest { result ≡ highest_of lowest inputs }
     ensures input { IfSome result (λ input. input < 8) }

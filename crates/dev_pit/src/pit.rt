@@ -19,7 +19,9 @@ const CONTROL_PORT: u16 = 0x43;
 /// every later one.
 #[derive(Clone, Copy, Debug, PartialEq, Eq)]
 pub struct Pit {
+    /// The level, 1 to 4.
     pub(crate) level: u8,
+    /// Counters 0 to 2.
     pub(crate) counters: [Counter; 3],
 }
 
