@@ -1,4 +1,4 @@
--- Cells of given kinds: how lists of them are made and taken apart, and the ranges of their numbers.
+-- Cells of given kinds: how lists of them are joined and split, and the ranges of their numbers.
 use Rattle.std.proofs.Common.{◌≡◌, ℕ, zero, suc, ◌^◌, ◌<◌, ◌==◌, Bool, true, false, cond, List, [], ◌∷◌, ◌++◌, length, ℤ, pos, negsuc, ◌≤ℤ◌, refl, arith, ap}
 use Rattle.std.proofs.lemmas.Int.{ints}
 use Rattle.vms_kinds.specs.Codes.{InRange, highest}
@@ -19,7 +19,7 @@ of_more kind number kinds cells first rest = record {
   in_range = cons-range kind number kinds cells first rest;
 }
 
--- what is first, and what follows
+-- The first cell, and the rest.
 pub of_first : (kind : Kind) (number : ℤ) (kinds : List Kind) (cells : List ℤ) → AreOf (kind ∷ kinds) (number ∷ cells) → InRange kind number
 of_first kind number kinds cells all = all.in_range 0 (omega arith)
 
@@ -37,7 +37,7 @@ of_both (kind ∷ kinds) more_kinds [] more all rest = absurd (let e = all.count
 of_both (kind ∷ kinds) more_kinds (number ∷ cells) more all rest =
     of_more kind number (kinds ++ more_kinds) (cells ++ more) (of_first kind number kinds cells all) (of_both kinds more_kinds cells more (of_rest kind number kinds cells all) rest)
 
--- what is there where a test holds
+-- The cells that are there if a test holds.
 pub of_where : (has : Bool) (kinds : List Kind) (cells : List ℤ) → AreOf kinds cells → AreOf (cond has kinds []) (cond has cells [])
 of_where true kinds cells all = all
 of_where false kinds cells all = of_none
@@ -59,7 +59,7 @@ pub flag : (b : Bool) → InRange Truth (pos (flag_number b))
 flag true = (omega (arith, ints), omega (arith, ints))
 flag false = (omega (arith, ints), omega (arith, ints))
 
--- and the other way, of any kind
+-- The converse, for any kind.
 pub number-lt : (kind : Kind) (z : ℤ) → InRange kind z → nat_of z < suc (nat_of (highest kind))
 number-lt kind (negsuc n) range = omega arith
 number-lt kind (pos n) range = by (highest kind) range.1 where
@@ -67,7 +67,7 @@ number-lt kind (pos n) range = by (highest kind) range.1 where
   by (pos m) h = omega (arith, ints, h)
   by (negsuc m) h = absurd (omega (arith, ints, h))
 
--- a truth value is the one of its number
+-- A truth value is that of its number.
 pub flag-back : (b : Bool) → (flag_number b == 1) ≡ b
 flag-back true = refl
 flag-back false = refl

@@ -1,4 +1,4 @@
--- Lists by their places, as loops make them.
+-- Lists by their places, as loops build them.
 use Rattle.std.proofs.Common.{◌≡◌, ℕ, ◌+◌, ◌-◌, ◌<◌, ◌≤◌, List, [], ◌∷◌, ◌++◌, length, replicate, get_or, set, sym, ◌∙◌, subst, refl, arith, ⊎_elim}
 use Rattle.std.proofs.lemmas.Bool.{cases_lt}
 use Rattle.std.proofs.lemmas.List.{ext_get_or, get_or-set_same, get_or-set_other, get_or-replicate, get_or_append_left, get_or-append_right, length-replicate}
@@ -7,11 +7,11 @@ use Rattle.vms_kinds.specs.declared.Kind.{Kind}
 use Rattle.vms_kinds.specs.declared.Kind.TheVariants.{U8}
 use Rattle.dev_base.specs.Cells.{kind_at, firsts}
 
--- the values of a function at one number more
+-- The values of a function at one number more.
 pub firsts_more : (f : ℕ → ℕ) (n value : ℕ) (xs ys : List ℕ) → xs ≡ firsts n f → value ≡ f n → ys ≡ xs ++ value ∷ [] → ys ≡ firsts (n + 1) f
 firsts_more f n value xs ys x e y = y ∙ rw (x, e) (sym (map-range_with_len_more f 0 n n (omega arith)))
 
--- an array that is filled place by place
+-- An array that is filled place by place.
 pub one_set : (f : ℕ → ℕ) (xs : List ℕ) (k value : ℕ) → k < length xs → value ≡ f k → ((i : ℕ) → i < k → get_or xs i 0 ≡ f i) → (i : ℕ) → i < k + 1 → get_or (set xs k value) i 0 ≡ f i
 one_set f xs k value within e before i l =
     ⊎_elim (λ less. get_or-set_other xs k i value 0 (λ same. omega arith) ∙ before i less)

@@ -5,7 +5,7 @@ use Rattle.std.proofs.Math.Nat.{div-mul-le_self}
 use Rattle.std.proofs.lemmas.Nat.{le-div}
 use Rattle.std.specs.Prelude.{nat_lt}
 
--- what grows over two spans grows in one of them
+-- What grows over two spans grows in one of them.
 pub grown : (a b c : ℕ) → a ≤ b → b ≤ c → nat_lt a c ≡ (nat_lt a b || nat_lt b c)
 grown a b c h l = grind (arith, nat_tests)
 

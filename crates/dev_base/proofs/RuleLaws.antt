@@ -4,7 +4,7 @@ use Rattle.std.proofs.lemmas.Bool.{false≢true}
 use Rattle.dev_base.specs.Hooks.{hook_result}
 use Rattle.dev_base.specs.Rules.{failing_from, first_failing, judged_by, judged, AllHold, MeansFailing, FirstFailingIsFirst}
 
--- the same from another first number
+-- The same with another first number.
 record FailsAt (number : ℕ) (rules : List Bool) (rule : ℕ) : Type 0 where
   place : ℕ
   is : rule ≡ number + place
@@ -55,7 +55,7 @@ from_one rules (Some rule) h = let e = h.is in let l = h.within in record {
 pub first_failing_is_first : FirstFailingIsFirst
 first_failing_is_first rules = from_one rules (first_failing rules) (means_from 1 rules)
 
--- the same by the list
+-- The same by recursion on the list.
 abbrev pub AllTrue : List Bool → Type 0
 AllTrue [] = Unit {0}
 AllTrue (holds ∷ rules) = (holds ≡ true) × AllTrue rules
@@ -76,7 +76,7 @@ none_failing rules h = none-from 1 rules h
 pub all_true : (rules : List Bool) → first_failing rules ≡ None → AllTrue rules
 all_true rules e = all-from 1 rules e
 
--- what is restored: the device where all rules hold, and then alone
+-- What is restored: the device if all rules hold, and only then.
 pub judged-all : {D : Type 0} (rules : List Bool) (device : D) → AllTrue rules → judged rules device ≡ Ok device
 unfolding judged_by
 judged-all rules device h = rw (none_failing rules h) refl
@@ -94,7 +94,7 @@ pub judged-ok : {D : Type 0} (rules : List Bool) (found device : D) → judged r
 judged-ok rules found device e =
     let a = accepted (first_failing rules) found device e in (all_true rules a.none, a.same)
 
--- a hook's answer is a device exactly where the restore's is
+-- A hook returns a device exactly if the restore does.
 pub hook-ok : {D : Type 0} (outcome : Result D ℕ) (device : D) → hook_result outcome ≡ Ok device → outcome ≡ Ok device
 unfolding hook_result
 hook-ok (Ok found) device e = cc

@@ -1,21 +1,38 @@
-// Devices saved and restored through their hooks, by closures that are stored for one call each.
+// Saving and restoring devices through their hooks, by closures that are stored for one call each.
 use vms_hooks::{HookFault, Hooked, Pass, load_by, save_by};
 use vms_kinds::DevCells;
 
-/// A device that gives its cells and is made of them, by its meanings.
+/// A device that can be saved as cells and restored from them, as its [`Hooked`] meanings say.
 pub trait HasHooks: Hooked {
-    /// What the stored closure saves: the device's cells under the pass's set.
+    /// Returns the device's cells in the pass's set, as the stored closure saves them.
+    ///
+    /// # Requires
+    ///
+    /// The device's meaning `can_save` holds.
     fn save(&self, pass: &Pass) -> DevCells
         requires { Self.can_save pass.now self.now }
         ensures { Self.saves_as pass.now self.now result.items };
 
-    /// What the stored closure restores: the device of its cells, or the first rule that fails.
+    /// Returns the device that `cells` describe, as the stored closure restores it.
+    ///
+    /// # Requires
+    ///
+    /// The device's meaning `can_restore` holds.
+    ///
+    /// # Errors
+    ///
+    /// - [`HookFault`]: the cells break a rule of the device. The fault has the number of the
+    ///   first.
     fn load(pass: &Pass, cells: &DevCells) -> Result<Self, HookFault>
         requires { Self.can_restore pass.now cells.now.items }
         ensures { Self.restores_to pass.now cells.now.items result };
 }
 
-/// The cells of a device that may be saved, at a level and a moment under a set.
+/// Returns the cells of `device`, saved at `level` and `moment` in set `set`.
+///
+/// # Requires
+///
+/// The device's meaning `can_save` holds for these three numbers.
 pub fn save_device<D: HasHooks + Drop>(level: u8, set: u8, moment: u64, device: &D) -> DevCells
     requires { D.can_save record { level = level; set = set; moment = moment } device.now }
     ensures { D.saves_as record { level = level; set = set; moment = moment }
@@ -31,7 +48,15 @@ pub fn save_device<D: HasHooks + Drop>(level: u8, set: u8, moment: u64, device: 
     )
 }
 
-/// The device of cells that may be restored, at a level and a moment, or the first rule that fails.
+/// Returns the device that `cells` describe, restored at `level` and `moment` from set `set`.
+///
+/// # Requires
+///
+/// The device's meaning `can_restore` holds for these three numbers and the cells.
+///
+/// # Errors
+///
+/// - [`HookFault`]: the cells break a rule of the device. The fault has the number of the first.
 pub fn load_device<D: HasHooks + Drop>(
     level: u8,
     set: u8,

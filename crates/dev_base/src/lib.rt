@@ -1,5 +1,5 @@
-//! What the devices share: their levels, the passes under which they are saved and restored, and the hooks that
-//! do it, their cells, the rules of these cells, and the bits of registers.
+//! What the devices share: levels, saving and restoring through hooks, cells, the rules of cells,
+//! and the bits of registers.
 #![tactic(auto)]
 
 mod bits;

@@ -1,11 +1,16 @@
-// Rules of restored cells.
+// The rules that restored cells must meet.
 ghost use Rattle.std.specs.Prelude.{◌≡◌, ◌<◌, ◌≤◌, length, IfSome};
 ghost use Rattle.dev_base.specs.Rules.{first_failing as first_failing_of, FirstFailingIsFirst};
 ghost use Rattle.dev_base.specs.Hooks.{hook_result as hook_result_of};
 
 use vms_hooks::HookFault;
 
-/// The number of the first rule that fails, the rules being numbered from 1.
+/// Returns the number of the first rule of `rules` that fails, if one fails. The first rule is
+/// number 1.
+///
+/// # Requires
+///
+/// There are fewer than 255 rules.
 pub fn first_failing(rules: &[bool]) -> Option<u8>
     requires { length rules.now < 255 }
     ensures rule { result ≡ first_failing_of rules.now }
@@ -21,13 +26,18 @@ pub fn first_failing(rules: &[bool]) -> Option<u8>
     None
 }
 
-/// The first rule that fails is the one before which all hold; there is none exactly where all hold.
+/// States that `first_failing` finds the rule that fails while all before it hold, and none exactly
+/// if all hold.
 #[tactic(auto, using(crate::proofs::RuleLaws::first_failing_is_first))]
 pub fn first_failing_law()
     ensures { FirstFailingIsFirst }
 {}
 
-/// The answer of a restore as the hooks of a device give it.
+/// Converts the outcome of a restore to the form that a device's hooks return.
+///
+/// # Errors
+///
+/// - [`HookFault`]: `outcome` is an error, the number of a rule. The fault has the same number.
 #[tactic(auto, unfolding(crate::specs::Hooks::hook_result))]
 pub fn hook_result<D>(outcome: Result<D, u8>) -> Result<D, HookFault>
     ensures { result ≡ hook_result_of outcome }
