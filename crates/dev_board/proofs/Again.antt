@@ -1,4 +1,4 @@
--- Taking the lines over again changes nothing.
+-- Updating the lines again changes nothing.
 use Rattle.std.proofs.Common.{◌≡◌, ℕ, ◌+◌, ◌-◌, ◌*◌, ◌/◌, ◌%◌, ◌<◌, ◌≤◌, ◌^◌, Bool, true, false, ◌==◌, cond, min, max, bit_and, bit_or, arith, refl, ap, ◌∙◌, sym, ⊎_elim}
 use Rattle.std.proofs.lemmas.Bool.{cases_lt}
 use Rattle.std.specs.Int.{w8, bit_at}
@@ -30,7 +30,7 @@ parts r l e hr hl he =
     same_from_bits_below 8 _ _ (or_of_8 (bit_and (bit_or r risen) (255 - e)) (bit_and r e) kept-lt levels-lt) hr
     (λ k h. simp (bit_at_and, bit_at_or, bit_at-zero, bit_at_not w8 l k hl h, bit_at_not w8 e k he h) (omega (arith, bit_at-lt r k, bit_at-lt l k, bit_at-lt e k)))
 
--- the chips of a sound pair are as they were
+-- The chips of a sound pair stay unchanged.
 master_again : (pair : PicPair) → IsSoundPair pair → settled pair.master.lines 0 pair.master ≡ pair.master
 unfolding settled but_not requests_hold
 master_again pair h =
@@ -61,7 +61,7 @@ and-bytes a b c d hb hd =
     ∙ sym (bit_at_and a c (k - 8)) ∙ sym (bit_at_cat_high (bit_and a c) 8 (bit_and b d) k (omega (arith, hb, and_le_l b d)) l))
     (cases_lt k 8))
 
--- the lines without the cascade, and with it again
+-- The lines without the cascade, and with it again.
 driven : (s m : ℕ) → s < 256 → m < 256 → bit_and (s * 256 + m) DRIVEN ≡ s * 256 + bit_and m 0xfb
 driven s m hs hm = and-bytes s m 0xff 0xfb hm (omega arith) ∙ ap (λ n. n * 256 + bit_and m 0xfb) (and_numeral s 254 refl ∙ omega (arith, hs))
 
@@ -96,7 +96,7 @@ cascade-again b m h e = ap (λ n. bit_or n (cond b 4 0)) (and-twice m 0xfb) ∙ 
 low-two : (s m : ℕ) → m < 256 → has (s * 256 + m) 2 ≡ has m 2
 low-two s m h = ap (λ n. n == 1) (omega (arith, h))
 
--- a sound pair that takes its own lines over
+-- A sound pair that takes its own lines.
 pub pair-again : (pair : PicPair) → HasTaken (lines_of pair) pair → settled_pair (bit_and (lines_of pair) DRIVEN) 0 pair ≡ pair
 unfolding settled_pair lines_of slave_int_of without_input but_not
 pair-again pair h =

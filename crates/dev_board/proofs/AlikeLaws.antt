@@ -1,4 +1,4 @@
--- Boards that are alike answer each event alike.
+-- Boards that are alike give equal answers to each event.
 use Rattle.std.proofs.Common.{◌≡◌, ℕ, Bool, List, [], ◌∷◌, None, refl, sym, ap, subst, ◌∙◌}
 use Rattle.dev_pic.specs.Pair.{int_of, settled_pair}
 use Rattle.dev_pic.specs.declared.pair.PicPair.{PicPair}
@@ -82,7 +82,7 @@ module _ (m : State) (port : Port) (a : AlikePorts m.serial port) where
       let answer : PicPair → Answer = (λ pair. record { value = act.value; int = int_of pair; sent = record { items = act.sent } }) in
       record { value = ap answer (pair-alike wires act.edge); alike = settled-alike wires act.edge }
 
--- the lines are taken over of boards that are alike after equal acts
+-- The lines of boards that are alike are updated after equal acts.
 settle-alike : (wires : ℕ) (first second : Act × State) → AnswersAlike Alike first second → AnswersAlike Alike (after_act wires first) (after_act wires second)
 settle-alike wires first second answers =
     let same_act = λ (act : Act). AnswersAlike Alike (after_act wires first) (after_act wires (act, record first.1 { serial = second.1.serial })) in
@@ -102,7 +102,7 @@ step-alike : (event : Event) (m n : State) → Alike m n → AnswersAlike Alike 
 step-alike event m n a =
     subst (λ (o : State). AnswersAlike Alike (step event m) (step event o)) (sym a.same) (other-step event m n.serial a.serial)
 
--- what is alike after each event is so after each event of a list
+-- What is alike after each event is alike after a list of events.
 module _ {S : Type 0} (AreAlike : S → S → Type 0) (go : Event → S → Answer × S) (each : (event : Event) (m n : S) → AreAlike m n → AnswersAlike AreAlike (go event m) (go event n)) where
   answers-alike : (events : List Event) (m n : S) → AreAlike m n → answers_by go events n ≡ answers_by go events m
   unfolding answers_by

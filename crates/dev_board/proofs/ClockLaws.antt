@@ -1,4 +1,4 @@
--- No event changes the level, and a wait alone moves the moment.
+-- No event changes the level, and only a wait changes the moment.
 use Rattle.std.proofs.Common.{◌≡◌, ℕ, refl}
 use Rattle.dev_pic.specs.Pair.{int_of}
 use Rattle.dev_board.specs.Laws.{AnswersTellInt, ClockGoesOn, moment_left}

@@ -1,4 +1,4 @@
--- The cells of a pair's two chips, apart and one behind the other.
+-- The cells of a pair's two chips, separately and one after the other.
 use Rattle.std.proofs.Common.{◌≡◌, ℕ, ℤ, pos, ◌/◌, List, [], ◌∷◌, length, take, drop, ap, ◌∙◌, arith, length-append}
 use Rattle.dev_pic.proofs.SavedLaws.{saved-count, saved_are_cells}
 use Rattle.dev_pic.specs.Cells.{kinds, saved_cells}
@@ -26,7 +26,7 @@ pub slave-half : (set : ℕ) (pair : PicPair) (cells : List ℤ) → cells ≡ p
 slave-half set pair cells e =
     ap (λ (l : List ℤ). drop (length l / 2) l) e ∙ ap (λ n. drop n (pair_cells set pair)) (half set pair) ∙ saved_are_cells.slave set pair
 
--- the cells of a board's devices, each as its hooks gave them
+-- The cells of a board's devices, each as its hooks returned them.
 pub board-cells : (set : ℕ) (m : State) (timer master slave pit serial : ArrayVec ℤ) → timer.items ≡ (pos m.moment ∷ []) → master.items ≡ saved_cells set m.pair.master → slave.items ≡ saved_cells set m.pair.slave → pit.items ≡ pit_cells set m.pit → serial.items ≡ cells_at (numbers_at set m) m.serial → record { timer = timer; master = master; slave = slave; pit = pit; serial = serial } ≡ saved set m
 unfolding saved
 board-cells set m timer master slave pit serial a b c d e =

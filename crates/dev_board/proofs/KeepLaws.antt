@@ -27,7 +27,7 @@ use Rattle.dev_board.specs.declared.event.Event.TheVariants.{Read, Write, Byte, 
 use Rattle.dev_board.specs.declared.ports.Target.{Target}
 use Rattle.dev_board.specs.declared.ports.Target.TheVariants.{Pair, Counter, Control, Register, Nothing}
 
--- an answer after which the devices are so
+-- An answer after which the devices are so.
 pub record Kept {A : Type 0} (answer : A × State) : Type 0 where
   pub kept : HasDevices answer.1
 
@@ -109,7 +109,7 @@ module _ (m : State) (h : HasDevices m) where
   acted-kept (Wire input up) e = record { kept = h }
   acted-kept Ack e = record { kept = ack-kept }
 
--- the answers of devices, as their calls say them
+-- The answers of devices, as their calls return them.
 module _ (m : State) (h : HasDevices m) where
   pub after-pair : (port value : ℕ) (pair : PicPair) → (value, pair) ≡ read_pair port m.pair → HasDevices (record m { pair = pair })
   after-pair port value pair e =

@@ -1,4 +1,4 @@
--- What stands behind each port.
+-- What each port reaches.
 use Rattle.std.proofs.Common.{◌≡◌, ◌≢◌, ℕ, ◌+◌, ◌-◌, ◌<◌, ◌≤◌, ◌==◌, ◌⊎◌, inl, inr, Bool, true, false, ◌&&◌, ◌||◌, if◌then◌else◌, refl, ap, ◌∙◌, arith}
 use Rattle.std.proofs.Math.Bool.{and-false}
 use Rattle.std.proofs.lemmas.Bool.{ne_eqb, le-leb, lt-leb}
@@ -9,7 +9,7 @@ use Rattle.dev_board.specs.Ports.{target_of}
 use Rattle.dev_board.specs.declared.ports.Target.{Target}
 use Rattle.dev_board.specs.declared.ports.Target.TheVariants.{Pair, Counter, Control, Register, Nothing}
 
--- what stands behind a port that isn't the pair's
+-- What a port reaches that isn't the pair's.
 abbrev other : ℕ → Target
 other port =
     if nat_le 0x40 port && nat_le port 0x42 then Counter (port - 0x40)
@@ -21,7 +21,7 @@ by_pair : (level port : ℕ) (own : Bool) → is_port level port ≡ own → tar
 unfolding target_of
 by_pair level port own is = ap (λ (b : Bool). if b then Pair else other port) is
 
--- none of these ports, at any level
+-- It is none of these ports, at any level.
 none_of : (a b c d e f since : Bool) → a ≡ false → b ≡ false → c ≡ false → d ≡ false → e ≡ false → f ≡ false → (a || b || c || d || (since && (e || f))) ≡ false
 none_of a b c d e f since p q r s t u = rw (p, q, r, s, t, u, and-false since) refl
 
@@ -30,7 +30,7 @@ not_pair level port a b c d e f =
     none_of (port == 0x20) (port == 0x21) (port == 0xa0) (port == 0xa1) (port == 0x4d0) (port == 0x4d1) _
     (ne_eqb port 0x20 a) (ne_eqb port 0x21 b) (ne_eqb port 0xa0 c) (ne_eqb port 0xa1 d) (ne_eqb port 0x4d0 e) (ne_eqb port 0x4d1 f)
 
--- a port between two chips', or behind both and before their level registers, isn't the pair's
+-- A port between two chips', or after both and before their level registers, isn't the pair's.
 between : (level port : ℕ) → (0x21 < port) × (port < 0xa0) ⊎ (0xa1 < port) × (port < 0x4d0) → target_of level port ≡ other port
 between level port (inl (low, high)) =
     by_pair level port false (not_pair level port (λ e. omega arith) (λ e. omega arith) (λ e. omega arith) (λ e. omega arith) (λ e. omega arith) (λ e. omega arith))

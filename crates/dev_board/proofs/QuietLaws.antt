@@ -1,4 +1,4 @@
--- Inputs that leave the board as it is.
+-- Inputs that leave the board unchanged.
 use Rattle.std.proofs.Common.{◌≡◌, ℕ, zero, suc, ◌<◌, ◌*◌, ◌^◌, ◌==◌, Bool, true, false, not, ◌&&◌, arith, bit_and, bit_or, refl, ap, sym, ◌∙◌}
 use Rattle.std.proofs.lemmas.Bool.Decides.{nat_tests}
 use Rattle.std.proofs.lemmas.Nat.Bits.{and_pow, bit_at_and, bit_at_or, bit_at-lt, same_from_bits}
@@ -39,7 +39,7 @@ quiet-settled wires lines inputs edge touch m stays is e =
     ap (λ (pair : PicPair). record m { pair = pair })
     (ap (λ (b : Bool). settled_pair (inputs_of wires m) (bits_where b 0x01) m.pair) q.no_edge ∙ again lines (inputs_of wires m) m.pair (stays.pair q.no_access) (sym is ∙ same))
 
--- where nothing was touched the inputs are the lines
+-- If nothing was touched, the inputs are the lines.
 record Untouched (touch : Touch) (edge same : Bool) : Type 0 where
   timer : asks_timer touch ≡ false
   port : asks_port touch ≡ false

@@ -11,7 +11,7 @@ use Rattle.dev_board.specs.State.{State}
 use Rattle.dev_board.specs.declared.ports.Target.{Target}
 use Rattle.dev_board.specs.declared.ports.Target.TheVariants.{Pair, Counter, Control, Register, Nothing}
 
--- what is known of a port that reaches a target
+-- What is known of a port that reaches a target.
 abbrev pub IsReached : ℕ → ℕ → Target → Type 0
 IsReached level port Pair = is_port level port ≡ true
 IsReached level port (Counter counter) = (counter < 3) × IsPort port
@@ -36,7 +36,7 @@ reached level port =
     cond_both (port == 0x43) _ _ (IsReached level port) (control-port port) (λ _.
     cond_both (nat_le 0x3f8 port && nat_le port 0x3ff) _ _ (IsReached level port) (register-port port) (λ _. tt))))
 
--- the same of what a call answered and a match found
+-- The same for what a call returned and a match found.
 pub reached_as : (level port : ℕ) (target found : Target) → target ≡ target_of level port → target ≡ found → IsReached level port found
 reached_as level port target found e is =
     subst (IsReached level port) (sym e ∙ is) (reached level port)

@@ -1,4 +1,4 @@
--- What is restored is sound.
+-- A restored board is sound.
 use Rattle.std.proofs.Common.{◌≡◌, ℕ, ◌≤◌, Bool, true, false, cond, Result, Ok, Err, refl, sym, ap, subst, ◌∙◌, arith}
 use Rattle.std.proofs.lemmas.Bool.Decides.{nat_tests}
 use Rattle.std.specs.Prelude.{nat_le}
@@ -26,7 +26,7 @@ use Rattle.dev_board.specs.declared.misfit.Misfit.TheVariants.{Unsound, LinesDis
 use Rattle.dev_board.specs.declared.misfit.TheConstants.{TIMER_DEVICE, MASTER_DEVICE, PIT_DEVICE, SERIAL_DEVICE}
 use Rattle.dev_board.proofs.SavedLaws.{has-lines}
 
--- a board is made of devices that were restored, and the lines agree
+-- The board is made of devices that were restored, and the lines agree.
 pub record IsMadeOf (level : ℕ) (of_timer : Result ℕ Misfit) (of_pair : Result PicPair Misfit) (of_pit : Result Pit Misfit) (of_port : Result Port Misfit) (m : State) : Type 0 where
   pub same_level : m.level ≡ level
   pub timer : of_timer ≡ Ok m.moment
@@ -103,7 +103,7 @@ module _ (level : ℕ) (cells : BoardCells) (l : IsLevel level) (are : AreBoardC
   pub port-back : (port : Port) → serial_back level moment cells.serial.items ≡ Ok port → IsSoundAt level moment port
   port-back port e = port-sound (numbers_back level moment) cells.serial.items port (record { pass = may; port_cells = are.serial }) (ok-hook _ port (device-ok SERIAL_DEVICE _ port e))
 
-  -- the devices that were restored, together
+  -- The restored devices, together.
   pub devices-back : (pair : PicPair) (pit : Pit) (port : Port) → pair_back level cells.master.items cells.slave.items ≡ Ok pair → pit_back level moment cells.pit.items ≡ Ok pit → serial_back level moment cells.serial.items ≡ Ok port → HasDevices (record { level = level; moment = moment; pair = pair; pit = pit; serial = port })
   devices-back pair pit port a b c = record {
     level = l;
@@ -136,7 +136,7 @@ restored_is_sound = record {
   level = λ level cells m e. (made_of level (timed (moment_of cells)) _ _ _ m e).same_level;
 }
 
--- what the first fault of devices, or none, makes of a restore
+-- What the first fault of devices, or none, makes of a restore.
 joined-pit : (level moment : ℕ) (pair : PicPair) (misfit : Misfit) (of_timer : Result ℕ Misfit) (of_pair : Result PicPair Misfit) (of_pit : Result Pit Misfit) (of_port : Result Port Misfit) → of_timer ≡ Ok moment → of_pair ≡ Ok pair → of_pit ≡ Err misfit → joined level of_timer of_pair of_pit of_port ≡ Err misfit
 unfolding joined
 joined-pit level moment pair misfit of_timer of_pair of_pit of_port a b c = rw (a, b, c) refl
@@ -149,7 +149,7 @@ joined-all : (level moment : ℕ) (pair : PicPair) (pit : Pit) (port : Port) (of
 unfolding joined
 joined-all level moment pair pit port of_timer of_pair of_pit of_port a b c d = rw (a, b, c, d) refl
 
--- the same of cells, by the moment that was found
+-- The same for cells, with the moment that was found.
 module _ (level : ℕ) (cells : BoardCells) (found : ℕ) (time : timed (moment_of cells) ≡ Ok found) (pair : PicPair) (of_pair : pair_back level cells.master.items cells.slave.items ≡ Ok pair) where
   same : found ≡ moment_of cells
   same = (timed-ok (moment_of cells) found time).same

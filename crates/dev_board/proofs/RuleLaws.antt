@@ -1,4 +1,4 @@
--- A board is sound exactly where its cells in the newest set meet the rules and the lines agree.
+-- A board is sound exactly if its cells in the newest set meet the rules and the lines agree.
 use Rattle.std.proofs.Common.{◌≡◌, ℕ, ◌≤◌, Result, Ok, refl, sym, ap, subst, ◌∙◌, arith}
 use Rattle.dev_base.proofs.RuleLaws.{judged-ok}
 use Rattle.dev_base.specs.Bits.{has}
@@ -64,7 +64,7 @@ module _ (m : State) (s : IsSound m) where
 port-same : (first second : Port) (outcome : Result Port ℕ) → outcome ≡ Ok first → outcome ≡ Ok second → first ≡ second
 port-same first second outcome d e = cc
 
--- the other way
+-- The converse.
 module _ (m : State) (t : IsTold m) (n : State) (e : restored m.level (saved NEWEST m) ≡ Ok n) where
   made : IsMadeOf m.level (timed (moment_of (saved NEWEST m))) (pair_back m.level (saved NEWEST m).master.items (saved NEWEST m).slave.items) (pit_back m.level (moment_of (saved NEWEST m)) (saved NEWEST m).pit.items) (serial_back m.level (moment_of (saved NEWEST m)) (saved NEWEST m).serial.items) n
   made = made_of m.level _ _ _ _ n e
@@ -112,7 +112,7 @@ module _ (m : State) (t : IsTold m) (n : State) (e : restored m.level (saved NEW
       let same : there.0 ≡ n.serial = port-same there.0 n.serial _ there.1 port-again in
       ap (line_of m.moment) (sym same) ∙ lines_alike m.moment m.serial there.0 there.2
 
-  -- the lines that are remembered
+  -- The remembered lines.
   lines : HasLines m
   lines =
       let has_lines = has-lines n made.lines in

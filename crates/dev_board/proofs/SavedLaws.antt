@@ -1,4 +1,4 @@
--- What is saved of a board comes back.
+-- What is saved of a board can be restored.
 use Rattle.std.proofs.Common.{◌≡◌, ℕ, ℤ, pos, ◌≤◌, Bool, true, false, List, ◌∷◌, Result, Ok, refl, sym, ap, subst, ◌∙◌, arith, []}
 use Rattle.std.proofs.lemmas.Bool.{and_parts, false≢true, and_from}
 use Rattle.std.proofs.lemmas.Bool.Decides.{nat_tests}
@@ -62,7 +62,7 @@ has-lines m e =
       serial = same-is _ _ (and_parts (same (has (lines_of m.pair) 2) (slave_int_of m.pair)) _ rest).1;
     }
 
--- the board where no device is at fault and the lines agree
+-- The board, if no device breaks a rule and the lines agree.
 joined-ok : (level moment : ℕ) (pair : PicPair) (pit : Pit) (port : Port) (of_timer : Result ℕ Misfit) (of_pair : Result PicPair ChipFault) (of_pit : Result Pit ℕ) (of_port : Result Port ℕ) → of_timer ≡ Ok moment → of_pair ≡ Ok pair → of_pit ≡ Ok pit → of_port ≡ Ok port → lines_agree (record { level = level; moment = moment; pair = pair; pit = pit; serial = port }) ≡ true → joined level of_timer (by_chip of_pair) (by_device PIT_DEVICE of_pit) (by_device SERIAL_DEVICE of_port) ≡ Ok (record { level = level; moment = moment; pair = pair; pit = pit; serial = port })
 unfolding joined agreed by_chip by_device
 joined-ok level moment pair pit port of_timer of_pair of_pit of_port a b c d e = rw (a, b, c, d, e) refl

@@ -1,4 +1,4 @@
--- A board is sound at power on, and each event keeps it so.
+-- A board is sound at power on, and each event keeps it sound.
 use Rattle.std.proofs.Common.{ℕ, ◌<◌, ◌^◌, Bool, List, [], ◌∷◌, arith, refl, ◌∙◌}
 use Rattle.dev_base.specs.Levels.{IsLevel}
 use Rattle.dev_pic.proofs.LineLaws.{lines_are_taken}
@@ -48,7 +48,7 @@ on-pair level l = steps_keep_registers.power level l
 pub power_on-sound : (level : ℕ) → IsLevel level → IsSound (power_on level)
 power_on-sound level l = record { devices = on-devices level l; pair = on-pair level l; lines = on-lines level }
 
--- the board once the lines are taken over
+-- The board after the lines are updated.
 module _ (wires : ℕ) (edge : Bool) (m : State) (w : AreWires wires) (h : HasDevices m) where
   edge-lt : bits_where edge 0x01 < 2 ^ 16
   edge-lt = one-lt edge 0x01 (omega arith)

@@ -1,4 +1,4 @@
--- What the lines from before an event still tell.
+-- What the lines from before an event still say.
 use Rattle.std.proofs.Common.{◌≡◌, ℕ, ◌==◌, Bool, true, false, not, ◌&&◌, ◌||◌, if◌then◌else◌, arith, bit_or, refl, sym, ap, ◌∙◌, subst}
 use Rattle.std.proofs.Math.Bool.{and-false, and-true, or-false}
 use Rattle.std.proofs.lemmas.Bool.{false≢true, cond_both}
@@ -26,7 +26,7 @@ use Rattle.dev_board.specs.declared.ports.Target.TheVariants.{Pair, Counter, Con
 use Rattle.dev_board.specs.declared.touch.Touch.{Touch}
 use Rattle.dev_board.specs.declared.touch.Touch.TheVariants.{Untouched, Port as OfPort, Time}
 
--- a read of a counter leaves OUT
+-- A read of a counter leaves OUT unchanged.
 out-goes_on : (before after : Counting) (now : ℕ) → GoesOn before after → out_of after now ≡ out_of before now
 unfolding out_of
 out-goes_on before after now g = rw (g.count, g.mode, g.loaded_at) refl
@@ -67,7 +67,7 @@ no-overrun port e =
     let none : port.receiver.overrun ≡ false = sym (lsr-overrun port) ∙ not_true (has (lsr_of port) 1) e in
     ap (λ (b : Bool). record port { receiver = record port.receiver { overrun = b } }) (sym none)
 
--- a read of a register that leaves the port
+-- A read of a register that leaves the port unchanged.
 abbrev Leaves : ℕ → Port → ℕ × Port → Type 0
 Leaves offset port answer = leaves_port offset answer.0 ≡ true → answer.1 ≡ port
 
@@ -116,7 +116,7 @@ module _ (m : State) (s : IsSound m) where
   write-stays (Register offset) port value = record { out = λ e. s.lines.out; serial = λ e. touched e; pair = λ e. taken }
   write-stays Nothing port value = record { out = λ e. s.lines.out; serial = λ e. s.lines.serial; pair = λ e. taken }
 
--- the same of what calls gave
+-- The same for what calls returned.
 module _ (m : State) (s : IsSound m) (now : ℕ) (l : now ≡ lines_of m.pair) where
   pub after-read : (port value : ℕ) (after : State) (touch : Touch) → touch ≡ read_touches (target_of m.level port) (read port m).0 → (value, after) ≡ read port m → Stays touch now after
   after-read port value after touch t e =

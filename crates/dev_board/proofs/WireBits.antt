@@ -28,7 +28,7 @@ wires_of-are m = record {
 pub wire-bound : (input : ℕ) → is_wire input ≡ true → input < 16
 wire-bound input e = grind (arith, nat_tests)
 
--- a wire is no input that is not one
+-- A wire differs from an input that isn't one.
 pub wire-other : (input other : ℕ) → is_wire input ≡ true → is_wire other ≡ false → other ≢ input
 wire-other input other e f same = false≢true (sym f ∙ ap is_wire same ∙ e)
 
@@ -54,7 +54,7 @@ wires_after-are (Wait ns) wires e w = w
 wires_after-are (Wire input up) wires e w = with_wire-are input wires up e w
 wires_after-are Ack wires e w = w
 
--- an event that there is names a wire, if any
+-- If an event names a wire, it is one.
 pub names : (event : Event) → IsEvent event → names_wire event ≡ true
 unfolding names_wire
 names (Read port) e = refl

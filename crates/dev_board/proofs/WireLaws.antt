@@ -25,7 +25,7 @@ second_true : (a b : Bool) → (a && b) ≡ true → b ≡ true
 second_true true b e = e
 second_true false b e = absurd (false≢true e)
 
--- the wires hold the lines at each wire
+-- The wires have the lines' level at each wire.
 wires_of-wire : (m : State) (wire : ℕ) → is_wire wire ≡ true → has (wires_of m) wire ≡ has (lines_of m.pair) wire
 unfolding wires_of
 wires_of-wire m wire e =

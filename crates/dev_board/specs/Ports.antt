@@ -7,8 +7,8 @@ use Rattle.dev_board.specs.State.{State}
 use Rattle.dev_board.specs.declared.ports.Target.{Target}
 use Rattle.dev_board.specs.declared.ports.Target.TheVariants.{Pair, Counter, Control, Register, Nothing}
 
--- what stands behind a port at a level: the pair's ports, three counters and their control port, and the eight
--- registers of the serial port
+-- `target_of level port` is what the port reaches: the pair, one of three counters or their control
+-- port, one of the eight registers of the serial port, or nothing.
 unfoldable pub target_of : ℕ → ℕ → Target
 target_of level port =
     if is_port level port then Pair
@@ -17,16 +17,17 @@ target_of level port =
     else (if nat_le 0x3f8 port && nat_le port 0x3ff then Register (port - 0x3f8)
     else Nothing)))
 
--- a device is there
+-- `is_device target` tells whether it is a device.
 abbrev pub is_device : Target → Bool
 is_device Nothing = false
 is_device _ = true
 
--- a device of a board of this level stands behind the port
+-- `has_port level port` tells whether a device of a board of this level has the port.
 abbrev pub has_port : ℕ → ℕ → Bool
 has_port level port = is_device (target_of level port)
 
--- the value of a read, and the board after it. The control port and a port without a device give 0xff
+-- `read_at target port m` is the value of a read, and the board after it. The control port and a
+-- port without a device return 0xff.
 unfoldable pub read_at : Target → ℕ → State → ℕ × State
 read_at Pair port m = let answer = read_pair port m.pair in (answer.0, record m { pair = answer.1 })
 read_at (Counter counter) port m = let answer = pit_read counter m.moment m.pit in (answer.0, record m { pit = answer.1 })
@@ -34,7 +35,8 @@ read_at Control port m = (0xff, m)
 read_at (Register offset) port m = let answer = read_of offset m.moment m.serial in (answer.0, record m { serial = answer.1 })
 read_at Nothing port m = (0xff, m)
 
--- the board after a write. One to a port without a device does nothing
+-- `written_at target port value m` is the board after a write. A write to a port without a device
+-- does nothing.
 unfoldable pub written_at : Target → ℕ → ℕ → State → State
 written_at Pair port value m = record m { pair = written_pair port value m.pair }
 written_at (Counter counter) port value m = record m { pit = pit_written port value m.moment m.pit }
@@ -42,8 +44,10 @@ written_at Control port value m = record m { pit = pit_written port value m.mome
 written_at (Register offset) port value m = record m { serial = written offset value m.moment m.serial }
 written_at Nothing port value m = m
 
+-- `read port m` is the value of a read of the port, and the board after it.
 abbrev pub read : ℕ → State → ℕ × State
 read port m = read_at (target_of m.level port) port m
 
+-- `write port value m` is the board after a write to the port.
 abbrev pub write : ℕ → ℕ → State → State
 write port value m = written_at (target_of m.level port) port value m

@@ -26,11 +26,11 @@ use Rattle.dev_board.specs.declared.misfit.Misfit.{Misfit}
 use Rattle.dev_board.specs.declared.misfit.Misfit.TheVariants.{Unsound, LinesDisagree}
 use Rattle.dev_board.specs.declared.misfit.TheConstants.{TIMER_DEVICE, MASTER_DEVICE, PIT_DEVICE, SERIAL_DEVICE}
 
--- the numbers of a pass that saves a board under a set
+-- `numbers_at set m` has the numbers of a pass that saves the board in the set.
 abbrev pub numbers_at : ℕ → State → Numbers
 numbers_at set m = record { level = m.level; set = set; moment = m.moment }
 
--- the cells of a board's devices under a set
+-- `saved set m` has the cells of the board's devices in the set.
 unfoldable pub saved : ℕ → State → BoardCells
 saved set m = record {
   timer = record { items = pos m.moment ∷ [] };
@@ -40,7 +40,8 @@ saved set m = record {
   serial = record { items = cells_at (numbers_at set m) m.serial };
 }
 
--- the cells of a set at their places in the newest one, with defaults elsewhere
+-- `carried set cells` has the cells of the newest set that the cells, of `set`, are carried to,
+-- with defaults where `set` has none.
 unfoldable pub carried : ℕ → BoardCells → BoardCells
 carried set cells = record {
   timer = cells.timer;
@@ -50,14 +51,17 @@ carried set cells = record {
   serial = record { items = serial_carried set cells.serial.items };
 }
 
--- a board may be saved under this set: one from its level to the newest
+-- `MaySaveUnder level set`: a board of this level may be saved in this set, one from its level to
+-- the newest.
 abbrev pub MaySaveUnder : (level set : ℕ) → Type 0
 MaySaveUnder level set = ReachesSet NEWEST level set
 
+-- The kinds of the timer's cells.
 abbrev pub timer_kinds : List Kind
 timer_kinds = U64 ∷ []
 
--- normal cells of the devices of a set, where each subsection that isn't needed is at its defaults
+-- `AreSavedCells set cells`: they are normal cells of the devices in the set, and each subsection
+-- that isn't needed is at its defaults.
 pub record AreSavedCells (set : ℕ) (cells : BoardCells) : Type 0 where
   pub timer : AreOf timer_kinds cells.timer.items
   pub master : AreOf (pic_kinds set) cells.master.items
@@ -65,7 +69,7 @@ pub record AreSavedCells (set : ℕ) (cells : BoardCells) : Type 0 where
   pub pit : AreCellsOf set cells.pit.items
   pub serial : AreSaved set cells.serial.items
 
--- normal cells of the devices of the newest set
+-- `AreBoardCells cells`: they are normal cells of the devices in the newest set.
 pub record AreBoardCells (cells : BoardCells) : Type 0 where
   pub timer : AreOf timer_kinds cells.timer.items
   pub master : AreOf (pic_kinds NEWEST) cells.master.items
@@ -73,35 +77,38 @@ pub record AreBoardCells (cells : BoardCells) : Type 0 where
   pub pit : AreCellsOf NEWEST cells.pit.items
   pub serial : IsPortCells cells.serial.items
 
--- the moment that cells tell
+-- `moment_of cells` is the moment that the cells describe.
 abbrev pub moment_of : BoardCells → ℕ
 moment_of cells = number_at cells.timer.items 0
 
--- the moment, or its one rule
+-- `timed moment` is the moment, or its one rule if it is after the last.
 unfoldable pub timed : ℕ → Result ℕ Misfit
 timed moment = if nat_le moment LAST_MOMENT then Ok moment else Err (Unsound TIMER_DEVICE 1)
 
--- the pair, or the rule that fails of one of its chips, which are two devices of a set
+-- `by_chip outcome` is the pair, or the rule that fails for one of its chips, which are two devices
+-- of a set.
 unfoldable pub by_chip : Result PicPair ChipFault → Result PicPair Misfit
 by_chip (Ok pair) = Ok pair
 by_chip (Err fault) = Err (Unsound (MASTER_DEVICE + fault.chip) fault.rule)
 
--- a device, or its rule that fails
+-- `by_device place outcome` is the device, or its rule that fails.
 unfoldable pub by_device : {D : Type 0} → ℕ → Result D ℕ → Result D Misfit
 by_device place (Ok device) = Ok device
 by_device place (Err rule) = Err (Unsound place rule)
 
--- the master remembers OUT of counter 0 at input 0, the slave's interrupt output at input 2, and the serial port's line
--- at input 4
+-- `lines_agree m` tells whether the master remembers OUT of counter 0 at input 0, the slave's
+-- interrupt output at input 2, and the serial port's line at input 4.
 unfoldable pub lines_agree : State → Bool
 lines_agree m =
     same (has (lines_of m.pair) 0) (pit_out 0 m.moment m.pit)
     && (same (has (lines_of m.pair) 2) (slave_int_of m.pair) && same (has (lines_of m.pair) 4) (line_of m.moment m.serial))
 
+-- `agreed m` is the board if the lines agree.
 unfoldable pub agreed : State → Result State Misfit
 agreed m = if lines_agree m then Ok m else Err (LinesDisagree MASTER_DEVICE)
 
--- the board of a moment and of devices: the first fault of these, and the lines last
+-- `joined level moment pair pit serial` is the board of these, or the first fault among them; the
+-- lines are checked last.
 unfoldable pub joined : ℕ → Result ℕ Misfit → Result PicPair Misfit → Result Pit Misfit → Result Port Misfit → Result State Misfit
 joined level (Err misfit) pair pit serial = Err misfit
 joined level (Ok moment) (Err misfit) pit serial = Err misfit
@@ -110,21 +117,24 @@ joined level (Ok moment) (Ok pair) (Ok pit) (Err misfit) = Err misfit
 joined level (Ok moment) (Ok pair) (Ok pit) (Ok serial) =
     agreed (record { level = level; moment = moment; pair = pair; pit = pit; serial = serial })
 
--- the numbers of the pass that restores a board
+-- `numbers_back level moment` has the numbers of the pass that restores a board.
 abbrev pub numbers_back : ℕ → ℕ → Numbers
 numbers_back level moment = record { level = level; set = NEWEST; moment = moment }
 
--- the pair, the timer chip and the serial port of cells, or the rule that fails of each
+-- `pair_back level master slave` is the pair that the cells describe, or the rule that fails.
 abbrev pub pair_back : ℕ → List ℤ → List ℤ → Result PicPair Misfit
 pair_back level master slave = by_chip (restored_pair level master slave)
 
+-- `pit_back level moment cells` is the timer chip that the cells describe, or the rule that fails.
 abbrev pub pit_back : ℕ → ℕ → List ℤ → Result Pit Misfit
 pit_back level moment cells = by_device PIT_DEVICE (restored_pit level moment cells)
 
+-- `serial_back level moment cells` is the serial port that the cells describe, or the rule that
+-- fails.
 abbrev pub serial_back : ℕ → ℕ → List ℤ → Result Port Misfit
 serial_back level moment cells = by_device SERIAL_DEVICE (restored_cells (numbers_back level moment) cells)
 
--- the board of a level that cells of the newest set tell
+-- `restored level cells` is the board of this level that cells of the newest set describe.
 abbrev pub restored : ℕ → BoardCells → Result State Misfit
 restored level cells =
     joined level (timed (moment_of cells)) (pair_back level cells.master.items cells.slave.items)

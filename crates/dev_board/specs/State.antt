@@ -6,8 +6,8 @@ use Rattle.dev_pit.specs.Pit.{new_pit}
 use Rattle.dev_pit.specs.declared.pit.Pit.{Pit}
 use Rattle.dev_serial.specs.Port.{Port, power_on as serial_on}
 
--- a level, the present moment in nanoseconds from power on, and the three devices. The wires are bits of the lines
--- that the pair remembers
+-- `State` has a level, the present moment in nanoseconds after power on, and the three devices. The
+-- wires are bits of the lines that the pair remembers.
 pub record State : Type 0 where
   pub level : ℕ
   pub moment : ℕ
@@ -15,7 +15,7 @@ pub record State : Type 0 where
   pub pit : Pit
   pub serial : Port
 
--- a board at power on
+-- `power_on level` is a board at power on.
 unfoldable pub power_on : ℕ → State
 power_on level = record {
   level = level;

@@ -3,8 +3,10 @@ use Rattle.dev_board.specs.State.{State}
 use Rattle.dev_board.specs.declared.devices.Devices.TheInside.{Inside}
 use Rattle.dev_board.specs.declared.parts.Parts.TheInside.{Inside as InsideParts}
 
+-- The state of the parts.
 abbrev pub parts_view : InsideParts → State
 parts_view d = record { level = d.level; moment = d.moment; pair = d.pair; pit = d.pit; serial = d.serial }
 
+-- The state of the devices is that of their parts.
 abbrev pub devices_view : Inside → State
 devices_view d = d.parts

@@ -13,9 +13,10 @@ use std::marker::Model;
 
 /// The pair of 8259A, the timer chip and the serial port of a board, at a present moment.
 ///
-/// Levels are 1 to 4. Moments are nanoseconds from power on, at most `LAST_MOMENT`.
+/// Levels are 1 to 4. Moments are nanoseconds after power on, at most `LAST_MOMENT`.
 #[derive(Drop)]
 pub struct Devices {
+    /// The devices, whose lines agree with what the master remembers.
     pub(crate) parts: Parts,
 }
 
@@ -38,7 +39,11 @@ impl Devices {
     ghost use Rattle.dev_board.specs.State.{power_on};
     ghost use Rattle.dev_board.specs.Step.{step, names_wire};
 
-    /// The devices of a level at power on.
+    /// Returns the devices of level `level`, 1 to 4, at power on.
+    ///
+    /// # Requires
+    ///
+    /// `level` is one that boards have, 1 to 4.
     pub fn new(level: u8) -> Devices
         requires { IsLevel level }
         ensures state { result ≡ power_on level }
@@ -49,14 +54,14 @@ impl Devices {
         }
     }
 
-    /// The level, 1 to 4.
+    /// Returns the level, 1 to 4.
     pub fn level(&self) -> u8
         ensures { result ≡ self.now.level }
     {
         self.parts.level
     }
 
-    /// The present moment.
+    /// Returns the present moment, in nanoseconds after power on; at most `LAST_MOMENT`.
     pub fn now(&self) -> u64
         ensures moment { result ≡ self.now.moment }
         ensures last { result ≤ last_moment }
@@ -64,11 +69,13 @@ impl Devices {
         self.parts.now()
     }
 
-    /// Lets an event happen, takes the interrupt lines over once, and answers. The board is sound
-    /// afterwards.
+    /// Applies `event` to the board, updates the interrupt lines once, and returns the answer.
     ///
-    /// A wire that rises or falls is one of the inputs 1, 3, 5, 6, 7 and 8 to 15. Time passes up to the
-    /// last moment at most.
+    /// The board is sound afterwards. Time passes at most up to `LAST_MOMENT`.
+    ///
+    /// # Requires
+    ///
+    /// If `event` is a [`Event::Wire`], its input is a wire: one of 1, 3, 5, 6, 7 and 8 to 15.
     pub fn event(&mut self, event: Event) -> Answer
         requires wire { IsTrue (names_wire event) }
         ensures step { (result, self.new) ≡ step event self.old }
@@ -84,7 +91,12 @@ impl Devices {
         self.parts.int()
     }
 
-    /// Tells whether OUT of counter `counter` of the timer chip, 0 to 2, is high at the present moment.
+    /// Tells whether OUT of counter `counter` of the timer chip, 0 to 2, is high at the present
+    /// moment.
+    ///
+    /// # Requires
+    ///
+    /// `counter` is below 3.
     pub fn output(&self, counter: u8) -> bool
         requires { counter < 3 }
         ensures { result ≡ pit_out counter self.now.moment self.now.pit }
@@ -92,15 +104,17 @@ impl Devices {
         self.parts.output(counter)
     }
 
-    /// Tells whether a device of the board is behind the port `port`.
+    /// Tells whether a device of the board has the port `port`.
     pub fn has_port(&self, port: u16) -> bool
         ensures { result ≡ has_port self.now.level port }
     {
         self.parts.has_port(port)
     }
 
-    /// Returns how many bytes may arrive on the serial line before one is lost: up to 16 with FIFOs, else 1
-    /// or 0. It is 0 in loop mode, in which bytes on the line are ignored.
+    /// Returns how many bytes may arrive on the serial line before one is lost.
+    ///
+    /// It is up to 16 with FIFOs, else 1 or 0. It is 0 in loop mode, which ignores bytes on the
+    /// line.
     pub fn room(&self) -> u8
         ensures { result ≡ room_of self.now.serial }
     {

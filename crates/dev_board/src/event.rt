@@ -2,18 +2,20 @@
 use arrayvec::ArrayVec;
 use dev_serial::MOST_SENT;
 
-/// What happens to a board: an access of the guest, a byte or a line from outside, or the passing of time.
+/// What happens to a board: an access of the guest, a byte or a line from outside, or the passing
+/// of time.
 #[derive(Clone, Copy, Debug, PartialEq, Eq)]
 pub enum Event {
-    /// The guest reads an I/O port.
+    /// The guest reads the I/O port `port`.
     Read { port: u16 },
-    /// The guest writes a byte to an I/O port.
+    /// The guest writes the byte `value` to the I/O port `port`.
     Write { port: u16, value: u8 },
-    /// A byte arrives on the serial line.
+    /// The byte `value` arrives on the serial line.
     Byte { value: u8 },
-    /// This many nanoseconds pass.
+    /// `ns` nanoseconds pass.
     Wait { ns: u64 },
-    /// A free interrupt input, one of 1, 3, 5, 6, 7 and 8 to 15, rises or falls, and stays so.
+    /// The free interrupt input `input`, one of 1, 3, 5, 6, 7 and 8 to 15, rises or falls and stays
+    /// so.
     Wire { input: u8, up: bool },
     /// The processor acknowledges an interrupt.
     Ack,
@@ -22,7 +24,7 @@ pub enum Event {
 /// What a board answers to an event.
 #[derive(Drop)]
 pub struct Answer {
-    /// The value of a read, or the vector of an acknowledge.
+    /// The value of a read, or the vector of an acknowledge; none for other events.
     pub value: Option<u8>,
     /// The interrupt output of the master 8259A after the event.
     pub int: bool,

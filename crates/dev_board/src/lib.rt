@@ -1,5 +1,5 @@
-//! Three devices on one clock, as the boards of a PC have them: the pair of 8259A, the timer chip and the
-//! serial port.
+//! Three devices of a PC's board on one clock: the pair of 8259A, the timer chip and the serial
+//! port.
 #![tactic(auto)]
 
 mod cells;

@@ -21,16 +21,21 @@ use dev_pit::Pit;
 use dev_serial::{MOST_SENT, Serial};
 use std::marker::Model;
 
-/// What a read of a port without a device gives.
+/// What a read of a port without a device returns.
 const NO_DEVICE: u8 = 0xff;
 
 /// The devices of a board at a present moment, whatever lines the master remembers of them.
 #[derive(Drop)]
 pub(crate) struct Parts {
+    /// The level, 1 to 4.
     pub(crate) level: u8,
+    /// The present moment, in nanoseconds after power on.
     pub(crate) moment: u64,
+    /// The two 8259A.
     pub(crate) pair: PicPair,
+    /// The timer chip.
     pub(crate) pit: Pit,
+    /// The serial port.
     pub(crate) serial: Serial,
 }
 
@@ -55,7 +60,7 @@ impl Parts {
     ghost use Rattle.dev_board.specs.Touch.{Stays, read_touches, write_touches};
     ghost use Rattle.dev_board.specs.Wires.{AreWires, wires_of};
 
-    /// The devices of a level at power on.
+    /// Returns the devices of level `level` at power on.
     #[tactic(auto, unfolding(crate::specs::State::power_on))]
     pub(crate) fn new(level: u8) -> Parts
         requires { IsLevel level }
@@ -71,7 +76,7 @@ impl Parts {
         }
     }
 
-    /// The present moment.
+    /// Returns the present moment.
     pub(crate) fn now(&self) -> u64
         ensures moment { result ≡ self.now.moment }
         ensures last { result ≤ last_moment }
@@ -79,11 +84,10 @@ impl Parts {
         self.moment
     }
 
-    /// Lets an event happen, takes the interrupt lines over once, and answers. The board is sound
-    /// afterwards.
+    /// Applies `event`, updates the interrupt lines once, and returns the answer.
     ///
-    /// A wire that rises or falls is one of the inputs 1, 3, 5, 6, 7 and 8 to 15. Time passes up to the
-    /// last moment at most.
+    /// The board is sound before and after. A wire is one of the inputs 1, 3, 5, 6, 7 and 8 to 15.
+    /// Time passes at most up to the last moment.
     #[tactic(auto, unfolding(crate::specs::Step::step, crate::specs::Step::after_act, crate::specs::Step::acted, crate::specs::Step::wires_after))]
     pub(crate) fn event(&mut self, event: Event) -> Answer
         requires wire { IsTrue (names_wire event) }
@@ -147,7 +151,7 @@ impl Parts {
         self.pit.out(counter, self.moment)
     }
 
-    /// Tells whether a device is behind the port `port`.
+    /// Tells whether a device has the port `port`.
     pub(crate) fn has_port(&self, port: u16) -> bool
         ensures { result ≡ has_port_of self.now.level port }
     {
@@ -161,14 +165,14 @@ impl Parts {
         self.serial.room()
     }
 
-    /// Returns the time of one character on the serial line.
+    /// Returns the time of one character on the serial line, in nanoseconds.
     pub(crate) fn character(&self) -> u64
         ensures { result ≡ character_time self.now.serial.divisor self.now.serial.lcr }
     {
         self.serial.character()
     }
 
-    // The wires as they stand.
+    // Returns the wires as they are now.
     #[tactic(auto, unfolding(crate::specs::Wires::wires_of))]
     fn wires(&self) -> u16
         ensures wires { result ≡ wires_of self.now }
@@ -177,14 +181,14 @@ impl Parts {
         self.pair.lines() & WIRES
     }
 
-    // A byte arrives on the serial line.
+    // Receives a byte on the serial line.
     fn byte_in(&mut self, value: u8)
         ensures { self.new ≡ byte_came value self.old }
     {
         self.serial.byte_in(value, self.moment);
     }
 
-    // What stands behind a port.
+    // Returns what a port reaches.
     #[tactic(auto, unfolding(crate::specs::Ports::target_of))]
     fn target(&self, port: u16) -> Target
         ensures { result ≡ target_of self.now.level port }
@@ -204,7 +208,7 @@ impl Parts {
         }
     }
 
-    // Reads a port, and tells what that touched.
+    // Reads a port, and returns the value and what that touched.
     #[tactic(auto, unfolding(crate::specs::Ports::read_at))]
     fn read(&mut self, port: u16) -> (u8, Touch)
         ensures step { (result.0, self.new) ≡ read_of port self.old }
@@ -228,7 +232,7 @@ impl Parts {
         }
     }
 
-    // Writes a byte to a port, and tells what that touched.
+    // Writes a byte to a port, and returns what that touched.
     #[tactic(auto, unfolding(crate::specs::Ports::written_at))]
     fn write(&mut self, port: u16, value: u8) -> Touch
         ensures step { self.new ≡ written port value self.old }
@@ -251,7 +255,8 @@ impl Parts {
         }
     }
 
-    // Lets time pass up to a moment: whether counter 0 had a rising edge, and the bytes that left.
+    // Lets time pass up to `to`; returns whether counter 0 had a rising edge, and the bytes that
+    // left.
     #[tactic(auto, unfolding(crate::specs::Step::waited))]
     fn wait(&mut self, to: u64) -> (bool, ArrayVec<u8, MOST_SENT>)
         requires later { self.old.moment ≤ to }
@@ -264,7 +269,7 @@ impl Parts {
         (edge, sent)
     }
 
-    // OUT of counter 0, which the lines from before tell where it wasn't touched.
+    // Returns OUT of counter 0, which is still in the earlier lines if it wasn't touched.
     fn timer_out(&self, touched: bool, lines: u16) -> bool
         requires { touched ≡ false → has_of lines 0 ≡ pit_out 0 self.now.moment self.now.pit }
         ensures { result ≡ pit_out 0 self.now.moment self.now.pit }
@@ -276,7 +281,7 @@ impl Parts {
         }
     }
 
-    // The serial port's line, which the lines from before tell where it wasn't touched.
+    // Returns the serial port's line, which is still in the earlier lines if it wasn't touched.
     fn line(&self, touched: bool, lines: u16) -> bool
         requires { touched ≡ false → has_of lines 4 ≡ line_of self.now.moment self.now.serial }
         ensures { result ≡ line_of self.now.moment self.now.serial }
@@ -288,7 +293,7 @@ impl Parts {
         }
     }
 
-    // The inputs of the pair: the wires, OUT of counter 0 and the serial port's line.
+    // Returns the inputs of the pair: the wires, OUT of counter 0 and the serial port's line.
     #[tactic(auto, unfolding(crate::specs::Step::inputs_of))]
     fn inputs(&self, wires: u16, lines: u16, touch: Touch) -> u16
         requires { Stays touch lines self.now }
@@ -299,7 +304,8 @@ impl Parts {
         wires | bits_where(out, TIMER) | bits_where(line, SERIAL)
     }
 
-    // Takes the lines over, with an edge at the timer's input or none, and tells the master's output.
+    // Updates the lines, with an edge at the timer's input or none, and returns the master's
+    // output.
     #[inline(always)]
     #[tactic(auto, unfolding(crate::specs::Step::settled))]
     fn settle(&mut self, wires: u16, lines: u16, touch: Touch, edge: bool) -> bool
@@ -321,7 +327,7 @@ impl Parts {
     }
 }
 
-// Takes the lines over, which happens seldom: it stands apart so that each event's code stays short.
+// Updates the lines. This is rare, so it isn't inlined, which keeps each event's code short.
 #[inline(never)]
 fn take(pair: &mut PicPair, inputs: u16, edges: u16)
     ensures { pair.new ≡ settled_pair inputs edges pair.old }
@@ -329,7 +335,7 @@ fn take(pair: &mut PicPair, inputs: u16, edges: u16)
     pair.settle(inputs, edges);
 }
 
-// An answer of no bytes.
+// Returns an answer without bytes.
 fn saying(value: Option<u8>, int: bool) -> Answer
     ensures { result ≡ saying_of value int }
 {
@@ -340,7 +346,7 @@ fn saying(value: Option<u8>, int: bool) -> Answer
     }
 }
 
-// Tells whether a read of a register that gives this value leaves the serial port as it is.
+// Tells whether a read of this register that returns `value` leaves the serial port unchanged.
 #[tactic(auto, unfolding(crate::specs::Touch::leaves_port))]
 fn leaves_port(offset: u8, value: u8) -> bool
     ensures { result ≡ leaves_port_of offset value }
@@ -352,7 +358,7 @@ fn leaves_port(offset: u8, value: u8) -> bool
     }
 }
 
-// Tells whether nothing was touched, and the wires are as they were.
+// Tells whether nothing was touched, and the wires are as before.
 #[tactic(auto, unfolding(crate::specs::Touch::is_untouched))]
 fn is_untouched(touch: Touch, edge: bool, wires: u16, lines: u16) -> bool
     ensures { result ≡ is_untouched_of touch edge wires lines }
@@ -360,7 +366,7 @@ fn is_untouched(touch: Touch, edge: bool, wires: u16, lines: u16) -> bool
     touch.is_nothing() && !edge && wires == lines & WIRES
 }
 
-// Tells whether these inputs leave the pair as it is.
+// Tells whether these inputs leave the pair unchanged.
 #[tactic(auto, unfolding(crate::specs::Touch::is_quiet))]
 fn is_quiet(touch: Touch, edge: bool, inputs: u16, lines: u16) -> bool
     ensures { result ≡ is_quiet_of touch edge inputs lines }

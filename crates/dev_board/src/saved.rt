@@ -25,7 +25,11 @@ impl Devices {
     ghost use Rattle.dev_board.specs.Saved.{MaySaveUnder, AreBoardCells, saved, restored};
     ghost use Rattle.dev_board.specs.Sound.{IsSound};
 
-    /// The cells of the devices under a set, one from the board's level to the newest.
+    /// Returns the cells of the devices in set `set`.
+    ///
+    /// # Requires
+    ///
+    /// `set` is from the board's level to the newest.
     pub fn cells(&self, set: u8) -> BoardCells
         requires { MaySaveUnder self.now.level set }
         ensures { result ≡ saved set self.now }
@@ -33,11 +37,20 @@ impl Devices {
         self.parts.cells(set)
     }
 
-    /// The devices of a level of their cells in the newest set, each in its kind's range.
+    /// Returns the devices of level `level` that `cells`, of the newest set, describe.
     ///
-    /// Refused is the first rule that fails, in the order of the set's devices and of the rules' numbers,
-    /// and then lines that the master remembers otherwise than the devices have them. The timer's one rule
-    /// is that the moment is at most the last.
+    /// # Requires
+    ///
+    /// `level` is one that boards have. Each of `cells` fits its kind, and absent ones are at
+    /// defaults.
+    ///
+    /// # Errors
+    ///
+    /// - [`Misfit::Unsound`]: a device breaks a rule. It is the first, in the order of the set's
+    ///   devices and of the rules' numbers. The timer's one rule is that the moment is at most
+    ///   `LAST_MOMENT`.
+    /// - [`Misfit::LinesDisagree`]: no rule fails, but the master remembers other lines than the
+    ///   devices have.
     #[tactic(auto, unfolding(crate::specs::Saved::joined, crate::specs::Saved::agreed))]
     pub fn of_cells(level: u8, cells: &BoardCells) -> Result<Devices, Misfit>
         requires level { IsLevel level }
@@ -66,7 +79,7 @@ impl Devices {
 impl Parts {
     ghost use Rattle.dev_board.specs.Saved.{MaySaveUnder, saved, lines_agree};
 
-    // The cells under a set.
+    // Returns the cells in set `set`.
     #[tactic(auto, unfolding(crate::specs::Saved::saved))]
     fn cells(&self, set: u8) -> BoardCells
         requires { MaySaveUnder self.now.level set }
@@ -94,13 +107,14 @@ impl Parts {
     }
 }
 
+// Tells whether both are true or both are false.
 fn is_same(first: bool, second: bool) -> bool
     ensures { result ≡ same first second }
 {
     first == second
 }
 
-// The moment, or its rule.
+// Returns the moment if it is at most the last, else the rule that it breaks.
 #[tactic(auto, unfolding(crate::specs::Saved::timed))]
 fn timed(moment: u64) -> Result<u64, Misfit>
     ensures moment { result ≡ timed_of moment }
@@ -116,7 +130,7 @@ fn timed(moment: u64) -> Result<u64, Misfit>
     }
 }
 
-// The pair of its chips' cells, or the first rule that fails.
+// Returns the pair that its chips' cells describe, or the first rule that fails.
 #[tactic(auto, unfolding(crate::specs::Saved::by_chip))]
 fn restore_pair(
     level: u8,
@@ -142,7 +156,7 @@ fn restore_pair(
     }
 }
 
-// The timer chip of its cells, or the first rule that fails.
+// Returns the timer chip that its cells describe, or the first rule that fails.
 #[tactic(auto, unfolding(crate::specs::Saved::by_device, dev_base::specs::Hooks::hook_result))]
 fn restore_pit(level: u8, moment: u64, cells: &DevCells) -> Result<Pit, Misfit>
     requires pass { MayRestore (numbers_back level moment) }
@@ -155,7 +169,7 @@ fn restore_pit(level: u8, moment: u64, cells: &DevCells) -> Result<Pit, Misfit>
     })
 }
 
-// The serial port of its cells, or the first rule that fails.
+// Returns the serial port that its cells describe, or the first rule that fails.
 #[tactic(auto, unfolding(crate::specs::Saved::by_device, dev_base::specs::Hooks::hook_result))]
 fn restore_serial(level: u8, moment: u64, cells: &DevCells) -> Result<Serial, Misfit>
     requires pass { MayRestore (numbers_back level moment) }
@@ -168,7 +182,7 @@ fn restore_serial(level: u8, moment: u64, cells: &DevCells) -> Result<Serial, Mi
     })
 }
 
-// These numbers as cells; there is room for `MOST_CELLS`.
+// Returns these numbers as cells; there is room for `MOST_CELLS`.
 fn cells_of(numbers: &[i128]) -> DevCells
     requires { length numbers.now ≤ MOST_CELLS }
     ensures { result.items ≡ numbers.now }
@@ -178,14 +192,14 @@ fn cells_of(numbers: &[i128]) -> DevCells
     cells
 }
 
-// The cell of a moment.
+// Returns the cell of a moment.
 fn moment_cells(moment: u64) -> DevCells
     ensures { result.items ≡ pos moment ∷ [] }
 {
     cells_of(&[i128::from(moment)])
 }
 
-// The cells of two chips, one behind the other.
+// Returns the cells of two chips, one after the other.
 fn joined(master: &DevCells, slave: &DevCells) -> DevCells
     requires { length master.now.items + length slave.now.items ≤ MOST_CELLS }
     ensures { result.items ≡ master.now.items ++ slave.now.items }
@@ -195,7 +209,7 @@ fn joined(master: &DevCells, slave: &DevCells) -> DevCells
     cells
 }
 
-// The cells of two chips apart, as many of each.
+// Returns the cells of two chips separately, the same number of each.
 fn halves(cells: &DevCells) -> (DevCells, DevCells)
     requires { length cells.now.items ≤ MOST_CELLS }
     ensures master { result.0.items ≡ take (length cells.now.items / 2) cells.now.items }

@@ -1,8 +1,8 @@
-// What an event touches of what drives the lines.
+// What an event changes among the devices that drive the lines.
 ghost use Rattle.std.specs.Prelude.{◌≡◌};
 ghost use Rattle.dev_board.specs.Touch.{asks_timer as asks_timer_of, asks_port as asks_port_of, is_access as is_access_of, is_nothing as is_nothing_of};
 
-/// What an event touches, so that it is asked again before the lines are taken over.
+/// What an event touches, and so what must be computed again before the lines are updated.
 #[derive(Clone, Copy)]
 pub(crate) enum Touch {
     /// Nothing that drives a line.
@@ -13,7 +13,7 @@ pub(crate) enum Touch {
     Port,
     /// The pair itself.
     Access,
-    /// All that goes on with time: the timer chip and the serial port.
+    /// All that changes with time: the timer chip and the serial port.
     Time,
 }
 
@@ -25,14 +25,14 @@ impl Touch {
         matches!(self, Touch::Untouched)
     }
 
-    /// Tells whether OUT of counter 0 is asked again.
+    /// Tells whether OUT of counter 0 must be computed again.
     pub(crate) fn asks_timer(self) -> bool
         ensures { result ≡ asks_timer_of self }
     {
         matches!(self, Touch::Timer | Touch::Time)
     }
 
-    /// Tells whether the serial port's line is asked again.
+    /// Tells whether the serial port's line must be computed again.
     pub(crate) fn asks_port(self) -> bool
         ensures { result ≡ asks_port_of self }
     {
