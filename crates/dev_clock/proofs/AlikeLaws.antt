@@ -1,4 +1,4 @@
--- Devices that are alike answer each event alike.
+-- Devices that are alike give equal answers to each event.
 use Rattle.std.proofs.Common.{◌≡◌, ℕ, ◌==◌, Bool, true, false, cond, refl, sym, ap, subst, ◌∙◌}
 use Rattle.dev_board.proofs.AlikeLaws.{alike_stays as board_stays, stays-alike}
 use Rattle.dev_board.specs.Sound.{Alike as AlikeBoards}
@@ -16,7 +16,7 @@ use Rattle.dev_clock.specs.State.{ClockState}
 use Rattle.dev_clock.specs.Step.{on_board, waited, acted, follows_line, step}
 use Rattle.dev_clock.specs.declared.devices.TheConstants.{CLOCK_INPUT}
 
--- boards that are alike are at one moment
+-- Boards that are alike have the same moment.
 same-moment : (m n : State) → AlikeBoards m n → n.moment ≡ m.moment
 same-moment m n a = ap (λ (s : State). s.moment) a.same
 

@@ -1,4 +1,4 @@
--- No event changes the version, and a wait alone moves the moment.
+-- No event changes the version, and only a wait changes the moment.
 use Rattle.std.proofs.Common.{◌≡◌, ℕ, ◌==◌, refl, ◌∙◌}
 use Rattle.dev_base.proofs.Choices.{either}
 use Rattle.dev_board.proofs.ClockLaws.{answers_tell_int as board_tells_int, clock_goes_on as board_goes_on}

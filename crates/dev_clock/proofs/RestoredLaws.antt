@@ -1,4 +1,4 @@
--- What is restored is sound.
+-- Restored devices are sound.
 use Rattle.std.proofs.Common.{◌≡◌, ℕ, ℤ, Bool, true, false, cond, List, Result, Ok, Err, refl, sym, ap, ◌∙◌, arith}
 use Rattle.dev_base.proofs.RuleLaws.{judged-ok, ok-hook}
 use Rattle.dev_base.specs.Bits.{has, same}
@@ -29,7 +29,7 @@ use Rattle.dev_clock.specs.State.{ClockState}
 use Rattle.dev_clock.specs.declared.cells.ClockCells.{ClockCells}
 use Rattle.dev_clock.specs.declared.saved.TheConstants.{CLOCK_DEVICE, LINE_RULE, LINES_CELL}
 
--- devices are made of a chip and of a board's that were restored
+-- The devices are made of a chip and a board's devices that were restored.
 pub record IsMadeOf (of_clock : Result Rtc Misfit) (of_board : Result State Misfit) (m : ClockState) : Type 0 where
   pub clock : of_clock ≡ Ok m.clock
   pub board : of_board ≡ Ok m.board
@@ -42,7 +42,7 @@ made_of (Ok clock) (Ok board) m e =
     let is : record { clock = clock; board = board } ≡ m = cc in
     record { clock = ap (λ (o : ClockState). Ok o.clock) is; board = ap (λ (o : ClockState). Ok o.board) is }
 
--- a chip whose line the slave remembers
+-- A chip whose line the slave remembers.
 pub record IsLined (line : Bool) (outcome : Result Rtc ℕ) (clock : Rtc) : Type 0 where
   pub found : outcome ≡ Ok clock
   pub kept : line ≡ line_of clock

@@ -1,4 +1,5 @@
--- The devices are sound exactly where their cells in the newest clock set meet the rules and the lines agree.
+-- The devices are sound exactly if their cells in the newest clock set meet the rules and the lines
+-- agree.
 use Rattle.std.proofs.Common.{◌≡◌, ℕ, Ok, sym, ap, subst, ◌∙◌}
 use Rattle.dev_base.proofs.RuleLaws.{AllTrue, judged-ok, none_failing}
 use Rattle.dev_base.specs.Bits.{has}
@@ -25,7 +26,7 @@ use Rattle.dev_clock.specs.Sound.{IsSound}
 use Rattle.dev_clock.specs.State.{ClockState}
 use Rattle.dev_clock.specs.declared.saved.TheConstants.{CLOCK_DEVICE}
 
--- the slave's line among what is saved of a sound board
+-- The slave's line among the saved cells of a sound board.
 slave-there : (board : State) → IsSoundBoard board → slave_line (board_saved NEWEST board).slave.items ≡ has (lines_of board.pair) 8
 unfolding board_saved chip_cells first_cells
 slave-there board s = sym (slave-bit board.pair s.pair)
@@ -50,7 +51,7 @@ module _ (m : ClockState) (s : IsSound m) where
     both-kept m.clock board-own.0 _ _ (device-kept CLOCK_DEVICE m.clock _ (line-kept _ m.clock _ chip-own (slave-there m.board s.board ∙ s.line))) board-own.1,
   )
 
--- the other way
+-- The converse.
 module _ (m : ClockState) (t : IsTold m) (n : ClockState) (e : restored m.clock.version (saved NEWEST_CLOCK m) ≡ Ok n) where
   made : IsMadeOf (clock_back m.clock.version (slave_line (board_saved NEWEST m.board).slave.items) (saved_cells NEWEST_CLOCK m.clock)) (board_restored NEWEST (board_saved NEWEST m.board)) n
   unfolding saved

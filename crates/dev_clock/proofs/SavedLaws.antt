@@ -1,4 +1,4 @@
--- What is saved of a clock board's devices comes back.
+-- What is saved of a clock board's devices can be restored.
 use Rattle.std.proofs.Common.{◌≡◌, ℕ, ℤ, ◌≤◌, Bool, List, Result, Ok, refl, sym, ap, subst, ◌∙◌, arith}
 use Rattle.dev_base.proofs.RuleLaws.{hook-ok}
 use Rattle.dev_base.specs.Bits.{has}
@@ -25,7 +25,7 @@ use Rattle.dev_clock.specs.Sound.{IsSound, Alike}
 use Rattle.dev_clock.specs.State.{ClockState}
 use Rattle.dev_clock.specs.declared.saved.TheConstants.{CLOCK_DEVICE, LINES_CELL}
 
--- the chip where its rules hold, and the devices where no fault is found
+-- The chip if its rules hold, and the devices if there is no fault.
 pub line-kept : (line : Bool) (clock : Rtc) (outcome : Result Rtc ℕ) → outcome ≡ Ok clock → line ≡ line_of clock → with_line line outcome ≡ Ok clock
 unfolding with_line
 line-kept line clock outcome e l = rw (e, same-refl line (line_of clock) l) refl

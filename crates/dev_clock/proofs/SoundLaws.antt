@@ -1,4 +1,4 @@
--- The devices are sound at power on, and each event keeps them so.
+-- The devices are sound at power on, and each event keeps them sound.
 use Rattle.std.proofs.Common.{◌≡◌, ℕ, ◌<◌, ◌==◌, Bool, List, [], ◌∷◌, refl, sym, subst, ◌∙◌, arith}
 use Rattle.dev_base.proofs.Choices.{either}
 use Rattle.dev_base.specs.Bits.{has}
@@ -54,7 +54,7 @@ waited-has : (ns : ℕ) (m : ClockState) → HasDevices m → HasDevices (waited
 unfolding waited
 waited-has ns m h = record { clock = calls_keep_sound.passed m.board.moment _ m.clock h.clock; level = board_goes_on.level (Wait ns) m.board ∙ h.level }
 
--- the same of what a call gave
+-- The same for what a call returned.
 pub after-read : (m : ClockState) → HasDevices m → (port value : ℕ) (after : Rtc) → (value, after) ≡ read_of port m.clock → HasDevices (record m { clock = after })
 after-read m h port value after e = subst (λ (r : ℕ × Rtc). HasDevices (record m { clock = r.1 })) (sym e) (read-has port m h)
 
@@ -67,7 +67,7 @@ after-wait m h ns from to answer after clock e f = record {
   level = (after-event m h (Wait ns) answer after e).level;
 }
 
--- and once the board's input has the chip's line
+-- The same after the board's input has the chip's line.
 pub after-line : (m : ClockState) → HasDevices m → (up : Bool) (answer : Answer) (after : State) → up ≡ line_of m.clock → (answer, after) ≡ board_step (Wire CLOCK_INPUT up) m.board → IsSoundBoard after → IsSound (record m { board = after })
 after-line m h up answer after l e s = record {
   devices = after-event m h (Wire CLOCK_INPUT up) answer after e;

@@ -18,65 +18,71 @@ use Rattle.dev_clock.specs.State.{ClockState}
 use Rattle.dev_clock.specs.declared.cells.ClockCells.{ClockCells}
 use Rattle.dev_clock.specs.declared.saved.TheConstants.{CLOCK_DEVICE, LINE_RULE, LINES_CELL}
 
--- they may be saved under this clock set: one from the chip's version to the newest
+-- `MaySaveUnder version set`: devices of this version may be saved in this clock set, one from the
+-- version to the newest.
 abbrev pub MaySaveUnder : (version set : ℕ) → Type 0
 MaySaveUnder version set = ReachesSet NEWEST_CLOCK version set
 
--- the cells under a clock set. The board's devices have those of the newest shipped set in each
+-- `saved set m` has the cells of the devices in the clock set. The board's devices have those of
+-- the newest shipped set in each.
 unfoldable pub saved : ℕ → ClockState → ClockCells
 saved set m = record { clock = record { items = saved_cells set m.clock }; board = board_saved NEWEST m.board }
 
--- the cells of a clock set at their places in the newest one, with defaults elsewhere
+-- `carried set cells` has the cells of the newest clock set that the cells, of `set`, are carried
+-- to, with defaults where `set` has none.
 unfoldable pub carried : ℕ → ClockCells → ClockCells
 carried set cells = record {
   clock = record { items = clock_carried set cells.clock.items };
   board = board_carried NEWEST cells.board;
 }
 
--- normal cells of a clock set, where each subsection that isn't needed is at its defaults
+-- `AreSavedCells set cells`: they are normal cells in the clock set, and each subsection that isn't
+-- needed is at its defaults.
 pub record AreSavedCells (set : ℕ) (cells : ClockCells) : Type 0 where
   pub clock : AreOf (kinds set) cells.clock.items
   pub board : AreBoardSaved NEWEST cells.board
 
--- normal cells of the newest clock set
+-- `AreClockCells cells`: they are normal cells in the newest clock set.
 pub record AreClockCells (cells : ClockCells) : Type 0 where
   pub clock : AreOf (kinds NEWEST_CLOCK) cells.clock.items
   pub board : AreBoardCells cells.board
 
--- the numbers of the pass that restores the chip
+-- `numbers_back version moment` has the numbers of the pass that restores the chip.
 abbrev pub numbers_back : ℕ → ℕ → Numbers
 numbers_back version moment = record { level = version; set = NEWEST_CLOCK; moment = moment }
 
--- the line at the slave's first input, as the slave's cells have it
+-- `slave_line cells` is the line at the slave's first input, as the slave's cells have it.
 abbrev pub slave_line : List ℤ → Bool
 slave_line cells = has (number_at cells LINES_CELL) 0
 
--- the chip where the slave remembers its line as it is
+-- `with_line line outcome` is the chip, if its rules hold and the slave remembers its line as it
+-- is.
 unfoldable pub with_line : Bool → Result Rtc ℕ → Result Rtc ℕ
 with_line line (Err rule) = Err rule
 with_line line (Ok clock) = if same line (line_of clock) then Ok clock else Err LINE_RULE
 
--- the chip of cells, or the first rule that fails of its four
+-- `clock_back version line cells` is the chip that the cells describe, or the first of its four
+-- rules that fails.
 abbrev pub clock_back : ℕ → Bool → List ℤ → Result Rtc Misfit
 clock_back version line cells = by_device CLOCK_DEVICE (with_line line (clock_restored version cells))
 
--- a misfit of a board names one of its five devices
+-- `IsPlaced misfit`: the misfit of a board names one of its five devices.
 abbrev pub IsPlaced : Misfit → Type 0
 IsPlaced (Unsound device rule) = device ≤ 4
 IsPlaced (LinesDisagree device) = device ≤ 4
 
--- the board's devices come one place later than in a shipped set
+-- `later misfit` is the misfit with its device one place later than in a shipped set.
 unfoldable pub later : Misfit → Misfit
 later (Unsound device rule) = Unsound (device + 1) rule
 later (LinesDisagree device) = LinesDisagree (device + 1)
 
--- the first fault, or the chip beside the board's devices
+-- `joined clock board` is the chip and the board's devices, or the first fault.
 unfoldable pub joined : Result Rtc Misfit → Result State Misfit → Result ClockState Misfit
 joined (Err misfit) board = Err misfit
 joined (Ok clock) (Err misfit) = Err (later misfit)
 joined (Ok clock) (Ok board) = Ok (record { clock = clock; board = board })
 
--- the devices of a version that cells of the newest clock set tell
+-- `restored version cells` is the devices that cells of the newest clock set describe.
 abbrev pub restored : ℕ → ClockCells → Result ClockState Misfit
 restored version cells =
     joined (clock_back version (slave_line cells.board.slave.items) cells.clock.items) (board_restored NEWEST cells.board)

@@ -17,15 +17,18 @@ use dev_board::{Answer, Devices, Event};
 use std::marker::Model;
 use vms_rtc::Rtc;
 
-/// The input of the board that the chip's interrupt line drives, the slave's first.
+/// The pair's input that the chip's interrupt line drives: the slave's first.
 pub(crate) const CLOCK_INPUT: u8 = 8;
 
 /// A clock chip beside the devices of a board of the newest level, at a present moment.
 ///
-/// Versions are 1 and 2. Moments are those of the board's devices.
+/// Versions are 1 and 2. Moments are nanoseconds after power on, at most `LAST_MOMENT`, as those of
+/// the board's devices.
 #[derive(Drop)]
 pub struct ClockDevices {
+    /// The clock chip.
     pub(crate) clock: Rtc,
+    /// The board's devices, of the newest level.
     pub(crate) board: Devices,
 }
 
@@ -47,7 +50,11 @@ impl ClockDevices {
     ghost use Rattle.dev_clock.specs.State.{power_on};
     ghost use Rattle.dev_clock.specs.Step.{acted, clock_read, clock_written, has_port, step, waited};
 
-    /// The devices of a version at power on.
+    /// Returns the devices at power on, with a chip of version `version`, 1 or 2.
+    ///
+    /// # Requires
+    ///
+    /// `version` is one that clock chips have, 1 or 2.
     #[tactic(auto, unfolding(crate::specs::State::power_on))]
     pub fn new(version: u8) -> ClockDevices
         requires { IsUpTo NEWEST_CLOCK version }
@@ -60,14 +67,14 @@ impl ClockDevices {
         }
     }
 
-    /// The version of the chip, 1 or 2.
+    /// Returns the version of the chip, 1 or 2.
     pub fn version(&self) -> u8
         ensures { result ≡ self.now.clock.version }
     {
         self.clock.version()
     }
 
-    /// The present moment.
+    /// Returns the present moment, in nanoseconds after power on; at most `LAST_MOMENT`.
     pub fn now(&self) -> u64
         ensures moment { result ≡ self.now.board.moment }
         ensures last { result ≤ LAST_MOMENT }
@@ -75,11 +82,19 @@ impl ClockDevices {
         self.board.now()
     }
 
-    /// Lets an event happen, then lets the board's input take the chip's line, and answers. The value and the
-    /// bytes are those of the event, and the output is that after the input. The devices are sound afterwards.
+    /// Applies `event`, then updates the board's input from the chip's line, and returns the
+    /// answer.
     ///
-    /// The ports 0x70 and 0x71 are the chip's, and its input is no wire: one that names it changes nothing. Other
-    /// events are the board's, and time passes for the chip too.
+    /// The answer's value and bytes are those of the event; its interrupt output is that after the
+    /// input's update. The devices are sound afterwards.
+    ///
+    /// The ports 0x70 and 0x71 are the chip's. Its input is driven by the chip, so an event that
+    /// names it as a wire changes nothing. Other events are the board's, and time passes for the
+    /// chip too.
+    ///
+    /// # Requires
+    ///
+    /// If `event` is a [`Event::Wire`], its input is one of 1, 3, 5, 6, 7 and 8 to 15.
     #[tactic(auto, unfolding(crate::specs::Step::step, crate::specs::Step::follows_line))]
     pub fn event(&mut self, event: Event) -> Answer
         requires wire { IsTrue (names_wire event) }
@@ -105,7 +120,12 @@ impl ClockDevices {
         self.board.int()
     }
 
-    /// Tells whether OUT of counter `counter` of the timer chip, 0 to 2, is high at the present moment.
+    /// Tells whether OUT of counter `counter` of the timer chip, 0 to 2, is high at the present
+    /// moment.
+    ///
+    /// # Requires
+    ///
+    /// `counter` is below 3.
     pub fn output(&self, counter: u8) -> bool
         requires { counter < 3 }
         ensures { result ≡ pit_out counter self.now.board.moment self.now.board.pit }
@@ -113,15 +133,17 @@ impl ClockDevices {
         self.board.output(counter)
     }
 
-    /// Tells whether the clock chip or a device of the board is behind the port `port`.
+    /// Tells whether the clock chip or a device of the board has the port `port`.
     pub fn has_port(&self, port: u16) -> bool
         ensures { result ≡ has_port port self.now }
     {
         Rtc::is_port(port) || self.board.has_port(port)
     }
 
-    /// Returns how many bytes may arrive on the serial line before one is lost: up to 16 with FIFOs, else 1
-    /// or 0. It is 0 in loop mode, in which bytes on the line are ignored.
+    /// Returns how many bytes may arrive on the serial line before one is lost.
+    ///
+    /// It is up to 16 with FIFOs, else 1 or 0. It is 0 in loop mode, which ignores bytes on the
+    /// line.
     pub fn room(&self) -> u8
         ensures { result ≡ room_of self.now.board.serial }
     {
@@ -135,7 +157,7 @@ impl ClockDevices {
         self.board.character()
     }
 
-    // What an event does before the chip's line is taken over.
+    // Applies an event, before the board's input is updated from the chip's line.
     #[tactic(auto, unfolding(crate::specs::Step::acted))]
     fn act(&mut self, event: Event) -> Answer
         requires { IsTrue (names_wire event) }
@@ -170,7 +192,7 @@ impl ClockDevices {
         saying(None)
     }
 
-    // Lets time pass on the board, and on the chip as far as the board's moment goes on.
+    // Lets time pass on the board, and on the chip as far as the board's moment advances.
     #[tactic(auto, unfolding(crate::specs::Step::waited))]
     fn wait(&mut self, ns: u64) -> Answer
         ensures { (result, self.new) ≡ waited ns self.old }
@@ -182,7 +204,7 @@ impl ClockDevices {
     }
 }
 
-// An answer of the chip.
+// Returns an answer of the chip, without bytes.
 #[tactic(auto, unfolding(crate::specs::Step::saying))]
 fn saying(value: Option<u8>) -> Answer
     ensures { result ≡ saying_of value }

@@ -3,65 +3,78 @@ ghost use Rattle.dev_clock.specs.Laws.{SoundStays, ClockGoesOn, AnswersTellInt, 
 ghost use Rattle.dev_clock.specs.SavedLaws.{SavedAreCells, SavedComesBack, SavedGoesOn, RestoredIsSound, SoundMeetsRules};
 ghost use Rattle.dev_clock.specs.SheetNumbers.{NumbersAre};
 
-/// The devices are sound at power on, and each event and each list of events keeps them so.
+/// States that the devices are sound at power on, and that each event and list of events keeps them
+/// sound.
 #[tactic(auto, using(crate::proofs::SoundLaws::sound_stays_on))]
 pub fn sound_law()
     ensures { SoundStays }
 {}
 
-/// A wait alone moves the moment, by its nanoseconds and not beyond the last moment, and no event changes the
-/// version.
+/// States that only a wait changes the moment, by its nanoseconds and not beyond the last moment.
+///
+/// No event changes the version.
 #[tactic(auto, using(crate::proofs::ClockLaws::clock_goes_on))]
 pub fn clock_law()
     ensures { ClockGoesOn }
 {}
 
-/// An answer tells the interrupt output after its event.
+/// States that an answer holds the interrupt output after its event.
 #[tactic(auto, using(crate::proofs::ClockLaws::answers_tell_int))]
 pub fn int_law()
     ensures { AnswersTellInt }
 {}
 
-/// Devices that are alike answer each event, and each list of events, equally, and are alike afterwards.
+/// States that devices that are alike give equal answers to each event and each list of events.
+///
+/// They are alike afterwards, too.
 #[tactic(auto, using(crate::proofs::AlikeLaws::alike_stays))]
 pub fn alike_law()
     ensures { AlikeStays }
 {}
 
-/// What is saved of sound devices under a clock set from their version on are normal cells of that set.
+/// States that sound devices are saved in normal cells of the clock set, for any from their version
+/// on.
 #[tactic(auto, using(crate::proofs::SavedLaws::saved_are_cells))]
 pub fn cells_law()
     ensures { SavedAreCells }
 {}
 
-/// What is saved of sound devices under any clock set from their version on, carried to the newest, may be
-/// restored and gives devices like them.
+/// States that the saved cells of sound devices, carried to the newest clock set, restore devices
+/// like them.
+///
+/// This is so for any clock set from their version to the newest.
 #[tactic(auto, using(crate::proofs::SavedLaws::saved_comes_back))]
 pub fn saved_law()
     ensures { SavedComesBack }
 {}
 
-/// The devices that come back answer every list of events as the saved ones.
+/// States that the restored devices give the same answers to every list of events as the saved
+/// ones.
 #[tactic(auto, using(crate::proofs::SavedLaws::saved_goes_on))]
 pub fn continuation_law()
     ensures { SavedGoesOn }
 {}
 
-/// What is restored is sound, and has the version of the restore.
+/// States that restored devices are sound and have the version of the restore.
 #[tactic(auto, using(crate::proofs::RestoredLaws::restored_is_sound))]
 pub fn restored_law()
     ensures { RestoredIsSound }
 {}
 
-/// Devices that a stream can tell are sound exactly where no rule fails, nor that of the lines, of what the newest clock set
-/// saves of them.
+/// States that devices that a stream can describe are sound exactly if their cells can be restored.
+///
+/// The cells are those of the newest clock set. They can be restored if no rule fails and the lines
+/// agree.
 #[tactic(auto, using(crate::proofs::RuleLaws::sound_meets_rules))]
 pub fn rules_law()
     ensures { SoundMeetsRules }
 {}
 
-/// States the input of the pair that the chip drives, the place of the chip among the devices of a set, and the number of its
-/// rule on that input, which a refusal names.
+/// States the numbers of the clock board: the input that the chip drives, and the chip's place and
+/// rule.
+///
+/// The place is that among the devices of a set. The rule is the one on that input. A refusal names
+/// both.
 #[tactic(auto, using(crate::proofs::SheetNumbers::numbers_are))]
 pub fn numbers_law()
     ensures { NumbersAre }

@@ -1,5 +1,5 @@
-//! The devices of a clock board: those of a board of the newest level, and a clock chip whose interrupt line
-//! drives the slave's first input.
+//! The devices of a clock board: those of a board of the newest level, and a clock chip. The chip's
+//! interrupt line drives the slave's first input.
 #![tactic(auto)]
 
 mod cells;

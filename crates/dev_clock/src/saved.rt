@@ -15,20 +15,25 @@ use dev_board::{Devices, Misfit};
 use vms_kinds::DevCells;
 use vms_rtc::{NEWEST_CLOCK, Rtc};
 
-/// The place of the chip among the devices of a clock set; those of the board follow.
+/// The place of the chip among the devices of a clock set; those of the board are next.
 pub(crate) const CLOCK_DEVICE: u32 = 0;
 
-/// The chip's rule that the slave remembers its line, which follows the three of its own cells.
+/// The number of the rule that the slave remembers the chip's line, after the three rules of its
+/// own cells.
 pub(crate) const LINE_RULE: u8 = 4;
 
-/// The place of the remembered lines among a chip's cells.
+/// The place of the remembered lines among the cells of an 8259A.
 pub(crate) const LINES_CELL: usize = 3;
 
 impl ClockDevices {
     ghost use Rattle.dev_clock.specs.Saved.{AreClockCells, MaySaveUnder, restored, saved};
     ghost use Rattle.dev_clock.specs.Sound.{IsSound};
 
-    /// The cells of the devices under a clock set, one from the chip's version to the newest.
+    /// Returns the cells of the devices in clock set `set`.
+    ///
+    /// # Requires
+    ///
+    /// `set` is from the chip's version to the newest clock set.
     #[tactic(auto, unfolding(crate::specs::Saved::saved))]
     pub fn cells(&self, set: u8) -> ClockCells
         requires { MaySaveUnder self.now.clock.version set }
@@ -40,11 +45,20 @@ impl ClockDevices {
         }
     }
 
-    /// The devices of a version of their cells in the newest clock set, each in its kind's range.
+    /// Returns the devices that `cells`, of the newest clock set, describe, with a chip of version
+    /// `version`.
     ///
-    /// Refused is the first rule that fails, the chip's before those of the board's devices, and then lines that
-    /// the master remembers otherwise than the devices have them. The chip's fourth rule is that the slave
-    /// remembers its line as it is.
+    /// # Requires
+    ///
+    /// `version` is 1 or 2. Each of `cells` fits its kind, and absent ones are at defaults.
+    ///
+    /// # Errors
+    ///
+    /// - [`Misfit::Unsound`]: a device breaks a rule. The first is named; the chip's rules come
+    ///   before those of the board's devices. The chip's rule 4 is that the slave remembers its
+    ///   line as it is.
+    /// - [`Misfit::LinesDisagree`]: no rule fails, but the master remembers other lines than the
+    ///   devices have.
     #[tactic(auto, unfolding(crate::specs::Saved::joined))]
     pub fn of_cells(version: u8, cells: &ClockCells) -> Result<ClockDevices, Misfit>
         requires version { IsUpTo NEWEST_CLOCK version }
@@ -62,7 +76,7 @@ impl ClockDevices {
     }
 }
 
-// The line at the slave's first input, as its cells have it.
+// Returns the line at the slave's first input, as the slave's cells have it.
 fn slave_line(slave: &DevCells) -> bool
     requires { IsChipCells slave.now.items }
     ensures { result ≡ slave_line_of slave.now.items }
@@ -70,7 +84,8 @@ fn slave_line(slave: &DevCells) -> bool
     has(byte_at(slave, LINES_CELL), 0)
 }
 
-// The chip of its cells, or the first rule that fails, where the slave remembers this line.
+// Returns the chip that its cells describe, or the first rule that fails; the slave remembers
+// `line`.
 #[tactic(auto, unfolding(crate::specs::Saved::with_line, dev_board::specs::Saved::by_device, dev_base::specs::Hooks::hook_result))]
 fn restore_clock(version: u8, moment: u64, line: bool, cells: &DevCells) -> Result<Rtc, Misfit>
     requires version { IsUpTo NEWEST_CLOCK version }
@@ -84,6 +99,7 @@ fn restore_clock(version: u8, moment: u64, line: bool, cells: &DevCells) -> Resu
     }
 }
 
+// Returns the fault that the chip breaks this rule.
 fn unsound(rule: u8) -> Misfit
     ensures { result ≡ Misfit.Unsound CLOCK_DEVICE rule }
 {
@@ -93,13 +109,14 @@ fn unsound(rule: u8) -> Misfit
     }
 }
 
+// Tells whether both are true or both are false.
 fn is_same(first: bool, second: bool) -> bool
     ensures { result ≡ same first second }
 {
     first == second
 }
 
-// Why the board's cells are no board's, where its devices come one place later.
+// Returns the board's fault, with its device one place later.
 #[tactic(auto, unfolding(crate::specs::Saved::later))]
 fn later(misfit: Misfit) -> Misfit
     requires { IsPlaced misfit }
