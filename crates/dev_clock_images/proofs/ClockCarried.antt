@@ -1,4 +1,5 @@
--- What is saved of sound devices is carried to the newest clock set as their tables say, and comes back.
+-- What is saved of sound devices is carried to the newest clock set as their tables say, and can be
+-- restored.
 use Rattle.std.proofs.Common.{◌≡◌, ℕ, zero, suc, ◌≤◌, Bool, true, false, List, ◌∷◌, get_or, ℤ, pos, refl, sym, ap, subst, ◌∙◌, arith}
 use Rattle.arrayvec.specs.ArrayVec.{ArrayVec}
 use Rattle.dev_base.specs.Cells.{AreOf}
@@ -56,7 +57,7 @@ board-2 : (numbers : List ℤ) (cells : BoardCells) → board_from 1 (numbers_in
 unfolding carried first
 board-2 numbers cells = refl
 
--- and so is the chip in front of them
+-- So is the chip before them.
 chip-first-1 : (numbers : List ℤ) (lists : List (List ℤ)) → list_at (numbers_in (carried clock_1 clock_2 (images_of clock_1 clock_1.devices (numbers ∷ lists)))) 0 ≡ record { items = chip_numbers clock_1 mc146818_at_1 numbers }
 unfolding carried first
 chip-first-1 numbers lists = refl

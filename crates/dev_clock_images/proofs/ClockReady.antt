@@ -1,4 +1,4 @@
--- What is saved of sound devices are ready images.
+-- Sound devices are saved in ready images.
 use Rattle.std.proofs.Common.{◌≡◌, ℕ, zero, suc, ◌≤◌, List, ◌∷◌, length, Some, ℤ, ap, subst, ◌∙◌, arith}
 use Rattle.std.specs.List.{slice_get}
 use Rattle.dev_base.specs.declared.limits.TheConstants.{NEWEST}
@@ -21,7 +21,7 @@ use Rattle.dev_clock_images.proofs.ChipReady.{chip_is_ready}
 use Rattle.dev_clock_images.proofs.Inner.{outer, inner_ready, images_same}
 use Rattle.dev_clock_images.specs.Laws.{SavedAreReady}
 
--- a device's image in front of those of set 4
+-- A device's image before those of set 4.
 module _ (machines : List (List ℕ)) (d : Device) (numbers : List ℤ) (lists : List (List ℤ)) where
   abbrev behind : List Image
   behind = images_of (outer machines d) set_4.devices lists

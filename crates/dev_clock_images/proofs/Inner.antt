@@ -1,4 +1,4 @@
--- Images of the devices that stand behind the first of a set: the others, and the structures, are those of the newest shipped set.
+-- Images of the devices after the first of a set: these devices, and the structures, are those of the newest shipped set.
 use Rattle.std.proofs.Common.{◌≡◌, ℕ, suc, Some, None, List, [], ◌∷◌, ℤ, if◌then◌else◌, refl, ap, ◌∙◌, Option}
 use Rattle.vms_spec.specs.Images.{Image, IsNormal}
 use Rattle.vms_spec.specs.Sets.{Sub, Device, Set}
@@ -21,7 +21,7 @@ module _ (machines : List (List ℕ)) (d : Device) where
     needed = r.needed;
   }
 
-  -- an image needs the same subsections
+  -- An image needs the same subsections.
   needed-same : (e : Device) (image : Image) (j : ℕ) (subs : List Sub) → needed_from (outer machines d) e image j subs ≡ needed_from set_4 e image j subs
   needed-same e image j [] = refl
   needed-same e image j (s ∷ subs) =

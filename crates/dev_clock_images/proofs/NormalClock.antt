@@ -1,4 +1,4 @@
--- Normal images of the newest clock set have the cells that devices may be restored from.
+-- Normal images of the newest clock set have the cells that a restore of the devices requires.
 use Rattle.std.proofs.Common.{◌≡◌, ℕ, suc, List, [], ◌∷◌, length, Some, refl, arith}
 use Rattle.std.specs.List.{slice_get}
 use Rattle.dev_base.specs.Cells.{AreOf}

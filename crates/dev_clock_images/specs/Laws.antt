@@ -1,4 +1,4 @@
--- Laws of the images of a clock board's devices that contracts name.
+-- The laws of the images of a clock board's devices that contracts name.
 use Rattle.std.specs.Prelude.{◌≡◌, ℕ, ◌≤◌, List, ◌∷◌, length, Some, Ok, ℤ}
 use Rattle.std.specs.List.{slice_get}
 use Rattle.dev_base.specs.Cells.{AreOf}
@@ -22,39 +22,43 @@ use Rattle.vms_spec.specs.Sets.{Device}
 use Rattle.vms_spec.specs.Streams.{AreReady}
 use Rattle.dev_clock_images.specs.Images.{saved_images, cells_in}
 
--- the kinds of the cells of the devices are those that they save
+-- In each clock set the devices' cells have the kinds that the devices save.
 pub record KindsLaw : Type 0 where
   pub first : kinds_in clock_1 ≡ kinds 1 ∷ kinds_saved NEWEST
   pub second : kinds_in clock_2 ≡ kinds 2 ∷ kinds_saved NEWEST
 
--- each clock set is compatible with the newest
+-- Each clock set is compatible with the newest.
 pub record SetsAreCompatible : Type 0 where
   pub newest : (set : ℕ) → 1 ≤ set → set ≤ NEWEST_CLOCK → Compatible (clock_set set) (clock_set NEWEST_CLOCK)
 
--- an image of cells that are the chip's is ready
+-- The image of the chip's cells is ready in each clock set (docs/format.md, "Which images may be
+-- written").
 pub record ChipIsReady : Type 0 where
   pub first : (numbers : List ℤ) → AreOf (kinds 1) numbers → ReadyOf clock_1 mc146818_at_1 numbers
   pub second : (numbers : List ℤ) → AreOf (kinds 2) numbers → ReadyOf clock_2 mc146818_at_2 numbers
 
--- what is saved of sound devices under a clock set from their version on are ready images of the set
+-- Sound devices are saved in ready images of the clock set, for any from their version on.
 pub record SavedAreReady : Type 0 where
   pub images : (set : ℕ) (m : ClockState) → IsSound m → MaySaveUnder m.clock.version set → AreReady (clock_set set) (saved_images set m)
 
--- what a comparison of sets carries of saved images to the newest set has the cells that the devices' own tables carry
+-- A comparison of sets carries saved images to the newest set as the devices' own tables carry
+-- their cells.
 pub record SavedIsCarried : Type 0 where
   pub cells : (set : ℕ) (m : ClockState) → IsSound m → MaySaveUnder m.clock.version set
       → cells_in (carried (clock_set set) (clock_set NEWEST_CLOCK) (saved_images set m)) ≡ clock_carried set (saved set m)
 
--- images saved of sound devices under any clock set from their version on, carried to the newest, give devices like them
+-- Images saved of sound devices in any clock set from their version on, carried to the newest, give
+-- devices like them.
 pub record ImagesComeBack : Type 0 where
   pub back : (set : ℕ) (m : ClockState) → IsSound m → MaySaveUnder m.clock.version set
       → ComesBack m.clock.version (cells_in (carried (clock_set set) (clock_set NEWEST_CLOCK) (saved_images set m))) m
-  -- and the devices that come back answer every list of events as the saved ones
+  -- The restored devices give the same answers to every list of events as the saved ones.
   pub answers : (set : ℕ) (m back : ClockState) (events : List Event) → IsSound m → MaySaveUnder m.clock.version set
       → restored m.clock.version (cells_in (carried (clock_set set) (clock_set NEWEST_CLOCK) (saved_images set m))) ≡ Ok back
       → observe events back ≡ observe events m
 
--- normal images of the newest clock set, one for each device, have the cells that devices may be restored from
+-- Normal images of the newest clock set, one for each device, have the cells that a restore of the
+-- devices requires.
 pub record NormalMayBeRestored : Type 0 where
   pub cells : (images : List Image) → length images ≡ length (clock_set NEWEST_CLOCK).devices
       → ((k : ℕ) (d : Device) (image : Image) → slice_get (clock_set NEWEST_CLOCK).devices k ≡ Some d → slice_get images k ≡ Some image

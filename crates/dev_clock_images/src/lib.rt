@@ -1,4 +1,4 @@
-//! The images of a clock board's devices under the clock sets.
+//! The images of a clock board's devices in the clock sets.
 #![tactic(auto)]
 
 mod laws;

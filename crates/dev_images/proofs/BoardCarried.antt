@@ -1,4 +1,5 @@
--- What is saved of a sound board is carried to the newest set as its devices' tables say, and comes back.
+-- What is saved of a sound board is carried to the newest set as its devices' tables say, and can
+-- be restored.
 use Rattle.std.proofs.Common.{◌≡◌, ℕ, zero, suc, ◌≤◌, List, ℤ, refl, sym, ap, subst, ◌∙◌, arith}
 use Rattle.dev_base.specs.declared.limits.TheConstants.{NEWEST}
 use Rattle.dev_board.proofs.SavedLaws.{saved_are_cells, saved_comes_back, saved_goes_on}

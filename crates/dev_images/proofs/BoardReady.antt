@@ -1,4 +1,4 @@
--- What is saved of a sound board are ready images.
+-- A sound board is saved in ready images.
 use Rattle.std.proofs.Common.{◌≡◌, ℕ, zero, suc, ◌≤◌, List, [], ◌∷◌, length, Some, ℤ, refl, ap, subst, arith}
 use Rattle.std.specs.List.{slice_get}
 use Rattle.dev_base.specs.declared.limits.TheConstants.{NEWEST}
@@ -16,7 +16,7 @@ use Rattle.dev_images.proofs.PitReady.{pit_is_ready}
 use Rattle.dev_images.proofs.SerialReady.{serial_is_ready}
 use Rattle.dev_images.proofs.TimerReady.{timer_is_ready}
 
--- each device's image is ready
+-- Each device's image is ready.
 AllReady : Set → List Device → List (List ℤ) → Type 0
 AllReady set [] [] = Unit {0}
 AllReady set [] (numbers ∷ lists) = ⊥

@@ -15,7 +15,7 @@ one [] e = absurd (omega arith)
 one (z ∷ []) e = refl
 one (z ∷ y ∷ rest) e = absurd (omega arith)
 
--- from any set: the moment is no structure
+-- From any set, since the moment is no structure.
 timer-carried : (set : Set) (numbers : List ℤ) → AreOf timer_kinds numbers → carried_numbers set timer timer numbers ≡ numbers
 unfolding first
 timer-carried set numbers are = one numbers are.count

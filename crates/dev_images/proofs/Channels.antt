@@ -1,4 +1,5 @@
--- A channel of the timer chip among an image's cells, by the place of its first: two of its cells may be absent.
+-- A channel of the timer chip among an image's cells, by the place of its first. Two of its cells
+-- may be absent.
 use Rattle.std.proofs.Common.{◌≡◌, ℕ, zero, suc, ◌==◌, Bool, true, false, not, ◌&&◌, ◌||◌, cond, List, [], ◌∷◌, ◌++◌, get_or, map, ℤ, pos, refl, sym, ap, ◌∙◌, subst}
 use Rattle.std.proofs.lemmas.Bool.{and_parts, and_from, eq-eqb, not-true, or_from}
 use Rattle.std.proofs.Math.Bool.{and-true}
@@ -14,19 +15,19 @@ use Rattle.vms_spec.specs.Shipped.{set_1}
 use Rattle.dev_images.proofs.ChipReady.{needs}
 use Rattle.dev_images.proofs.ReadyOf.{are_kept, kept-left, kept-right, or-lift, has-none}
 
--- ---- cells one behind the other, each with whether it is there
+-- ---- cells one after the other, each with whether it is present
 
 abbrev pub run_slots : ℕ → List (Bool × Cell) → List Slot → List Slot
 run_slots at [] rest = rest
 run_slots at (c ∷ cells) rest = cond c.0 (Number at c.1.kind c.1.capacities ∷ []) [] ++ run_slots (suc at) cells rest
 
--- each is there or at its default
+-- Each is present or at its default.
 abbrev pub all_settled : List ℤ → ℕ → List (Bool × Cell) → Bool
 all_settled numbers at [] = true
 all_settled numbers at (c ∷ cells) =
     (c.0 || same_number (get_or numbers at (pos 0)) c.1.default) && all_settled numbers (suc at) cells
 
--- none of them is there at a place
+-- None of them is present at a place.
 abbrev pub none_at : ℕ → List (Bool × Cell) → ℕ → Bool
 none_at at [] k = true
 none_at at (c ∷ cells) k = not ((at == k) && c.0) && none_at (suc at) cells k
@@ -61,7 +62,7 @@ run-none at ((false, cell) ∷ cells) rest k e out =
 
 -- ---- a channel
 
--- the place so many cells behind one
+-- The place a number of cells after another.
 abbrev pub behind : ℕ → ℕ → ℕ
 behind zero at = at
 behind (suc n) at = behind n (suc at)
@@ -69,30 +70,30 @@ behind (suc n) at = behind n (suc at)
 abbrev plain : Kind → Cell
 plain kind = record { kind = kind; capacities = []; default = pos 0 }
 
--- its cells: its ninth and its last stand in the bytes where the flag before is set
+-- Its cells: the ninth and the last are in the bytes if the flag before them is set.
 abbrev pub channel : List ℤ → ℕ → List (Bool × Cell)
 channel numbers at =
     (true, plain U16) ∷ (true, plain U8) ∷ (true, plain U8) ∷ (true, plain Truth) ∷ (true, plain Truth) ∷ (true, plain U64) ∷ (true, plain Truth)
     ∷ (true, plain Truth) ∷ (needs (get_or numbers (behind 7 at) (pos 0)), plain U8)
     ∷ (true, plain Truth) ∷ (needs (get_or numbers (behind 9 at) (pos 0)), plain U16) ∷ []
 
--- these two are 0 where their flags are clear
+-- These two are 0 if their flags are clear.
 pub record IsKeptAt (numbers : List ℤ) (at : ℕ) : Type 0 where
   pub wlow : needs (get_or numbers (behind 7 at) (pos 0)) ≡ false → get_or numbers (behind 8 at) (pos 0) ≡ pos 0
   pub latch : needs (get_or numbers (behind 9 at) (pos 0)) ≡ false → get_or numbers (behind 10 at) (pos 0) ≡ pos 0
 
--- its slots in a set
+-- Its slots in a set.
 abbrev pub slots_in : Set → List ℤ → ℕ → List Slot
 slots_in set numbers at = (get_or (meanings set.structs 1) 0 no_meaning).slots numbers at
 
 abbrev pub channel_cells : List Cell
 channel_cells = get_or (struct_cells set_1) 0 []
 
--- which are those of its cells, and another slot behind them
+-- These are the slots of its cells, followed by another slot.
 abbrev pub IsChannel : Set → List ℤ → ℕ → Slot → Type 0
 IsChannel set numbers at last = slots_in set numbers at ≡ run_slots at (channel numbers at) (last ∷ []) ++ Rule true ∷ []
 
--- each of its cells stands in the bytes or holds its default, and its rules hold
+-- Each of its cells is in the bytes or holds its default, and its rules hold.
 pub record IsFine (set : Set) (numbers : List ℤ) (at : ℕ) : Type 0 where
   pub kept : are_kept (slots_in set numbers at) numbers at channel_cells ≡ true
   pub rules : RulesHold (slots_in set numbers at)
@@ -107,7 +108,7 @@ channel-fine set numbers at last is rules k =
       rules = subst RulesHold (sym is) (rules_append slots (Rule true ∷ []) (run-rules at (channel numbers at) (last ∷ []) rules) (refl, tt));
     }
 
--- it has no cell that isn't its own, nor its own absent ones
+-- It has no cell that isn't its own, nor its own absent ones.
 pub channel-none : (set : Set) (numbers : List ℤ) (at : ℕ) (last : Slot) (k : ℕ) → IsChannel set numbers at last → has_cell (last ∷ []) k ≡ false → none_at at (channel numbers at) k ≡ true → has_cell (slots_in set numbers at) k ≡ false
 channel-none set numbers at last k is out none =
     ap (λ (s : List Slot). has_cell s k) is

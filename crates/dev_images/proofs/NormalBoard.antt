@@ -1,4 +1,4 @@
--- Normal images of the newest set have the cells that a board may be restored from.
+-- Normal images of the newest set have the cells that a restore of a board requires.
 use Rattle.std.proofs.Common.{◌≡◌, ℕ, List, [], ◌∷◌, length, Some, refl, arith}
 use Rattle.std.specs.List.{slice_get}
 use Rattle.dev_base.specs.declared.limits.TheConstants.{NEWEST}

@@ -1,4 +1,4 @@
--- Normal images of the newest set have the cells that a board may be restored from.
+-- Normal images of the newest set have the cells that a restore of a board requires.
 use Rattle.std.proofs.Common.{◌≡◌, ℕ, zero, suc, ◌+◌, ◌*◌, ◌<◌, ◌≤◌, true, false, ◌==◌, List, ◌∷◌, ◌++◌, get_or, map, Option, ℤ, pos, negsuc, refl, sym, ap, ◌∙◌, subst, arith, []}
 use Rattle.std.proofs.lemmas.Int.{ints}
 use Rattle.vms_kinds.specs.Codes.{InRange}
@@ -18,7 +18,7 @@ use Rattle.dev_images.proofs.Channels.{channel, none_at, channel-none, slots_in}
 use Rattle.dev_images.proofs.PitReady.{chip_slots, status_slots, no_gate}
 use Rattle.dev_images.proofs.ReadyOf.{kind-of, count-of, has-none, before-none}
 
--- cells that fit are of their kinds
+-- Cells that fit have their kinds.
 pub of-kinds : (cells : List Cell) (numbers : List ℤ) → FitCells cells numbers → AreOf (map (λ cell. cell.kind) cells) numbers
 of-kinds cells numbers fit =
     let count = count-of cells in
@@ -38,7 +38,7 @@ chip-of instance image n = of-kinds (device_cells (shipped_set NEWEST) (i8259_at
 
 -- ---- the timer chip
 
--- a chip's slots have none of a cell that none of its channels and of what follows has
+-- If a cell is in no channel's slots and not in those that follow, it is in none of a chip's slots.
 chip-none : (a b c rest : List Slot) (k : ℕ) → has_cell a k ≡ false → has_cell b k ≡ false → has_cell c k ≡ false → has_cell rest k ≡ false → has_cell (chip_slots a b c rest) k ≡ false
 chip-none a b c rest k p q r s =
     has-none (((a ++ (b ++ (c ++ []))) ++ rest) ++ Rule true ∷ []) [] k

@@ -1,4 +1,4 @@
--- A normal image of the newest set's serial port has the cells that a port may be restored from.
+-- A normal image of the newest set's serial port has the cells that a restore of a port requires.
 use Rattle.std.proofs.Common.{◌≡◌, ℕ, zero, suc, ◌+◌, ◌<◌, ◌≤◌, true, false, ◌&&◌, ◌==◌, List, ◌∷◌, ◌++◌, length, get_or, take, drop, min, map, Option, Some, None, ℤ, pos, negsuc, ◌≤ℤ◌, refl, sym, ◌∙◌, subst, arith, []}
 use Rattle.std.proofs.lemmas.Bool.{and_parts, ltb-true, or_from}
 use Rattle.vms_spec.specs.Numbers.{same_number}
@@ -33,7 +33,7 @@ within-none low high (Constant kind z ∷ slots) c e h = within-none low high sl
 within-none low high (Filler n ∷ slots) c e h = within-none low high slots c e h
 within-none low high (Rule b ∷ slots) c e h = within-none low high slots c e h
 
--- elements of an array before and behind a cell
+-- The elements of an array before and after a cell.
 elements-before : (n at c : ℕ) → at + n ≤ c → has_cell (times n (element byte) at 1) c ≡ false
 elements-before zero at c h = refl
 elements-before (suc n) at c h = or_from (at == c) _ (neq at c (λ same. absurd (omega (arith, same, h)))) (elements-before n (at + 1) c (omega (arith, h)))
@@ -42,7 +42,7 @@ elements-after : (n at c : ℕ) → c < at → has_cell (times n (element byte) 
 elements-after zero at c h = refl
 elements-after (suc n) at c h = or_from (at == c) _ (neq at c (λ same. absurd (omega (arith, same, h)))) (elements-after n (at + 1) c (omega (arith, h)))
 
--- the FIFOs' slots lack the cells behind the elements of each array
+-- The FIFOs' slots lack the cells after the elements of each array.
 rx-lack : (n m i : ℕ) → n ≤ i → i < 16 → has_cell (fifo_slots n m) (14 + i) ≡ false
 rx-lack n m i l b =
     has-none (inner_slots n m) (Rule true ∷ []) (14 + i)
@@ -133,7 +133,8 @@ module _ (image : Image) (n : IsNormal (shipped_set NEWEST) serial_at_4 image) w
   abbrev tx_elements : ℕ
   tx_elements = min (residue 1 (get_or numbers 30 (pos 0))) 16
 
-  -- a cell outside of the fields and of the other subsections that the FIFOs' slots lack is in no slot
+  -- A cell outside of the fields and of the other subsections that is in no slot of the FIFOs is in
+  -- no slot.
   lack : (c : ℕ) → 13 ≤ c → c < 47 → has_cell (fifo_slots rx_elements tx_elements) c ≡ false → has_cell (image_slots (shipped_set NEWEST) serial_at_4 image) c ≡ false
   unfolding first
   lack c low high e =

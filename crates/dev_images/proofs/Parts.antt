@@ -13,11 +13,11 @@ use Rattle.dev_base.specs.Cells.{AreOf}
 use Rattle.dev_images.specs.Images.{needed_from, bare, image_of}
 use Rattle.dev_images.proofs.ReadyOf.{AreSubs, CountsFit, are_kept, kept-left, kept-right, kept-both, ready-of}
 
--- the cells of one subsection
+-- The cells of one subsection.
 abbrev pub sub_cells : Set → Sub → List Cell
 sub_cells set s = desc_cells (struct_cells set) s.desc
 
--- a subsection's slots where it is needed
+-- The slots of a subsection if it is needed.
 abbrev pub if_needed : Set → Device → List ℤ → Sub → ℕ → ℕ → List Slot
 if_needed set d numbers s j at =
     cond (is_needed set d (bare d numbers) s j) (sub_slots set s s.desc.version numbers at) []
@@ -37,7 +37,7 @@ came-all set d numbers j at (s ∷ subs) =
     came-next set d numbers at s subs (needed_from set d (bare d numbers) (suc j) subs) (is_needed set d (bare d numbers) s j)
     ∙ ap (λ (slots : List Slot). if_needed set d numbers s j at ++ slots) (came-all set d numbers (suc j) (at + length (sub_cells set s)) subs)
 
--- each cell of a subsection stands in its bytes or holds its default, and its rules hold
+-- Each cell of a subsection is in its bytes or holds its default, and its rules hold.
 pub record IsFineSub (set : Set) (d : Device) (numbers : List ℤ) (s : Sub) (j at : ℕ) : Type 0 where
   pub kept : are_kept (if_needed set d numbers s j at) numbers at (sub_cells set s) ≡ true
   pub rules : RulesHold (if_needed set d numbers s j at)
@@ -73,7 +73,7 @@ ready-parts set d numbers minimum subs are counts own rules fine =
 
 -- ---- cells at 0, and arrays
 
--- a list that is zeros from a place on
+-- A list that is zeros from a place on.
 pub front : (at : ℕ) (numbers : List ℤ) (z : ℤ) (rest : List ℤ) → drop at numbers ≡ z ∷ rest → (get_or numbers at (pos 0) ≡ z) × (drop (suc at) numbers ≡ rest)
 front zero [] z rest e = cc
 front zero (y ∷ numbers) z rest e = (cc, cc)
@@ -100,7 +100,7 @@ zeros-kept slots numbers at (cell ∷ cells) d e =
     and_from _ _ (or_right (has_cell slots at) _ (ap (λ z. same_number z cell.default) f.0 ∙ p.0))
     (zeros-kept slots numbers (suc at) cells p.1 (ap (take (length cells)) f.1 ∙ s.2))
 
--- an array of cells, of which so many stand in the bytes, and 0 behind them
+-- An array of cells, whose first elements are in the bytes; the others are 0.
 abbrev pub element : Cell → ℕ → List Slot
 element cell at = Number at cell.kind [] ∷ []
 

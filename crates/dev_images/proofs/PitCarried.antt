@@ -32,7 +32,7 @@ may_lack-is : (old : Set) (numbers : List ℤ) (kind : Kind) (there : Bool) (at 
 may_lack-is old numbers kind true at e off = rw e refl
 may_lack-is old numbers kind false at e off = ap (λ z. z ∷ []) (sym (off refl))
 
--- a channel that is carried number by number, but for these two
+-- A channel that is carried number by number, except these two.
 abbrev lacking : List ℤ → ℕ → List ℤ → List ℤ → List ℤ
 lacking numbers at wlow latch =
     get_or numbers at (pos 0) ∷ get_or numbers (behind 1 at) (pos 0) ∷ get_or numbers (behind 2 at) (pos 0) ∷ get_or numbers (behind 3 at) (pos 0)
@@ -52,7 +52,7 @@ channel-carried old numbers at is k =
     ∙ ap (λ l. lacking numbers at l (may_lack old numbers U16 (needs (get_or numbers (behind 9 at) (pos 0))) (behind 10 at))) (may_lack-is old numbers U8 _ (behind 8 at) refl k.wlow)
     ∙ ap (λ l. lacking numbers at (get_or numbers (behind 8 at) (pos 0) ∷ []) l) (may_lack-is old numbers U16 _ (behind 10 at) refl k.latch)
 
--- an absent number is 0 where its flag is clear
+-- An absent number is 0 if its flag is clear.
 off : (flag number : ℤ) → InRange Truth flag → pos 0 ≤ℤ number → ((nat_of flag == 1) ≡ false → nat_of number ≡ 0) → needs flag ≡ false → number ≡ pos 0
 off flag (pos n) r l h e = ap pos (h (ap (λ z. nat_of z == 1) (unneeded flag r e)))
 off flag (negsuc n) r l h e = absurd (omega (arith, ints, l))
@@ -88,7 +88,7 @@ joined-4 : (numbers : List ℤ) → carried_numbers set_4 i8254_at_2 i8254_at_2 
 unfolding first
 joined-4 numbers = refl
 
--- wlow and latch of each channel, which are absent where their flags are clear
+-- `wlow` and `latch` of each channel, which are absent if their flags are clear.
 pub record IsKept (numbers : List ℤ) : Type 0 where
   pub first : IsKeptAt numbers 0
   pub second : IsKeptAt numbers 11

@@ -51,7 +51,7 @@ status_cells =
     let byte : Cell = record { kind = U8; capacities = []; default = pos 0 } in
     flag ∷ flag ∷ flag ∷ byte ∷ byte ∷ byte ∷ []
 
--- what stands behind a channel's cells: its gate's byte, which tells nothing in later sets
+-- What follows a channel's cells: its gate's byte, which carries nothing in later sets.
 abbrev pub gate : Slot
 gate = Constant U8 (pos 1)
 
@@ -69,7 +69,7 @@ pit-1 numbers are =
     (all-kept numbers (slots_in set_1 numbers 0) (slots_in set_1 numbers 11) (slots_in set_1 numbers 22) [] [] a.kept b.kept c.kept refl)
     (all-hold numbers (slots_in set_1 numbers 0) (slots_in set_1 numbers 11) (slots_in set_1 numbers 22) [] a.rules b.rules c.rules tt)
 
--- later sets have the same structure, and statuses behind the channels
+-- Later sets have the same structure, and statuses after the channels.
 module _ (numbers : List ℤ) (k : IsKept numbers) where
   abbrev first-slots : List Slot
   first-slots = slots_in set_2 numbers 0

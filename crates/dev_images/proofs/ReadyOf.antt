@@ -19,12 +19,12 @@ use Rattle.dev_base.specs.Cells.{AreOf, kind_at}
 use Rattle.dev_images.specs.Images.{needed_from, bare, image_of}
 use Rattle.vms_bodies.proofs.Names.{has_left, has_right}
 
--- descriptions of subsections can be written at their versions
+-- The subsections' descriptions can be written at their versions.
 abbrev pub AreSubs : List Sub → Type 0
 AreSubs [] = Unit {0}
 AreSubs (s ∷ subs) = (s.desc.minimum ≤ s.desc.version) × AreSubs subs
 
--- a subsection comes where it is needed
+-- A subsection comes if it is needed.
 versions-first : (s : Sub) (subs : List Sub) (came : List (Option ℕ)) (needed : Bool) → s.desc.minimum ≤ s.desc.version → AreVersionsOf subs came → AreVersionsOf (s ∷ subs) (cond needed (Some s.desc.version) None ∷ came)
 versions-first s subs came true m h = ((m, omega arith), h)
 versions-first s subs came false m h = h
@@ -38,13 +38,13 @@ needed-first : (set : Set) (d : Device) (image : Image) (j : ℕ) (s : Sub) (sub
 needed-first set d image j s subs came true e h = (e, refl, h)
 needed-first set d image j s subs came false e h = (e, h)
 
--- which subsections are needed is said by the numbers alone
+-- Only the numbers decide which subsections are needed.
 pub needed : (set : Set) (d : Device) (numbers : List ℤ) (came : List (Option ℕ)) (j : ℕ) (subs : List Sub) → ComeAsNeeded set d (record (bare d numbers) { came = came }) j subs (needed_from set d (bare d numbers) j subs)
 needed set d numbers came j [] = refl
 needed set d numbers came j (s ∷ subs) =
     needed-first set d (record (bare d numbers) { came = came }) j s subs (needed_from set d (bare d numbers) (suc j) subs) (is_needed set d (bare d numbers) s j) refl (needed set d numbers came (suc j) subs)
 
--- cells of their kinds fit, where each count is within its capacities
+-- Cells of their kinds fit if each count is within its capacities.
 pub kind-of : (cells : List Cell) (c : ℕ) → kind_at (map (λ cell. cell.kind) cells) c ≡ (get_or cells c no_cell).kind
 kind-of [] c = refl
 kind-of (cell ∷ cells) zero = refl
@@ -66,7 +66,7 @@ fit cells numbers are counts =
       fits = λ c lt. (subst (λ (kind : Kind). InRange kind (get_or numbers c (pos 0))) (kind-of cells c) (are.in_range c (omega (arith, count, lt))), counts c lt);
     }
 
--- from a cell on, each stands in the bytes or holds its default
+-- From a cell on, each is in the bytes or holds its default.
 abbrev pub are_kept : List Slot → List ℤ → ℕ → List Cell → Bool
 are_kept slots numbers from [] = true
 are_kept slots numbers from (cell ∷ cells) =
@@ -86,7 +86,7 @@ kept slots numbers from (cell ∷ cells) e (suc c) place is lt out =
     let p = and_parts (has_cell slots from || same_number (get_or numbers from (pos 0)) cell.default) (are_kept slots numbers (suc from) cells) e in
     kept slots numbers (suc from) cells p.1 c place (omega (arith, is)) (omega (arith, lt)) out
 
--- no cell counts an array
+-- No cell counts an array.
 abbrev pub no_counts : List Cell → Bool
 no_counts [] = true
 no_counts (cell ∷ cells) = (length cell.capacities == 0) && no_counts cells
@@ -102,7 +102,7 @@ counts-none cells numbers e c lt = none cells e c lt (get_or numbers c (pos 0)) 
   none (cell ∷ cells) e zero lt z = no-capacities cell.capacities z (and_parts (length cell.capacities == 0) (no_counts cells) e).0
   none (cell ∷ cells) e (suc c) lt z = none cells (and_parts (length cell.capacities == 0) (no_counts cells) e).1 c (omega (arith, lt)) z
 
--- counts are within the capacities of their arrays, from a cell on
+-- From a cell on, counts are within the capacities of their arrays.
 abbrev pub are_counted : List ℤ → ℕ → List Cell → Bool
 are_counted numbers from [] = true
 are_counted numbers from (cell ∷ cells) = counts_well cell.capacities (get_or numbers from (pos 0)) && are_counted numbers (suc from) cells
@@ -136,7 +136,7 @@ ready-of set d numbers minimum subs are counts settled valid =
       needed = needed set d numbers (needed_from set d (bare d numbers) 0 d.subs) 0 d.subs;
     }
 
--- the same where no cell counts an array
+-- The same if no cell counts an array.
 pub ready-plain : (set : Set) (d : Device) (numbers : List ℤ) → d.desc.minimum ≤ d.desc.version → AreSubs d.subs → AreOf (map (λ cell. cell.kind) (device_cells set d)) numbers → no_counts (device_cells set d) ≡ true → are_kept (image_slots set d (image_of set d numbers)) numbers 0 (device_cells set d) ≡ true → IsValid set d (image_of set d numbers) → IsReady set d (image_of set d numbers)
 ready-plain set d numbers minimum subs are plain settled valid =
     ready-of set d numbers minimum subs are (counts-none (device_cells set d) numbers plain) settled valid
@@ -158,7 +158,7 @@ kept-left first second numbers from cells e = kept-more first (first ++ second) 
 pub kept-right : (first second : List Slot) (numbers : List ℤ) (from : ℕ) (cells : List Cell) → are_kept second numbers from cells ≡ true → are_kept (first ++ second) numbers from cells ≡ true
 kept-right first second numbers from cells e = kept-more second (first ++ second) numbers from cells (has_right first second) e
 
--- cells that are joined
+-- Cells that are joined.
 pub kept-both : (slots : List Slot) (numbers : List ℤ) (from next : ℕ) (first second : List Cell) → next ≡ from + length first → are_kept slots numbers from first ≡ true → are_kept slots numbers next second ≡ true → are_kept slots numbers from (first ++ second) ≡ true
 kept-both slots numbers from next [] second is e f =
     let here : from ≡ next = omega (arith, is) in ap (λ n. are_kept slots numbers n second) here ∙ f
@@ -166,7 +166,7 @@ kept-both slots numbers from next (cell ∷ first) second is e f =
     let p = and_parts (has_cell slots from || same_number (get_or numbers from (pos 0)) cell.default) (are_kept slots numbers (suc from) first) e in
     and_from _ _ p.0 (kept-both slots numbers (suc from) next first second (omega (arith, is)) p.1 f)
 
--- no slot of these has a cell
+-- None of these slots has a cell.
 pub has-none : (slots more : List Slot) (c : ℕ) → has_cell slots c ≡ false → has_cell more c ≡ false → has_cell (slots ++ more) c ≡ false
 has-none [] more c e f = f
 has-none (Number k kind capacities ∷ slots) more c e f = or-none (k == c) (has_cell slots c) (has_cell (slots ++ more) c) (λ out. has-none slots more c out f) e
@@ -181,7 +181,7 @@ has-none (Rule b ∷ slots) more c e f = has-none slots more c e f
 pub neq : (k c : ℕ) → k ≢ c → (k == c) ≡ false
 neq k c h = grind (arith, nat_tests)
 
--- every number of these slots is of a cell from a place on and below another
+-- Every number of these slots is that of a cell from a place on and below another.
 abbrev pub all_within : ℕ → ℕ → List Slot → Bool
 all_within low high [] = true
 all_within low high (Number k kind capacities ∷ slots) = nat_le low k && (nat_lt k high && all_within low high slots)

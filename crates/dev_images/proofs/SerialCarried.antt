@@ -35,7 +35,7 @@ zeros-each numbers at (suc n) h =
     ap (λ z. z ∷ replicate n (pos 0)) (sym (ap (λ p. get_or numbers p (pos 0)) (sym here) ∙ h 0 (omega arith)))
     ∙ ap (λ l. get_or numbers at (pos 0) ∷ l) (zeros-each numbers (suc at) n (λ i b. let next : suc at + i ≡ at + suc i = omega arith in ap (λ p. get_or numbers p (pos 0)) next ∙ h (suc i) (omega (arith, b))))
 
--- an array of bytes, with zeros behind its elements
+-- An array of bytes, with zeros after its elements.
 module _ (structs : List Carrier) (x y : List (List Cell)) (numbers : List ℤ) where
   abbrev array : ℕ → ℕ → ℕ → List ℤ
   array n m at = carry_items structs x y numbers (Num U8) (Num U8) (pos 0 ∷ []) 1 n m at

@@ -22,7 +22,7 @@ use Rattle.dev_images.specs.Laws.{ReadyOf, SerialIsReady, serial_at_1, serial_at
 use Rattle.dev_images.proofs.Parts.{IsFineSub, ready-parts, zeros-kept, element, array-kept, rules-times}
 use Rattle.dev_images.proofs.ReadyOf.{are_kept, counts-none, counts-by, kept-left, kept-right, kept-both}
 
--- whether a signed byte isn't -1, and whether a timer isn't never
+-- Whether a signed byte isn't -1, and whether a timer isn't "never".
 abbrev pub needs_sign : ℤ → Bool
 needs_sign z = not (bit_and (residue 1 z) 255 == 255)
 
@@ -51,8 +51,8 @@ no-timer (pos n) r e =
     ap pos is
 no-timer (negsuc n) r e = absurd (let least = r.0 in omega (arith, ints, least))
 
--- the serial port of a set from 2 on, where subsections may follow that of its FIFOs: its first field has another name from
--- set 3 on
+-- The serial port of a set from 2 on, where other subsections may follow that of its FIFOs. Its
+-- first field has another name from set 3 on.
 abbrev pub serial_since_2 : ℕ → List ℕ → List (List ℕ) → List Sub → Device
 serial_since_2 version name former more =
     serial version (record (number U16 name) { former = former } ∷ serial_fields ++ fcr ∷ []) (thr_ipending ∷ fifo ∷ more)
@@ -93,7 +93,7 @@ no-count (pos n) r e =
     omega (arith, ints, mask, most, low)
 no-count (negsuc n) r e = absurd (let least = r.0 in omega (arith, ints, least))
 
--- how many elements of an array stand in the bytes
+-- The number of elements of an array that are in the bytes.
 pub elements : (z : ℤ) → InRange U8 z → nat_of z ≤ 16 → min (residue 1 z) 16 ≡ nat_of z
 elements (pos n) r l = let most = r.1 in omega (arith, ints, most, l)
 elements (negsuc n) r l = absurd (let least = r.0 in omega (arith, ints, least))
@@ -142,7 +142,7 @@ module _ (numbers : List ℤ) (n m : ℕ) (rx : (i : ℕ) → n ≤ i → i < 16
   fifo-rules =
       rules_append (inner_slots n m) (Rule true ∷ []) (rules_append (times n (element byte) 14 1) (second_slots m) (rules-times byte n 14) (rules_append (times m (element byte) 31 1) [] (rules-times byte m 31) tt)) (refl, tt)
 
--- what a set from 2 on has of the FIFOs
+-- What a set from 2 on has of the FIFOs.
 pub record HasFifo (numbers : List ℤ) : Type 0 where
   pub rx_range : InRange U8 (get_or numbers 13 (pos 0))
   pub tx_range : InRange U8 (get_or numbers 30 (pos 0))
@@ -170,7 +170,7 @@ module _ (numbers : List ℤ) (h : HasFifo numbers) where
   no-fifo e =
       h.none (no-count _ h.rx_range ((or_parts (needs_count (get_or numbers 13 (pos 0))) _ e).0)) (no-count _ h.tx_range ((or_parts (needs_count (get_or numbers 13 (pos 0))) _ e).1))
 
-  -- under any set from 2 on
+  -- In any set from 2 on.
   fifos : (set : Set) (version : ℕ) (name : List ℕ) (former : List (List ℕ)) (more : List Sub) (needed : Bool) → needs_fifo numbers ≡ needed → (needed ≡ false → take 34 (drop 13 numbers) ≡ replicate 34 (pos 0)) → IsFineSub set (serial_since_2 version name former more) numbers fifo 1 13
   unfolding first
   fifos set version name former more true e off = record { kept = rw e (fifo-kept numbers rx_elements tx_elements rx-zeros tx-zeros); rules = rw e (fifo-rules numbers rx_elements tx_elements rx-zeros tx-zeros) }

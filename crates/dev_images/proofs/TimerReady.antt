@@ -8,7 +8,7 @@ use Rattle.vms_spec.specs.Shipped.{set_1, set_2, set_3, set_4, timer}
 use Rattle.dev_images.specs.Laws.{ReadyOf, TimerIsReady}
 use Rattle.dev_images.proofs.ReadyOf.{ready-plain}
 
--- under any set: the moment is no structure
+-- In any set, since the moment is no structure.
 timer-ready : (set : Set) (numbers : List ℤ) → AreOf timer_kinds numbers → ReadyOf set timer numbers
 unfolding first
 timer-ready set numbers are = ready-plain set timer numbers (omega arith) tt are refl refl (refl, tt)

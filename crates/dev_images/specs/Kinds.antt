@@ -1,4 +1,4 @@
--- Which cells the devices have in the shipped sets.
+-- The kinds of the devices' cells in the shipped sets.
 use Rattle.std.specs.Prelude.{◌≡◌, ℕ, List, [], ◌∷◌, map}
 use Rattle.vms_kinds.specs.declared.Kind.{Kind}
 use Rattle.vms_spec.specs.Sets.{Set}
@@ -9,14 +9,16 @@ use Rattle.dev_pit.specs.Cells.{kinds_of as pit_kinds}
 use Rattle.dev_serial.specs.Cells.{kinds as serial_kinds}
 use Rattle.vms_kinds.specs.declared.Kind.TheVariants.{U64}
 
--- the kinds of the cells of each device of a set, in the set's order
+-- `kinds_in set` is the list of the kinds of each device's cells, in the set's order.
 abbrev pub kinds_in : Set → List (List Kind)
 kinds_in set = map (λ d. map (λ c. c.kind) (device_cells set d)) set.devices
 
--- what the devices save: the moment, both chips of the pair, the timer chip and the port
+-- `kinds_saved s` is the list of the kinds that the devices save: the moment, both chips of the
+-- pair, the timer chip and the serial port.
 abbrev pub kinds_saved : ℕ → List (List Kind)
 kinds_saved s = (U64 ∷ []) ∷ pic_kinds s ∷ pic_kinds s ∷ pit_kinds s ∷ serial_kinds s ∷ []
 
+-- In each shipped set from 1 on these are the same.
 pub record KindsLaw : Type 0 where
   pub first : kinds_in set_1 ≡ kinds_saved 1
   pub second : kinds_in set_2 ≡ kinds_saved 2

@@ -1,4 +1,4 @@
--- Laws of the images of a board's devices that contracts name.
+-- The laws of the images of a board's devices that contracts name.
 use Rattle.std.specs.Prelude.{◌≡◌, ℕ, ℤ, Some, Ok, length, List, [], ◌∷◌, ◌++◌}
 use Rattle.std.specs.List.{slice_get}
 use Rattle.dev_base.specs.Cells.{AreOf}
@@ -21,94 +21,109 @@ use Rattle.vms_spec.specs.Streams.{IsReady, AreReady}
 use Rattle.vms_spec.specs.Images.{Image, IsNormal}
 use Rattle.dev_images.specs.Images.{image_of, saved_images, cells_in}
 
--- an image of cells that are a moment is ready
+-- `ReadyOf set d numbers`: the image of these numbers is ready, so it may be written
+-- (docs/format.md, "Which images may be written").
 abbrev pub ReadyOf : Set → Device → List ℤ → Type 0
 ReadyOf set d numbers = IsReady set d (image_of set d numbers)
 
--- what is said of each shipped set from 1 on, by its number and by what a device is in it
+-- `InEachSet Says in_1 in_2 in_3 in_4`: a statement holds for each shipped set from 1 on, by its
+-- number and the device in it.
 pub record InEachSet (Says : ℕ → Set → Device → Type 0) (in_1 in_2 in_3 in_4 : Device) : Type 0 where
   pub first : Says 1 set_1 in_1
   pub second : Says 2 set_2 in_2
   pub third : Says 3 set_3 in_3
   pub fourth : Says 4 set_4 in_4
 
--- an image of a set's cells of a device is ready
+-- `ReadyWhere Are number set d`: the image of every list of numbers that are such cells is ready.
 abbrev pub ReadyWhere : (ℕ → List ℤ → Type 0) → ℕ → Set → Device → Type 0
 ReadyWhere Are number set d = (numbers : List ℤ) → Are number numbers → ReadyOf set d numbers
 
--- the cell of a moment, and those of a chip
+-- `AreTimerCells set numbers`: they are the cell of a moment.
 abbrev pub AreTimerCells : ℕ → List ℤ → Type 0
 AreTimerCells set numbers = AreOf timer_kinds numbers
 
+-- `AreChipCells set numbers`: they are the cells of an 8259A in the set.
 abbrev pub AreChipCells : ℕ → List ℤ → Type 0
 AreChipCells set numbers = AreOf (pic_kinds set) numbers
 
+-- The image of a moment is ready in each shipped set from 1 on.
 abbrev pub TimerIsReady : Type 0
 TimerIsReady = InEachSet (ReadyWhere AreTimerCells) timer timer timer timer
 
+-- The image of an 8259A's cells is ready in each shipped set from 1 on.
 pub record ChipIsReady : Type 0 where
   pub chip : (instance : ℕ)
       → InEachSet (ReadyWhere AreChipCells) (i8259_at_1 instance) (i8259_at_2 instance) (i8259_at_2 instance) (i8259_at_4 instance)
 
--- normal cells of the timer chip
+-- The image of normal cells of the timer chip is ready in each shipped set from 1 on.
 abbrev pub PitIsReady : Type 0
 PitIsReady = InEachSet (ReadyWhere ArePitCells) i8254_at_1 i8254_at_2 i8254_at_2 i8254_at_2
 
--- the serial port of each set
+-- The serial port of set 1.
 abbrev pub serial_at_1 : Device
 serial_at_1 = serial 1 (divider ∷ serial_fields) (thr_ipending ∷ [])
 
+-- The serial port of set 2.
 abbrev pub serial_at_2 : Device
 serial_at_2 = serial 2 (divider ∷ serial_fields ++ fcr ∷ []) (thr_ipending ∷ fifo ∷ [])
 
+-- The serial port of set 3.
 abbrev pub serial_at_3 : Device
 serial_at_3 = serial 3 (divisor ∷ serial_fields ++ fcr ∷ []) (thr_ipending ∷ fifo ∷ timeout ∷ [])
 
+-- The serial port of set 4.
 abbrev pub serial_at_4 : Device
 serial_at_4 = serial 4 (divisor ∷ serial_fields ++ fcr ∷ []) (thr_ipending ∷ fifo ∷ timeout ∷ ring ∷ [])
 
--- cells that a serial port saves
+-- The image of the cells that a serial port saves is ready in each shipped set from 1 on.
 abbrev pub SerialIsReady : Type 0
 SerialIsReady = InEachSet (ReadyWhere AreSerialCells) serial_at_1 serial_at_2 serial_at_3 serial_at_4
 
--- the numbers of a device of the newest set, from an image of its device in an older one
+-- `carried_numbers set d e numbers` is the list of the numbers of device `e` of the newest set,
+-- carried from an image of device `d` of `set`.
 abbrev pub carried_numbers : Set → Device → Device → List ℤ → List ℤ
 carried_numbers set d e numbers = (carried_device set (shipped_set NEWEST) d e (image_of set d numbers)).numbers
 
--- a set's cells of a device are carried to it in the newest set as its own table says
+-- `CarriedWhere Are table newest number set d`: every list of such cells is carried to the newest
+-- set as the device's own table says.
 abbrev pub CarriedWhere : (ℕ → List ℤ → Type 0) → (ℕ → List ℤ → List ℤ) → Device → ℕ → Set → Device → Type 0
 CarriedWhere Are table newest number set d =
     (numbers : List ℤ) → Are number numbers → carried_numbers set d newest numbers ≡ table number numbers
 
--- a moment as it is
+-- A moment is carried unchanged.
 abbrev pub TimerIsCarried : Type 0
 TimerIsCarried = InEachSet (CarriedWhere AreTimerCells (λ set numbers. numbers) timer) timer timer timer timer
 
+-- The cells of an 8259A are carried as its table says.
 pub record ChipIsCarried : Type 0 where
   pub chip : (instance : ℕ) → InEachSet (CarriedWhere AreChipCells pic_carried (i8259_at_4 instance))
       (i8259_at_1 instance) (i8259_at_2 instance) (i8259_at_2 instance) (i8259_at_4 instance)
 
--- the cells of the timer chip, an absent one being at its default
+-- The cells of the timer chip are carried as its table says; an absent one is at its default.
 abbrev pub PitIsCarried : Type 0
 PitIsCarried = InEachSet (CarriedWhere ArePitCells pit_carried i8254_at_2) i8254_at_1 i8254_at_2 i8254_at_2 i8254_at_2
 
+-- The cells of a serial port are carried as its table says.
 abbrev pub SerialIsCarried : Type 0
 SerialIsCarried = InEachSet (CarriedWhere AreSerialCells serial_carried serial_at_4) serial_at_1 serial_at_2 serial_at_3 serial_at_4
 
--- what is saved of a sound board under a shipped set from its level on are ready images of the set
+-- A sound board is saved in ready images of the set, for any shipped set from its level on.
 pub record SavedAreReady : Type 0 where
   pub images : (set : ℕ) (m : State) → IsSound m → MaySaveUnder m.level set → AreReady (shipped_set set) (saved_images set m)
 
--- what a comparison of sets carries of saved images to the newest set has the cells that the devices' own tables carry
+-- A comparison of sets carries saved images to the newest set as the devices' own tables carry
+-- their cells.
 pub record SavedIsCarried : Type 0 where
   pub cells : (set : ℕ) (m : State) → IsSound m → MaySaveUnder m.level set → cells_in (carried (shipped_set set) (shipped_set NEWEST) (saved_images set m)) ≡ board_carried set (saved set m)
 
--- images saved of a sound board under any set from its level on, carried to the newest, give a board like it
+-- Images saved of a sound board in any set from its level on, carried to the newest, give a board
+-- like it.
 pub record ImagesComeBack : Type 0 where
   pub back : (set : ℕ) (m : State) → IsSound m → MaySaveUnder m.level set → ComesBack m.level (cells_in (carried (shipped_set set) (shipped_set NEWEST) (saved_images set m))) m
-  -- and the board that comes back answers every list of events as the saved one
+  -- The restored board gives the same answers to every list of events as the saved one.
   pub answers : (set : ℕ) (m back : State) (events : List Event) → IsSound m → MaySaveUnder m.level set → restored m.level (cells_in (carried (shipped_set set) (shipped_set NEWEST) (saved_images set m))) ≡ Ok back → observe events back ≡ observe events m
 
--- normal images of the newest set, one for each device, have the cells that a board may be restored from
+-- Normal images of the newest set, one for each device, have the cells that a restore of a board
+-- requires.
 pub record NormalMayBeRestored : Type 0 where
   pub cells : (images : List Image) → length images ≡ length (shipped_set NEWEST).devices → ((k : ℕ) (d : Device) (image : Image) → slice_get (shipped_set NEWEST).devices k ≡ Some d → slice_get images k ≡ Some image → IsNormal (shipped_set NEWEST) d image) → AreBoardCells (cells_in images)

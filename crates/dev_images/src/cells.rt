@@ -6,7 +6,11 @@ use arrayvec::ArrayVec;
 use vms_image::Image;
 use vms_kinds::DevCells;
 
-/// The numbers of an image, of which there are `MOST_CELLS` at most.
+/// Returns the numbers of `image` as the cells of a device.
+///
+/// # Requires
+///
+/// The image has at most `MOST_CELLS` numbers.
 pub fn image_cells(image: &Image) -> DevCells
     requires { length image.now.numbers ≤ MOST_CELLS }
     ensures { result.items ≡ image.now.numbers }

@@ -1,7 +1,7 @@
 // Laws of the devices' cells in the shipped sets.
 ghost use Rattle.dev_images.specs.Kinds.{KindsLaw};
 
-/// The kinds of the cells of each device in each shipped set from 1 on are those that the device saves under it.
+/// States that in each shipped set from 1 on a device's cells have the kinds that the device saves.
 #[tactic(auto, using(crate::proofs::KindsAre::kinds_are))]
 pub fn kinds_law()
     ensures { KindsLaw }

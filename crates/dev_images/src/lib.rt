@@ -1,4 +1,4 @@
-//! The images of a board's devices under the shipped sets, their cells, and the kinds of these.
+//! The images of a board's devices in the shipped sets, their cells, and the kinds of these.
 #![tactic(auto)]
 
 mod cells;
