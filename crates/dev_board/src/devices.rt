@@ -75,7 +75,7 @@ impl Devices {
     ///
     /// # Requires
     ///
-    /// If `event` is a [`Event::Wire`], its input is a wire: one of 1, 3, 5, 6, 7 and 8 to 15.
+    /// If `event` is an [`Event::Wire`], its input is a wire: one of 1, 3, 5, 6, 7 and 8 to 15.
     pub fn event(&mut self, event: Event) -> Answer
         requires wire { IsTrue (names_wire event) }
         ensures step { (result, self.new) ≡ step event self.old }
@@ -84,7 +84,7 @@ impl Devices {
         self.parts.event(event)
     }
 
-    /// Tells whether the master's interrupt output is high.
+    /// Tells whether the master's interrupt output (INT) is high.
     pub fn int(&self) -> bool
         ensures { result ≡ int_of self.now.pair }
     {

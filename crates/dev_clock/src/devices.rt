@@ -94,7 +94,7 @@ impl ClockDevices {
     ///
     /// # Requires
     ///
-    /// If `event` is a [`Event::Wire`], its input is one of 1, 3, 5, 6, 7 and 8 to 15.
+    /// If `event` is an [`Event::Wire`], its input is one of 1, 3, 5, 6, 7 and 8 to 15.
     #[tactic(auto, unfolding(crate::specs::Step::step, crate::specs::Step::follows_line))]
     pub fn event(&mut self, event: Event) -> Answer
         requires wire { IsTrue (names_wire event) }

@@ -9,22 +9,22 @@ pub fn kinds_law()
     ensures { KindsLaw }
 {}
 
-/// States that comparing the first clock set with the second, and each with itself, accepts.
+/// States that each clock set is compatible with the newest: a comparison of the two accepts.
 #[tactic(auto, using(crate::proofs::ClockSets::sets_are_compatible))]
 pub fn compatible_law()
     ensures { SetsAreCompatible }
 {}
 
-/// States that the image of the chip's cells is ready in each clock set.
+/// States that the image of the chip's cells (`mc146818`) is ready in each clock set.
 #[tactic(auto, using(crate::proofs::ChipReady::chip_is_ready))]
 pub fn chip_law()
     ensures { ChipIsReady }
 {}
 
-/// States that sound devices are saved in ready images of the clock set, for any from their version
-/// on.
+/// States that the images of sound devices' `ClockDevices::cells` are ready in the clock set.
 ///
-/// The images have the set's versions and exactly the needed subsections.
+/// This is so for any clock set from their version on. The images have the set's versions and
+/// exactly the needed subsections.
 #[tactic(auto, using(crate::proofs::ClockReady::saved_are_ready))]
 pub fn saved_law()
     ensures { SavedAreReady }
@@ -33,7 +33,7 @@ pub fn saved_law()
 /// States that a comparison of clock sets carries saved images as the devices' tables carry their
 /// cells.
 ///
-/// The images are those saved of sound devices.
+/// The images are those of sound devices' `ClockDevices::cells`.
 #[tactic(auto, using(crate::proofs::ClockCarried::saved_is_carried))]
 pub fn carried_law()
     ensures { SavedIsCarried }
@@ -42,24 +42,23 @@ pub fn carried_law()
 /// States that images saved of sound devices, carried to the newest clock set, restore devices like
 /// them.
 ///
-/// This is so for any clock set from their version on. The restored devices give the same answers
-/// to every list of events as the saved ones.
+/// This is so for any clock set from their version on. The devices that `ClockDevices::of_cells`
+/// restores give the same answers to every list of events as the saved ones.
 #[tactic(auto, using(crate::proofs::ClockCarried::images_come_back))]
 pub fn images_law()
     ensures { ImagesComeBack }
 {}
 
-/// States that normal images of the newest clock set, one for each device, can be given to a
-/// restore.
+/// States that the cells of normal images of the newest clock set are what `ClockDevices::of_cells`
+/// requires.
 ///
-/// Their cells are what the restore requires, whatever versions and subsections the images came
-/// with.
+/// There is one image for each device. It may have come with any versions and subsections.
 #[tactic(auto, using(crate::proofs::NormalClock::normal_may_be_restored))]
 pub fn normal_law()
     ensures { NormalMayBeRestored }
 {}
 
-/// States the places of a clock board's devices in each clock set; a refusal names them.
+/// States the places of a clock board's devices in each clock set; a `Misfit` names them.
 ///
 /// The clock chip is device 0. The board's devices, 0 to 4 of a shipped set, are 1 to 5.
 #[tactic(auto, using(crate::proofs::Places::places_are))]

@@ -4,56 +4,56 @@ ghost use Rattle.dev_images.specs.Laws.{TimerIsReady, ChipIsReady, PitIsReady, S
 ghost use Rattle.dev_images.specs.Laws.{TimerIsCarried, ChipIsCarried, PitIsCarried, SerialIsCarried, SavedIsCarried, ImagesComeBack, NormalMayBeRestored};
 ghost use Rattle.dev_images.specs.Places.{PlacesLaw};
 
-/// States that the image of a board's moment is ready in each shipped set from 1 on.
+/// States that the image of a board's moment (`timer`) is ready in each shipped set from 1 on.
 #[tactic(auto, using(crate::proofs::TimerReady::timer_is_ready))]
 pub fn timer_law()
     ensures { TimerIsReady }
 {}
 
-/// States that the image of each chip of the pair is ready in each shipped set from 1 on.
+/// States that the image of each chip of the pair (`i8259`) is ready in each shipped set from 1 on.
 #[tactic(auto, using(crate::proofs::ChipReady::chip_is_ready))]
 pub fn chip_law()
     ensures { ChipIsReady }
 {}
 
-/// States that the image of normal cells of the timer chip is ready in each shipped set from 1 on.
+/// States that the image of normal cells of the timer chip (`i8254`) is ready in each shipped set
+/// from 1 on.
 #[tactic(auto, using(crate::proofs::PitReady::pit_is_ready))]
 pub fn pit_law()
     ensures { PitIsReady }
 {}
 
-/// States that the image of the cells that a serial port saves is ready in each shipped set from 1
-/// on.
+/// States that the image of the cells that a serial port saves (`serial`) is ready in each shipped
+/// set from 1 on.
 #[tactic(auto, using(crate::proofs::SerialReady::serial_is_ready))]
 pub fn serial_law()
     ensures { SerialIsReady }
 {}
 
-/// States that a sound board is saved in ready images of the set, for any shipped set from its
-/// level on.
+/// States that the images of a sound board's `Devices::cells` are ready in the set.
 ///
-/// The images have the set's versions and exactly the needed subsections.
+/// This is so for any shipped set from the board's level on. The images have the set's versions and
+/// exactly the needed subsections.
 #[tactic(auto, using(crate::proofs::BoardReady::saved_are_ready))]
 pub fn saved_law()
     ensures { SavedAreReady }
 {}
 
-/// States that the moment's cell, from any shipped set from 1 on, is carried unchanged to the
+/// States that the cell of `timer`, from any shipped set from 1 on, is carried unchanged to the
 /// newest.
 #[tactic(auto, using(crate::proofs::Carried::timer_is_carried))]
 pub fn carried_timer_law()
     ensures { TimerIsCarried }
 {}
 
-/// States that a chip's cells, from any shipped set from 1 on, are carried as the chip's table
+/// States that the cells of an `i8259`, from any shipped set from 1 on, are carried as its table
 /// says.
 #[tactic(auto, using(crate::proofs::Carried::chip_is_carried))]
 pub fn carried_chip_law()
     ensures { ChipIsCarried }
 {}
 
-/// States that the timer chip's cells, from any shipped set from 1 on, are carried as its table
-/// says.
+/// States that the cells of `i8254`, from any shipped set from 1 on, are carried as its table says.
 ///
 /// An absent cell must be at its default.
 #[tactic(auto, using(crate::proofs::PitCarried::pit_is_carried))]
@@ -61,8 +61,10 @@ pub fn carried_pit_law()
     ensures { PitIsCarried }
 {}
 
-/// States that a serial port's cells, from any shipped set from 1 on, are carried as its table
+/// States that the cells of `serial`, from any shipped set from 1 on, are carried as its table
 /// says.
+///
+/// The cells are those that a serial port saves.
 #[tactic(auto, using(crate::proofs::SerialCarried::serial_is_carried))]
 pub fn carried_serial_law()
     ensures { SerialIsCarried }
@@ -71,7 +73,7 @@ pub fn carried_serial_law()
 /// States that a comparison of sets carries saved images as the devices' own tables carry their
 /// cells.
 ///
-/// The images are those saved of a sound board.
+/// The images are those of a sound board's `Devices::cells`.
 #[tactic(auto, using(crate::proofs::BoardCarried::saved_is_carried))]
 pub fn carried_law()
     ensures { SavedIsCarried }
@@ -79,23 +81,22 @@ pub fn carried_law()
 
 /// States that images saved of a sound board, carried to the newest set, restore a board like it.
 ///
-/// This is so for any set from the board's level on. The restored board gives the same answers to
-/// every list of events as the saved one.
+/// This is so for any set from the board's level on. The board that `Devices::of_cells` restores
+/// gives the same answers to every list of events as the saved one.
 #[tactic(auto, using(crate::proofs::BoardCarried::images_come_back))]
 pub fn images_law()
     ensures { ImagesComeBack }
 {}
 
-/// States that normal images of the newest set, one for each device, can be given to a restore.
+/// States that the cells of normal images of the newest set are what `Devices::of_cells` requires.
 ///
-/// Their cells are what the restore requires, whatever versions and subsections the images came
-/// with.
+/// There is one image for each device. It may have come with any versions and subsections.
 #[tactic(auto, using(crate::proofs::NormalBoard::normal_may_be_restored))]
 pub fn normal_law()
     ensures { NormalMayBeRestored }
 {}
 
-/// States the places of a board's devices in each shipped set from 1 on; a refusal names them.
+/// States the places of a board's devices in each shipped set from 1 on; a `Misfit` names them.
 ///
 /// The timer is device 0, the master 1, the slave 2, the timer chip 3 and the serial port 4.
 #[tactic(auto, using(crate::proofs::Places::places_are))]

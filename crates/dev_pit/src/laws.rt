@@ -9,26 +9,31 @@ pub fn ticks_law()
     ensures rate { SecondsHaveTicks }
 {}
 
-/// States that in every mode a span has an edge exactly if one of its two parts has one.
+/// States that in every mode `Pit::edge` finds an edge in a span exactly if it finds one in one of
+/// its two parts.
 #[tactic(auto, using(crate::proofs::Edges::edge_in_parts))]
 pub fn edge_parts_law()
     ensures { EdgeInParts }
 {}
 
-/// States that in every mode a span has an edge exactly if OUT is low at one tick and high at the
-/// next, a tick of the span.
+/// States that in every mode `Pit::edge` finds an edge exactly if OUT turns high at a tick of the
+/// span.
+///
+/// OUT is low at the tick before and high at that tick.
 #[tactic(auto, using(crate::proofs::EdgeMeaning::edge_turns_high))]
 pub fn edge_turns_high_law()
     ensures { EdgeTurnsHigh }
 {}
 
-/// States that a call that neither programs nor loads a counter leaves it counting as before.
+/// States that a call of `Pit` that neither programs nor loads a counter leaves it counting as
+/// before.
 #[tactic(auto, using(crate::proofs::CallLaws::counting_goes_on))]
 pub fn counting_law()
     ensures { CountingGoesOn }
 {}
 
-/// States that in mode 0 OUT, once high, stays high until the counter is loaded or programmed.
+/// States that in mode 0 `Pit::out`, once high, stays high until the counter is loaded or
+/// programmed.
 #[tactic(auto, using(crate::proofs::CallLaws::terminal_count_stays))]
 pub fn terminal_count_law()
     ensures { TerminalCountStays }
@@ -46,13 +51,14 @@ pub fn status_law()
 
 /// States that a latched count stays until its last byte is read or the counter is programmed.
 ///
-/// Time doesn't change what is read of it.
+/// Time doesn't change what `Pit::read` returns of it.
 #[tactic(auto, using(crate::proofs::LatchLaws::latch_stays))]
 pub fn latch_law()
     ensures { LatchStays }
 {}
 
-/// States what the read-back command does by level ("Read-Back Command").
+/// States what the read-back command, a control word of `Pit::write`, does by level ("Read-Back
+/// Command").
 ///
 /// At level 1, on an 8253, it does nothing. From level 2 on, on an 8254, it latches the count, the
 /// status or both of each chosen counter.
@@ -61,25 +67,27 @@ pub fn read_back_law()
     ensures { ReadBackByLevel }
 {}
 
-/// States that a chip is sound at power on, and that time and every call keep it sound.
+/// States that `Pit::new` returns a sound chip, and that time and every call keep a chip sound.
 #[tactic(auto, using(crate::proofs::SoundLaws::sound_stays))]
 pub fn sound_law()
     ensures { SoundStays }
 {}
 
-/// States that no call changes the level.
+/// States that no call of `Pit` changes the level.
 #[tactic(auto, using(crate::proofs::SoundLaws::steps_keep_level))]
 pub fn level_law()
     ensures { StepsKeepLevel }
 {}
 
 /// States that a chip is sound exactly if its cells in the newest set are normal and break no rule.
+///
+/// The rules are those of `Pit::of_cells`.
 #[tactic(auto, using(crate::proofs::SavedLaw::sound_meets_rules))]
 pub fn rules_law()
     ensures { SoundMeetsRules }
 {}
 
-/// States that a sound chip is saved in as many cells as the set has.
+/// States that `Pit::cells` of a sound chip returns as many cells as the set has.
 ///
 /// Each cell is in its kind's range, and an absent one is at its default.
 #[tactic(auto, using(crate::proofs::SavedLaw::saved_are_cells))]
@@ -87,13 +95,16 @@ pub fn cells_law()
     ensures { SavedAreCells }
 {}
 
-/// States that a sound chip saved in any set from its level on is restored as an equal chip.
+/// States that the hooks `save` and `load` give back an equal chip, for any set from its level on.
+///
+/// The saved chip is sound, its cells are carried to the newest set, and the restore is at its level
+/// and moment.
 #[tactic(auto, using(crate::proofs::SavedLaw::saved_is_restored))]
 pub fn saved_law()
     ensures { SavedIsRestored }
 {}
 
-/// States that a restored chip is sound and has the level of the restore.
+/// States that a chip that the hook `load` returns is sound and has the level of the restore.
 #[tactic(auto, using(crate::proofs::RestoredLaw::restored_is_sound))]
 pub fn restored_law()
     ensures { RestoredIsSound }
