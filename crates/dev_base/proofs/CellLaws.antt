@@ -29,7 +29,7 @@ of_rest kind number kinds cells all = record {
   in_range = λ place h. all.in_range (suc place) (omega (arith, h));
 }
 
--- lists that follow each other
+-- Lists that follow each other.
 pub of_both : (kinds more_kinds : List Kind) (cells more : List ℤ) → AreOf kinds cells → AreOf more_kinds more → AreOf (kinds ++ more_kinds) (cells ++ more)
 of_both [] more_kinds [] more all rest = rest
 of_both [] more_kinds (number ∷ cells) more all rest = absurd (let e = all.count in omega (arith, e))
@@ -42,7 +42,7 @@ pub of_where : (has : Bool) (kinds : List Kind) (cells : List ℤ) → AreOf kin
 of_where true kinds cells all = all
 of_where false kinds cells all = of_none
 
--- numbers that kinds hold
+-- Numbers that kinds hold.
 pub byte : (n : ℕ) → n < 2 ^ 8 → InRange U8 (pos n)
 byte n h = (omega (arith, ints), omega (arith, ints, h))
 

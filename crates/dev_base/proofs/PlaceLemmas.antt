@@ -26,7 +26,7 @@ all_set f xs n len at =
     let within : i < n = omega (arith, len, l) in
     at i within ∙ sym (get_or-map-range_with_len f 0 n i i 0 within (omega arith)))
 
--- the kinds of a run of bytes
+-- The kinds of a run of bytes.
 pub bytes_within : (front back : List Kind) (n k : ℕ) → length front ≤ k → k < length front + n → kind_at (front ++ (replicate n U8 ++ back)) k ≡ U8
 bytes_within front back n k low high =
     let i : k - length front < n = omega arith in

@@ -4,11 +4,11 @@ use Rattle.std.proofs.lemmas.List.{map-append, take_all}
 use Rattle.dev_base.specs.Cells.{cell_at}
 use Rattle.dev_base.specs.Tables.{Origin, number_of, carried_by, places}
 
--- tables that follow each other
+-- Tables that follow each other.
 pub carried-append : (cells : List ℤ) (table more : List Origin) → carried_by (table ++ more) cells ≡ carried_by table cells ++ carried_by more cells
 carried-append cells table more = map-append (number_of cells) table more
 
--- cells of a part of the older set
+-- Cells of a part of the older set.
 pub carried-places : (cells : List ℤ) (first count : ℕ) → first + count ≤ length cells → carried_by (places first count) cells ≡ take count (drop first cells)
 carried-places cells first zero h = refl
 carried-places cells first (suc count) h =
@@ -18,7 +18,7 @@ carried-places cells first (suc count) h =
     let e : drop first cells ≡ cell_at cells first ∷ drop (first + 1) cells = drop-cons cells first (pos 0) here ∙ ap (λ n. cell_at cells first ∷ drop n cells) next in
     rw e (ap (λ more. cell_at cells first ∷ more) (carried-places cells (first + 1) count bound))
 
--- all cells of the older set
+-- All cells of the older set.
 pub carried-all : (cells : List ℤ) (count : ℕ) → length cells ≡ count → carried_by (places 0 count) cells ≡ cells
 carried-all cells count e =
     carried-places cells 0 count (omega (arith, e)) ∙ take_all count cells (omega (arith, e))

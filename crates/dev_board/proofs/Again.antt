@@ -18,7 +18,7 @@ use Rattle.dev_board.specs.Touch.{HasTaken}
 use Rattle.dev_board.specs.declared.wires.TheConstants.{DRIVEN}
 use Rattle.dev_pic.proofs.BitLaws.{level_inputs-lt, and-twice, each_input}
 
--- requests of edge inputs stay, and those of level inputs are their lines
+-- Requests of edge inputs stay, and those of level inputs are their lines.
 parts : (r l e : ℕ) → r < 256 → l < 256 → e < 256
     → bit_or (bit_and (bit_or r (bit_or (bit_and l (255 - l)) 0)) (255 - e)) (bit_and r e) ≡ r
 parts r l e hr hl he =
@@ -51,7 +51,7 @@ slave_again pair h =
     let kept = bit_and (bit_or chip.irr (bit_or (bit_and chip.lines (255 - chip.lines)) 0)) (255 - e) in
     ap (λ (n : ℕ). record chip { irr = n }) (ap (bit_or kept) (sym same) ∙ parts chip.irr chip.lines e h.slave.registers.irr h.slave.registers.lines he)
 
--- the inputs of two bytes
+-- The inputs of two bytes.
 and-bytes : (a b c d : ℕ) → b < 256 → d < 256 → bit_and (a * 256 + b) (c * 256 + d) ≡ bit_and a c * 256 + bit_and b d
 and-bytes a b c d hb hd =
     same_from_bits _ _ (λ k. bit_at_and (a * 256 + b) (c * 256 + d) k ∙ ⊎_elim
@@ -96,7 +96,7 @@ cascade-again b m h e = ap (λ n. bit_or n (cond b 4 0)) (and-twice m 0xfb) ∙ 
 low-two : (s m : ℕ) → m < 256 → has (s * 256 + m) 2 ≡ has m 2
 low-two s m h = ap (λ n. n == 1) (omega (arith, h))
 
--- A sound pair that takes its own lines.
+-- A sound pair that takes its own lines stays unchanged.
 pub pair-again : (pair : PicPair) → HasTaken (lines_of pair) pair → settled_pair (bit_and (lines_of pair) DRIVEN) 0 pair ≡ pair
 unfolding settled_pair lines_of slave_int_of without_input but_not
 pair-again pair h =

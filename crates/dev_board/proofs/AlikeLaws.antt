@@ -20,7 +20,7 @@ use Rattle.dev_board.specs.declared.event.Event.TheVariants.{Read, Write, Byte, 
 use Rattle.dev_board.specs.declared.ports.Target.{Target}
 use Rattle.dev_board.specs.declared.ports.Target.TheVariants.{Pair, Counter, Control, Register, Nothing}
 
--- the other board is the first with another port
+-- The other board is the first with another port.
 module _ (m : State) (port : Port) (a : AlikePorts m.serial port) where
   abbrev other : State
   other = record m { serial = port }

@@ -10,7 +10,7 @@ use Rattle.dev_board.specs.declared.event.Event.TheVariants.{Read, Write, Byte, 
 use Rattle.dev_board.specs.declared.ports.Target.{Target}
 use Rattle.dev_board.specs.declared.ports.Target.TheVariants.{Pair, Counter, Control, Register, Nothing}
 
--- a board at a moment and of a level
+-- A board at a moment and of a level.
 record IsAt (moment level : ℕ) (after : State) : Type 0 where
   moment_is : after.moment ≡ moment
   level_is : after.level ≡ level

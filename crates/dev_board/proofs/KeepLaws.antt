@@ -27,7 +27,7 @@ use Rattle.dev_board.specs.declared.event.Event.TheVariants.{Read, Write, Byte, 
 use Rattle.dev_board.specs.declared.ports.Target.{Target}
 use Rattle.dev_board.specs.declared.ports.Target.TheVariants.{Pair, Counter, Control, Register, Nothing}
 
--- An answer after which the devices are so.
+-- An answer after which the devices have what they always keep.
 pub record Kept {A : Type 0} (answer : A × State) : Type 0 where
   pub kept : HasDevices answer.1
 
@@ -132,6 +132,6 @@ module _ (m : State) (h : HasDevices m) where
   after-wait to sent port l b e =
       subst (λ (answer : List ℕ × Port). HasDevices (record m { moment = to; serial = answer.1 })) (sym e) (waited-kept m h to l b).kept
 
-  -- no counter was loaded after the moment
+  -- No counter was loaded after the moment.
   pub loaded : IsLoadedBy m.moment m.pit
   loaded = sound_stays.loaded m.moment m.pit h.pit

@@ -56,7 +56,7 @@ register_at : (level offset : ℕ) → offset < 8 → target_of level (0x3f8 + o
 register_at level offset m =
     between level (0x3f8 + offset) (inr (omega arith, omega arith)) ∙ register_of (0x3f8 + offset) offset (omega arith) (omega arith) (omega arith)
 
--- a port below or above a range isn't in it
+-- A port below or above a range isn't in it.
 out_of : (low high port : ℕ) → (port < low) ⊎ (high < port) → (nat_le low port && nat_le port high) ≡ false
 out_of low high port (inl below) = rw (lt-leb low port below) refl
 out_of low high port (inr above) = rw (lt-leb port high above, and-false (nat_le low port)) refl

@@ -14,7 +14,7 @@ use Rattle.dev_board.specs.declared.touch.Touch.TheVariants.{Untouched as OfNoth
 use Rattle.dev_board.specs.declared.wires.TheConstants.{DRIVEN, WIRES}
 use Rattle.dev_board.proofs.Again.{pair-again}
 
--- what quiet inputs are
+-- What quiet inputs are.
 record Quiet (pair edge same : Bool) : Type 0 where
   no_access : pair ≡ false
   no_edge : edge ≡ false

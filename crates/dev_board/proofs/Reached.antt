@@ -41,12 +41,12 @@ pub reached_as : (level port : ℕ) (target found : Target) → target ≡ targe
 reached_as level port target found e is =
     subst (IsReached level port) (sym e ∙ is) (reached level port)
 
--- the pair's own port, by the pair's level
+-- The pair's own port, by the pair's level.
 pub pair_port : (m now : State) (port : ℕ) (target : Target) → HasDevices m → m ≡ now → target ≡ target_of now.level port → target ≡ Pair → is_port m.pair.level port ≡ true
 pair_port m now port target h view e is =
     ap (λ level. is_port level port) (h.pair_level ∙ ap (λ (s : State). s.level) view) ∙ reached_as now.level port target Pair e is
 
--- a port of the timer chip
+-- A port of the timer chip.
 pub pit_port : (level port : ℕ) (target : Target) → target ≡ target_of level port → ((counter : ℕ) × (target ≡ Counter counter)) ⊎ (target ≡ Control) → IsPort port
 pit_port level port target e is =
     ⊎_elim (λ counter. (reached_as level port target (Counter counter.0) e counter.1).1)

@@ -74,7 +74,7 @@ unfolding by_device
 device-ok place (Ok found) device e = cc
 device-ok place (Err rule) device e = cc
 
--- the moment of a timer whose rule holds
+-- The moment of a timer whose rule holds.
 pub record IsTimed (moment found : ℕ) : Type 0 where
   pub last : moment ≤ LAST_MOMENT
   pub same : found ≡ moment
@@ -136,7 +136,7 @@ restored_is_sound = record {
   level = λ level cells m e. (made_of level (timed (moment_of cells)) _ _ _ m e).same_level;
 }
 
--- What the first fault of devices, or none, makes of a restore.
+-- What a restore returns, by the first fault of a device.
 joined-pit : (level moment : ℕ) (pair : PicPair) (misfit : Misfit) (of_timer : Result ℕ Misfit) (of_pair : Result PicPair Misfit) (of_pit : Result Pit Misfit) (of_port : Result Port Misfit) → of_timer ≡ Ok moment → of_pair ≡ Ok pair → of_pit ≡ Err misfit → joined level of_timer of_pair of_pit of_port ≡ Err misfit
 unfolding joined
 joined-pit level moment pair misfit of_timer of_pair of_pit of_port a b c = rw (a, b, c) refl

@@ -35,7 +35,7 @@ module _ (m : State) (s : IsSound m) where
   may : MaySaveUnder m.level NEWEST
   may = let l = s.devices.level.last in record { level_le_set = l; set_le_newest = omega arith }
 
-  -- the newest set's cells are carried as they are
+  -- The newest set's cells are carried as they are.
   carried-newest : carried NEWEST (saved NEWEST m) ≡ saved NEWEST m
   unfolding carried saved
   carried-newest =

@@ -36,7 +36,7 @@ use Rattle.dev_board.specs.declared.misfit.Misfit.{Misfit}
 use Rattle.dev_board.specs.declared.misfit.TheConstants.{PIT_DEVICE, SERIAL_DEVICE}
 use Rattle.dev_board.proofs.AlikeLaws.{alike_stays}
 
--- two truth values are the same
+-- Two truth values are the same.
 pub same-refl : (a b : Bool) → a ≡ b → same a b ≡ true
 same-refl true b e = sym e
 same-refl false true e = absurd (false≢true e)
@@ -70,7 +70,7 @@ joined-ok level moment pair pit port of_timer of_pair of_pit of_port a b c d e =
 pub ok-same : (first second : State) (outcome : Result State Misfit) → outcome ≡ Ok first → outcome ≡ Ok second → first ≡ second
 ok-same first second outcome d e = cc
 
--- a moment as a cell
+-- A moment as a cell.
 moment-of : (moment : ℕ) → moment ≤ LAST_MOMENT → AreOf timer_kinds (pos moment ∷ [])
 moment-of moment l = of_more _ _ _ _ (long moment (omega (arith, l))) of_none
 

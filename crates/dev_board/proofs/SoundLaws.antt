@@ -23,7 +23,7 @@ use Rattle.dev_board.specs.declared.event.Event.{Event}
 use Rattle.dev_board.proofs.KeepLaws.{acted-kept}
 use Rattle.dev_board.proofs.WireBits.{names, wires_of-are, wires_after-are, one-lt, inputs-lt, inputs-out, inputs-serial}
 
--- the board at power on
+-- The board at power on.
 pub on-devices : (level : ℕ) → IsLevel level → HasDevices (power_on level)
 unfolding power_on serial_on
 on-devices level l = record {
@@ -81,7 +81,7 @@ module _ (wires : ℕ) (edge : Bool) (m : State) (w : AreWires wires) (h : HasDe
     lines = settled-lines;
   }
 
--- after each event
+-- After each event.
 pub step-sound : (event : Event) (m : State) → IsEvent event → HasDevices m → IsSound (step event m).1
 unfolding step after_act
 step-sound event m e h =

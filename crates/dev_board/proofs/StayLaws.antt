@@ -39,7 +39,7 @@ read-out j now pit =
     (λ here. subst (λ (i : ℕ). GoesOn (counter_of 0 pit) (read_of now (counter_of i pit)).1) here (read-goes_on now (counter_of 0 pit)))
     (same (counter_of 0 pit)))
 
--- the bit of an overrun in the line status
+-- The bit of an overrun in the line status.
 bit-of : (b : Bool) (bits : ℕ) → has 0 1 ≡ false → has (bits_where b bits) 1 ≡ (has bits 1 && b)
 bit-of true bits z = sym (and-true (has bits 1))
 bit-of false bits z = z ∙ sym (and-false (has bits 1))
@@ -95,7 +95,7 @@ module _ (m : State) (s : IsSound m) where
   taken : HasTaken lines m.pair
   taken = record { sound = s.pair; slave = s.lines.slave; same = refl }
 
-  -- a read of a register
+  -- A read of a register.
   port-stays : (offset : ℕ) (leaves : Bool) → leaves_port offset (registers_read offset m.moment m.serial).0 ≡ leaves → Stays (if leaves then Untouched else OfPort) lines (record m { serial = (registers_read offset m.moment m.serial).1 })
   port-stays offset true e = record { out = λ e. s.lines.out; serial = λ f. s.lines.serial ∙ ap (line_of m.moment) (sym (left-at offset m.moment m.serial e)); pair = λ e. taken }
   port-stays offset false e = record { out = λ e. s.lines.out; serial = λ f. touched f; pair = λ e. taken }

@@ -64,12 +64,12 @@ names (Wait ns) e = refl
 names (Wire input up) e = e
 names Ack e = refl
 
--- the input of a wire's event
+-- The input of a wire's event.
 pub named-bound : (event : Event) (input : ℕ) (up : Bool) → names_wire event ≡ true → event ≡ Wire input up → input < 16
 unfolding names_wire
 named-bound event input up e is = wire-bound input (sym (ap names_wire is) ∙ e)
 
--- a device's line among the inputs
+-- A device's line among the inputs.
 where-bit : (b : Bool) (bits place : ℕ) → has 0 place ≡ false → has (bits_where b bits) place ≡ (has bits place && b)
 where-bit true bits place z = sym (and-true (has bits place))
 where-bit false bits place z = z ∙ sym (and-false (has bits place))

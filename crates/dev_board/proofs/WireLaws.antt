@@ -35,7 +35,7 @@ has-rest : (input wire : ℕ) → input < 16 → wire < 16 → has (65535 - 2 ^ 
 has-rest input wire h l =
     ap (λ n. n == 1) (bit_at_not w16 (2 ^ input) wire (pow_below input 16 h) l) ∙ not_test (bit_at (2 ^ input) wire) (bit_at-lt (2 ^ input) wire)
 
--- one of them rises or falls
+-- One of them rises or falls.
 named : (input wire wires : ℕ) (up : Bool) → input < 16 → wire < 16 → has (with_wire input up wires) wire ≡ (if input == wire then up else has wires wire)
 unfolding with_wire
 named input wire wires true h l =
@@ -60,7 +60,7 @@ left (Wait ns) wire wires l e = refl
 left (Wire input up) wire wires l e = named input wire wires up (wire-bound input e) l
 left Ack wire wires l e = refl
 
--- no device drives a wire
+-- No device drives a wire.
 driven : (b : Bool) (input wire : ℕ) → wire ≢ input → has (bits_where b (2 ^ input)) wire ≡ false
 driven true input wire n = has-one_other input wire n
 driven false input wire n = ap (λ n. n == 1) (bit_at-zero wire)

@@ -14,8 +14,8 @@ pub enum Event {
     Byte { value: u8 },
     /// `ns` nanoseconds pass.
     Wait { ns: u64 },
-    /// The free interrupt input `input`, one of 1, 3, 5, 6, 7 and 8 to 15, rises or falls and stays
-    /// so.
+    /// The free interrupt input `input` rises (`up`) or falls, and stays so. It is one of 1, 3, 5, 6,
+    /// 7 and 8 to 15.
     Wire { input: u8, up: bool },
     /// The processor acknowledges an interrupt.
     Ack,

@@ -2,7 +2,8 @@
 /// Why the cells of devices, each in its kind's range, don't describe a board.
 #[derive(Clone, Copy, Debug, PartialEq, Eq)]
 pub enum Misfit {
-    /// A device breaks a rule: the first device in the set's order that does, and its first rule.
+    /// The device `device` breaks its rule `rule`, the first that it breaks. No device before it
+    /// breaks one.
     ///
     /// The devices are 0 the timer, 1 the master, 2 the slave, 3 the timer chip, 4 the serial port.
     /// Rules are numbered from 1.

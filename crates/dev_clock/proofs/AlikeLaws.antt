@@ -20,12 +20,12 @@ use Rattle.dev_clock.specs.declared.devices.TheConstants.{CLOCK_INPUT}
 same-moment : (m n : State) → AlikeBoards m n → n.moment ≡ m.moment
 same-moment m n a = ap (λ (s : State). s.moment) a.same
 
--- two choices by one test
+-- Two choices by one test.
 chosen : (b : Bool) (x y p q : Answer × ClockState) → AnswersAlike Alike x p → AnswersAlike Alike y q → AnswersAlike Alike (cond b x y) (cond b p q)
 chosen true x y p q first second = first
 chosen false x y p q first second = second
 
--- the others have the same chip, and a board like the first
+-- The others have the same chip, and a board like the first.
 module _ (m : ClockState) (board : State) (a : AlikeBoards m.board board) where
   abbrev other : ClockState
   other = record m { board = board }
@@ -59,7 +59,7 @@ module _ (m : ClockState) (board : State) (a : AlikeBoards m.board board) where
       chosen (input == CLOCK_INPUT) _ _ _ _ (record { value = refl; alike = record { clock = refl; board = a } }) (on_board-alike (Wire input up))
   acted-alike Ack = on_board-alike Ack
 
--- the board after it took a chip's line
+-- The board after it took a chip's line.
 abbrev taken : Rtc → State → Answer × State
 taken clock board = board_step (Wire CLOCK_INPUT (line_of clock)) board
 

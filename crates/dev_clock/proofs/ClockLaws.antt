@@ -14,7 +14,7 @@ use Rattle.dev_clock.specs.State.{ClockState}
 use Rattle.dev_clock.specs.Step.{waited, acted, follows_line, step}
 use Rattle.dev_clock.specs.declared.devices.TheConstants.{CLOCK_INPUT}
 
--- devices at a moment and of a version
+-- Devices at a moment and of a version.
 record IsAt (moment version : ℕ) (after : Answer × ClockState) : Type 0 where
   moment_is : after.1.board.moment ≡ moment
   version_is : after.1.clock.version ≡ version

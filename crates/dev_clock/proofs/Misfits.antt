@@ -13,7 +13,7 @@ use Rattle.dev_pit.specs.declared.pit.Pit.{Pit}
 use Rattle.dev_serial.specs.Port.{Port}
 use Rattle.dev_clock.specs.Saved.{IsPlaced}
 
--- a misfit, if there is one, names a device of a board
+-- A misfit, if there is one, names a device of a board.
 abbrev MayBePlaced : {D : Type 0} → Result D Misfit → Type 0
 MayBePlaced (Ok device) = Unit {0}
 MayBePlaced (Err misfit) = IsPlaced misfit

@@ -70,7 +70,7 @@ clock-version : (version : ℕ) (line : Bool) (cells : List ℤ) (clock : Rtc) �
 clock-version version line cells clock e =
     clock-is-sound.version (numbers_back version 0) cells clock (ok-hook _ clock (clock-lined version line cells clock e).found)
 
--- the slave's lines
+-- The slave's lines.
 lines-of : (cells : List ℤ) (chip : Chip) → chip_of cells ≡ chip → number_at cells LINES_CELL ≡ chip.lines
 unfolding chip_of
 lines-of cells chip e = ap (λ (c : Chip). c.lines) e

@@ -31,7 +31,7 @@ slave-there : (board : State) → IsSoundBoard board → slave_line (board_saved
 unfolding board_saved chip_cells first_cells
 slave-there board s = sym (slave-bit board.pair s.pair)
 
--- sound devices
+-- Sound devices.
 module _ (m : ClockState) (s : IsSound m) where
   chip-own : clock_restored m.clock.version (saved_cells NEWEST_CLOCK m.clock) ≡ Ok m.clock
   unfolding saved_cells

@@ -52,7 +52,7 @@ module _ (set : ℕ) (m : ClockState) (s : IsSound m) (may : MaySaveUnder m.cloc
     board = board-saved.of_set NEWEST m.board s.board may-board;
   }
 
-  -- the chip
+  -- The chip.
   abbrev numbers : Numbers
   numbers = record { level = m.clock.version; set = set; moment = 0 }
 
@@ -62,13 +62,13 @@ module _ (set : ℕ) (m : ClockState) (s : IsSound m) (may : MaySaveUnder m.cloc
       (record { is_version = s.devices.clock.version; own_version = refl; reaches = may }) s.devices.clock
       (record { is_version = s.devices.clock.version; newest_set = refl }) refl
 
-  -- the board's devices
+  -- The board's devices.
   board-back : BoardComesBack NEWEST (board_carried NEWEST (board_saved NEWEST m.board)) m.board
   board-back =
       subst (λ (level : ℕ). BoardComesBack level (board_carried NEWEST (board_saved NEWEST m.board)) m.board) s.devices.level
       (board-comes-back.back NEWEST m.board s.board may-board)
 
-  -- the slave's line
+  -- The slave's line.
   lines-there : number_at (pic_carried NEWEST (chip_cells NEWEST m.board.pair.slave)) LINES_CELL ≡ m.board.pair.slave.lines
   unfolding chip_cells first_cells
   lines-there = ap (λ (cells : List ℤ). number_at cells LINES_CELL) (carried-saved m.board.pair.level NEWEST _ m.board.pair.slave le s.board.pair.slave)

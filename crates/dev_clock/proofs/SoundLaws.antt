@@ -77,7 +77,7 @@ after-line m h up answer after l e s = record {
 
 -- ---- the event itself
 
--- the devices after an act: those of the board are sound too
+-- The devices after an act: those of the board are sound too.
 record IsKept (done : Answer × ClockState) : Type 0 where
   devices : HasDevices done.1
   board : IsSoundBoard done.1.board
@@ -99,7 +99,7 @@ acted-kept Ack m e s = on-board Ack m e s
 
 -- ---- whole events
 
--- the board's input takes the chip's line
+-- The board's input takes the chip's line.
 abbrev taken : Answer × ClockState → Event
 taken done = Wire CLOCK_INPUT (line_of done.1.clock)
 

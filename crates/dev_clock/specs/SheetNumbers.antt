@@ -6,11 +6,11 @@ use Rattle.dev_clock.specs.declared.saved.TheConstants.{CLOCK_DEVICE, LINE_RULE,
 
 -- Each constant has its value.
 pub record NumbersAre : Type 0 where
-  -- the input of the pair that the chip's line drives, which is the slave's first
+  -- The input of the pair that the chip's line drives, which is the slave's first.
   pub input : CLOCK_INPUT ≡ 8
-  -- the chip's place among the devices of a set, and its rule that the slave remembers its line; a
-  -- refusal names both
+  -- The chip's place among the devices of a set, and its rule that the slave remembers its line; a
+  -- refusal names both.
   pub device : CLOCK_DEVICE ≡ 0
   pub rule : LINE_RULE ≡ 4
-  -- the place of the remembered lines among the slave's cells
+  -- The place of the remembered lines among the slave's cells.
   pub lines : LINES_CELL ≡ 3

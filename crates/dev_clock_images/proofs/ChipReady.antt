@@ -11,7 +11,7 @@ use Rattle.vms_spec.specs.Images.{image_slots, IsValid}
 use Rattle.vms_spec.specs.Layout.{first, device_cells}
 use Rattle.dev_clock_images.specs.Laws.{ChipIsReady}
 
--- the flag's cell, by whether its subsection is needed
+-- The flag's cell, by whether its subsection is needed.
 kept-1 : (numbers : List ℤ) (needed : Bool) → needs (get_or numbers 65 (pos 0)) ≡ needed → (needed ≡ false → get_or numbers 65 (pos 0) ≡ pos 0) → (are_kept (image_slots clock_1 mc146818_at_1 (image_of clock_1 mc146818_at_1 numbers)) numbers 0 (device_cells clock_1 mc146818_at_1) ≡ true) × IsValid clock_1 mc146818_at_1 (image_of clock_1 mc146818_at_1 numbers)
 unfolding first
 kept-1 numbers true e off = rw e (refl, (refl, (refl, tt)))

@@ -26,7 +26,7 @@ use Rattle.vms_spec.specs.Shipped.{set_4}
 use Rattle.dev_clock_images.specs.Images.{cells_in}
 use Rattle.dev_clock_images.specs.Laws.{SavedIsCarried, ImagesComeBack}
 
--- the chip's numbers in the newest clock set
+-- The chip's numbers in the newest clock set.
 abbrev chip_numbers : Set → Device → List ℤ → List ℤ
 chip_numbers set d numbers = (carried_device set clock_2 d mc146818_at_2 (image_of set d numbers)).numbers
 
@@ -48,7 +48,7 @@ chip-2 numbers are = flag-2 numbers (needs (get_or numbers 66 (pos 0))) refl (un
 
 -- ---- the board's devices
 
--- they are carried as between shipped sets
+-- They are carried as between shipped sets.
 board-1 : (numbers : List ℤ) (cells : BoardCells) → board_from 1 (numbers_in (carried clock_1 clock_2 (images_of clock_1 clock_1.devices (numbers ∷ board_lists cells)))) ≡ board_cells_in (carried set_4 set_4 (images_of set_4 set_4.devices (board_lists cells)))
 unfolding carried first
 board-1 numbers cells = refl

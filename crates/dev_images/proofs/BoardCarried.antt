@@ -19,7 +19,7 @@ use Rattle.dev_images.proofs.Carried.{timer_is_carried, chip_is_carried}
 use Rattle.dev_images.proofs.PitCarried.{pit_is_carried}
 use Rattle.dev_images.proofs.SerialCarried.{serial_is_carried}
 
--- the cells of five devices
+-- The cells of five devices.
 abbrev five : List ℤ → List ℤ → List ℤ → List ℤ → List ℤ → BoardCells
 five a b c d e = record {
   timer = record { items = a };
@@ -33,7 +33,7 @@ same-five : (a b c d e a' b' c' d' e' : List ℤ) → a ≡ a' → b ≡ b' → 
 same-five a b c d e a' b' c' d' e' p q r s t =
     ap (λ l. five l b c d e) p ∙ ap (λ l. five a' l c d e) q ∙ ap (λ l. five a' b' l d e) r ∙ ap (λ l. five a' b' c' l e) s ∙ ap (λ l. five a' b' c' d' l) t
 
--- a set's cells as its devices' tables carry them
+-- A set's cells as its devices' tables carry them.
 abbrev tables : ℕ → BoardCells → BoardCells
 tables set cells =
     five cells.timer.items (pic_carried set cells.master.items) (pic_carried set cells.slave.items) (pit_carried set cells.pit.items) (serial_carried set cells.serial.items)

@@ -9,7 +9,7 @@ use Rattle.vms_spec.specs.Shipped.{set_1, set_2, set_3, set_4, timer, i8259_at_1
 use Rattle.dev_images.specs.Laws.{carried_numbers, TimerIsCarried, ChipIsCarried}
 use Rattle.dev_images.proofs.ChipReady.{needs, unneeded}
 
--- a list of one number
+-- A list of one number.
 one : (numbers : List ℤ) → length numbers ≡ 1 → (get_or numbers 0 (pos 0) ∷ []) ≡ numbers
 one [] e = absurd (omega arith)
 one (z ∷ []) e = refl

@@ -25,7 +25,7 @@ third-set : (instance : ℕ) (numbers : List ℤ) → AreOf (pic_kinds 3) number
 unfolding first
 third-set instance numbers are = ready-plain set_3 (i8259_at_2 instance) numbers (omega arith) tt are refl refl (refl, tt)
 
--- the level mode's cell, by whether its subsection is needed
+-- The level mode's cell, by whether its subsection is needed.
 abbrev pub needs : ℤ → Bool
 needs z = bit_and (residue 1 z) 1 == 1
 

@@ -44,14 +44,14 @@ chip-none a b c rest k p q r s =
     has-none (((a ++ (b ++ (c ++ []))) ++ rest) ++ Rule true ∷ []) [] k
     (has-none ((a ++ (b ++ (c ++ []))) ++ rest) (Rule true ∷ []) k (has-none (a ++ (b ++ (c ++ []))) rest k (has-none a (b ++ (c ++ [])) k p (has-none b (c ++ []) k q (has-none c [] k r refl))) s) refl) refl
 
--- a clear flag
+-- A clear flag.
 flag-off : (z : ℤ) → InRange Truth z → (nat_of z == 1) ≡ false → needs z ≡ false
 flag-off (pos zero) r e = refl
 flag-off (pos (suc zero)) r e = cc
 flag-off (pos (suc (suc n))) r e = absurd (let most = r.1 in omega (arith, ints, most))
 flag-off (negsuc n) r e = absurd (let least = r.0 in omega (arith, ints, least))
 
--- the slots of an image of the chip, at either version
+-- The slots of an image of the chip, at either version.
 record HasSlots (numbers : List ℤ) (slots : List Slot) : Type 0 where
   rest : List Slot
   same : slots ≡ chip_slots (slots_in set_2 numbers 0) (slots_in set_2 numbers 11) (slots_in set_2 numbers 22) rest
@@ -79,7 +79,7 @@ module _ (image : Image) (n : IsNormal (shipped_set NEWEST) i8254_at_2 image) wh
   unfolding first
   truth place lt e = subst (λ (kind : Kind). InRange kind (get_or numbers place (pos 0))) e (kinds.in_range place (omega (arith, lt)))
 
-  -- a cell that no channel has is at its default, 0
+  -- A cell that no channel has is at its default, 0.
   lacks : (k : ℕ) → k < 33 → (get_or (device_cells (shipped_set NEWEST) i8254_at_2) k no_cell).default ≡ pos 0 → none_at 0 (channel numbers 0) k ≡ true → none_at 11 (channel numbers 11) k ≡ true → none_at 22 (channel numbers 22) k ≡ true → nat_of (get_or numbers k (pos 0)) ≡ 0
   unfolding first
   lacks k lt d a b c =

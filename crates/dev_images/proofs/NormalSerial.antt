@@ -59,7 +59,7 @@ tx-lack n m i most l b =
     (has-none (Number 30 U8 (16 ∷ []) ∷ []) (times m (element byte) 31 1 ++ []) (31 + i) (or_from (30 == 31 + i) false (neq 30 (31 + i) (λ same. absurd (omega (arith, same)))) refl)
     (has-none (times m (element byte) 31 1) [] (31 + i) (elements-before m 31 (31 + i) (omega (arith, l))) refl)))) refl
 
--- subsections that came lack a cell that none of them has
+-- Subsections that came lack a cell that none of them has.
 abbrev SubsLack : Set → List ℤ → ℕ → ℕ → List Sub → Type 0
 SubsLack set numbers c at [] = Unit {0}
 SubsLack set numbers c at (s ∷ subs) =
@@ -86,7 +86,7 @@ version-1 zero P l h p = absurd (omega (arith, l))
 version-1 (suc zero) P l h p = p
 version-1 (suc (suc v)) P l h p = absurd (omega (arith, h))
 
--- the default of a cell of a run that has zeros
+-- The default of a cell of a run that has zeros.
 default-in : (cells : List Cell) (at i n place : ℕ) → place ≡ at + i → i < n → zero_defaults (take n (drop at cells)) ≡ true → (get_or cells place no_cell).default ≡ pos 0
 default-in [] at i n place is lt e = refl
 default-in (cell ∷ cells) (suc at) i n zero is lt e = absurd (omega (arith, is))

@@ -18,12 +18,12 @@ use Rattle.vms_check.specs.Comparing.{same_kind}
 use Rattle.dev_images.proofs.ChipReady.{needs, unneeded}
 use Rattle.dev_images.proofs.Channels.{behind, IsKeptAt}
 
--- a channel of the newest set from one of older sets
+-- A channel of the newest set from one of older sets.
 abbrev channel_in : Set → List ℤ → ℕ → List ℤ
 channel_in old numbers at =
     get_or (carriers (struct_cells old) (struct_cells (shipped_set NEWEST)) old.structs (shipped_set NEWEST).structs 1) 0 no_carrier 0 numbers at
 
--- the number of a cell that may be absent, and is then 0
+-- The number of a cell that may be absent, and is then 0.
 abbrev may_lack : Set → List ℤ → Kind → Bool → ℕ → List ℤ
 may_lack old numbers kind there at =
     carry_items [] (struct_cells old) (struct_cells (shipped_set NEWEST)) numbers (Num kind) (Num kind) (pos 0 ∷ []) 1 (cond there 1 0) 1 at
@@ -57,7 +57,7 @@ off : (flag number : ℤ) → InRange Truth flag → pos 0 ≤ℤ number → ((n
 off flag (pos n) r l h e = ap pos (h (ap (λ z. nat_of z == 1) (unneeded flag r e)))
 off flag (negsuc n) r l h e = absurd (omega (arith, ints, l))
 
--- three channels and what follows them
+-- Three channels and what follows them.
 abbrev with_channels : List ℤ → List ℤ → List ℤ → List ℤ → List ℤ
 with_channels first second third rest = ((first ++ (second ++ (third ++ []))) ++ rest) ++ []
 

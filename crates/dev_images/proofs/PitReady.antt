@@ -11,7 +11,7 @@ use Rattle.dev_images.proofs.PitCarried.{IsKept, absent-kept}
 use Rattle.dev_images.proofs.ReadyOf.{are_kept, ready-plain, kept-left, kept-right, kept-both}
 use Rattle.vms_bodies.proofs.SpellLaws.{rules_append}
 
--- three channels with what follows them
+-- Three channels with what follows them.
 abbrev pub chip_slots : List Slot → List Slot → List Slot → List Slot → List Slot
 chip_slots a b c rest = (((a ++ (b ++ (c ++ []))) ++ rest) ++ Rule true ∷ []) ++ []
 
@@ -41,7 +41,7 @@ module _ (numbers : List ℤ) (a b c rest : List Slot) where
   all-hold p q r s =
       rules_append (((a ++ (b ++ (c ++ []))) ++ rest) ++ Rule true ∷ []) [] (rules_append ((a ++ (b ++ (c ++ []))) ++ rest) (Rule true ∷ []) (rules_append (a ++ (b ++ (c ++ []))) rest (rules_append a (b ++ (c ++ [])) p (rules_append b (c ++ []) q (rules_append c [] r tt))) s) (refl, tt)) tt
 
--- the statuses of later sets
+-- The statuses of later sets.
 abbrev pub status_slots : List Slot
 status_slots = Number 33 Truth [] ∷ Number 34 Truth [] ∷ Number 35 Truth [] ∷ Number 36 U8 [] ∷ Number 37 U8 [] ∷ Number 38 U8 [] ∷ []
 

@@ -16,7 +16,7 @@ use Rattle.dev_images.proofs.Parts.{front, shape}
 use Rattle.std.specs.Prelude.{codes}
 use Rattle.dev_images.proofs.SerialReady.{serial_since_2, new_name, former_names, needs_sign, needs_timer, needs_fifo, needs_ring, no-sign, no-timer, no-ring, HasFifo, has-fifo-2, has-fifo-3, has-fifo-4, rx_elements, tx_elements, rx-zeros, tx-zeros, no-fifo}
 
--- the numbers of cells one after the other
+-- The numbers of cells one after the other.
 abbrev run : List ℤ → ℕ → ℕ → List ℤ
 run numbers at zero = []
 run numbers at (suc n) = get_or numbers at (pos 0) ∷ run numbers (suc at) n
@@ -60,7 +60,7 @@ module _ (structs : List Carrier) (x y : List (List Cell)) (numbers : List ℤ) 
       ap (λ l. (get_or numbers 13 (pos 0) ∷ []) ++ (l ++ ((get_or numbers 30 (pos 0) ∷ []) ++ (array m 16 31 ++ [])))) (array-run n 16 14 rx)
       ∙ ap (λ l. (get_or numbers 13 (pos 0) ∷ []) ++ (run numbers 14 16 ++ ((get_or numbers 30 (pos 0) ∷ []) ++ (l ++ [])))) (array-run m 16 31 tx)
 
--- what each subsection of the newest set has of an image
+-- What each subsection of the newest set has of an image.
 abbrev part : Set → Device → List ℤ → Sub → List ℤ
 part old d numbers t = carried_sub old (shipped_set NEWEST) d (image_of old d numbers) t
 
@@ -91,7 +91,7 @@ unfolding first
 ring-4 numbers true e off = rw e refl
 ring-4 numbers false e off = rw e (zeros-run numbers 48 36 (off refl))
 
--- the fields, and then the parts
+-- The fields, and then the parts.
 abbrev with_parts : List ℤ → List ℤ → List ℤ → List ℤ → List ℤ → List ℤ
 with_parts own a b c d = own ++ (a ++ (b ++ (c ++ (d ++ []))))
 

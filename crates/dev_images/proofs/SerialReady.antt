@@ -57,14 +57,14 @@ abbrev pub serial_since_2 : ℕ → List ℕ → List (List ℕ) → List Sub �
 serial_since_2 version name former more =
     serial version (record (number U16 name) { former = former } ∷ serial_fields ++ fcr ∷ []) (thr_ipending ∷ fifo ∷ more)
 
--- its names from set 3 on
+-- Its names from set 3 on.
 abbrev pub new_name : List ℕ
 new_name = codes "divisor"
 
 abbrev pub former_names : List (List ℕ)
 former_names = codes "divider" ∷ []
 
--- the latch's cell, and the timeout's; no item of the port is a structure
+-- The latch's cell, and the timeout's; no item of the port is a structure.
 thr-1 : (numbers : List ℤ) (needed : Bool) → needs_sign (get_or numbers 11 (pos 0)) ≡ needed → (needed ≡ false → get_or numbers 11 (pos 0) ≡ negsuc 0) → IsFineSub set_1 serial_at_1 numbers thr_ipending 0 11
 unfolding first
 thr-1 numbers true e off = record { kept = rw e refl; rules = rw e (refl, tt) }
@@ -81,7 +81,7 @@ module _ (set : Set) (version : ℕ) (name : List ℕ) (former : List (List ℕ)
   due true e off = record { kept = rw e refl; rules = rw e (refl, tt) }
   due false e off = record { kept = rw (e, off refl) refl; rules = rw e tt }
 
--- whether a count isn't 0
+-- Whether a count isn't 0.
 abbrev needs_count : ℤ → Bool
 needs_count z = nat_le 1 (bit_and (residue 1 z) 255)
 
@@ -102,7 +102,7 @@ counted-well : (z : ℤ) → InRange U8 z → nat_of z ≤ 16 → counts_well (1
 counted-well (pos n) r l = counted_well (16 ∷ []) (pos n) (omega (arith, ints, l), tt)
 counted-well (negsuc n) r l = absurd (let least = r.0 in omega (arith, ints, least))
 
--- the FIFOs as counted arrays
+-- The FIFOs as counted arrays.
 abbrev pub byte : Cell
 byte = record { kind = U8; capacities = []; default = pos 0 }
 
@@ -182,7 +182,7 @@ serial-1 numbers are =
     ready-parts set_1 serial_at_1 numbers (omega arith) (omega arith, tt) are.of_kinds (counts-none (device_cells set_1 serial_at_1) numbers refl) refl (refl, tt)
     (thr-1 numbers _ refl (no-sign _ (are.of_kinds.in_range 11 (omega arith))), tt)
 
--- the FIFOs as rings
+-- The FIFOs as rings.
 abbrev pub needs_ring : List ℤ → Bool
 needs_ring numbers = needs_count (get_or numbers 65 (pos 0)) || needs_count (get_or numbers 83 (pos 0))
 
@@ -191,7 +191,7 @@ unfolding first
 ring-4 numbers true e off = record { kept = rw e refl; rules = rw e (refl, tt) }
 ring-4 numbers false e off = record { kept = rw e (zeros-kept [] numbers 48 (replicate 36 byte) refl (off refl)); rules = rw e tt }
 
--- the counts of a set with FIFOs are within their capacities
+-- The counts of a set with FIFOs are within their capacities.
 well-rx : (numbers : List ℤ) (h : HasFifo numbers) → counts_well (16 ∷ []) (get_or numbers 13 (pos 0)) ≡ true
 well-rx numbers h = counted-well (get_or numbers 13 (pos 0)) h.rx_range h.rx.fits
 
@@ -201,7 +201,7 @@ well-tx numbers h = counted-well (get_or numbers 30 (pos 0)) h.tx_range h.tx.fit
 pub has-fifo : (set : ℕ) → 2 ≤ set → (numbers : List ℤ) → AreSaved set numbers → InRange U8 (get_or numbers 13 (pos 0)) → InRange U8 (get_or numbers 30 (pos 0)) → HasFifo numbers
 has-fifo set since numbers are rx tx = record { rx_range = rx; tx_range = tx; rx = are.rx since; tx = are.tx since; none = are.no_fifo since }
 
--- the FIFOs of the sets that have them
+-- The FIFOs of the sets that have them.
 pub has-fifo-2 : (numbers : List ℤ) → AreSaved 2 numbers → HasFifo numbers
 has-fifo-2 numbers are = has-fifo 2 (omega arith) numbers are (are.of_kinds.in_range 13 (omega arith)) (are.of_kinds.in_range 30 (omega arith))
 

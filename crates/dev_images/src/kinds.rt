@@ -1,4 +1,4 @@
-// Laws of the devices' cells in the shipped sets.
+//! Laws of the devices' cells in the shipped sets.
 ghost use Rattle.dev_images.specs.Kinds.{KindsLaw};
 
 /// States that in each shipped set from 1 on a device's cells have the kinds that its hook `save`

@@ -15,7 +15,7 @@ not_bit r i h l = bit_at_not w8 r i h l
 pow_lt : (i : ℕ) → i < 8 → 2 ^ i < 256
 pow_lt i h = pow_below i 8 h
 
--- tests of bits
+-- Tests of bits.
 both_tests : (a b : ℕ) → a < 2 → b < 2 → ((min a b == 1) ≡ ((a == 1) && (b == 1))) × ((max a b == 1) ≡ ((a == 1) || (b == 1)))
 both_tests zero zero h l = (refl, refl)
 both_tests zero (suc zero) h l = (refl, refl)
@@ -42,7 +42,7 @@ unfolding but_not
 has-but_not a b i h l =
     has-and a (255 - b) i ∙ ap (λ t. has a i && t) (ap (λ n. n == 1) (not_bit b i h l) ∙ not_test (bit_at b i) (bit_at-lt b i))
 
--- a set of one input
+-- A set of one input.
 pub has-one : (i : ℕ) → has (2 ^ i) i ≡ true
 has-one i = ap (λ n. n == 1) (bit_at-pow_same i)
 
@@ -73,7 +73,7 @@ unfolding with_input
 has-with_same r i =
     has-or r (2 ^ i) i ∙ ap (λ t. has r i || t) (has-one i) ∙ or-true (has r i)
 
--- bounds
+-- Bounds.
 pub but_not-lt : (a b : ℕ) → a < 256 → but_not a b < 256
 unfolding but_not
 but_not-lt a b h = omega (arith, and_le_l a (255 - b))
@@ -109,7 +109,7 @@ each_input P a b c d e f g h (suc (suc (suc (suc (suc (suc zero)))))) l = g
 each_input P a b c d e f g h (suc (suc (suc (suc (suc (suc (suc zero))))))) l = h
 each_input P a b c d e f g h (suc (suc (suc (suc (suc (suc (suc (suc i)))))))) l = absurd (omega (arith, l))
 
--- the level inputs
+-- The level inputs.
 has-all : (i : ℕ) → i < 8 → has 0xff i ≡ true
 has-all = each_input (λ i. has 0xff i ≡ true) refl refl refl refl refl refl refl refl
 

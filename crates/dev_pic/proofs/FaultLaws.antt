@@ -17,7 +17,7 @@ use Rattle.dev_pic.specs.declared.chip.Role.TheVariants.{Master, Slave}
 use Rattle.dev_pic.specs.declared.fault.ChipFault.{ChipFault}
 use Rattle.dev_pic.specs.declared.pair.PicPair.{PicPair}
 
--- a rule of a chip, and a fault of one of two chips
+-- A rule of a chip, and a fault of one of two chips.
 abbrev IsRule : ℕ → Type 0
 IsRule rule = (1 ≤ rule) × (rule ≤ 4)
 

@@ -22,7 +22,7 @@ use Rattle.dev_pic.proofs.BitLaws.{each_input, has-or, has-one_other, has-withou
 use Rattle.dev_pic.proofs.PairLaws.{cascade-lt}
 use Rattle.dev_base.proofs.Choices.{either}
 
--- the bits of a number of two bytes
+-- The bits of a number of two bytes.
 low-bit : (high low i : ℕ) → low < 256 → i < 8 → has (high * 256 + low) i ≡ has low i
 low-bit high low i l =
     each_input (λ i. has (high * 256 + low) i ≡ has low i)
@@ -100,7 +100,7 @@ lines_are_taken = record {
   slave = λ inputs edges input pair bound within. taken-slave inputs edges pair bound input within;
 }
 
--- a chip has the same lines after a step as before it
+-- A chip has the same lines after a step as before it.
 abbrev Same : Chip → Chip → Type 0
 Same chip after = after.lines ≡ chip.lines
 
@@ -167,7 +167,7 @@ cascaded-lines : (chip : Chip) → (cascaded chip).lines ≡ without_input chip.
 unfolding cascaded
 cascaded-lines chip = ap (λ n. without_input n 2) (taken-lines 2 chip)
 
--- the lines of a pair whose master or slave changes
+-- The lines of a pair whose master or slave changes.
 module _ (pair : PicPair) where
   with-master : (chip : Chip) → Same pair.master chip → lines_of (record pair { master = chip }) ≡ lines_of pair
   unfolding lines_of
@@ -177,7 +177,7 @@ module _ (pair : PicPair) where
   unfolding lines_of
   with-slave chip e = ap (λ n. n * 256 + pair.master.lines) e
 
--- an answer after which a pair has these lines
+-- An answer after which a pair has these lines.
 record Kept (lines : ℕ) (answer : ℕ × PicPair) : Type 0 where
   kept : lines_of answer.1 ≡ lines
 
@@ -206,7 +206,7 @@ acked_for-kept (Some w) pair n =
     (λ e. absurd (n (let same : w ≡ 2 = grind (arith, nat_tests) in ap Some same)))
     (λ e. record { kept = with-master pair _ (answered-lines (Some w) pair.master) })
 
--- the lines after the slave's output is acknowledged
+-- The lines after the slave's output is acknowledged.
 acked-slave : (pair : PicPair) → winner_at Master pair.master ≡ Some 2 → lines_of (acked pair).1 ≡ pair.slave.lines * 256 + without_input pair.master.lines 2
 unfolding acked_for lines_of
 acked-slave pair e =

@@ -20,7 +20,7 @@ use Rattle.dev_base.proofs.Choices.{either}
 use Rattle.dev_pic.proofs.BitLaws.{without_input-lt, and-twice}
 use Rattle.dev_pic.proofs.StepLaws.{winner-lt, settled-sound, written_even-registers, written_odd-registers, read-registers, answered-registers, cascaded-registers}
 
--- an answer after which the pair has its registers
+-- An answer after which the pair has its registers.
 record Kept (answer : ℕ × PicPair) : Type 0 where
   kept : PairHasRegisters answer.1
 
@@ -134,7 +134,7 @@ steps_keep_registers = record {
   sound = λ pair h. record { level = h.level; master = h.master.registers; slave = h.slave.registers };
 }
 
--- an answer after which the pair has its level
+-- An answer after which the pair has its level.
 record SameLevel (level : ℕ) (answer : ℕ × PicPair) : Type 0 where
   same : answer.1.level ≡ level
 

@@ -80,7 +80,7 @@ rotate_words : (level : ℕ) (chip : Chip) → (written_even level 0x80 chip ≡
 unfolding written_even commanded
 rotate_words level chip = (refl, refl)
 
--- a chip whose input was taken, by its modes
+-- A chip whose input was taken, by its modes.
 abbrev taken_in : (auto rotate level : Bool) → ℕ → Chip → Chip
 taken_in auto rotate level winner chip =
     let after = if auto then (if rotate then record chip { lowest = winner } else chip) else record chip { isr = with_input chip.isr winner } in

@@ -15,7 +15,7 @@ use Rattle.dev_pic.specs.declared.chip.Role.TheVariants.{Master, Slave}
 use Rattle.dev_pic.specs.declared.fault.ChipFault.{ChipFault}
 use Rattle.dev_pic.specs.declared.pair.PicPair.{PicPair}
 
--- what rule 1 says
+-- What rule 1 says.
 low_priority : (lowest state base : ℕ) → registers_hold lowest state base ≡ true → lowest ≤ 7
 unfolding registers_hold
 low_priority lowest state base h = grind (arith, nat_tests)
@@ -48,7 +48,7 @@ restored-sound level role cells chip is e =
     let ok = judged-ok (rules level role cells) (chip_of cells) chip e in
     subst (IsSoundChip level role) ok.1 (sound level role cells is ok.0)
 
--- a pair is made of two chips that were restored
+-- A pair is made of two chips that were restored.
 pub record IsMadeOf (level : ℕ) (master slave : Result Chip ℕ) (pair : PicPair) : Type 0 where
   pub same_level : pair.level ≡ level
   pub of_master : master ≡ Ok pair.master

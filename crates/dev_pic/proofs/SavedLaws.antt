@@ -60,7 +60,7 @@ met level role chip s =
     let ltim = flag-back chip.ltim in
     (registers-met level role chip s.registers, (s.registers.levels, (rw ltim s.requests, (rw ltim s.registers.mode, tt))))
 
--- the cells of a chip, by whether the set has elcr and the level mode
+-- The cells of a chip, by whether the set has elcr and the level mode.
 first-of : (level : ℕ) (role : Role) (chip : Chip) → HasRegisters level role chip → AreOf (kinds 1) (first_cells chip)
 unfolding first_cells
 first-of level role chip h =
@@ -183,7 +183,7 @@ pair-restored pair s =
     ap (λ r. pair_of pair.level r (restored pair.level Slave (saved_cells NEWEST pair.slave))) (restored-newest pair.level Master pair.master s.master)
     ∙ ap (pair_of pair.level (Ok pair.master)) (restored-newest pair.level Slave pair.slave s.slave)
 
--- both chips' cells in the newest set
+-- Both chips' cells in the newest set.
 newest-can : (numbers : Numbers) (pair : PicPair) → MayRestore numbers → IsSoundPair pair → CanRestore numbers (pair_cells NEWEST pair)
 newest-can numbers pair may s = record {
   pass = may;

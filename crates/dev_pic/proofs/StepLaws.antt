@@ -20,7 +20,7 @@ use Rattle.dev_pic.specs.declared.ocw2.Ocw2.TheVariants.{NonSpecificEoi, RotateO
 use Rattle.dev_base.proofs.Choices.{either}
 use Rattle.dev_pic.proofs.BitLaws.{level-lines, level_inputs-lt, but_not-lt, without_input-lt, with_input-lt}
 
--- each of a list is an input
+-- Each of a list is an input.
 Inputs : List ℕ → Type 0
 Inputs [] = Unit {0}
 Inputs (x ∷ xs) = (x < 8) × Inputs xs

@@ -109,7 +109,7 @@ winner_is_least_request = record {
   only = λ lowest requests served winner w. only_for lowest requests served winner (winner_of lowest requests served) (winner_of-means lowest requests served) w;
 }
 
--- the first of a list that passes
+-- The first of a list that passes.
 find_at : (q : ℕ → Bool) (xs : List ℕ) (k : ℕ) → k < length xs → q (get_or xs k 0) ≡ true → ((j : ℕ) → j < k → q (get_or xs j 0) ≡ false) → find q xs ≡ Some (get_or xs k 0)
 find_at q [] k h passes others = absurd (omega arith)
 find_at q (x ∷ xs) zero h passes others = rw passes
@@ -123,7 +123,7 @@ find_none q (x ∷ xs) others =
     let first : q x ≡ false = others 0 (omega arith) in
     rw first (find_none q xs (λ j l. others (suc j) (omega arith)))
 
--- the input of highest priority in a set, and none in an empty one
+-- The input of highest priority in a set, and none in an empty one.
 pub highest_at : (lowest inputs place : ℕ) → place < 8 → has inputs (input_at lowest place) ≡ true → ((other : ℕ) → other < place → has inputs (input_at lowest other) ≡ false) → highest_of lowest inputs ≡ Some (input_at lowest place)
 unfolding highest_of
 highest_at lowest inputs place h passes others =

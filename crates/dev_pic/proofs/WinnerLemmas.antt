@@ -7,17 +7,17 @@ use Rattle.std.proofs.lemmas.Nat.Bits.{bit_at-zero}
 use Rattle.dev_base.specs.Bits.{has}
 use Rattle.dev_pic.specs.Winner.{input_at, order, before, ready_among, winner_of, highest_of, IsFirstPlace}
 
--- the first of a list that passes q before any passes p
+-- The first of a list that passes q before any passes p.
 find-before : (p q : ℕ → Bool) (x : ℕ) (xs : List ℕ) → find q (before p (x ∷ xs)) ≡ cond (p x) None (cond (q x) (Some x) (find q (before p xs)))
 find-before p q x xs =
     elim (p x) as (λ b. find q (cond b [] (x ∷ before p xs)) ≡ cond b None (cond (q x) (Some x) (find q (before p xs)))) [ true ↦ refl | false ↦ refl ]
 
--- the input at a place is that place of the order
+-- The input at a place is that place of the order.
 at_place : (lowest place input : ℕ) → place < 8 → input ≡ input_at lowest place → get_or (order lowest) place 0 ≡ input
 at_place lowest place input within is =
     get_or-map-range_with_len (input_at lowest) 0 8 place place 0 within (omega arith) ∙ sym is
 
--- one step of the search for a winner
+-- One step of the search for a winner.
 pub ready_among-more : (lowest requests served place input : ℕ) → place < 8 → input ≡ input_at lowest place → ready_among requests served (drop place (order lowest)) ≡ cond (has served input) None (cond (has requests input) (Some input) (ready_among requests served (drop (place + 1) (order lowest))))
 unfolding ready_among
 ready_among-more lowest requests served place input within is =
@@ -25,7 +25,7 @@ ready_among-more lowest requests served place input within is =
     ∙ find-before (has served) (has requests) (get_or (order lowest) place 0) (drop (place + 1) (order lowest))
     ∙ ap (λ x. cond (has served x) None (cond (has requests x) (Some x) (ready_among requests served (drop (place + 1) (order lowest))))) (at_place lowest place input within is)
 
--- one step of the search for the highest of a set
+-- One step of the search for the highest of a set.
 pub find-more : (lowest inputs place input : ℕ) → place < 8 → input ≡ input_at lowest place → find (has inputs) (drop place (order lowest)) ≡ cond (has inputs input) (Some input) (find (has inputs) (drop (place + 1) (order lowest)))
 find-more lowest inputs place input within is =
     at_drop_more (find (has inputs)) (order lowest) place 0 within

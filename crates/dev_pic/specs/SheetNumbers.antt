@@ -5,7 +5,7 @@ use Rattle.dev_pic.specs.declared.levels.TheConstants.{ELCR_SINCE, LTIM_SINCE}
 
 -- Each constant has its value.
 pub record NumbersAre : Type 0 where
-  -- the first levels with edge/level registers and with the level mode of ICW1, and the first sets
-  -- that save them
+  -- The first levels with edge/level registers and with the level mode of ICW1, and the first sets
+  -- that save them.
   pub elcr : ELCR_SINCE ≡ 2
   pub ltim : LTIM_SINCE ≡ 4

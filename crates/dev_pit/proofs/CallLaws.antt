@@ -29,7 +29,7 @@ asked-go_on count status j k now before pit g =
     at_counter (GoesOn before) k j _ pit
     (λ here. goes-on before (counter_of j pit) _ (subst (λ (i : ℕ). GoesOn before (counter_of i pit)) here g) (read_back-goes_on _ _ now (counter_of j pit))) g
 
--- a control word that doesn't set the mode of counter k leaves it counting
+-- A control word that doesn't set the mode of counter k leaves it counting.
 control-goes_on : (word : ControlWord) (k now : ℕ) (pit : Pit) → sets_mode_of k word ≡ false → GoesOn (counter_of k pit) (counter_of k (controlled word now pit))
 unfolding controlled
 control-goes_on (LatchCount j) k now pit e =
@@ -43,7 +43,7 @@ control-goes_on (ReadBack count status first second third) k now pit e =
     (asked-go_on _ _ 2 k now _ _ (asked-go_on _ _ 1 k now _ _ (asked-go_on _ _ 0 k now _ pit (same (counter_of k pit)))))
     (same (counter_of k pit))
 
--- a byte that doesn't complete a count leaves the counter counting
+-- A byte that doesn't complete a count leaves the counter counting.
 first-goes_on : (held : Option ℕ) (value now : ℕ) (counter : Counter) → is_some held ≡ false → GoesOn counter (written_low_first held value now counter)
 first-goes_on None value now counter e = record { count = refl; mode = refl; loaded_at = refl }
 first-goes_on (Some low) value now counter e = cc

@@ -25,7 +25,7 @@ zero_plus : (place : ℕ) → place ≡ 0 + place
 zero_plus place = omega arith
 
 module _ (cells : List ℤ) (h : IsPitCells cells) where
-  -- the cell at a place fits the kind
+  -- The cell at a place fits the kind.
   abbrev Fits : ℕ → Kind → Type 0
   Fits place kind = InRange kind (cell_at cells place)
 

@@ -28,7 +28,7 @@ read_back-goes_on true false now counter = record { count = refl; mode = refl; l
 read_back-goes_on false true now counter = record { count = refl; mode = refl; loaded_at = refl }
 read_back-goes_on false false now counter = record { count = refl; mode = refl; loaded_at = refl }
 
--- a counter that counts on, as the second part of an answer
+-- A counter that counts on, as the second part of an answer.
 record Goes (before : Counter) (answer : ℕ × Counter) : Type 0 where
   after : GoesOn before answer.1
 

@@ -20,7 +20,7 @@ record Turns (mode : Mode) (count before after : ℕ) : Type 0 where
   low : out_at mode count (tick - 1) ≡ false
   high : out_at mode count tick ≡ true
 
--- a quotient that grows, in a period of at least two ticks: the first tick of the last whole period
+-- A quotient that grows, in a period of at least two ticks: the first tick of the last whole period.
 record Starts (n before after : ℕ) : Type 0 where
   quotient : ℕ
   positive : 0 < quotient
@@ -72,7 +72,7 @@ next_place n tick h l =
 two : (count : ℕ) → (count == 1) ≡ false → 2 ≤ period count
 two count e = grind (arith, nat_tests)
 
--- a rate generator
+-- A rate generator.
 rate-low : (count k : ℕ) → (count == 1) ≡ false → k % period count ≡ period count - 1 → out_at RateGenerator count k ≡ false
 unfolding out_at
 rate-low count k one e = rw (one, e) (grind (arith, nat_tests))
@@ -85,7 +85,7 @@ rate-last : (count k : ℕ) → (count == 1) ≡ false → out_at RateGenerator 
 unfolding out_at
 rate-last count k one e = grind (arith, nat_tests)
 
--- a square wave
+-- A square wave.
 square-low : (count k : ℕ) → (count == 1) ≡ false → k % period count ≡ period count - 1 → out_at SquareWave count k ≡ false
 unfolding out_at
 square-low count k one e = let h : 2 ≤ period count = two count one in rw (one, e) (grind (arith, nat_tests))
@@ -154,7 +154,7 @@ grown-periodic count a b one e = grind (arith, nat_tests)
 periodic-not_one : (count a b : ℕ) → (count == 1) ≡ true → (not (count == 1) && nat_lt a b) ≡ true → ⊥
 periodic-not_one count a b one e = grind (arith, nat_tests)
 
--- the modes with one edge
+-- The modes with one edge.
 terminal-turns : (count before after : ℕ) → (nat_lt before (period count) && nat_le (period count) after) ≡ true → Turns TerminalCount count before after
 unfolding out_at
 terminal-turns count before after e =
@@ -202,7 +202,7 @@ strobe-high : (count k : ℕ) → out_at HardwareStrobe count k ≡ true
 unfolding out_at
 strobe-high count k = refl
 
--- an edge is a turn
+-- An edge is a turn.
 turns-from_rises : (mode : Mode) (count before after : ℕ) → rises mode count before after ≡ true → Turns mode count before after
 unfolding rises
 turns-from_rises TerminalCount count before after e = terminal-turns count before after e
@@ -218,7 +218,7 @@ turns-from_rises SquareWave count before after e =
 turns-from_rises SoftwareStrobe count before after e = strobe-turns count before after e
 turns-from_rises HardwareStrobe count before after e = cc
 
--- a turn is an edge
+-- A turn is an edge.
 rises-from_turns : (mode : Mode) (count before after : ℕ) → Turns mode count before after → rises mode count before after ≡ true
 unfolding rises
 rises-from_turns TerminalCount count before after t = terminal-rises count before after t

@@ -9,7 +9,7 @@ use Rattle.dev_pit.specs.Laws.{TicksGoOn, SecondsHaveTicks, EdgeInParts}
 use Rattle.dev_pit.specs.declared.mode.Mode.{Mode}
 use Rattle.dev_pit.specs.declared.mode.Mode.TheVariants.{TerminalCount, OneShot, RateGenerator, SquareWave, SoftwareStrobe, HardwareStrobe}
 
--- ticks never go back
+-- Ticks never go back.
 pub ticks-mono : (load now later : ℕ) → now ≤ later → ticks load now ≤ ticks load later
 unfolding ticks
 ticks-mono load now later h = omega arith
@@ -24,7 +24,7 @@ seconds_have_ticks load seconds = omega arith
 pub period-pos : (count : ℕ) → 0 < period count
 period-pos count = grind (arith, nat_tests)
 
--- a threshold is passed in one of two parts
+-- A threshold is passed in one of two parts.
 passed : (n a b c : ℕ) → a ≤ b → b ≤ c → (nat_lt a n && nat_le n c) ≡ ((nat_lt a n && nat_le n b) || (nat_lt b n && nat_le n c))
 passed n a b c h l = grind (arith, nat_tests)
 

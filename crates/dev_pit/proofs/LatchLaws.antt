@@ -18,11 +18,11 @@ use Rattle.dev_pit.specs.declared.pit.Pit.{Pit}
 use Rattle.dev_base.proofs.Choices.{either}
 use Rattle.dev_pit.proofs.Chips.{at_counter}
 
--- a counter with this latched count
+-- A counter with this latched count.
 record Holds (held : ℕ) (counter : Counter) : Type 0 where
   latch : counter.latch ≡ Some held
 
--- latching again keeps what is latched
+-- Latching again keeps what is latched.
 latched-holds : (held now : ℕ) (counter : Counter) → Holds held counter → Holds held (latched now counter)
 unfolding latched
 latched-holds held now counter h = record { latch = rw h.latch refl }
@@ -38,7 +38,7 @@ read_back-holds true false held now counter h = latched-holds held now counter h
 read_back-holds false true held now counter h = status_latched-holds held now counter h
 read_back-holds false false held now counter h = h
 
--- so does loading
+-- So does loading.
 loaded-holds : (count held now : ℕ) (counter : Counter) → Holds held counter → Holds held (loaded count now counter)
 unfolding loaded
 loaded-holds count held now counter h = record { latch = h.latch }
@@ -71,7 +71,7 @@ read-holds : (held now : ℕ) (counter : Counter) → (not (is_some counter.stat
 unfolding read_of
 read-holds held now counter e h = read_by-holds counter.status held now counter e h
 
--- the whole chip
+-- The whole chip.
 asked-holds : (count status : Bool) (j k held now : ℕ) (pit : Pit) → Holds held (counter_of k pit) → Holds held (counter_of k (asked_back count status j now pit))
 unfolding asked_back
 asked-holds count status j k held now pit h =

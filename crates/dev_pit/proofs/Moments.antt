@@ -21,7 +21,7 @@ pub loaded_by-later : (load : Option ℕ) (now later : ℕ) → LoadedBy now loa
 loaded_by-later None now later h l = tt
 loaded_by-later (Some load) now later h l = omega arith
 
--- a counter that wasn't loaded after a moment
+-- A counter that wasn't loaded after a moment.
 pub record Loaded (now : ℕ) (counter : Counter) : Type 0 where
   pub by : LoadedBy now counter.loaded_at
 
@@ -53,14 +53,14 @@ programmed-loaded : (access : Access) (mode : Mode) (bcd : Bool) (now : ℕ) (co
 unfolding programmed powered_on
 programmed-loaded access mode bcd now counter = record { by = tt }
 
--- a step of counter j that doesn't load it, or loads it now
+-- A step of counter j that doesn't load it, or loads it now.
 step-loaded : (now j : ℕ) (step : Counter → Counter) (pit : Pit) → ((counter : Counter) → Loaded now counter → Loaded now (step counter)) → IsLoadedBy now pit → IsLoadedBy now (with_counter j (step (counter_of j pit)) pit)
 step-loaded now j step pit keeps h k within =
     (at_counter (Loaded now) k j (step (counter_of j pit)) pit
     (λ here. keeps (counter_of j pit) (record { by = subst (λ (i : ℕ). LoadedBy now (counter_of i pit).loaded_at) here (h k within) }))
     (record { by = h k within })).by
 
--- the whole chip
+-- The whole chip.
 asked_loaded : (count status : Bool) (k now : ℕ) (pit : Pit) → IsLoadedBy now pit → IsLoadedBy now (asked_back count status k now pit)
 unfolding asked_back
 asked_loaded count status k now pit h =
@@ -83,7 +83,7 @@ pit-later now later pit h l k within = loaded_by-later (counter_of k pit).loaded
 there : (k : ℕ) (default : Counter) (pit : Pit) → k < length pit.counters → slice_index_or pit.counters k default ≡ counter_of k pit
 there k default pit h = get_or_default pit.counters k default powered_on h
 
--- the chip after a step of one counter
+-- The chip after a step of one counter.
 pub read_keeps : (k now later value : ℕ) (after default : Counter) (pit : Pit) → k < length pit.counters → (value, after) ≡ read_of now (slice_index_or pit.counters k default) → IsLoadedBy now pit → now ≤ later → IsLoadedBy later (with_counter k after pit)
 read_keeps k now later value after default pit within e h l =
     let same : (read_of now (counter_of k pit)).1 ≡ after = sym (ap (λ (a : ℕ × Counter). a.1) e ∙ ap (λ (c : Counter). (read_of now c).1) (there k default pit within)) in

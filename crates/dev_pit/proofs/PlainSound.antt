@@ -14,12 +14,12 @@ use Rattle.dev_pit.specs.declared.mode.Access.TheVariants.{LowByte, HighByte, Lo
 use Rattle.dev_pit.specs.declared.mode.Mode.{Mode}
 use Rattle.dev_pit.specs.declared.mode.Mode.TheVariants.{TerminalCount, OneShot, RateGenerator, SquareWave, SoftwareStrobe, HardwareStrobe}
 
--- a status is latched only from the first level of the 8254 on
+-- A status is latched only from the first level of the 8254 on.
 abbrev pub StatusFits : ℕ → Option ℕ → Type 0
 StatusFits level None = Unit {0}
 StatusFits level (Some status) = READ_BACK_LEVEL ≤ level
 
--- only a counter of two bytes is between them
+-- Only a counter of two bytes is between them.
 abbrev pub TogglesFit : Access → Bool → Option ℕ → Type 0
 TogglesFit LowByte read_high held_low = (read_high ≡ false) × (held_low ≡ None)
 TogglesFit HighByte read_high held_low = (read_high ≡ false) × (held_low ≡ None)

@@ -9,7 +9,7 @@ use Rattle.dev_pit.specs.declared.control.ControlWord.TheVariants.{ReadBack}
 use Rattle.dev_pit.specs.declared.limits.TheConstants.{READ_BACK_LEVEL}
 use Rattle.dev_pit.specs.declared.pit.Pit.{Pit}
 
--- the chip after each of the chosen counters has latched
+-- The chip after each of the chosen counters has latched.
 abbrev all-asked : Bool → Bool → Bool → Bool → Bool → ℕ → Pit → Pit
 all-asked count status first second third now pit =
     asked_back (count && third) (status && third) 2 now (asked_back (count && second) (status && second) 1 now (asked_back (count && first) (status && first) 0 now pit))

@@ -25,7 +25,7 @@ use Rattle.dev_pit.specs.declared.pit.Pit.{Pit}
 use Rattle.dev_pit.proofs.Chips.{each_of}
 use Rattle.dev_pit.proofs.PlainSound.{PlainSound, StatusFits, TogglesFit, sound-from_plain}
 
--- the fields of a channel, each in its range
+-- The fields of a channel, each in its range.
 record HasRanges (channel : Channel) : Type 0 where
   count : channel.count < 2 ^ 16
   load_time : channel.load_time < 2 ^ 64
@@ -78,7 +78,7 @@ counter-sound level now channel r m s t = record {
   toggles = if-toggles channel.rw channel.read_high channel.wlow_held channel.wlow t;
 }
 
--- the ranges of each channel's fields
+-- The ranges of each channel's fields.
 ranges-at : (cells : List ℤ) (k : ℕ) → InRange U16 (cell_at cells (channel_place k)) → InRange U64 (cell_at cells (channel_place k + 5)) → InRange U8 (cell_at cells (channel_place k + 8)) → InRange U16 (cell_at cells (channel_place k + 10)) → InRange U8 (cell_at cells (status_place k)) → HasRanges (channel_at k cells)
 unfolding channel_at
 ranges-at cells k count load wlow latch status = record {

@@ -44,7 +44,7 @@ pit-later now after pit h m s = record {
   counters = λ k l. later pit.level now after (counter_of k pit) h (s.counters k l);
 }
 
--- a step of counter j that keeps it sound
+-- A step of counter j that keeps it sound.
 step-sound : (j now : ℕ) (step : Counter → Counter) (pit : Pit) → ((counter : Counter) → PlainSound pit.level now counter → PlainSound pit.level now (step counter)) → IsSoundPit now pit → IsSoundPit now (with_counter j (step (counter_of j pit)) pit)
 step-sound j now step pit keeps s = record {
   level = s.level;
@@ -93,7 +93,7 @@ sound_stays = record {
   loaded = λ now pit s k l. (plain-from_sound _ _ _ (s.counters k l)).loaded;
 }
 
--- the level
+-- The level.
 new-level : (level : ℕ) → (new_pit level).level ≡ level
 unfolding new_pit
 new-level level = refl

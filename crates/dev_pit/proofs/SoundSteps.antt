@@ -16,7 +16,7 @@ use Rattle.dev_pit.specs.declared.mode.Mode.TheVariants.{TerminalCount, OneShot,
 use Rattle.dev_base.proofs.Choices.{either}
 use Rattle.dev_pit.proofs.PlainSound.{PlainSound, TogglesFit, mode-small, access-small}
 
--- a number of sixteen bits
+-- A number of sixteen bits.
 record IsWord (n : ℕ) : Type 0 where
   fits : n < 2 ^ 16
 
@@ -48,7 +48,7 @@ pub held-below : (limit value : ℕ) (held : Option ℕ) → HeldBelow limit hel
 held-below limit value None h l = l
 held-below limit value (Some held) h l = h
 
--- the status byte
+-- The status byte.
 pub flag-small : (b : Bool) → flag_number b ≤ 1
 flag-small true = omega arith
 flag-small false = omega arith
@@ -62,7 +62,7 @@ status-byte counter now =
     let access : access_number counter.access ≤ 3 = (access-small counter.access).1 in
     omega arith
 
--- latching
+-- Latching.
 pub latched-sound : (level now : ℕ) (counter : Counter) → PlainSound level now counter → PlainSound level now (latched now counter)
 unfolding latched
 latched-sound level now counter s = record {
@@ -100,7 +100,7 @@ read_back-sound true false level now counter h s = latched-sound level now count
 read_back-sound false true level now counter h s = status_latched-sound level now counter h s
 read_back-sound false false level now counter h s = s
 
--- programming
+-- Programming.
 pub powered_on-sound : (level now : ℕ) → PlainSound level now powered_on
 unfolding powered_on
 powered_on-sound level now = record {
@@ -124,7 +124,7 @@ programmed-sound access mode bcd level now counter s = record {
   toggles = fresh-toggles access;
 }
 
--- loading
+-- Loading.
 loaded-sound : (count level now : ℕ) (counter : Counter) → now ≤ LAST_MOMENT → count < 2 ^ 16 → PlainSound level now counter → PlainSound level now (loaded count now counter)
 unfolding loaded
 loaded-sound count level now counter m c s = record {
@@ -140,7 +140,7 @@ loaded-sound count level now counter m c s = record {
   toggles = s.toggles;
 }
 
--- a counter of two bytes may hold one or not
+-- A counter of two bytes may hold one or not.
 holding : (level now : ℕ) (low : Option ℕ) (counter : Counter) → counter.access ≡ LowThenHigh → HeldBelow (2 ^ 8) low → PlainSound level now counter → PlainSound level now (record counter { held_low = low })
 holding level now low counter e h s = record {
   widths = record {
@@ -168,7 +168,7 @@ pub written-sound : (value level now : ℕ) (counter : Counter) → now ≤ LAST
 unfolding written
 written-sound value level now counter m v s = by-sound counter.access value level now counter m v refl s
 
--- reading
+-- Reading.
 no_latch : (level now : ℕ) (counter : Counter) → PlainSound level now counter → PlainSound level now (record counter { latch = None })
 no_latch level now counter s = record {
   widths = record { count = s.widths.count; loaded_at = s.widths.loaded_at; held_low = s.widths.held_low; latch = tt; status = s.widths.status };
@@ -185,7 +185,7 @@ turned level now read_high latch counter e h s = record {
   toggles = subst (λ (a : Access). TogglesFit a read_high counter.held_low) (sym e) tt;
 }
 
--- a sound counter, as the second part of an answer
+-- A sound counter, as the second part of an answer.
 record Sounds (level now : ℕ) (answer : ℕ × Counter) : Type 0 where
   after : PlainSound level now answer.1
 

@@ -9,7 +9,7 @@ use Rattle.dev_base.proofs.CellLaws.{flag-back}
 use Rattle.dev_pit.proofs.SoundSteps.{flag-small}
 use Rattle.dev_pit.proofs.PlainSound.{mode-small, access-small}
 
--- the parts of a byte that is composed of them
+-- The parts of a byte that is composed of them.
 module _ (out access mode bcd : ℕ) (o : out ≤ 1) (a : access ≤ 3) (m : mode ≤ 5) (b : bcd ≤ 1) where
   abbrev byte : ℕ
   byte = 128 * out + 16 * access + 2 * mode + bcd

@@ -5,11 +5,11 @@ use Rattle.dev_pit.specs.declared.limits.TheConstants.{READ_BACK_LEVEL, STATUS_S
 
 -- Each constant has the value of the data sheet or of the format.
 pub record NumbersAre : Type 0 where
-  -- the ticks of the clock input in a second
+  -- The ticks of the clock input in a second.
   pub hertz : CLOCK_HERTZ ≡ 1193182
-  -- the first level whose chip is an 8254, and the first set that saves its latched statuses
+  -- The first level whose chip is an 8254, and the first set that saves its latched statuses.
   pub read_back : READ_BACK_LEVEL ≡ 2
   pub status : STATUS_SET ≡ 2
-  -- the number of cells of the chip in the newest set, and of one of its counters
+  -- The number of cells of the chip in the newest set, and of one of its counters.
   pub cells : CELLS ≡ 39
   pub channel_cells : CHANNEL_CELLS ≡ 11
