@@ -60,8 +60,8 @@ pub fn latch_law()
 /// States what the read-back command, a control word of `Pit::write`, does by level ("Read-Back
 /// Command").
 ///
-/// At level 1, on an 8253, it does nothing. From level 2 on, on an 8254, it latches the count, the
-/// status or both of each chosen counter.
+/// At level 1, on an 8253, it does nothing, and no status may be latched. From level 2 on, on an
+/// 8254, it latches the count, the status or both of each chosen counter.
 #[tactic(auto, using(crate::proofs::ReadBackLaw::read_back_by_level))]
 pub fn read_back_law()
     ensures { ReadBackByLevel }
