@@ -147,7 +147,7 @@ module _ (set now : ℕ) (port : Port) (early : now ≤ LAST_MOMENT) (sound : Is
       let arrays = of_both _ _ _ _ (of_both _ _ _ _ fields (array-part (nat_le 2 other) port.receiver.held sound.receiver.short sound.receiver.bytes)) (array-part (nat_le 2 other) port.transmitter.waiting sound.transmitter.short sound.transmitter.bytes) in
       of_both _ _ _ _ (of_both _ _ _ _ (of_both _ _ _ _ arrays timeout) (ring-part (nat_le 4 other) port.receiver.held sound.receiver.short sound.receiver.bytes)) (ring-part (nat_le 4 other) port.transmitter.waiting sound.transmitter.short sound.transmitter.bytes)
 
--- a counted array by its place: what stands behind the count is 0 from the count on
+-- a counted array by its index: the elements after the count are 0 from the count on
 zero-from : (front back : List ℤ) (bytes : List ℕ) (i : ℕ) → length bytes ≤ i → i < 16 → cell_at (front ++ (map pos (padded bytes) ++ back)) (length front + i) ≡ pos 0
 zero-from front back bytes i low high =
     get_or-append-add front (map pos (padded bytes) ++ back) i (pos 0)
