@@ -33,7 +33,7 @@ put_all image old numbers cell p all =
     same_image image (record old { numbers = numbers }) p.version p.came
     (ext_get_or (pos 0) image.numbers numbers p.long (λ k lt. p.put k (omega (arith, lt, p.long, all)))) p.kinds
 
--- the subsections below a number have come where they are needed
+-- the subsections below a number are present if they are needed
 pub record Marked (set : Set) (d : Device) (image old : Typed) (sub : ℕ) : Type 0 where
   pub version : image.version ≡ old.version
   pub numbers : image.numbers ≡ old.numbers
@@ -80,7 +80,7 @@ no_image = record { version = 0; came = []; numbers = [] }
 abbrev pub no_typed : Typed
 no_typed = record { version = 0; came = []; numbers = []; kinds = [] }
 
--- where there is an image of each device, there are numbers for each
+-- if there is an image of each device, there are numbers for each
 lists-long : (set : Set) (devices : List Device) (lists : List (List ℤ)) → length (images_of set devices lists) ≡ length devices → length devices ≤ length lists
 lists-long set [] lists l = omega arith
 lists-long set (d ∷ devices) [] l = absurd (omega (arith, l))

@@ -15,7 +15,7 @@ use Rattle.vms_board.specs.declared.save.SaveFault.{SaveFault}
 use Rattle.vms_board.specs.declared.save.SaveFault.TheVariants as faults
 
 module _ {S : Type 0} (f : Family S) {IsSound : S → Type 0} {AreTold : List (List ℤ) → Type 0} (stands : Stands f IsSound AreTold) where
-  -- a sound board's machine stands at its number among those of a set under which it may be saved
+  -- a sound board's machine has its index in a set under which the board may be saved
   pub machine_named : (d m : S) (s : ℕ) → IsSound d → d ≡ m → MaySaveIn f m s → slice_get (f.set s).machines (f.number m - 1) ≡ Some (f.machine (f.number m))
   machine_named d m s sound e may = stands.named (f.number m) s (subst (λ (x : S). 1 ≤ f.number x) e (stands.numbered d sound).first) may.level_le_set may.set_le_newest
 
