@@ -29,7 +29,7 @@ or_here : (b c d : Bool) → b || c ≡ true → (c ≡ true → d ≡ true) →
 or_here true c d e f = refl
 or_here false c d e f = f e
 
--- a status is among those of two lists where it is among those of one
+-- a status is in a joined list if it is in its first part
 pub among_left : (xs ys : List ℕ) (k : ℕ) → is_among xs k ≡ true → is_among (xs ++ ys) k ≡ true
 among_left [] ys k e = absurd (cc)
 among_left (n ∷ xs) ys k e = or_here (n == k) (is_among xs k) (is_among (xs ++ ys) k) e (among_left xs ys k)
@@ -38,7 +38,7 @@ pub among_right : (xs ys : List ℕ) (k : ℕ) → is_among ys k ≡ true → is
 among_right [] ys k e = e
 among_right (n ∷ xs) ys k e = or_right (n == k) (is_among (xs ++ ys) k) (among_right xs ys k e)
 
--- those of what the shelf holds come where it is asked
+-- the statuses of the shelf are included if the command reads the shelf
 pub shelf_has : (own : List ℕ) (asks : Bool) (k : ℕ) → asks ≡ true → is_among (of_shelf true) k ≡ true → is_among (own ++ of_shelf asks) k ≡ true
 shelf_has own asks k is one = among_right own (of_shelf asks) k (ap (λ (x : Bool). is_among (of_shelf x) k) is ∙ one)
 
@@ -94,7 +94,7 @@ module _ (i : Intake) (s : Stock) (o o' : Outlet) where
 
 -- ---- a stream is taken
 
--- whether or not the shelf may be asked
+-- whether or not the command reads the shelf
 module _ {asks : Bool} {i i' : Intake} (s : Stock) (draws : Draws i i') where
   pub traced_so : (text : List ℕ) (o o' : Outlet) (e : Ending) → WritesAs text o o' e → EndsSo i i' o o' s s (stream_course asks) e
   traced_so text o o' Done w =

@@ -77,7 +77,7 @@ module _ {S : Type 0} (kind : Family S) (level : ℕ) (lines : List ScriptLine) 
       seen_written {P = OfLoads s.held} text new.taken e held
       (reads_as {M = λ n. n ≡ new.taken} {Q = λ input left. OfLoads s.held input (done text s.held new.taken)} (λ n l. l.0) (λ input left comes. Traces new.state new.taken comes.0) reads) w
 
-  -- a refusal takes the bytes up to the end of the unit at fault, or those of the stream that is no board's
+  -- a refusal reads the bytes up to the end of the invalid unit, or the whole stream
   refusal_takes : (held : Option Held) (r : Refusal) (line input left : List ℕ) → line ≡ refused_line (kind.set kind.newest) r.at r.section r.reason → IsRefused kind level input (Some left) r
       → TakesSo (λ bytes n. OfLoads held bytes (ended 1 line n)) input left
   refusal_takes held r line input left said (inl f) = record {
@@ -114,6 +114,6 @@ gives_none kind Untold i = omega arith
 gives_none kind (Gives a) i = omega arith
 gives_none kind (Ends status line) i = refl
 
--- the outcome on the board of a number, where so much of the input is told
+-- the outcome for the board with this number, if the input is known
 abbrev pub loads_under : {S : Type 0} → Family S → ℕ → Option (List ℕ) → Option Held → List ScriptLine → Outcome → Type 0
 loads_under kind level input held lines x = IsSomeAnd input (λ bytes. Loads kind level lines bytes held x)

@@ -109,7 +109,7 @@ module _ {i i' : Intake} {o o' : Outlet} {s s' : Stock} where
   pub seen_refused : {P : List ℕ → Outcome → Type 0} (line : ArrayVec ℕ) (taken : ℕ) → Sees P i i' (ended 1 line.items taken) → Seen P i i' o o' s s' (Refused line)
   seen_refused {P} line taken sees = record { outcome = ended 1 line.items taken; sees = sees; ends = ended-as P 1 line.items taken sees }
 
-  -- a refusal of a load takes the bytes up to the end of the unit at fault
+  -- a refused load reads the bytes up to the end of the invalid unit
   pub load_seen : {P : List ℕ → Outcome → Type 0} (set : Set) (names : List (List ℕ)) (images : List Image) (taken : ℕ) (r : Refusal) (line : ArrayVec ℕ) → LoadReads i i' set names images taken (Err (loads.Refused r))
       → ((input : List ℕ) (size : ℕ) → Fault set names input r.at r.section r.reason size → P input (ended 1 line.items (r.at + size))) → Seen P i i' o o' s s' (Refused line)
   load_seen {P} set names images taken r line reads is =
@@ -125,9 +125,9 @@ module _ {i i' : Intake} {o o' : Outlet} {s s' : Stock} where
   pub seen_lost : {P : List ℕ → Outcome → Type 0} (line : ArrayVec ℕ) (taken : ℕ) → Sees P i i' (ended 11 line.items taken) → Seen P i i' o o' s s' (WouldLose line)
   seen_lost {P} line taken sees = record { outcome = ended 11 line.items taken; sees = sees; ends = ended-as P 11 line.items taken sees }
 
-  -- ---- the outcome of what is told
+  -- ---- the outcome of a known input
 
-  -- where an input has one outcome, it is the one that is seen
+  -- if an input has one outcome, it is the one that is seen
   pub content_seen : {P : List ℕ → Outcome → Type 0} (e : Ending) (x : Outcome) → ((bytes : List ℕ) (y : Outcome) → IsBytes bytes → P bytes x → P bytes y → y ≡ x) → IfSome i.left IsBytes
       → Seen P i i' o o' s s' e → IsSomeAnd i.left (λ bytes. P bytes x) → EndsAs i i' o o' s s' e x
   content_seen {P} e x one octets v has =
