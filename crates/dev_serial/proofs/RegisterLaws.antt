@@ -1,4 +1,4 @@
--- What is identified, and what the FIFO control register does.
+-- The identified interrupt, and the effects of the FIFO control register.
 use Rattle.std.proofs.Common.{◌≡◌, ℕ, ◌<◌, ◌≤◌, Bool, true, false, not, ◌&&◌, cond, Option, Some, None, refl, sym, ap, ◌∙◌, ◌/◌, arith}
 use Rattle.std.proofs.lemmas.Bool.{false≢true, cond_both}
 use Rattle.std.specs.Prelude.{is_some}

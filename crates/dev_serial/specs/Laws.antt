@@ -42,8 +42,8 @@ pub record ComesBack (numbers : Numbers) (port : Port) (cells : List ℤ) : Type
   pub restored : hook_restored numbers cells ≡ Ok back
   pub alike : Alike port back
 
--- If a sound port is saved under a set from its level on, and the cells are carried to the newest
--- set, they may be restored and give a port like it.
+-- A sound port is saved under a set from its level on, and its cells are carried to the newest set.
+-- They may be restored and give a port like it.
 abbrev pub SavedComesBack : Type 0
 SavedComesBack =
     (numbers : Numbers) (port : Port) → CanSave numbers port → IsSound numbers.moment port

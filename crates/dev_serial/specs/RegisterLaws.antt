@@ -1,5 +1,5 @@
 -- The laws of the identification, of the FIFO control register, of the divisor latch and of the
--- modem status in loop mode, in the terms of the NS16550A data sheet.
+-- modem status in loop mode. Their terms are those of the NS16550A data sheet.
 use Rattle.std.specs.Prelude.{◌≡◌, ℕ, ◌+◌, ◌*◌, ◌/◌, ◌%◌, ◌<◌, ◌↔◌, true, false, ◌&&◌, not, if◌then◌else◌, [], None, is_some}
 use Rattle.dev_serial.specs.Access.{is_empty, switch_of, fcr_written, msr_of, read_of, written}
 use Rattle.dev_base.specs.Bits.{has}

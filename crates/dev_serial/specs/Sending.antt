@@ -63,8 +63,8 @@ ReplacesNone (event ∷ events) port = (replaces event port ≡ false)
 abbrev pub pending : Port → List ℕ
 pending port = pending_of port.transmitter.shift port.transmitter.waiting
 
--- If no byte is replaced over a list of events, the bytes sent and those yet to send are those yet
--- to send before and the accepted ones, each once and in this order.
+-- If no byte is replaced over a list of events, two lists are equal: the bytes sent, followed by
+-- those yet to send; and those yet to send before, followed by the accepted ones.
 abbrev pub SendsInOrder : Type 0
 SendsInOrder =
     (events : List Event) (port : Port) → ReplacesNone events port

@@ -35,10 +35,10 @@ impl<M: Machine> MachineBoard<M> {
     ///
     /// After an error the board is as it was.
     ///
-    /// - [`RestoreFault::Refused`]: the input is invalid. If the whole stream is valid but no board
-    ///   has its state, the reason is the first rule that fails, by devices and then by rules
-    ///   (`Unsound`), or that the master remembers other lines than the devices have
-    ///   (`LinesDisagree`).
+    /// - [`RestoreFault::Refused`]: the input is invalid, or no board has the state in it. In the
+    ///   second case the whole stream is valid. The reason is then the first rule that fails, by
+    ///   devices and then by rules (`Unsound`); or `LinesDisagree`, if the master remembers other
+    ///   lines than the devices have.
     /// - [`RestoreFault::ReadFault`]: the source failed.
     pub fn restore<S: Source>(&mut self, source: &mut S) -> Result<(), RestoreFault>
         ensures reads { RestoreReads M.family (M.family.number self.old.state)

@@ -1,4 +1,4 @@
--- How the commands of boards end, by their steps.
+-- The endings of the commands of boards, by their steps.
 use Rattle.std.proofs.Common.{◌≡◌, ℕ, Bool, true, false, ◌||◌, ◌==◌, List, [], ◌∷◌, ◌++◌, Result, Ok, Err, refl, sym, ap, subst, ◌∙◌}
 use Rattle.std.proofs.lemmas.Bool.{or_right}
 use Rattle.std.proofs.KnownBytes.{Keeps-refl}
@@ -42,9 +42,9 @@ among_right (n ∷ xs) ys k e = or_right (n == k) (is_among (xs ++ ys) k) (among
 pub shelf_has : (own : List ℕ) (asks : Bool) (k : ℕ) → asks ≡ true → is_among (of_shelf true) k ≡ true → is_among (own ++ of_shelf asks) k ≡ true
 shelf_has own asks k is one = among_right own (of_shelf asks) k (ap (λ (x : Bool). is_among (of_shelf x) k) is ∙ one)
 
--- ---- a set or a script that isn't had
+-- ---- a set or a script that isn't available
 
--- a course that asks the shelf, or doesn't, and what it can answer then
+-- a course that may read the shelf, and the statuses that this allows
 pub record MayAsk (course : Course) (asks : Bool) : Type 0 where
   pub held : (k : ℕ) → asks ≡ true → is_among (of_shelf true) k ≡ true → is_among course.statuses k ≡ true
   pub memory : is_among course.statuses 10 ≡ true
@@ -61,7 +61,7 @@ load_asks = text_asks (0 ∷ 1 ∷ 5 ∷ 6 ∷ 10 ∷ []) (0 ∷ 1 ∷ 5 ∷ 6 �
 pub play_asks : MayAsk play_course true
 play_asks = record { held = shelf_has (0 ∷ 6 ∷ 10 ∷ []) true; memory = refl }
 
--- input and out aren't touched
+-- input and output aren't touched
 module _ (course : Course) (asks : Bool) (may : MayAsk course asks) (i : Intake) (o : Outlet) {s s' : Stock} (looks : Looks s s') (same : course.asks ≡ false → s' ≡ s) where
   untouched : (e : Ending) → is_among course.statuses (status_of e) ≡ true → Risen i i o o s s' e → EndsSo i i o o s s' course e
   untouched e can risen = looked_so i o course e looks same can risen
@@ -92,7 +92,7 @@ module _ (i : Intake) (s : Stock) (o o' : Outlet) where
       unshelved_so s drill_course WriteFault refl w.rose (λ f. absurd (wrong f)) (λ f. refl) (draws_none i) (writes_serve text o o' WriteFault w)
   drilled_so text e w = absurd w
 
--- ---- a stream is taken
+-- ---- a stream is read
 
 -- whether or not the command reads the shelf
 module _ {asks : Bool} {i i' : Intake} (s : Stock) (draws : Draws i i') where

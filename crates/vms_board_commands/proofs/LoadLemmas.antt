@@ -1,4 +1,4 @@
--- From what a restore and a trace say to the outcome of `load`.
+-- The outcome of `load`, from the results of a restore and of a trace.
 use Rattle.std.proofs.Common.{◌≡◌, inl, inr, ℕ, ◌+◌, ◌≤◌, List, [], ◌∷◌, length, length-append, Option, Some, Ok, Err, arith, refl, sym, ap, ◌∙◌, subst}
 use Rattle.arrayvec.specs.ArrayVec.{ArrayVec}
 use Rattle.std.specs.Prelude.{IsSomeAnd}
@@ -69,7 +69,7 @@ module _ {S : Type 0} (kind : Family S) (level : ℕ) (lines : List ScriptLine) 
   abbrev OfLoads : Option Held → List ℕ → Outcome → Type 0
   OfLoads held bytes x = Loads kind level lines bytes held x
 
-  -- a board came back, and its trace was written, or some of it
+  -- a board was restored, and its trace was written, or some of it
   pub trace_seen : {i i' : Intake} {o o' : Outlet} {s s' : Stock} (new : Standing S) (e : Ending) → s'.held ≡ s.held → RestoreReads kind level i i' new (Ok tt)
       → WritesAs (trace_from kind (events_of lines) new.state) o o' e → Seen (OfLoads s.held) i i' o o' s s' e
   trace_seen {i} {i'} {o} {o'} {s} new e held reads w =
@@ -101,7 +101,7 @@ module _ {S : Type 0} (kind : Family S) (level : ℕ) (lines : List ScriptLine) 
       seen_refused {P = OfLoads s.held} line (length reads.bytes)
       (reads_all (λ bytes n. OfLoads s.held bytes (ended 1 line.items n)) reads (λ input left comes. refusal_takes s.held r line.items input left said comes))
 
--- ---- how many bytes the input gives
+-- ---- the number of bytes that the input gives
 
 pub gives_some : {A T S : Type 0} (kind : Family S) (view : T → A) (step : Step A) (t : T) (i i' : Intake) → StepAs view step (Ok t)
     → i'.given ≤ i.given + most_given (kind.set kind.newest) → LoadGives kind step i i'

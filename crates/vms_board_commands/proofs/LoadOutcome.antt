@@ -35,7 +35,7 @@ module _ {S : Type 0} (kind : Family S) (well : WellFormed (kind.set kind.newest
   faulty-is place section reason f x (Unfit other section' reason' g) =
       absurd (no_fault kind well heads level bytes ok other g.images place section reason g.taken f)
 
-  -- of a stream that is no board's
+  -- a stream whose state no board has
   unfit-is : (place : ℕ) (section : Option ℕ) (reason : Reason) (f : IsMisfitAt kind level bytes place section reason) (x : Outcome) → Loads kind level lines bytes held x
       → x ≡ ended 1 (refused_line (kind.set kind.newest) place section reason) place
   unfit-is place section reason f x (Traces board long s) =

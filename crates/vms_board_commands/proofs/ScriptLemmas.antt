@@ -35,7 +35,7 @@ module _ {T : Type 0} (lines : T → List ScriptLine) where
   had_lines play text read (Ok t) h same = good_lines play text t (subst (ReadsLines lines (script_read play text)) same h)
   had_lines play text read (Err e) h same = tt
 
--- a text that isn't fetched, or isn't read, isn't had
+-- a text that isn't fetched or isn't read isn't available
 pub unfetched : (T : Type 0) (asks : Bool) (s s' : Stock) (e : Ending) → asks ≡ true → FetchCause {T = T} s s' (Err e) → SetCause asks s s' e
 unfetched T asks s s' ShelfFault is c = (is, c)
 unfetched T asks s s' (NotThere line) is c = is

@@ -1,4 +1,4 @@
--- What is seen of an input, from the calls that read it to how a command ends.
+-- What can be said of an input: from the calls that read it to the ending of a command.
 use Rattle.std.proofs.Common.{◌≡◌, ℕ, ◌+◌, ◌≤◌, Bool, false, List, [], ◌∷◌, ◌++◌, length, drop, drop_at, Option, Some, None, Ok, Err, IfSome, refl, sym, ap, ◌∙◌, subst, arith, length-append, length-drop}
 use Rattle.std.specs.Io.KnownBytes.{Consumes}
 use Rattle.std.specs.Prelude.{IsSomeAnd}
@@ -27,7 +27,7 @@ use Rattle.vms_commands.specs.declared.ending.Ending.{Ending}
 use Rattle.vms_commands.specs.declared.ending.Ending.TheVariants.{Refused, WouldLose, BadText, ShelfFault, NotThere, TooLarge, NoMemory}
 use Rattle.vms_board_commands.specs.Seen.{IsGiven, Seen, SeenAs, Sees, WithGiven}
 
--- ---- what is taken
+-- ---- what is read
 
 pub takes_bytes : {i i' : Intake} {bytes : List ℕ} (n : ℕ) → Takes i i' bytes → length bytes ≡ n → TakesBytes i i' n
 takes_bytes {i} {i'} {bytes} n t all = record { left = rest i.left i'.left t.told; given = t.given ∙ ap (λ (k : ℕ). capped (i.given + k)) all }
@@ -37,12 +37,12 @@ takes_bytes {i} {i'} {bytes} n t all = record { left = rest i.left i'.left t.tol
     rest (Some input) None took = absurd took
     rest (Some input) (Some more) took = ap (λ (l : List ℕ). Some l) (sym (ap (drop n) took ∙ drop_at bytes more n all))
 
--- what is said to take so many bytes, and leaves what is left, takes those that were taken
+-- if a number of bytes is read and this is left, they are the bytes that were read
 same_length : (bytes more : List ℕ) (n : ℕ) → n ≤ length (bytes ++ more) → Some more ≡ Some (drop n (bytes ++ more)) → n ≡ length bytes
 same_length bytes more n within left =
     omega (arith, within, ap length (same_Some more (drop n (bytes ++ more)) left), length-append bytes more, length-drop n (bytes ++ more))
 
--- so many bytes are taken of an input by what is said, and this is left
+-- so many bytes are read from an input, and this is left
 pub record TakesSo (Says : List ℕ → ℕ → Type 0) (input left : List ℕ) : Type 0 where
   pub taken : ℕ
   pub says : Says input taken
@@ -66,7 +66,7 @@ given_so m Untold t h = tt
 given_so m (Gives a) t h = h
 given_so m (Ends status line) t h = absurd h
 
--- what isn't had is seen of nothing
+-- nothing is seen of what wasn't fetched
 pub set_other : (asks : Bool) (s s' : Stock) (e : Ending) → SetCause asks s s' e → is_among (0 ∷ 1 ∷ 6 ∷ 11 ∷ []) (status_of e) ≡ false
 set_other asks s s' (BadText line) c = refl
 set_other asks s s' ShelfFault c = refl

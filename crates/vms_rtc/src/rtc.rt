@@ -10,9 +10,13 @@ use dev_base::{bits_where, has};
 /// The clock chip, of version 1 or 2. Version 2 has an NMI mask.
 #[derive(Clone, Copy, Debug, PartialEq, Eq)]
 pub struct Rtc {
+    /// The version, 1 or 2.
     pub(crate) version: u8,
+    /// The index of the selected register, 0 to 63.
     pub(crate) index: u8,
+    /// The registers.
     pub(crate) cmos: [u8; REGISTERS],
+    /// Whether NMI is masked. Version 1 has no mask.
     pub(crate) nmi_mask: bool,
     // The periodic interrupt flag.
     pub(crate) pf: bool,
