@@ -106,6 +106,10 @@ impl Machine for ClockDevices {
 /// # Errors
 ///
 /// [`NoMemory`] if memory runs out.
+///
+/// # Requires
+///
+/// `c` is 1 or 2.
 pub fn clock_set(alloc: Global, c: u8) -> Result<DescSet, NoMemory>
     requires { IsUpTo newest c }
     ensures { IfOk result (λ set. described set ≡ clock_set_of c) }
@@ -114,6 +118,10 @@ pub fn clock_set(alloc: Global, c: u8) -> Result<DescSet, NoMemory>
 }
 
 /// Returns the machine's name of a board with the version `version`: `clk-1` or `clk-2`.
+///
+/// # Requires
+///
+/// `version` is 1 or 2.
 pub fn clock_machine_name(version: u8) -> &'static str
     requires { IsUpTo newest version }
     ensures { result.now ≡ clock_machine version }

@@ -98,6 +98,10 @@ impl Machine for Devices {
 }
 
 /// Returns the machine's name of a board with the level `level`: `isa-1` to `isa-4`.
+///
+/// # Requires
+///
+/// `level` is from 1 to 4.
 pub fn machine_name(level: u8) -> &'static str
     requires { IsLevel level }
     ensures { result.now ≡ machine_of level }

@@ -19,6 +19,10 @@ pub trait SaveStep<D>: CallsToSave<D> {
     ghost gives_cells: { Self → Bor Numbers → Bor D → ArrayVec ℤ → Type 0 };
 
     /// Returns the cells of `device`.
+    ///
+    /// # Requires
+    ///
+    /// The step may be called with these arguments.
     fn save(&self, pass: &Pass, device: &D) -> DevCells
         requires { may_save self.now pass device }
         ensures { gives_cells self.now pass.entry device.entry result };
@@ -47,6 +51,10 @@ pub trait LoadStep<D>: CallsToLoad<D> {
     /// # Errors
     ///
     /// [`HookFault`] with the number of the first rule that fails.
+    ///
+    /// # Requires
+    ///
+    /// The step may be called with these arguments.
     fn load(&self, pass: &Pass, cells: &DevCells) -> Result<D, HookFault>
         requires { may_load self.now pass cells }
         ensures { answers self.now pass.entry cells.entry result };

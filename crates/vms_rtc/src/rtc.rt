@@ -28,6 +28,10 @@ impl Rtc {
     ghost use Rattle.vms_rtc.specs.declared.limits.TheConstants.{NEWEST_CLOCK};
 
     /// Creates the chip of version `version`, 1 or 2, as it is at power on: all is 0 or false.
+    ///
+    /// # Requires
+    ///
+    /// `version` is 1 or 2.
     #[tactic(auto, unfolding(crate::specs::Chip::power_on))]
     pub fn new(version: u8) -> Rtc
         requires { IsUpTo NEWEST_CLOCK version }
