@@ -19,14 +19,14 @@ pub(crate) enum Interrupt {
 }
 
 impl Interrupt {
-    /// Returns the number of the interrupt in the Interrupt Identification Register.
+    /// Returns the interrupt's number in the Interrupt Identification Register, such as `0x06`.
     pub fn number(self) -> u8
         ensures { result ≡ id_number self }
     {
         self as u8
     }
 
-    /// Reports whether this is the interrupt of an empty transmit list.
+    /// Reports whether this is [`Interrupt::ThrEmpty`].
     pub fn is_thr_empty(self) -> bool
         ensures { result ≡ is_thr_empty self }
     {

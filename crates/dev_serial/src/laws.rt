@@ -9,14 +9,14 @@ ghost use Rattle.dev_serial.specs.SheetNumbers.{NumbersAre};
 
 /// States the numbers that this crate uses.
 ///
-/// A FIFO holds sixteen bytes, and the longest character takes 6,826,562,500 nanoseconds. FIFOs,
-/// the character timeout and rings exist from the levels 2, 3 and 4 on.
+/// A FIFO holds sixteen bytes, `MOST_SENT` is 17, and the longest character takes 6,826,562,500
+/// nanoseconds. FIFOs, the character timeout and rings exist from the levels 2, 3 and 4 on.
 #[tactic(auto, using(crate::proofs::SheetNumbers::numbers_are))]
 pub fn numbers_law()
     ensures { NumbersAre }
 {}
 
-/// States the index of each field's first cell in the newest set.
+/// States the index of each field's first cell among the `PORT_CELLS` of the newest set.
 #[tactic(auto, using(crate::proofs::Places::places_are))]
 pub fn places_law()
     ensures { PlacesAre }
@@ -34,8 +34,8 @@ pub fn likeness_law()
 
 /// States that ports that are alike behave alike.
 ///
-/// Reads, writes, bytes that arrive and the passing of time give equal results and leave the ports
-/// alike. Their interrupt lines are equal, and they save the same cells.
+/// `read`, `write`, `byte_in` and `advance` give equal results and leave the ports alike. Their
+/// interrupt lines are equal, and they save the same cells.
 pub fn alike_law()
     ensures reads { ReadsAlike }
     ensures writes { WritesAlike }
@@ -45,7 +45,9 @@ pub fn alike_law()
     ensures lines { LinesAlike }
 {}
 
-/// States that a new port is sound at any moment and that each call keeps a sound port sound.
+/// States that a new [`Serial`](crate::Serial) is sound at any moment.
+///
+/// `read`, `write`, `byte_in` and `advance` keep it sound.
 pub fn sound_law()
     ensures power_on { PowerOnIsSound }
     ensures reads { ReadsKeepSound }
@@ -54,7 +56,7 @@ pub fn sound_law()
     ensures advances { AdvancesKeepSound }
 {}
 
-/// States that each call keeps the port's level.
+/// States that `read`, `write`, `byte_in` and `advance` keep the port's level.
 pub fn level_law()
     ensures reads { ReadsKeepLevel }
     ensures writes { WritesKeepLevel }
@@ -72,7 +74,7 @@ pub fn ring_law()
     ensures held { HoldsWhatItGives }
 {}
 
-/// States that what a sound port saves under a set from its level on are cells of that set.
+/// States that the `cells` of a sound port under a set from its level on are cells of that set.
 ///
 /// Each cell is of its kind, and the counted arrays agree with their counts. The cells of a
 /// subsection that isn't needed have their defaults.
@@ -80,19 +82,19 @@ pub fn cells_law()
     ensures { SavedAreCells }
 {}
 
-/// States that a sound port that is saved can be restored as a port like it.
+/// States that a sound port that is saved by `cells` is restored by `of_cells` as a port like it.
 ///
 /// This holds for each set from the port's level on, after its cells are carried to the newest set.
 pub fn saved_law()
     ensures { SavedComesBack }
 {}
 
-/// States that a restored port is sound and has the level of the pass.
+/// States that a port that `of_cells` restores is sound and has the level of the pass.
 pub fn restored_law()
     ensures { RestoredIsSound }
 {}
 
-/// States that the ten rules describe exactly the sound ports.
+/// States that the ten rules of `of_cells` describe exactly the sound ports.
 ///
 /// Of the ports that a stream can describe, those are sound for which each rule holds for what the
 /// newest set saves.
@@ -100,7 +102,7 @@ pub fn rules_law()
     ensures { SoundMeetsRules }
 {}
 
-/// States that bytes are sent in the order in which they were written, each once.
+/// States that `advance` sends bytes in the order in which they were written, each once.
 ///
 /// Only bytes that are written to a full FIFO, or that are replaced while FIFOs are off, are lost.
 /// What is sent leaves on the line, except in loop mode.
@@ -124,7 +126,7 @@ pub fn time_law()
 
 /// States that the identified interrupt is pending and that none of higher priority is.
 ///
-/// The interrupt line is high exactly if some interrupt is pending.
+/// The interrupt line, [`Serial::line`](crate::Serial::line), is high exactly if one is pending.
 pub fn interrupt_law()
     ensures first { IdentifiesFirst }
     ensures line { LineTellsAsking }

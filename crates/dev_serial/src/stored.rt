@@ -46,7 +46,7 @@ impl Counted {
         }
     }
 
-    /// Returns the bytes held.
+    /// Returns the first `count` bytes, at most sixteen.
     pub fn list(&self) -> ArrayVec<u8, FIFO_BYTES>
         ensures items { result.items ≡ counted_bytes self.now }
         ensures few { length result.items ≤ FIFO_BYTES }
@@ -58,7 +58,7 @@ impl Counted {
         list
     }
 
-    /// Returns the cells: the count, and then the sixteen bytes.
+    /// Returns the cells: `count`, and then the sixteen bytes.
     #[tactic(auto, unfolding(crate::specs::Cells::array_cells))]
     pub fn cells(&self) -> ArrayVec<i128, ARRAY_CELLS>
         ensures items { result.items ≡ array_cells self.now }
@@ -125,7 +125,7 @@ impl Ring {
         list
     }
 
-    /// Reports whether the head and the number are valid and all elements that aren't held are 0.
+    /// Reports whether `head` and `number` are valid and all elements that aren't held are 0.
     #[tactic(auto, unfolding(crate::specs::Stored::ring_holds))]
     pub fn holds(&self) -> bool
         ensures { result ≡ ring_holds self.now }
@@ -159,7 +159,7 @@ impl Ring {
         behind_head < self.number as usize || self.elements[place] == 0
     }
 
-    /// Returns the cells: the sixteen elements, the head and the number.
+    /// Returns the cells: the sixteen elements, `head` and `number`.
     #[tactic(auto, unfolding(crate::specs::Cells::ring_cells))]
     pub fn cells(&self) -> ArrayVec<i128, RING_CELLS>
         ensures items { result.items ≡ ring_cells self.now }

@@ -15,7 +15,7 @@ pub fn stream_law()
     ensures { StreamsComeBack isa Alike IsSound }
 {}
 
-/// States that the stream of a sound board is shorter than 65,536 bytes.
+/// States that the stream of a sound board is shorter than `STREAM_ROOM`, 65,536 bytes.
 #[tactic(auto, using(crate::proofs::IsaBytes::streams_are_short))]
 pub fn short_law()
     ensures { StreamsAreShort isa IsSound }
@@ -37,7 +37,7 @@ pub fn continuation_law()
     ensures { BoardsGoOn isa Alike IsSound }
 {}
 
-/// States that a restore of bytes has exactly one outcome.
+/// States that restoring a [`Board`](vms_board::Board) from bytes has exactly one outcome.
 ///
 /// It is the board that their stream restores, or one refusal.
 #[tactic(auto, using(crate::proofs::IsaLaws::bytes_are_one))]
@@ -53,7 +53,7 @@ pub fn clock_stream_law()
     ensures { StreamsComeBack clock AlikeClocks IsSoundClock }
 {}
 
-/// States that the stream of a sound clock board is shorter than 65,536 bytes.
+/// States that the stream of a sound clock board is shorter than `STREAM_ROOM`, 65,536 bytes.
 #[tactic(auto, using(crate::proofs::ClockBytes::streams_are_short))]
 pub fn clock_short_law()
     ensures { StreamsAreShort clock IsSoundClock }
@@ -75,7 +75,7 @@ pub fn clock_continuation_law()
     ensures { BoardsGoOn clock AlikeClocks IsSoundClock }
 {}
 
-/// States that a restore of a clock board from bytes has exactly one outcome.
+/// States that restoring a [`ClockBoard`](vms_board::ClockBoard) from bytes has one outcome.
 #[tactic(auto, using(crate::proofs::ClockLaws::bytes_are_one))]
 pub fn clock_bytes_law()
     ensures { BytesAreOne clock }

@@ -12,13 +12,13 @@ pub fn numbers_law()
     ensures { NumbersAre }
 {}
 
-/// States that letting time pass in two parts has the same effect as letting it pass at once.
+/// States that `passed` in two parts has the same effect as `passed` at once.
 #[tactic(auto, using(crate::proofs::TimeLaws::parts_are_whole))]
 pub fn parts_law()
     ensures { PartsAreWhole }
 {}
 
-/// States when a span of time sets the periodic interrupt flag.
+/// States when `passed` sets the periodic interrupt flag.
 ///
 /// It does so exactly if a multiple of the period is after the ticks at its beginning and not after
 /// those at its end. No span clears the flag.
@@ -41,25 +41,25 @@ pub fn kept_law()
     ensures { FlagsAreKept }
 {}
 
-/// States that no call changes the version.
+/// States that `read`, `write` and `passed` don't change the version.
 #[tactic(auto, using(crate::proofs::CallLaws::version_stays))]
 pub fn level_law()
     ensures { VersionStays }
 {}
 
-/// States that the chip is sound at power on and that each call keeps it so.
+/// States that a new [`Rtc`](crate::Rtc) is sound and that each call keeps it so.
 #[tactic(auto, using(crate::proofs::SoundLaws::calls_keep_sound))]
 pub fn sound_law()
     ensures { CallsKeepSound }
 {}
 
-/// States that what a sound chip saves under a set are cells of that set.
+/// States that the `cells` of a sound chip under a set are cells of that set.
 #[tactic(auto, using(crate::proofs::SavedLaws::saved_are_cells))]
 pub fn cells_law()
     ensures { SavedAreCells }
 {}
 
-/// States that a sound chip that is saved is restored as it was.
+/// States that a sound chip that is saved by `cells` is restored by `of_cells` as it was.
 ///
 /// This holds for each clock set from its version on, after its cells are carried to the newest
 /// set.
@@ -68,7 +68,7 @@ pub fn saved_law()
     ensures { SavedIsRestored }
 {}
 
-/// States that the three rules describe exactly the sound chips.
+/// States that the three rules of `of_cells` describe exactly the sound chips.
 ///
 /// Of the chips that a stream can describe, those are sound for which no rule fails for what the
 /// newest clock set saves.
@@ -77,7 +77,7 @@ pub fn rules_law()
     ensures { SoundMeetsRules }
 {}
 
-/// States that a restored chip is sound and has the version of the restore.
+/// States that a chip that `of_cells` restores is sound and has the version of the restore.
 #[tactic(auto, using(crate::proofs::RestoredLaws::restored_is_sound))]
 pub fn restored_law()
     ensures { RestoredIsSound }

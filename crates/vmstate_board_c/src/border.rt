@@ -43,7 +43,7 @@ fn made(alloc: Global, kind: u8, level: u8) -> Option<Box<Held>>
     Box::new(alloc, Held { board }).ok()
 }
 
-/// Frees the board that the handle owns, if any.
+/// Frees the board that `handle` owns, if any.
 #[unsafe(no_mangle)]
 pub extern "C" fn vmstate_board_free(alloc: Global, handle: &mut Handle)
     ensures { board_of handle.new ≡ None }
@@ -138,7 +138,7 @@ pub extern "C" fn vmstate_board_advance(alloc: Global, handle: &mut Handle, mome
     answer
 }
 
-/// Acknowledges an interrupt at the board's moment; the value is its vector.
+/// Acknowledges an interrupt at the board's moment; `value` of the result is its vector.
 ///
 /// The status is 3 if the handle owns no board.
 #[unsafe(no_mangle)]
