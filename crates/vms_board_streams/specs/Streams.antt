@@ -55,6 +55,7 @@ module _ {S : Type 0} (f : Family S) where
   pub record StreamsAreShort (IsSound : S → Type 0) : Type 0 where
     pub short : (set : ℕ) (m : S) → IsSound m → MaySaveIn f m set → length (saved_stream f set m) < STREAM_ROOM
 
+  -- The stream of a sound board, under each set from its number on, is bytes.
   pub record StreamsAreBytes (IsSound : S → Type 0) : Type 0 where
     pub bytes : (set : ℕ) (m : S) → IsSound m → MaySaveIn f m set → IsBytes (saved_stream f set m)
 
@@ -95,9 +96,12 @@ module _ {S : Type 0} (f : Family S) (Alike : S → S → Type 0) where
     pub accepted : (place : ℕ) (section : Option ℕ) (reason : Reason)
         → Restores f (f.number m) (saved_stream f set m) (Refused place section reason) → ⊥
 
+  -- Each sound board is restored from its stream, under each set from its number on.
   pub record StreamsComeBack (IsSound : S → Type 0) : Type 0 where
     pub stream : (set : ℕ) (m : S) → IsSound m → MaySaveIn f m set → StreamComesBack set m
 
+  -- A board restored from the stream of a sound board continues as that board does. The description that the
+  -- stream has makes no difference, and `own` says that `saved_stream` is such a stream.
   pub record BoardsGoOn (IsSound : S → Type 0) : Type 0 where
     pub on : (set : ℕ) (m : S) (text : Option (List ℕ)) (events : List Event) → IsSound m → MaySaveIn f m set
         → HasRoomFor text → IsContinued f set m text events
