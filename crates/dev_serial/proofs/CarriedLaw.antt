@@ -32,7 +32,7 @@ module _ (now : ℕ) (port : Port) where
   unfolding carried cells_of field_cells array_cells ring_cells saved
   carried-4 = refl
 
--- what an older set lacks, a port of an early level hasn't
+-- a port of an early level lacks what an older set lacks
 off-early : (now : ℕ) (port : Port) → IsSound now port → port.level < 2 → port.fifos ≡ None
 off-early now port s early = at port.fifos (λ on. let h = s.registers.fifos on in omega arith) where
   at : (fifos : Option Trigger) → (is_some fifos ≡ true → 2 ≤ port.level) → fifos ≡ None

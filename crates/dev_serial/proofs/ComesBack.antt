@@ -1,4 +1,4 @@
--- What is saved under any set comes back as a port like it.
+-- A port that is saved under any set is restored as a port like it.
 use Rattle.std.proofs.Common.{◌≡◌, Ok, refl, arith}
 use Rattle.vms_hooks.specs.Numbers.{Numbers}
 use Rattle.dev_base.specs.Hooks.{hook_result}

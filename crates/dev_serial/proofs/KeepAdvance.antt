@@ -13,7 +13,7 @@ use Rattle.dev_serial.proofs.KeepParts.{mode_at, received-sound, later-timeout}
 use Rattle.dev_serial.specs.declared.mode.TheConstants.{LONGEST_CHARACTER}
 use Rattle.dev_serial.proofs.SendingLaws.{stays_empty}
 
--- what a transmitter holds after a moment
+-- the bytes that a transmitter holds after a moment
 record HoldsSound (to : ℕ) (transmitter : TransmitterState) : Type 0 where
   shift : IsShift to transmitter.shift
   bytes : AreBytes transmitter.waiting

@@ -26,7 +26,7 @@ module _ (port : Port) where
       (either Answers (offset == 5) _ _ refl
       (either Answers (offset == 6) _ _ refl refl))))))
 
-  -- what the FIFO control register clears has neither the level nor the divisor
+  -- clearing by the FIFO control register changes neither the level nor the divisor
   abbrev Stays : Port → Type 0
   Stays after = Keeps after × (after.divisor ≡ port.divisor)
 

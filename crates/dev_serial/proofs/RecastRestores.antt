@@ -35,7 +35,7 @@ in_array (byte ∷ bytes) short =
     ∙ counted-back (byte ∷ bytes) short
 
 module _ (array : Counted) (ring : Ring) where
-  -- the bytes stand in the ring alone
+  -- the bytes are in the ring alone
   module _ (e : is_in_ring array ring ≡ true) where
     empty : (array.count == 0) ≡ true
     empty = (all_three (nat_lt 0 ring.number) (array.count == 0) (ring_holds ring) e).0

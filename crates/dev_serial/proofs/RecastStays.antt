@@ -1,4 +1,4 @@
--- Cells of the newest set of which no direction's bytes stand in its ring alone are recast already.
+-- Cells of the newest set with no direction's bytes in its ring alone are recast already.
 use Rattle.std.proofs.Common.{◌≡◌, ℕ, ℤ, zero, suc, ◌+◌, ◌<◌, Bool, true, false, ◌&&◌, ◌==◌, not, List, [], ◌∷◌, ◌++◌, length, map, replicate, pos, negsuc, refl, sym, ap, ◌∙◌, arith, if◌then◌else◌}
 use Rattle.std.specs.List.{range_with_len}
 use Rattle.std.proofs.lemmas.Bool.{and_parts, eqb-false}
@@ -81,7 +81,7 @@ module _ (cells : List ℤ) (is : AreOf (kinds 4) cells) where
   stays : (n : PortNumbers) → is_in_ring n.rx n.rx_ring ≡ false → is_in_ring n.tx n.tx_ring ≡ false → recast_port n ≡ n
   stays n rx tx = rw (rx, tx) refl
 
-  -- no direction's bytes stand in its ring alone
+  -- no direction's bytes are in its ring alone
   pub recast_stays : is_in_ring (numbers_of cells).rx (numbers_of cells).rx_ring ≡ false → is_in_ring (numbers_of cells).tx (numbers_of cells).tx_ring ≡ false → recast_cells cells ≡ cells
   unfolding recast_cells
   recast_stays rx tx = ap (cells_of 4) (stays (numbers_of cells) rx tx) ∙ cells_back

@@ -1,4 +1,4 @@
--- What is identified, and what the FIFO control register does.
+-- The identified interrupt, and the effects of the FIFO control register.
 use Rattle.std.proofs.Common.{◌≡◌, ℕ, ◌<◌, ◌≤◌, Bool, true, false, not, ◌&&◌, cond, Option, Some, None, refl, sym, ap, ◌∙◌, ◌/◌, arith}
 use Rattle.std.proofs.lemmas.Bool.{false≢true, cond_both}
 use Rattle.std.specs.Prelude.{is_some}
@@ -33,7 +33,7 @@ module _ (now : ℕ) (port : Port) where
       (λ h. record { itself = h; higher = none 3 (omega arith) (λ l. a) (λ l. b) (λ l. c) (λ l. absurd (omega arith)) }) (λ d.
       record { itself = refl; higher = none 4 (omega arith) (λ l. a) (λ l. b) (λ l. c) (λ l. d) }))))
 
-  -- what asks is pending where no higher one hides it
+  -- an interrupt that is requested is pending unless a higher one hides it
   pending : (identified some : Interrupt) → IsFirstAsking now port identified → is_pending some ≡ true → asks now port some ≡ true → is_pending identified ≡ true
   pending LineStatus some f p h = refl
   pending ReceivedData some f p h = refl

@@ -1,4 +1,4 @@
--- What a restore answers, by the rules in code.
+-- The result of a restore, by the rules in code.
 use Rattle.std.proofs.Common.{◌≡◌, ℕ, ◌≤◌, Bool, List, [], ◌∷◌, length, Option, Some, refl, subst}
 use Rattle.dev_base.specs.Rules.{first_failing, judged_by, IsFirstFailing, MeansFailing}
 use Rattle.dev_base.proofs.RuleLaws.{first_failing_is_first}

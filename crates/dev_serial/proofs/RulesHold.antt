@@ -1,4 +1,4 @@
--- Where numbers are restored, every rule holds of them.
+-- If numbers are restored, every rule holds for them.
 use Rattle.std.proofs.Common.{◌≡◌, ℕ, true, Ok}
 use Rattle.dev_base.proofs.RuleLaws.{judged-ok}
 use Rattle.dev_serial.specs.Port.{Port}

@@ -1,4 +1,4 @@
--- What is saved are cells of its set.
+-- The saved cells are cells of their set.
 use Rattle.std.proofs.Common.{◌≡◌, ℕ, ℤ, zero, suc, ◌+◌, ◌<◌, ◌≤◌, Bool, true, false, cond, List, [], ◌∷◌, ◌++◌, length, map, take, drop, replicate, pos, Option, Some, None, refl, ap, ◌∙◌, arith}
 use Rattle.std.proofs.lemmas.Int.{ints}
 use Rattle.std.proofs.lemmas.List.{get_or-append-add, get_or_append_left, get_or-map, get_or_past}
@@ -136,7 +136,7 @@ module _ (set now : ℕ) (port : Port) (early : now ≤ LAST_MOMENT) (sound : Is
   ring-part : (is : Bool) (bytes : List ℕ) → IsShort (is_some port.fifos) bytes → AreBytes bytes → AreOf (cond is (replicate RING_CELLS U8) []) (cond is (ring_cells (ring_of (in_ring set port.fifos bytes))) [])
   ring-part is bytes s b = of_where is (replicate RING_CELLS U8) (ring_cells (ring_of (in_ring set port.fifos bytes))) (ring-of (in_ring set port.fifos bytes) (ring-short set port.fifos bytes s) (ring-bytes set port.fifos bytes b))
 
-  -- what a set saves, as the cells of that set or of another
+  -- the saved numbers, as the cells of that set or of another
   pub of-kinds : (other : ℕ) → AreOf (kinds other) (cells_of other (saved set now port))
   unfolding cells_of saved
   of-kinds other =
@@ -147,7 +147,7 @@ module _ (set now : ℕ) (port : Port) (early : now ≤ LAST_MOMENT) (sound : Is
       let arrays = of_both _ _ _ _ (of_both _ _ _ _ fields (array-part (nat_le 2 other) port.receiver.held sound.receiver.short sound.receiver.bytes)) (array-part (nat_le 2 other) port.transmitter.waiting sound.transmitter.short sound.transmitter.bytes) in
       of_both _ _ _ _ (of_both _ _ _ _ (of_both _ _ _ _ arrays timeout) (ring-part (nat_le 4 other) port.receiver.held sound.receiver.short sound.receiver.bytes)) (ring-part (nat_le 4 other) port.transmitter.waiting sound.transmitter.short sound.transmitter.bytes)
 
--- a counted array by its place: what stands behind the count is 0 from the count on
+-- a counted array by its index: the elements after the count are 0 from the count on
 zero-from : (front back : List ℤ) (bytes : List ℕ) (i : ℕ) → length bytes ≤ i → i < 16 → cell_at (front ++ (map pos (padded bytes) ++ back)) (length front + i) ≡ pos 0
 zero-from front back bytes i low high =
     get_or-append-add front (map pos (padded bytes) ++ back) i (pos 0)
@@ -211,7 +211,7 @@ module _ (now : ℕ) (port : Port) (early : now ≤ LAST_MOMENT) (sound : IsSoun
     no_ring = λ h a b. no-rings (in_ring 4 port.fifos port.receiver.held) (in_ring 4 port.fifos port.transmitter.waiting) a b;
   }
 
-  -- what a set saves, as the newest set's cells
+  -- the saved numbers, as the newest set's cells
   pub newest-cells : (set : ℕ) → IsPortCells (cells_of 4 (saved set now port))
   unfolding cells_of field_cells array_cells ring_cells saved
   newest-cells set =

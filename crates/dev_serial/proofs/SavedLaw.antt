@@ -1,4 +1,4 @@
--- What is saved of a sound port meets every rule, and is restored as a port like it.
+-- The saved numbers of a sound port meet every rule, and are restored as a port like it.
 use Rattle.std.proofs.Common.{◌≡◌, ℕ, ◌≤◌, Bool, true, false, not, ◌&&◌, ◌||◌, Ok, refl, sym, ap, ◌∙◌}
 use Rattle.std.proofs.lemmas.Bool.{le-leb, eq-eqb, and_from}
 use Rattle.std.specs.Prelude.{nat_le, is_some}

@@ -1,4 +1,4 @@
--- Each part of a port, back from its numbers.
+-- Each part of a port is restored from its numbers.
 use Rattle.std.proofs.Common.{◌≡◌, ℕ, ◌+◌, ◌%◌, ◌≤◌, ◌==◌, Bool, true, false, not, ◌&&◌, ◌||◌, cond, List, [], ◌∷◌, length, Option, Some, None, refl, arith}
 use Rattle.std.proofs.Math.Bool.{and-true, or-true}
 use Rattle.std.proofs.lemmas.Bool.{le-leb, lt-ltb, ne_eqb, and_from, or_right}
@@ -47,7 +47,7 @@ pub unused-saved : (fifos : Option Trigger) (held waiting : List ℕ) → cond (
 unused-saved None held waiting = refl
 unused-saved (Some trigger) held waiting = rw (on trigger)
 
--- the bytes held, where the line status tells whether there are any
+-- the bytes held, if the line status says whether there are any
 pub bytes-back : (fifos : Option Trigger) (bytes : List ℕ) (is_held : Bool) → IsShort (is_some fifos) bytes → is_held ≡ not (is_empty bytes) → bytes_held (fcr_number fifos) is_held (single_byte fifos bytes) (fifo_bytes fifos bytes) ≡ bytes
 bytes-back None [] is_held s e = rw e
 bytes-back None (x ∷ []) is_held s e = rw e
@@ -89,7 +89,7 @@ shift-saved now (Some shift) idle true h s i e =
 shift-saved now (Some shift) idle false h s i e =
     rw (e, ne_eqb shift.due NEVER (λ e. let b = s.in_time in omega arith)) (and_from _ _ (lt-ltb now shift.due s.later) (le-leb shift.due _ s.in_time))
 
--- a timeout that runs just where it may
+-- a timeout that runs exactly when it may
 timeout_at : (now : ℕ) (runs : Bool) (timeout : Option ℕ) → now ≤ LAST_MOMENT → IsTimeout now runs timeout → cond runs (not (moment_number timeout == NEVER) && nat_le (moment_number timeout) (now + longest_timeout)) (moment_number timeout == NEVER) ≡ true
 timeout_at now runs None h t = rw t
 timeout_at now runs (Some moment) h t =

@@ -56,7 +56,7 @@ module _ (mode : Mode) (to : ℕ) (shift : Shift) where
 
   -- it is due
   module _ (h : shift.due ≤ to) where
-    -- and none waits behind it
+    -- and no byte waits after it
     pub ends-left : (whole : List Shift) (waiting : List ℕ) → whole ≡ staying to (departures mode.character (Some shift) waiting) → length waiting ≡ 0 → record { waiting = waiting; shift = None } ≡ holding whole
     unfolding departures timetable staying holding
     ends-left whole [] e z = rw (e, in_time shift.due to h)

@@ -1,4 +1,4 @@
--- What leaves, and when.
+-- The bytes that leave, and their moments.
 use Rattle.std.proofs.Common.{◌≡◌, ℕ, ◌+◌, ◌<◌, ◌≤◌, Bool, true, false, not, ◌&&◌, cond, List, ◌∷◌, ◌++◌, length, Option, Some, None, refl, sym, ap, ◌∙◌, arith, append_assoc, append-nil, []}
 use Rattle.std.proofs.lemmas.Bool.{le-leb, lt-leb, eqb-true, eq-eqb, not-false}
 use Rattle.std.proofs.lemmas.List.{map-append}
@@ -18,7 +18,7 @@ use Rattle.dev_serial.specs.declared.shift.Shift.{Shift}
 use Rattle.dev_serial.proofs.SendLemmas.{bytes_of-timetable, looped_none}
 use Rattle.dev_serial.proofs.Timetables.{gone_by-twice, run-twice, fewer, in-order}
 
--- the bytes to send, where one is written
+-- the bytes to send after one is written
 pending-loaded : (due : ℕ) (shift : Option Shift) (waiting : List ℕ) → pending_of (loaded due shift waiting).shift (loaded due shift waiting).waiting ≡ pending_of shift waiting
 unfolding loaded
 pending-loaded due (Some shift) waiting = refl

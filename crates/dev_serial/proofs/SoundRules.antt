@@ -1,4 +1,4 @@
--- A port is sound exactly where it is one that a stream can tell and the rules hold of what is saved of it.
+-- A port is sound exactly if a stream can describe it and the rules hold for what is saved.
 use Rattle.std.proofs.Common.{◌≡◌, ℕ, ◌+◌, ◌≤◌, ◌==◌, Bool, true, false, not, ◌&&◌, ◌||◌, cond, Option, Some, None, refl, sym, arith}
 use Rattle.std.proofs.lemmas.Bool.{false≢true, leb-true, ltb-true, eqb-true, and_parts}
 use Rattle.std.specs.Prelude.{nat_le, nat_lt, is_some}

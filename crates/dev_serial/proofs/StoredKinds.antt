@@ -1,4 +1,4 @@
--- Which cells of the newest set are bytes.
+-- The cells of the newest set that are bytes.
 use Rattle.std.proofs.Common.{◌≡◌, ℕ, ◌+◌, ◌<◌, ◌≤◌, List, [], ◌∷◌, ◌++◌, ℤ, replicate, subst, arith}
 use Rattle.vms_kinds.specs.Codes.{InRange}
 use Rattle.vms_kinds.specs.declared.Kind.TheVariants.{U8, I8, Timer}

@@ -7,7 +7,7 @@ use Rattle.dev_serial.specs.Transmit.{timetable, departures, gone, staying, hold
 use Rattle.dev_serial.specs.declared.shift.Shift.{Shift}
 use Rattle.dev_serial.proofs.SendLemmas.{bytes_of-timetable}
 
--- what leaves and what stays is the whole timetable
+-- the bytes that leave and those that stay are the whole timetable
 pub gone-staying : (to : ℕ) (shifts : List Shift) → gone to shifts ++ staying to shifts ≡ shifts
 unfolding gone staying
 gone-staying to [] = refl
@@ -37,7 +37,7 @@ unfolding gone staying
 gone-twice a b [] h = refl
 gone-twice a b (shift ∷ later) h = gone-step a b shift later (nat_le shift.due a) refl h (gone-twice a b later h)
 
--- what stays of a timetable is one
+-- the rest of a timetable is one
 record IsTable (character : ℕ) (shifts : List Shift) : Type 0 where
   due : ℕ
   bytes : List ℕ
@@ -59,7 +59,7 @@ departures-table character due (byte ∷ bytes) = rw (bytes_of-timetable charact
 departures-holding : (character : ℕ) (shifts : List Shift) → IsTable character shifts → departures character (holding shifts).shift (holding shifts).waiting ≡ shifts
 departures-holding character shifts t = rw (t.table) (departures-table character t.due t.bytes)
 
--- what is to leave after a moment has come is what stayed
+-- the bytes to send after a moment are the rest of the timetable
 pub departures-later : (character to : ℕ) (shift : Option Shift) (waiting : List ℕ) → departures character (run_until character to shift waiting).shift (run_until character to shift waiting).waiting ≡ staying to (departures character shift waiting)
 unfolding departures run_until staying
 departures-later character to None waiting = refl

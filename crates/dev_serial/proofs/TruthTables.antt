@@ -13,7 +13,7 @@ use Rattle.dev_serial.specs.declared.interrupt.Interrupt.TheVariants.{LineStatus
 abbrev pub status_of : Bool → Bool → Bool → Bool → ℕ
 status_of ready overrun empty idle = bit_or (bit_or (bit_or (bits_where ready 0x01) (bits_where overrun 0x02)) (bits_where empty 0x20)) (bits_where idle 0x40)
 
--- a line status tells these four
+-- a line status shows these four
 pub record IsStatus (lsr : ℕ) (ready overrun empty idle : Bool) : Type 0 where
   pub ready_bit : has lsr 0 ≡ ready
   pub overrun_bit : has lsr 1 ≡ overrun
@@ -44,7 +44,7 @@ pub lsr-status : (port : Port) → IsStatus (lsr_of port) (not (is_empty port.re
 unfolding lsr_of
 lsr-status port = status _ _ _ _
 
--- the identification where these three come first, with the enabled bit and the latch
+-- the identification if these three come first, with the enabled bit and the latch
 abbrev pub identified : Bool → Bool → Bool → Bool → Bool → Interrupt
 identified status ready timeout enabled latch =
     cond status LineStatus (cond ready ReceivedData (cond timeout CharacterTimeout (cond (enabled && latch) ThrEmpty NonePending)))

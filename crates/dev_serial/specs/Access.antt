@@ -1,4 +1,4 @@
--- The calls of a port.
+-- The calls of a port. Quoted names are the registers' in the NS16550A data sheet.
 use Rattle.std.specs.Prelude.{ℕ, ◌+◌, ◌-◌, ◌*◌, ◌/◌, ◌%◌, ◌==◌, Bool, true, false, nat_le, ◌&&◌, not, if◌then◌else◌, List, [], length, Option, Some, None, is_some, bit_and, bit_or}
 use Rattle.dev_base.specs.Bits.{has, bits_where}
 use Rattle.dev_serial.specs.Fifo.{trigger_of}
@@ -12,43 +12,45 @@ use Rattle.dev_serial.specs.declared.levels.TheConstants.{FIFOS_SINCE}
 use Rattle.dev_serial.specs.declared.shift.Shift.{Shift}
 use Rattle.dev_serial.specs.declared.trigger.Trigger.{Trigger}
 
--- a list has no byte
+-- Whether the list `bytes` is empty.
 abbrev pub is_empty : List ℕ → Bool
 is_empty bytes = length bytes == 0
 
--- the line status register: a byte is held, one was overrun, the transmit list is empty, and the shift
--- register is idle too
+-- "Line Status Register": a byte is held (bit 0), one was overrun (bit 1), the transmit list is
+-- empty (bit 5), and the shift register is idle too (bit 6).
 unfoldable pub lsr_of : Port → ℕ
 lsr_of port =
     let empty = is_empty port.transmitter.waiting in
     bit_or (bit_or (bit_or (bits_where (not (is_empty port.receiver.held)) 0x01) (bits_where port.receiver.overrun 0x02)) (bits_where empty 0x20)) (bits_where (empty && not (is_some port.transmitter.shift)) 0x40)
 
--- the modem status register: in loop mode the modem control outputs, else fixed
+-- "Modem Status Register": the modem control's outputs in loop mode, else 0xb0.
 unfoldable pub msr_of : ℕ → ℕ
 msr_of mcr =
     if has mcr 4 then bit_or (bit_or (bit_or (bits_where (has mcr 1) 0x10) (bits_where (has mcr 0) 0x20)) (bits_where (has mcr 2) 0x40)) (bits_where (has mcr 3) 0x80)
     else 0xb0
 
--- the identification register: the interrupt, and two bits that tell that FIFOs are on
+-- "Interrupt Identification Register": the interrupt, and bits 6 and 7 while FIFOs are on.
 unfoldable pub iir_of : ℕ → Port → ℕ
 iir_of now port = bit_or (id_number (interrupt now port)) (bits_where (is_some port.fifos) 0xc0)
 
--- reads of the identification and of the line status. The first clears the latch where it identifies it, the
--- second clears overrun
+-- The read of the "Interrupt Identification Register" at `now`. It clears the latch if that is the
+-- interrupt identified.
 abbrev pub id_read : ℕ → Port → ℕ × Port
 id_read now port = (iir_of now port, record port { thr_empty = (if is_thr_empty (interrupt now port) then false else port.thr_empty) })
 
+-- The read of the "Line Status Register", which clears the overrun flag.
 abbrev pub lsr_read : Port → ℕ × Port
 lsr_read port = (lsr_of port, record port { receiver = without_overrun port.receiver })
 
--- a read of the received byte
+-- The port with the receiver of `answer`, together with the byte of `answer`.
 abbrev pub with_taken : Port → ℕ × ReceiverState → ℕ × Port
 with_taken port answer = (answer.0, record port { receiver = answer.1 })
 
+-- The read of the "Receiver Buffer Register" at `now`.
 abbrev pub byte_read : ℕ → Port → ℕ × Port
 byte_read now port = with_taken port (taken (mode_of port) now port.receiver)
 
--- a read of a register at an offset
+-- `read_of offset now port` is the value read at `offset` and the port after the read.
 unfoldable pub read_of : ℕ → ℕ → Port → ℕ × Port
 read_of offset now port =
     if offset == 0 then (if has port.lcr 7 then (port.divisor % 256, port) else byte_read now port)
@@ -60,26 +62,27 @@ read_of offset now port =
     else (if offset == 6 then (msr_of port.mcr, port)
     else (port.scr, port)))))))
 
--- a byte is written to be sent. The latch is cleared, and set again where the list becomes empty at once
+-- The port with `transmitter`. The latch is set exactly if no byte waits in it.
 abbrev pub with_thr : Port → TransmitterState → Port
 with_thr port transmitter = record port { transmitter = transmitter; thr_empty = is_empty transmitter.waiting }
 
+-- The port after `byte` is written to the "Transmitter Holding Register" at `now`.
 unfoldable pub thr_written : ℕ → ℕ → Port → Port
 thr_written byte now port =
     with_thr port (loaded (now + character_time port.divisor port.lcr) port.transmitter.shift (queued (is_some port.fifos) byte port.transmitter.waiting))
 
--- the interrupt enable register. Where the bit of the empty transmit list goes from 0 to 1 the latch samples
--- the list
+-- The port after a write of the "Interrupt Enable Register". If bit 1 goes from 0 to 1, the latch
+-- samples the transmit list.
 unfoldable pub ier_written : ℕ → Port → Port
 ier_written value port =
     let ier = bit_and value 0x0f in
     record port { ier = ier; thr_empty = (if not (has port.ier 1) && has ier 1 then is_empty port.transmitter.waiting else port.thr_empty) }
 
--- the receive list is cleared, or not
+-- The port with its receive list cleared if `clears` is true.
 abbrev pub receiver_cleared : Bool → Port → Port
 receiver_cleared clears port = if clears then record port { receiver = emptied port.receiver } else port
 
--- the transmit list is cleared, or not. That sets the latch where a byte waited
+-- The port with its transmit list cleared if `clears` is true. If a byte waited, the latch is set.
 abbrev pub transmitter_cleared : Bool → Port → Port
 transmitter_cleared clears port =
     if clears then record port {
@@ -87,22 +90,24 @@ transmitter_cleared clears port =
       thr_empty = (if is_empty port.transmitter.waiting then port.thr_empty else true);
     } else port
 
--- what the FIFO control register says: bit 0 switches the FIFOs on, bits 7 and 6 are the trigger
+-- "FIFO Control Register": bit 0 switches the FIFOs on, and bits 7 and 6 are the trigger.
 abbrev pub switch_of : ℕ → Option Trigger
 switch_of value = if has value 0 then Some (trigger_of (value / 64)) else None
 
--- what a write of it clears, by the switch as it was and as it becomes: both lists where FIFOs go on or off;
--- while they stay on the receive list by bit 1 and the transmit list by bit 2; while they stay off nothing
+-- The port after the clearing done by a write of the "FIFO Control Register", by the FIFO switch
+-- before and after the write. Switching on or off clears both lists. While FIFOs stay on, bit 1
+-- clears the receive list and bit 2 the transmit list. While they stay off, nothing is cleared.
 unfoldable pub fcr_cleared : Option Trigger → Option Trigger → ℕ → Port → Port
 fcr_cleared None None value port = port
 fcr_cleared None (Some after) value port = transmitter_cleared true (receiver_cleared true port)
 fcr_cleared (Some before) None value port = transmitter_cleared true (receiver_cleared true port)
 fcr_cleared (Some before) (Some after) value port = transmitter_cleared (has value 2) (receiver_cleared (has value 1) port)
 
+-- The port after `value` is written to the "FIFO Control Register".
 unfoldable pub fcr_written : ℕ → Port → Port
 fcr_written value port = record (fcr_cleared port.fifos (switch_of value) value port) { fifos = switch_of value }
 
--- a write of a register at an offset
+-- `written offset value now port` is the port after `value` is written at `offset`.
 unfoldable pub written : ℕ → ℕ → ℕ → Port → Port
 written offset value now port =
     if offset == 0 then (if has port.lcr 7 then record port { divisor = port.divisor / 256 * 256 + value } else thr_written value now port)
@@ -114,24 +119,25 @@ written offset value now port =
     else (if offset == 6 then port
     else record port { scr = value }))))))
 
--- a byte comes on the line. In loop mode it is ignored
+-- The port after `byte` arrives on the line at `now`. Loop mode ignores it.
 unfoldable pub came_in : ℕ → ℕ → Port → Port
 came_in byte now port =
     if has port.mcr 4 then port else record port { receiver = received (mode_of port) byte now port.receiver }
 
--- how many bytes may come in before one is lost: those that the receive list has room for, and none in loop mode, where what
--- comes is ignored
+-- The number of bytes that may arrive before one is lost: the free room of the receive list, or 0
+-- in loop mode, which ignores what arrives.
 abbrev pub room_of : Port → ℕ
 room_of port =
     if has port.mcr 4 then 0
     else (if is_some port.fifos then FIFO_BYTES - length port.receiver.held else 1 - length port.receiver.held)
 
--- the bytes that leave the shift register up to a moment, each with its own
+-- The bytes that leave the shift register up to `to`, each with the moment at which it is sent.
 abbrev pub leaving : ℕ → Port → List Shift
 leaving to port = gone_by (character_time port.divisor port.lcr) to port.transmitter.shift port.transmitter.waiting
 
--- time passes up to a moment. What leaves goes to the line or, in loop mode, to the receiver; where the last
--- byte that waited leaves the list, the latch is set
+-- The bytes that left on the line and the port, after time has passed up to `to`. In loop mode the
+-- bytes are received again instead. The latch is set if the last byte that waited has left the
+-- list.
 unfoldable pub advanced : ℕ → Port → List ℕ × Port
 advanced to port =
     let after = run_until (character_time port.divisor port.lcr) to port.transmitter.shift port.transmitter.waiting in (

@@ -1,4 +1,4 @@
--- The cells of a port in each set.
+-- The cells of a port in each set (docs/devices.md lists them).
 use Rattle.std.specs.Prelude.{◌≡◌, ℕ, ℤ, pos, ◌+◌, ◌<◌, ◌≤◌, nat_le, if◌then◌else◌, List, [], ◌∷◌, ◌++◌, map, replicate}
 use Rattle.vms_kinds.specs.Codes.{InRange}
 use Rattle.vms_kinds.specs.declared.Kind.{Kind}
@@ -15,20 +15,21 @@ use Rattle.dev_serial.specs.declared.stored.TheConstants.{ARRAY_CELLS, RING_CELL
 use Rattle.dev_serial.specs.declared.place.TheConstants.{DIVISOR, IER, IIR, LCR, MCR, LSR, SCR, RBR, THR, TSR, TX_DUE, FCR, THR_IPENDING, RX_COUNT, TX_COUNT, TIMEOUT_AT, RX_RING, TX_RING}
 use Rattle.dev_serial.specs.declared.numbers.TheConstants.{NEVER}
 
--- a count with its sixteen elements, and the sixteen elements of a ring with its head and number
+-- The cells of a counted array: its count and its sixteen elements.
 unfoldable pub array_cells : Counted → List ℤ
 array_cells array = pos array.count ∷ map pos array.bytes
 
+-- The cells of a ring: its sixteen elements, its head and its number.
 unfoldable pub ring_cells : Ring → List ℤ
 ring_cells ring = map pos ring.elements ++ pos ring.head ∷ pos ring.number ∷ []
 
--- the fields that every set has
+-- The cells of the fields that every set has.
 unfoldable pub field_cells : PortNumbers → List ℤ
 field_cells n =
     pos n.divisor ∷ pos n.ier ∷ pos n.iir ∷ pos n.lcr ∷ pos n.mcr ∷ pos n.lsr ∷ pos n.scr ∷ pos n.rbr ∷ pos n.thr ∷ pos n.tsr ∷ pos n.tx_due ∷ []
 
--- the cells of a set: its fields, and then those of its subsections, the latch, the FIFOs as counted arrays,
--- the timeout and the FIFOs as rings
+-- The cells of set `set`: the fields, then the subsections' cells: the FIFO control, the latch, the
+-- counted arrays, the timeout and the rings.
 unfoldable pub cells_of : ℕ → PortNumbers → List ℤ
 cells_of set n =
     field_cells n ++ since FIFOS_SINCE set (pos n.fcr ∷ []) ++ n.thr_ipending ∷ []
@@ -36,10 +37,11 @@ cells_of set n =
     ++ since TIMEOUT_SINCE set (pos n.timeout_at ∷ [])
     ++ since RINGS_SINCE set (ring_cells n.rx_ring) ++ since RINGS_SINCE set (ring_cells n.tx_ring)
 
--- the kinds of these cells
+-- The kinds of the fields that every set has.
 abbrev pub field_kinds : List Kind
 field_kinds = U16 ∷ replicate 9 U8 ++ Timer ∷ []
 
+-- The kinds of the cells of set `set`.
 abbrev pub kinds : ℕ → List Kind
 kinds set =
     field_kinds ++ since FIFOS_SINCE set (U8 ∷ []) ++ I8 ∷ []
@@ -47,7 +49,7 @@ kinds set =
     ++ since TIMEOUT_SINCE set (Timer ∷ [])
     ++ since RINGS_SINCE set (replicate RING_CELLS U8) ++ since RINGS_SINCE set (replicate RING_CELLS U8)
 
--- from which place of a set each cell of the newest one comes, or its default
+-- For each cell of the newest set, the index of the same cell in set `set`, or its default.
 abbrev pub origins : ℕ → List Origin
 origins set =
     places 0 11 ++ where_had (nat_le FIFOS_SINCE set) (places 11 1) (default_of (pos 0) ∷ [])
@@ -56,22 +58,23 @@ origins set =
     ++ where_had (nat_le TIMEOUT_SINCE set) (places 47 1) (default_of (pos NEVER) ∷ [])
     ++ where_had (nat_le RINGS_SINCE set) (places 48 36) (replicate 36 (default_of (pos 0)))
 
--- the cells of a set at their places in the newest one, with defaults elsewhere
+-- The cells of set `set` in the order of the newest set, with defaults for the others.
 unfoldable pub carried : ℕ → List ℤ → List ℤ
 carried set cells = carried_by (origins set) cells
 
--- cells from a place on are bytes
+-- The `count` cells at index `place` and after are bytes.
 abbrev pub AreBytesIn : List ℤ → ℕ → ℕ → Type 0
 AreBytesIn cells place count = (k : ℕ) → place ≤ k → k < place + count → InRange U8 (cell_at cells k)
 
--- sixteen numbers from a place on
+-- The sixteen numbers at index `place` and after.
 abbrev pub bytes_at : List ℤ → ℕ → List ℕ
 bytes_at cells place = firsts FIFO_BYTES (λ i. number_at cells (place + i))
 
--- a counted array by the place of its count, and a ring by that of its first element
+-- The counted array whose count is the cell at index `place`.
 abbrev pub array_at : List ℤ → ℕ → Counted
 array_at cells place = record { count = number_at cells place; bytes = bytes_at cells (place + 1) }
 
+-- The ring whose first element is the cell at index `place`.
 abbrev pub ring_at : List ℤ → ℕ → Ring
 ring_at cells place = record {
   elements = bytes_at cells place;
@@ -79,7 +82,7 @@ ring_at cells place = record {
   number = number_at cells (place + 17);
 }
 
--- the numbers of the newest set's cells
+-- The numbers in cells of the newest set.
 unfoldable pub numbers_of : List ℤ → PortNumbers
 numbers_of cells = record {
   divisor = number_at cells DIVISOR;
@@ -102,12 +105,13 @@ numbers_of cells = record {
   tx_ring = ring_at cells TX_RING;
 }
 
--- the array behind a count is at most its capacity long, and zero past the count
+-- The array whose count is at index `place`: at most sixteen elements, and 0 after the counted
+-- ones.
 pub record IsArray (cells : List ℤ) (place : ℕ) : Type 0 where
   pub fits : number_at cells place ≤ FIFO_BYTES
   pub zeros : (i : ℕ) → number_at cells place ≤ i → i < FIFO_BYTES → cell_at cells (place + 1 + i) ≡ pos 0
 
--- cells of the newest set: each of its kind, with both arrays as their counts say
+-- Cells of the newest set: each is of its kind, and both arrays agree with their counts.
 pub record IsPortCells (cells : List ℤ) : Type 0 where
   pub of_kinds : AreOf (kinds NEWEST) cells
   pub rx : IsArray cells RX_COUNT

@@ -1,10 +1,10 @@
--- Where the cells of each field stand in the newest set. Definitions cite each place as the constant that the code goes by too;
--- which number it is stands here.
+-- The index of each field's first cell in the newest set. Definitions cite the constants that the
+-- code uses; this file gives their values.
 use Rattle.std.specs.Prelude.{◌≡◌}
 use Rattle.dev_serial.specs.declared.place.TheConstants.{DIVISOR, IER, IIR, LCR, MCR, LSR, SCR, RBR, THR, TSR, TX_DUE, FCR, THR_IPENDING, RX_COUNT, TX_COUNT, TIMEOUT_AT, RX_RING, TX_RING}
 use Rattle.dev_serial.specs.declared.stored.TheConstants.{ARRAY_CELLS, RING_CELLS}
 
--- how many cells a counted array and a ring have, and where each field's cells begin in the newest set
+-- The number of cells of a counted array and of a ring, and the index of each field's first cell.
 pub record PlacesAre : Type 0 where
   pub array_cells : ARRAY_CELLS ≡ 17
   pub ring_cells : RING_CELLS ≡ 18

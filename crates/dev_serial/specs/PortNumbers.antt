@@ -1,4 +1,4 @@
--- A port as the numbers of a stream, by their names there.
+-- A port as the numbers in a stream, by their names there.
 use Rattle.std.specs.Prelude.{ℕ, ℤ, pos, negsuc, ◌+◌, ◌*◌, ◌/◌, ◌==◌, Bool, nat_le, ◌&&◌, not, if◌then◌else◌, List, [], ◌∷◌, Option, Some, None}
 use Rattle.std.specs.Ordering.{int_eq}
 use Rattle.dev_base.specs.Bits.{has}
@@ -14,50 +14,54 @@ use Rattle.dev_serial.specs.declared.stored.Ring.{Ring}
 use Rattle.dev_serial.specs.declared.trigger.Trigger.{Trigger}
 use Rattle.dev_serial.specs.declared.numbers.TheConstants.{NEVER}
 
--- a timer that isn't pending has the number NEVER
+-- The number of a timer, which is NEVER if it isn't pending.
 abbrev pub moment_number : Option ℕ → ℕ
 moment_number None = NEVER
 moment_number (Some moment) = moment
 
+-- The moment at which the shift register's byte is sent, or NEVER if it is idle.
 abbrev pub due_number : Option Shift → ℕ
 due_number None = NEVER
 due_number (Some shift) = shift.due
 
+-- The byte in the shift register, or 0 if it is idle.
 abbrev pub shift_number : Option Shift → ℕ
 shift_number None = 0
 shift_number (Some shift) = shift.byte
 
--- the byte held without FIFOs, or 0
+-- The first byte, or 0 if there is none.
 abbrev pub first_byte : List ℕ → ℕ
 first_byte [] = 0
 first_byte (byte ∷ bytes) = byte
 
+-- The byte held while FIFOs are off, or 0.
 abbrev pub single_byte : Option Trigger → List ℕ → ℕ
 single_byte None bytes = first_byte bytes
 single_byte (Some trigger) bytes = 0
 
--- the bytes held with FIFOs
+-- The bytes held while FIFOs are on.
 abbrev pub fifo_bytes : Option Trigger → List ℕ → List ℕ
 fifo_bytes None bytes = []
 fifo_bytes (Some trigger) bytes = bytes
 
--- a set with rings has them there, and an older one in counted arrays
+-- The bytes that set `set` keeps in a counted array: all, if it has no rings.
 abbrev pub in_array : ℕ → Option Trigger → List ℕ → List ℕ
 in_array set fifos bytes = if nat_le RINGS_SINCE set then [] else fifo_bytes fifos bytes
 
+-- The bytes that set `set` keeps in a ring: all, if it has rings.
 abbrev pub in_ring : ℕ → Option Trigger → List ℕ → List ℕ
 in_ring set fifos bytes = if nat_le RINGS_SINCE set then fifo_bytes fifos bytes else []
 
--- the FIFO control register: 0 without FIFOs, else bit 0 with the trigger in bits 7 and 6
+-- The FIFO Control Register: 0 while FIFOs are off, else bit 0 and the trigger in bits 7 and 6.
 abbrev pub fcr_number : Option Trigger → ℕ
 fcr_number None = 0
 fcr_number (Some trigger) = 1 + 64 * trigger_number trigger
 
--- the latch in a stream: 1 where it is set, enabled and hidden by another interrupt, else -1
+-- The latch in a stream: 1 if it is set, enabled and hidden by another interrupt, else -1.
 abbrev pub ipending_of : Bool → Bool → Bool → ℤ
 ipending_of enabled latch identified = if enabled && (latch && not identified) then pos 1 else negsuc 0
 
--- what is saved of a port under a set, at a moment
+-- `saved set now port` is what set `set` saves for `port` at the moment `now`.
 unfoldable pub saved : ℕ → ℕ → Port → PortNumbers
 saved set now port = record {
   divisor = port.divisor;
@@ -80,30 +84,31 @@ saved set now port = record {
   tx_ring = ring_of (in_ring set port.fifos port.transmitter.waiting);
 }
 
--- the moment of a number, and the shift register of two
+-- The moment of a timer, if it is pending.
 abbrev pub moment_of : ℕ → Option ℕ
 moment_of number = if number == NEVER then None else Some number
 
+-- The contents of the shift register, if it isn't idle.
 abbrev pub shift_of : ℕ → ℕ → Option Shift
 shift_of tsr tx_due = if tx_due == NEVER then None else Some (record { byte = tsr; due = tx_due })
 
--- the FIFO switch with its trigger
+-- The trigger, if the FIFOs are on.
 abbrev pub fifos_of : ℕ → Option Trigger
 fifos_of fcr = if fcr == 0 then None else Some (trigger_of (fcr / 64))
 
--- the bytes of a FIFO: those of the counted array where its count isn't 0, else those of the ring
+-- The bytes of a FIFO: those of the counted array if its count isn't 0, else those of the ring.
 abbrev pub stored_bytes : Counted → Ring → List ℕ
 stored_bytes array ring = if array.count == 0 then ring_bytes ring else counted_bytes array
 
--- the bytes of a list: without FIFOs one byte where there is one
+-- The bytes of a list. While FIFOs are off these are `byte` alone, if it is held.
 abbrev pub bytes_held : ℕ → Bool → ℕ → List ℕ → List ℕ
 bytes_held fcr is_held byte bytes = if fcr == 0 then (if is_held then byte ∷ [] else []) else bytes
 
--- the latch: where it isn't told, it is set exactly where its interrupt is identified
+-- The latch. If the number is -1, it is set exactly if its interrupt is identified.
 abbrev pub latch_of : ℕ → ℤ → Bool
 latch_of iir ipending = if int_eq ipending (negsuc 0) then iir == 2 else int_eq ipending (pos 1)
 
--- the port of these numbers at a level, with these bytes in its lists
+-- The port of these numbers at level `level`, with the bytes `rx` and `tx` in its FIFOs.
 abbrev pub port_with : ℕ → PortNumbers → List ℕ → List ℕ → Port
 port_with level numbers rx tx = record {
   level = level;
@@ -125,7 +130,7 @@ port_with level numbers rx tx = record {
   thr_empty = latch_of numbers.iir numbers.thr_ipending;
 }
 
--- the port of these numbers at a level
+-- The port of these numbers at level `level`.
 unfoldable pub port_of : ℕ → PortNumbers → Port
 port_of level numbers =
     port_with level numbers (stored_bytes numbers.rx numbers.rx_ring) (stored_bytes numbers.tx numbers.tx_ring)

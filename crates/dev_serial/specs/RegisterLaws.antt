@@ -1,5 +1,5 @@
--- Laws of the identification, of the FIFO control register, of the divisor latch and of the modem status in loop
--- mode, in the data sheet's words.
+-- The laws of the identification, of the FIFO control register, of the divisor latch and of the
+-- modem status in loop mode. Their terms are those of the NS16550A data sheet.
 use Rattle.std.specs.Prelude.{◌≡◌, ℕ, ◌+◌, ◌*◌, ◌/◌, ◌%◌, ◌<◌, ◌↔◌, true, false, ◌&&◌, not, if◌then◌else◌, [], None, is_some}
 use Rattle.dev_serial.specs.Access.{is_empty, switch_of, fcr_written, msr_of, read_of, written}
 use Rattle.dev_base.specs.Bits.{has}
@@ -7,8 +7,8 @@ use Rattle.dev_serial.specs.Port.{Port, asks, interrupt, is_pending, line_of}
 use Rattle.dev_serial.specs.declared.interrupt.Interrupt.{Interrupt}
 use Rattle.dev_serial.specs.declared.interrupt.Interrupt.TheVariants.{LineStatus, ReceivedData, CharacterTimeout, ThrEmpty, NonePending}
 
--- the place of an interrupt in the order of priorities, the highest first ("Interrupt Identification Register", the table
--- of interrupt control functions)
+-- The rank of an interrupt by priority, the highest first ("Interrupt Identification Register", the
+-- table of interrupt control functions).
 abbrev pub rank : Interrupt → ℕ
 rank LineStatus = 0
 rank ReceivedData = 1
@@ -16,51 +16,53 @@ rank CharacterTimeout = 2
 rank ThrEmpty = 3
 rank NonePending = 4
 
--- an interrupt asks, and none of higher priority does
+-- The interrupt `identified` is requested, and none of higher priority is.
 pub record IsFirstAsking (now : ℕ) (port : Port) (identified : Interrupt) : Type 0 where
   pub itself : asks now port identified ≡ true
   pub higher : (other : Interrupt) → rank other < rank identified → asks now port other ≡ false
 
--- the interrupt that is identified asks, and none of higher priority does
+-- The identified interrupt is requested, and none of higher priority is.
 abbrev pub IdentifiesFirst : Type 0
 IdentifiesFirst = (now : ℕ) (port : Port) → IsFirstAsking now port (interrupt now port)
 
--- the interrupt line is high exactly where some interrupt asks
+-- Some interrupt is requested.
 abbrev pub SomeAsks : ℕ → Port → Type 0
 SomeAsks now port = (some : Interrupt) × (is_pending some ≡ true) × (asks now port some ≡ true)
 
+-- The interrupt line is high exactly if some interrupt is requested.
 abbrev pub LineTellsAsking : Type 0
 LineTellsAsking = (now : ℕ) (port : Port) → (line_of now port ≡ true) ↔ SomeAsks now port
 
--- both lists are empty, and no timeout runs
+-- Both lists are empty, and no timeout runs.
 pub record HasNoBytes (port : Port) : Type 0 where
   pub held : port.receiver.held ≡ []
   pub timeout : port.receiver.timeout ≡ None
   pub waiting : port.transmitter.waiting ≡ []
 
--- where bit 0 changes the switch, both lists are cleared
+-- If bit 0 changes the switch, both lists are cleared ("FIFO Control Register").
 abbrev pub SwitchClearsBoth : Type 0
 SwitchClearsBoth = (value : ℕ) (port : Port) → has value 0 ≡ not (is_some port.fifos)
     → HasNoBytes (fcr_written value port)
 
--- while FIFOs stay on bit 1 clears the receive list, and its timeout, and bit 2 the transmit list
+-- Bit 1 clears the receive list and its timeout, and bit 2 clears the transmit list.
 pub record IsResetBy (value : ℕ) (before after : Port) : Type 0 where
   pub held : after.receiver.held ≡ (if has value 1 then [] else before.receiver.held)
   pub timeout : after.receiver.timeout ≡ (if has value 1 then None else before.receiver.timeout)
   pub waiting : after.transmitter.waiting ≡ (if has value 2 then [] else before.transmitter.waiting)
 
+-- While FIFOs stay on, bits 1 and 2 clear one list each.
 abbrev pub ResetsByBits : Type 0
 ResetsByBits =
     (value : ℕ) (port : Port) → is_some port.fifos ≡ true → has value 0 ≡ true
     → IsResetBy value port (fcr_written value port)
 
--- while FIFOs stay off a write changes nothing
+-- While FIFOs stay off, a write changes nothing.
 abbrev pub StaysOff : Type 0
 StaysOff = (value : ℕ) (port : Port) → port.fifos ≡ None → has value 0 ≡ false
     → fcr_written value port ≡ port
 
--- a write sets the switch and the trigger, and the latch where it clears bytes that waited. The shift
--- register and the overrun flag stay
+-- The write sets the switch and the trigger. It sets the latch if it clears bytes that waited. The
+-- shift register and the overrun flag stay.
 pub record IsSwitched (value : ℕ) (before after : Port) : Type 0 where
   pub fifos : after.fifos ≡ switch_of value
   pub shift : after.transmitter.shift ≡ before.transmitter.shift
@@ -69,12 +71,13 @@ pub record IsSwitched (value : ℕ) (before after : Port) : Type 0 where
       ≡ (if not (is_empty before.transmitter.waiting) && is_empty after.transmitter.waiting then true
       else before.thr_empty)
 
+-- Each write of the FIFO Control Register has this effect.
 abbrev pub WritesSwitch : Type 0
 WritesSwitch = (value : ℕ) (port : Port) → IsSwitched value port (fcr_written value port)
 
--- with bit 7 of the line control register, offsets 0 and 1 are the divisor's low and high byte: a read of one
--- gives it and changes nothing, and a write of both sets the divisor and nothing else. Without the bit no write
--- changes the divisor
+-- While bit 7 of the line control register is set, offsets 0 and 1 are the divisor's low and high
+-- byte. A read returns the byte and changes nothing; a write of both sets the divisor and nothing
+-- else. While the bit is clear, no write changes the divisor.
 pub record ReachesDivisor : Type 0 where
   pub low : (now : ℕ) (port : Port) → has port.lcr 7 ≡ true
       → read_of 0 now port ≡ (port.divisor % 256, port)
@@ -85,8 +88,9 @@ pub record ReachesDivisor : Type 0 where
   pub hidden : (offset value now : ℕ) (port : Port) → has port.lcr 7 ≡ false
       → (written offset value now port).divisor ≡ port.divisor
 
--- in loop mode the modem status are the modem control's outputs: clear to send is request to send, data set ready
--- is data terminal ready, ring indicator is OUT1, and carrier detect is OUT2; and nothing has changed
+-- In loop mode the modem status shows the modem control's outputs: clear to send is request to
+-- send, data set ready is data terminal ready, ring indicator is OUT1, and carrier detect is OUT2.
+-- The bits for changes are 0.
 pub record IsLooped (mcr msr : ℕ) : Type 0 where
   pub cts : has msr 4 ≡ has mcr 1
   pub dsr : has msr 5 ≡ has mcr 0
@@ -94,6 +98,7 @@ pub record IsLooped (mcr msr : ℕ) : Type 0 where
   pub dcd : has msr 7 ≡ has mcr 3
   pub changes : msr % 16 ≡ 0
 
+-- A read of the modem status returns these bits in loop mode, and never changes the port.
 pub record LoopsModem : Type 0 where
   pub read : (now : ℕ) (port : Port) → read_of 6 now port ≡ (msr_of port.mcr, port)
   pub looped : (mcr : ℕ) → has mcr 4 ≡ true → IsLooped mcr (msr_of mcr)

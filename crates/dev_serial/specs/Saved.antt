@@ -1,4 +1,4 @@
--- What saving and restoring mean for a port.
+-- The meaning of saving and restoring a port.
 use Rattle.std.specs.Prelude.{ℕ, ℤ, List, Result}
 use Rattle.vms_hooks.specs.Numbers.{Numbers}
 use Rattle.vms_hooks.specs.declared.fault.HookFault.{HookFault}
@@ -9,23 +9,23 @@ use Rattle.dev_serial.specs.Port.{Port}
 use Rattle.dev_serial.specs.PortNumbers.{saved}
 use Rattle.dev_serial.specs.Rules.{restored}
 
--- a port may be saved at its own level under a set at or above it
+-- A port may be saved at its own level, under a set at or above it.
 abbrev pub CanSave : Numbers → Port → Type 0
 CanSave numbers port = MaySave numbers port.level
 
--- cells may be restored where they are a port's in the newest set
+-- The cells may be restored: they are a port's cells in the newest set.
 pub record CanRestore (numbers : Numbers) (cells : List ℤ) : Type 0 where
   pub pass : MayRestore numbers
   pub port_cells : IsPortCells cells
 
--- the cells of a port
+-- The cells of a port.
 abbrev pub cells_at : Numbers → Port → List ℤ
 cells_at numbers port = cells_of numbers.set (saved numbers.set numbers.moment port)
 
--- the port of cells, or the first rule that fails
+-- The port of the cells, or the number of the first rule that fails.
 abbrev pub restored_cells : Numbers → List ℤ → Result Port ℕ
 restored_cells numbers cells = restored numbers.level numbers.moment (numbers_of cells)
 
--- the same as an answer of stored closures
+-- The same as a hook's result.
 abbrev pub hook_restored : Numbers → List ℤ → Result Port HookFault
 hook_restored numbers cells = hook_result (restored_cells numbers cells)

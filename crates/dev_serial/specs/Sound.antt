@@ -1,4 +1,4 @@
--- Which states a port may be in at a moment.
+-- The states that a port may have at a moment.
 use Rattle.std.specs.Prelude.{◌≡◌, ℕ, ◌+◌, ◌<◌, ◌≤◌, Bool, true, false, nat_le, ◌&&◌, not, List, [], ◌∷◌, Option, Some, None, is_some}
 use Rattle.dev_serial.specs.Access.{is_empty}
 use Rattle.dev_base.specs.Bits.{has}
@@ -11,12 +11,12 @@ use Rattle.dev_serial.specs.declared.shift.Shift.{Shift}
 use Rattle.dev_serial.specs.declared.mode.TheConstants.{LONGEST_CHARACTER}
 use Rattle.dev_serial.specs.declared.numbers.TheConstants.{NEVER}
 
--- each of a list is a byte
+-- Each number of the list is a byte.
 abbrev pub AreBytes : List ℕ → Type 0
 AreBytes [] = Unit {0}
 AreBytes (byte ∷ bytes) = (byte < 256) × AreBytes bytes
 
--- the registers have their bits alone, and FIFOs are on at a level that has them
+-- Registers have only bits that exist, and FIFOs are on only at a level that has them.
 pub record HasRegisters (level divisor ier lcr mcr scr : ℕ) (has_fifos : Bool) : Type 0 where
   pub is_level : IsLevel level
   pub divisor_range : divisor < 65536
@@ -26,33 +26,35 @@ pub record HasRegisters (level divisor ier lcr mcr scr : ℕ) (has_fifos : Bool)
   pub scr_range : scr < 256
   pub fifos : has_fifos ≡ true → FIFOS_SINCE ≤ level
 
--- a timeout runs exactly where it has to, and ends at most four of the longest characters later
+-- A timeout has to run, and ends at most four of the longest characters later.
 pub record EndsInTime (now : ℕ) (runs : Bool) (timeout : ℕ) : Type 0 where
   pub runs_now : runs ≡ true
   pub in_time : timeout ≤ now + longest_timeout
 
+-- The timeout runs exactly if `runs` is true, and then ends in time.
 abbrev pub IsTimeout : ℕ → Bool → Option ℕ → Type 0
 IsTimeout now runs None = runs ≡ false
 IsTimeout now runs (Some timeout) = EndsInTime now runs timeout
 
--- a receiver at a level, with FIFOs or not. The timeout runs at a level that has it, with FIFOs, while a
--- byte is held
+-- A receiver at a level, with or without FIFOs. The timeout runs while a byte is held, with FIFOs,
+-- at a level that has it.
 pub record IsReceiver (now level : ℕ) (has_fifos : Bool) (receiver : ReceiverState) : Type 0 where
   pub short : IsShort has_fifos receiver.held
   pub bytes : AreBytes receiver.held
   pub timeout : IsTimeout now (nat_le TIMEOUT_SINCE level && (has_fifos && not (is_empty receiver.held))) receiver.timeout
 
--- a byte in the shift register is sent after now, and at most the longest character later
+-- The byte in the shift register is sent after now, by at most the longest character.
 pub record IsSentInTime (now : ℕ) (shift : Shift) : Type 0 where
   pub byte : shift.byte < 256
   pub later : now < shift.due
   pub in_time : shift.due ≤ now + LONGEST_CHARACTER
 
+-- The shift register is idle, or its byte is sent in time.
 abbrev pub IsShift : ℕ → Option Shift → Type 0
 IsShift now None = Unit {0}
 IsShift now (Some shift) = IsSentInTime now shift
 
--- a transmitter and the latch. An idle shift register and a set latch each mean that no byte waits
+-- A transmitter and the latch. If the shift register is idle or the latch is set, no byte waits.
 pub record IsTransmitter (now : ℕ) (has_fifos : Bool) (transmitter : TransmitterState) (latch : Bool) : Type 0 where
   pub short : IsShort has_fifos transmitter.waiting
   pub bytes : AreBytes transmitter.waiting
@@ -60,23 +62,24 @@ pub record IsTransmitter (now : ℕ) (has_fifos : Bool) (transmitter : Transmitt
   pub idle : is_some transmitter.shift ≡ false → is_empty transmitter.waiting ≡ true
   pub latched : latch ≡ true → is_empty transmitter.waiting ≡ true
 
--- a port is sound at a moment
+-- The port is sound at the moment `now`.
 pub record IsSound (now : ℕ) (port : Port) : Type 0 where
   pub registers : HasRegisters port.level port.divisor port.ier port.lcr port.mcr port.scr (is_some port.fifos)
   pub receiver : IsReceiver now port.level (is_some port.fifos) port.receiver
   pub transmitter : IsTransmitter now (is_some port.fifos) port.transmitter port.thr_empty
 
--- a moment that a timer can tell from never
+-- The moment, if there is one, is less than NEVER.
 abbrev pub IsTold : Option ℕ → Type 0
 IsTold None = Unit {0}
 IsTold (Some moment) = moment < NEVER
 
+-- The shift register is idle or holds a byte.
 abbrev pub IsByte : Option Shift → Type 0
 IsByte None = Unit {0}
 IsByte (Some shift) = shift.byte < 256
 
--- a port that a stream can tell: registers and bytes in their ranges, lists as short as they may be, a
--- timeout that isn't never, and a set latch only while no byte waits
+-- A port that a stream can describe: registers and bytes are in range, lists are short enough, no
+-- timeout is NEVER, and the latch is set only while no byte waits.
 pub record IsHeld (port : Port) : Type 0 where
   pub is_level : IsLevel port.level
   pub divisor_range : port.divisor < 65536
@@ -90,7 +93,8 @@ pub record IsHeld (port : Port) : Type 0 where
   pub shift : IsByte port.transmitter.shift
   pub latched : port.thr_empty ≡ true → is_empty port.transmitter.waiting ≡ true
 
--- two ports are alike: they differ at most in the latch, and not while its interrupt is enabled
+-- Two ports are alike: they differ at most in the latch, and not even there while its interrupt is
+-- enabled.
 pub record Alike (port other : Port) : Type 0 where
   pub same : other ≡ record port { thr_empty = other.thr_empty }
   pub enabled : has port.ier 1 ≡ true → other.thr_empty ≡ port.thr_empty

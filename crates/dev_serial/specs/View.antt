@@ -1,7 +1,8 @@
--- What contracts see of a port.
+-- A port as contracts see it.
 use Rattle.dev_serial.specs.Port.{Port}
 use Rattle.dev_serial.specs.declared.serial.Serial.TheInside.{Inside}
 
+-- The state of a port.
 abbrev pub port_view : Inside → Port
 port_view s = record {
   level = s.level;

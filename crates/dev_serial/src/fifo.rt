@@ -1,4 +1,4 @@
 //! The size of the FIFOs.
 
-/// The bytes that a FIFO of the 16550A holds.
+/// The number of bytes that a FIFO of the 16550A can hold.
 pub(crate) const FIFO_BYTES: usize = 16;

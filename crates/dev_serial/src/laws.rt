@@ -1,4 +1,4 @@
-// Laws of the definitions, each in a clause of a function that does nothing.
+// Laws of the definitions. Each is a clause of a function with an empty body.
 ghost use Rattle.dev_serial.specs.Laws.{AlikeItself, AlikeBack, AlikeOn, ReadsKeepLevel, WritesKeepLevel, BytesInKeepLevel, AdvancesKeepLevel, ListsComeBack, HoldsWhatItGives, SavedAreCells, SavedComesBack, SoundMeetsRules, RestoredIsSound, ReadsAlike, WritesAlike, BytesInAlike, AdvancesAlike, SavesAlike, LinesAlike, PowerOnIsSound, ReadsKeepSound, WritesKeepSound, BytesInKeepSound, AdvancesKeepSound};
 ghost use Rattle.dev_serial.specs.Recast.{RecastOnce};
 ghost use Rattle.dev_serial.specs.RegisterLaws.{IdentifiesFirst, LineTellsAsking, SwitchClearsBoth, ResetsByBits, StaysOff, WritesSwitch, ReachesDivisor, LoopsModem};
@@ -7,29 +7,35 @@ ghost use Rattle.dev_serial.specs.Sending.{SendsInOrder, ReplacesOne, LeavesForL
 ghost use Rattle.dev_serial.specs.Places.{PlacesAre};
 ghost use Rattle.dev_serial.specs.SheetNumbers.{NumbersAre};
 
-/// States the numbers by which the port goes: sixteen bytes a FIFO, the longest character of 6,826,562,500 nanoseconds, and the
-/// levels 2, 3 and 4 from which on there are FIFOs, the character timeout and rings.
+/// States the numbers that this crate uses.
+///
+/// A FIFO holds sixteen bytes, `MOST_SENT` is 17, and the longest character takes 6,826,562,500
+/// nanoseconds. FIFOs, the character timeout and rings exist from the levels 2, 3 and 4 on.
 #[tactic(auto, using(crate::proofs::SheetNumbers::numbers_are))]
 pub fn numbers_law()
     ensures { NumbersAre }
 {}
 
-/// States where the cells of each field stand in the newest set.
+/// States the index of each field's first cell among the `PORT_CELLS` of the newest set.
 #[tactic(auto, using(crate::proofs::Places::places_are))]
 pub fn places_law()
     ensures { PlacesAre }
 {}
 
-/// Each port is like itself, a port that is like another is so both ways, and what is like one of two
-/// ports that are alike is like the other.
+/// States that likeness of ports is an equivalence.
+///
+/// A port is like itself. If a port is like another, the other is like it. If that one is like a
+/// third, so is the first.
 pub fn likeness_law()
     ensures itself { AlikeItself }
     ensures back { AlikeBack }
     ensures on { AlikeOn }
 {}
 
-/// Ports that are alike answer each call alike, and are alike after it: reads, writes, bytes that come
-/// in, the passing of time, and the interrupt line. They save the same.
+/// States that ports that are alike behave alike.
+///
+/// `read`, `write`, `byte_in` and `advance` give equal results and leave the ports alike. Their
+/// interrupt lines are equal, and they save the same cells.
 pub fn alike_law()
     ensures reads { ReadsAlike }
     ensures writes { WritesAlike }
@@ -39,7 +45,9 @@ pub fn alike_law()
     ensures lines { LinesAlike }
 {}
 
-/// A new port is sound at any moment, and a sound port stays so over each call.
+/// States that a new [`Serial`](crate::Serial) is sound at any moment.
+///
+/// `read`, `write`, `byte_in` and `advance` keep it sound.
 pub fn sound_law()
     ensures power_on { PowerOnIsSound }
     ensures reads { ReadsKeepSound }
@@ -48,7 +56,7 @@ pub fn sound_law()
     ensures advances { AdvancesKeepSound }
 {}
 
-/// Each call keeps the level.
+/// States that `read`, `write`, `byte_in` and `advance` keep the port's level.
 pub fn level_law()
     ensures reads { ReadsKeepLevel }
     ensures writes { WritesKeepLevel }
@@ -56,48 +64,59 @@ pub fn level_law()
     ensures advances { AdvancesKeepLevel }
 {}
 
-/// The ring of a list of at most sixteen bytes gives the list again, and is a ring; so does its counted
-/// array. The elements that a ring holds are those of which it gives the bytes.
+/// States that a list of at most sixteen bytes can be read back from its ring and its counted
+/// array.
+///
+/// That ring meets the rule of rings. The elements that a ring holds are exactly those that its
+/// list of bytes is read from.
 pub fn ring_law()
     ensures back { ListsComeBack }
     ensures held { HoldsWhatItGives }
 {}
 
-/// What is saved of a sound port under a set from its level on are cells of that set: each of its kind,
-/// the counted arrays as their counts say, and the cells of a subsection that isn't needed at its
-/// defaults.
+/// States that the `cells` of a sound port under a set from its level on are cells of that set.
+///
+/// Each cell is of its kind, and the counted arrays agree with their counts. The cells of a
+/// subsection that isn't needed have their defaults.
 pub fn cells_law()
     ensures { SavedAreCells }
 {}
 
-/// What is saved of a sound port under any set from its level on, carried to the newest set, may be
-/// restored and gives a port like it.
+/// States that a sound port that is saved by `cells` is restored by `of_cells` as a port like it.
+///
+/// This holds for each set from the port's level on, after its cells are carried to the newest set.
 pub fn saved_law()
     ensures { SavedComesBack }
 {}
 
-/// What is restored is sound, and has the level of the pass.
+/// States that a port that `of_cells` restores is sound and has the level of the pass.
 pub fn restored_law()
     ensures { RestoredIsSound }
 {}
 
-/// A port that a stream can tell is sound exactly where every rule holds of what the newest set saves of
-/// it.
+/// States that the ten rules of `of_cells` describe exactly the sound ports.
+///
+/// Of the ports that a stream can describe, those are sound for which each rule holds for what the
+/// newest set saves.
 pub fn rules_law()
     ensures { SoundMeetsRules }
 {}
 
-/// Bytes leave in the order in which they were written, none twice, and none is lost but those written
-/// to full FIFOs or replaced without FIFOs. What leaves goes to the line but in loop mode.
+/// States that `advance` sends bytes in the order in which they were written, each once.
+///
+/// Only bytes that are written to a full FIFO, or that are replaced while FIFOs are off, are lost.
+/// What is sent leaves on the line, except in loop mode.
 pub fn sending_law()
     ensures in_order { SendsInOrder }
     ensures replaced { ReplacesOne }
     ensures for_line { LeavesForLine }
 {}
 
-/// Letting time pass in two parts is letting it pass at once; no byte is sent before its moment; and in
-/// loop mode a byte comes in at the moment at which it is sent. The longest character takes
-/// `LONGEST_CHARACTER`, 6,826,562,500 nanoseconds.
+/// States when bytes are sent.
+///
+/// Letting time pass in two parts has the same effect as letting it pass at once. No byte is sent
+/// before its moment. In loop mode a byte is received at the moment at which it is sent. The
+/// longest character takes `LONGEST_CHARACTER`, 6,826,562,500 nanoseconds.
 pub fn time_law()
     ensures in_parts { AdvancesInParts }
     ensures not_before { WaitsUntilDue }
@@ -105,16 +124,19 @@ pub fn time_law()
     ensures longest { LongestCharacter }
 {}
 
-/// The interrupt that is identified asks for service and none of higher priority does, and the line is
-/// high exactly where one asks.
+/// States that the identified interrupt is pending and that none of higher priority is.
+///
+/// The interrupt line, [`Serial::line`](crate::Serial::line), is high exactly if one is pending.
 pub fn interrupt_law()
     ensures first { IdentifiesFirst }
     ensures line { LineTellsAsking }
 {}
 
-/// Writes of the FIFO Control Register: switching the FIFOs on or off clears both lists; while they stay
-/// on bit 1 clears the receive list and bit 2 the transmit list; while they stay off nothing changes. The
-/// latch is set where bytes that waited are cleared, and the shift register goes on.
+/// States what a write of the FIFO Control Register does.
+///
+/// Switching the FIFOs on or off clears both lists. While they stay on, bit 1 clears the receive
+/// list and bit 2 the transmit list. While they stay off, nothing changes. The latch is set if
+/// waiting bytes are cleared, and the shift register isn't affected.
 pub fn fifo_control_law()
     ensures switched { SwitchClearsBoth }
     ensures reset { ResetsByBits }
@@ -122,27 +144,35 @@ pub fn fifo_control_law()
     ensures written { WritesSwitch }
 {}
 
-/// With bit 7 of the Line Control Register the offsets 0 and 1 reach the divisor, its low and its high byte; without
-/// it no write changes the divisor.
+/// States how the divisor latch is read and written.
+///
+/// While bit 7 of the Line Control Register is set, offsets 0 and 1 are the low and the high byte
+/// of the divisor. While it is clear, no write changes the divisor.
 #[tactic(auto, using(crate::proofs::LatchLaws::reaches_divisor))]
 pub fn divisor_law()
     ensures { ReachesDivisor }
 {}
 
-/// In loop mode the Modem Status Register reads the modem control's four outputs, and no change of them.
+/// States that the Modem Status Register reads the modem control's outputs in loop mode.
+///
+/// Its four bits for changes of the inputs are 0.
 #[tactic(auto, using(crate::proofs::LatchLaws::loops_modem))]
 pub fn modem_law()
     ensures { LoopsModem }
 {}
 
-/// The cells of the newest set, where FIFOs that stood in rings alone are in counted arrays, are so already, and
-/// are of its kinds. Where none stood in its ring alone, the cells stay. A port is restored of them as of the cells.
+/// States that `recast` is idempotent and that its result is equivalent to its argument.
+///
+/// The result has the kinds of the newest set, and is restored as the argument is. If no
+/// direction's bytes are in the ring alone, the cells stay as they are.
 #[tactic(auto, using(crate::proofs::RecastKinds::recast_once))]
 pub fn recast_law()
     ensures { RecastOnce }
 {}
 
-/// Bytes that a port has room for are held, in their order, and none is lost; one more is, but in loop mode.
+/// States that bytes up to the port's `room` are held in order and none is lost.
+///
+/// If there is no room, one more byte sets the overrun flag, except in loop mode.
 #[tactic(auto, using(crate::proofs::RoomLaws::room_is_held))]
 pub fn room_law()
     ensures { RoomIsHeld }

@@ -1,10 +1,11 @@
-//! The levels from which on a port has more than a 16450. Each is also the first set that saves it.
+//! The first level of each feature that a 16450 lacks. It is also the first set that saves the
+//! feature.
 
-/// FIFOs, of a 16550A.
+/// The first level with FIFOs, those of a 16550A.
 pub(crate) const FIFOS_SINCE: u8 = 2;
 
-/// The character timeout.
+/// The first level with the character timeout.
 pub(crate) const TIMEOUT_SINCE: u8 = 3;
 
-/// FIFOs that are saved as rings.
+/// The first level with FIFOs that are saved as rings.
 pub(crate) const RINGS_SINCE: u8 = 4;

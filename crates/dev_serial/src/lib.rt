@@ -1,8 +1,8 @@
-//! A serial port: the 16450 and the 16550A, without and with the character timeout.
+//! A serial port: the 16450, and the 16550A with and without the character timeout.
 //!
-//! Registers, bits and identifications have the names of the National Semiconductor data sheets
+//! Registers, bits and identifications have their names from the National Semiconductor data sheets
 //! "NS16450 Universal Asynchronous Receiver/Transmitter" and "NS16550A .. with FIFOs". Moments are
-//! nanoseconds from power on.
+//! nanoseconds since power on.
 #![tactic(auto)]
 
 mod fifo;

@@ -1,32 +1,33 @@
-// What the registers say of the characters on the line.
+// The transfer of characters over the line, as the registers set it up.
 ghost use Rattle.std.specs.Prelude.{◌≡◌, ◌≤◌};
 ghost use Rattle.dev_serial.specs.Line.{character_time as character_time_of};
 
 use crate::registers::{PEN, STB};
 use dev_base::{NANOSECONDS, has};
 
-/// How characters go over the line, as the registers have it.
+/// How characters are sent and received, as the registers set it up.
 #[derive(Clone, Copy)]
 pub(crate) struct Mode {
     /// The time of one character, in nanoseconds.
     pub character: u64,
-    /// The FIFOs are on.
+    /// Whether the FIFOs are on.
     pub has_fifos: bool,
-    /// The character timeout runs.
+    /// Whether the character timeout runs.
     pub times_out: bool,
-    /// What is sent comes in again ("Modem Control Register", bit 4).
+    /// Whether bytes that are sent are received again ("Modem Control Register", bit 4).
     pub is_looped: bool,
 }
 
-/// How many bits go over the line in a second at divisor 1.
+/// The number of bits that the line transfers in a second at divisor 1.
 pub(crate) const LINE_RATE: u64 = 115_200;
 
 /// The longest time of a character, in nanoseconds: 12 bits at divisor 65,535.
 pub(crate) const LONGEST_CHARACTER: u64 = 6_826_562_500;
 
-/// The time of one character in nanoseconds: a start bit, 5 to 8 data bits, a parity bit where there
-/// is one, and 1 or 2 stop bits ("Line Control Register"), at the line's rate over the divisor.
-/// A divisor of 0 counts as 1.
+/// Returns the time of one character, in nanoseconds ("Line Control Register").
+///
+/// A character has a start bit, 5 to 8 data bits, a parity bit if it is enabled, and 1 or 2 stop
+/// bits. Their rate is the line's rate over `divisor`; a divisor of 0 counts as 1.
 #[tactic(auto, unfolding(crate::specs::Line::character_time))]
 pub(crate) fn character_time(divisor: u16, lcr: u8) -> u64
     ensures value { result ≡ character_time_of divisor lcr }

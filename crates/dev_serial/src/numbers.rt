@@ -1,4 +1,4 @@
-// A port as the numbers of a stream.
+// A port as the numbers in a stream.
 ghost use Rattle.std.specs.Prelude.{◌≡◌, ◌≤◌, ◌+◌, ◌++◌, if◌then◌else◌, [], length};
 ghost use Rattle.dev_base.specs.Tables.{since};
 ghost use Rattle.dev_serial.specs.Port.{is_thr_empty};
@@ -21,28 +21,46 @@ use vms_kinds::DevCells;
 /// The number of a timer that isn't pending, 2^64 - 1.
 pub(crate) const NEVER: u64 = 18_446_744_073_709_551_615;
 
-/// A port as the numbers of the newest set, by their names in its description: the registers, `tsr` and
-/// `tx_due` of the shift register, `thr_ipending` of the latch, the FIFOs as counted arrays and as rings,
-/// of which at most one is used, and `timeout_at` of the character timeout.
+/// A port as the numbers of the newest set, by the names in its description.
+///
+/// Each direction's bytes are in its counted array or in its ring, or in neither.
 #[derive(Clone, Copy)]
 pub(crate) struct PortNumbers {
+    /// The divisor latch.
     pub divisor: u16,
+    /// The Interrupt Enable Register.
     pub ier: u8,
+    /// The Interrupt Identification Register, without the two bits for FIFOs.
     pub iir: u8,
+    /// The Line Control Register.
     pub lcr: u8,
+    /// The Modem Control Register.
     pub mcr: u8,
+    /// The Line Status Register.
     pub lsr: u8,
+    /// The Scratch Register.
     pub scr: u8,
+    /// The received byte while FIFOs are off, else 0.
     pub rbr: u8,
+    /// The byte that waits to be sent while FIFOs are off, else 0.
     pub thr: u8,
+    /// The byte in the shift register, 0 if it is idle.
     pub tsr: u8,
+    /// The moment at which that byte is sent, or `NEVER`.
     pub tx_due: u64,
+    /// The FIFO Control Register, 0 while FIFOs are off.
     pub fcr: u8,
+    /// The latch: saved as 1 if it is set, enabled and hidden by another interrupt, else as -1.
     pub thr_ipending: i8,
+    /// The received bytes as a counted array, which sets without rings use.
     pub rx: Counted,
+    /// The bytes that wait to be sent as a counted array, which sets without rings use.
     pub tx: Counted,
+    /// The moment of the character timeout, or `NEVER`.
     pub timeout_at: u64,
+    /// The received bytes as a ring, which sets with rings use.
     pub rx_ring: Ring,
+    /// The bytes that wait to be sent as a ring, which sets with rings use.
     pub tx_ring: Ring,
 }
 
@@ -50,7 +68,7 @@ impl PortNumbers {
     ghost use Rattle.dev_serial.specs.PortNumbers.{saved};
     ghost use Rattle.dev_serial.specs.Cells.{IsPortCells, field_cells, cells_of, numbers_of};
 
-    /// What a set saves of a port at a moment.
+    /// Returns the numbers that set `set` saves for `port` at the moment `now`.
     #[tactic(auto, unfolding(crate::specs::PortNumbers::saved))]
     pub fn of_port(port: &Serial, set: u8, now: u64) -> PortNumbers
         ensures { result ≡ saved set now port.now }
@@ -82,8 +100,9 @@ impl PortNumbers {
         }
     }
 
-    /// The cells of a set, in the order of its description: the fields, and then those of each subsection
-    /// that the set has.
+    /// Returns the cells of set `set`, in the order of its description.
+    ///
+    /// The fields come first, then the cells of each subsection that the set has.
     #[tactic(auto, unfolding(crate::specs::Cells::cells_of))]
     pub fn cells(&self, set: u8) -> DevCells
         ensures cells { result.items ≡ cells_of set self.now }
@@ -105,7 +124,7 @@ impl PortNumbers {
         cells
     }
 
-    // The fields that every set has.
+    // Returns the cells of the fields that every set has.
     #[tactic(auto, unfolding(crate::specs::Cells::field_cells))]
     fn field_cells(&self) -> DevCells
         ensures items { result.items ≡ field_cells self.now }
@@ -126,7 +145,7 @@ impl PortNumbers {
         cells
     }
 
-    /// The numbers of the newest set's cells.
+    /// Returns the numbers in `cells`, which are cells of the newest set.
     #[tactic(auto, unfolding(crate::specs::Cells::numbers_of))]
     pub fn of_cells(cells: &DevCells) -> PortNumbers
         requires { IsPortCells cells.now.items }
@@ -155,7 +174,7 @@ impl PortNumbers {
     }
 }
 
-// Appends cells that a set has from the first one on.
+// Appends `more` to `cells` if the set `set` is `first` or newer.
 fn append_since(cells: &mut DevCells, first: u8, set: u8, more: &[i128])
     requires room { length cells.old.items + length more.now ≤ MOST_CELLS }
     ensures items { cells.new.items ≡ cells.old.items ++ since first set more.now }
@@ -166,7 +185,7 @@ fn append_since(cells: &mut DevCells, first: u8, set: u8, more: &[i128])
     }
 }
 
-// The byte held while FIFOs are off, 0 where there is none.
+// Returns the byte that is held while FIFOs are off, 0 if there is none.
 fn single_byte(fifos: Option<Trigger>, bytes: &[u8]) -> u8
     ensures { result ≡ single_byte_of fifos bytes.now }
 {
@@ -177,7 +196,7 @@ fn single_byte(fifos: Option<Trigger>, bytes: &[u8]) -> u8
     }
 }
 
-// The bytes of a FIFO that is on, where they are wanted, else none.
+// Returns the bytes of a FIFO that is on if `wanted` is set, else none.
 fn fifo_bytes(wanted: bool, fifos: Option<Trigger>, bytes: &[u8]) -> &[u8]
     ensures { result.now ≡ (if wanted then fifo_bytes_of fifos bytes.now else []) }
 {
@@ -188,7 +207,7 @@ fn fifo_bytes(wanted: bool, fifos: Option<Trigger>, bytes: &[u8]) -> &[u8]
     }
 }
 
-// The byte of the shift register and when it is sent, 0 and never where it is idle.
+// Returns the byte of the shift register and its moment; 0 and `NEVER` if it is idle.
 fn shift_numbers(shift: Option<Shift>) -> (u8, u64)
     ensures { result ≡ (shift_number shift, due_number shift) }
 {
@@ -198,7 +217,8 @@ fn shift_numbers(shift: Option<Shift>) -> (u8, u64)
     }
 }
 
-// The FIFO Control Register: 0 while FIFOs are off, else bit 0 with the trigger in bits 7 and 6.
+// Returns the FIFO Control Register: 0 while FIFOs are off, else bit 0 and the trigger in bits 7
+// and 6.
 fn fifo_control(fifos: Option<Trigger>) -> u8
     ensures { result ≡ fcr_number fifos }
 {
@@ -208,7 +228,7 @@ fn fifo_control(fifos: Option<Trigger>) -> u8
     }
 }
 
-// The latch: 1 where it is set and enabled and another interrupt hides it, else -1.
+// Returns the latch: 1 if it is set, enabled and hidden by another interrupt, else -1.
 fn latch_number(is_enabled: bool, is_set: bool, interrupt: Interrupt) -> i8
     ensures { result ≡ ipending_of is_enabled is_set (is_thr_empty interrupt) }
 {

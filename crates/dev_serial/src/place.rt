@@ -1,4 +1,4 @@
-//! The places of cells in the newest set.
+//! The index of each field's first cell in the newest set.
 
 pub(crate) const DIVISOR: usize = 0;
 
@@ -26,14 +26,14 @@ pub(crate) const FCR: usize = 11;
 
 pub(crate) const THR_IPENDING: usize = 12;
 
-/// The counts of the counted arrays, whose sixteen elements follow them.
+/// The count of a counted array, followed by its sixteen elements.
 pub(crate) const RX_COUNT: usize = 13;
 
 pub(crate) const TX_COUNT: usize = 30;
 
 pub(crate) const TIMEOUT_AT: usize = 47;
 
-/// The first of a ring's sixteen elements, which its head and its number follow.
+/// The first of a ring's sixteen elements, followed by its head and its number.
 pub(crate) const RX_RING: usize = 48;
 
 pub(crate) const TX_RING: usize = 66;

@@ -1,4 +1,4 @@
-// The receiving part of a port.
+// The receiving half of a port.
 ghost use Rattle.std.specs.Prelude.{◌≡◌, ◌≤◌, length, false};
 ghost use Rattle.dev_serial.specs.declared.fifo.TheConstants.{FIFO_BYTES};
 
@@ -8,7 +8,8 @@ use arrayvec::ArrayVec;
 use dev_base::LAST_MOMENT;
 use std::marker::Model;
 
-/// The Receiver Buffer Register or, with FIFOs, the receive FIFO, and what belongs to it.
+/// The Receiver Buffer Register or, with FIFOs, the receive FIFO; the overrun flag; and the
+/// character timeout.
 #[derive(Drop)]
 pub(crate) struct Receiver {
     held: ArrayVec<u8, FIFO_BYTES>,
@@ -29,7 +30,7 @@ impl Model for Receiver {
 impl Receiver {
     ghost use Rattle.dev_serial.specs.Receive.{received, taken, taken_at, emptied, without_overrun};
 
-    /// A receiver of these bytes, first in first.
+    /// Creates a receiver that holds the bytes `held`, the oldest first.
     pub fn new(held: ArrayVec<u8, FIFO_BYTES>, overrun: bool, timeout: Option<u64>) -> Receiver
         ensures { result ≡ record { held = held.items; overrun = overrun; timeout = timeout } }
     {
@@ -40,7 +41,7 @@ impl Receiver {
         }
     }
 
-    /// A byte comes at a moment in nanoseconds.
+    /// Receives `byte` at the moment `at`, in nanoseconds.
     #[tactic(auto, unfolding(crate::specs::Receive::received))]
     pub fn receive(&mut self, mode: Mode, byte: u8, at: u64)
         requires longest { mode.character ≤ LONGEST_CHARACTER }
@@ -67,7 +68,7 @@ impl Receiver {
         }
     }
 
-    /// The first byte held, which leaves, or 0 where none is held.
+    /// Removes and returns the oldest byte, or returns 0 if none is held.
     #[tactic(auto, unfolding(crate::specs::Receive::taken_at))]
     pub fn take(&mut self, mode: Mode, at: u64) -> u8
         requires longest { mode.character ≤ LONGEST_CHARACTER }
@@ -89,7 +90,7 @@ impl Receiver {
         byte
     }
 
-    /// Lets all bytes go, and the timeout with them. The overrun flag stays.
+    /// Removes all bytes and stops the timeout. The overrun flag stays.
     pub fn empty(&mut self)
         ensures { self.new ≡ emptied self.old }
     {
@@ -97,14 +98,14 @@ impl Receiver {
         self.timeout = None;
     }
 
-    /// The bytes held, first in first, at most 16.
+    /// Returns the bytes held, the oldest first, at most 16.
     pub fn held(&self) -> &ArrayVec<u8, FIFO_BYTES>
         ensures items { result.now.items ≡ self.now.held }
     {
         &self.held
     }
 
-    /// A byte was lost or replaced since the flag was last cleared.
+    /// Reports whether a byte was lost or replaced since the flag was last cleared.
     pub fn has_overrun(&self) -> bool
         ensures { result ≡ self.now.overrun }
     {
@@ -118,7 +119,7 @@ impl Receiver {
         self.overrun = false;
     }
 
-    /// The moment of the character timeout, in nanoseconds.
+    /// Returns the moment of the character timeout, in nanoseconds, if it runs.
     pub fn timeout(&self) -> Option<u64>
         ensures { result ≡ self.now.timeout }
     {

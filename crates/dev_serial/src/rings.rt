@@ -9,8 +9,14 @@ use crate::stored::{Counted, Ring};
 use dev_base::NEWEST;
 use vms_kinds::DevCells;
 
-/// The cells of the newest set, where each direction whose bytes stand in its ring alone has them in its counted
-/// array: as many as the ring has, in order, with the ring empty. All else stays.
+/// Returns `cells` of the newest set with the bytes of each ring in the counted array.
+///
+/// A direction whose bytes are in its ring alone gets the same bytes, in order, in its counted
+/// array, and its ring becomes empty. All else stays.
+///
+/// # Requires
+///
+/// `cells` are a port's cells in the newest set.
 pub fn recast(cells: &DevCells) -> DevCells
     requires { IsPortCells cells.now.items }
     ensures cells { result.items ≡ recast_cells cells.now.items }
@@ -48,7 +54,7 @@ impl Direction {
     }
 }
 
-// Whether some bytes stand in the ring, as a port may have them, and none in the array.
+// Reports whether the ring is valid and holds bytes while the array holds none.
 fn is_in_ring(array: &Counted, ring: &Ring) -> bool
     ensures { result ≡ is_in_ring_of array.now ring.now }
 {

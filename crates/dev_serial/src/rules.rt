@@ -1,4 +1,4 @@
-// The rules of restored numbers, and the port that they are.
+// The rules that restored numbers have to meet, and the port that they describe.
 ghost use Rattle.std.specs.Prelude.{◌≡◌, ◌≤◌, length, IfErr};
 ghost use Rattle.dev_serial.specs.PortNumbers.{bytes_held as bytes_held_of, stored_bytes as stored_bytes_of, fifos_of as fifos_of_number, moment_of as moment_of_number, shift_of as shift_of_numbers};
 ghost use Rattle.dev_serial.specs.Rules.{is_unused as is_unused_of, is_stored_once as is_stored_once_of};
@@ -23,7 +23,7 @@ impl PortNumbers {
     ghost use Rattle.dev_serial.specs.PortNumbers.{latch_of, port_of};
     ghost use Rattle.dev_serial.specs.Rules.{registers_hold, fcr_holds, unused_hold, status_holds, shift_holds, timeout_holds, latch_holds, once_holds, rings_hold, restored};
 
-    // 1: only bits that there are.
+    // Rule 1: registers have only bits that exist.
     #[tactic(auto, unfolding(crate::specs::Rules::registers_hold))]
     fn registers_hold(&self) -> bool
         ensures { result ≡ registers_hold self.now }
@@ -31,7 +31,7 @@ impl PortNumbers {
         self.ier <= IER_BITS && self.mcr <= MCR_BITS && self.lsr & LSR_BITS == self.lsr
     }
 
-    // 2: a FIFO Control Register of the level.
+    // Rule 2: the FIFO Control Register is one that the level has.
     #[tactic(auto, unfolding(crate::specs::Rules::fcr_holds))]
     fn fifo_control_holds(&self, level: u8) -> bool
         ensures { result ≡ fcr_holds level self.now }
@@ -39,7 +39,7 @@ impl PortNumbers {
         self.fcr == 0 || level >= FIFOS_SINCE && self.fcr % 64 == 1
     }
 
-    // 3: bytes are held in one way alone.
+    // Rule 3: bytes are held either in FIFOs or in `rbr` and `thr`.
     #[tactic(auto, unfolding(crate::specs::Rules::unused_hold))]
     fn unused_hold(&self) -> bool
         ensures { result ≡ unused_hold self.now }
@@ -51,7 +51,7 @@ impl PortNumbers {
         }
     }
 
-    // 4: the line status tells which bytes are held.
+    // Rule 4: the line status agrees with the bytes held.
     #[tactic(auto, unfolding(crate::specs::Rules::status_holds))]
     fn status_holds(&self) -> bool
         ensures { result ≡ status_holds self.now }
@@ -66,7 +66,8 @@ impl PortNumbers {
         }
     }
 
-    // 5: the line status tells whether the shift register is idle, and its byte is sent in time.
+    // Rule 5: the line status says whether the shift register is idle, and its byte is sent in
+    // time.
     #[tactic(auto, unfolding(crate::specs::Rules::shift_holds))]
     fn shift_holds(&self, now: u64) -> bool
         requires { now ≤ LAST_MOMENT }
@@ -79,7 +80,7 @@ impl PortNumbers {
         }
     }
 
-    // 6: the timeout runs exactly where it has to, and ends in time.
+    // Rule 6: the timeout runs exactly if it has to, and ends in time.
     #[tactic(auto, unfolding(crate::specs::Rules::timeout_holds))]
     fn timeout_holds(&self, level: u8, now: u64) -> bool
         requires { now ≤ LAST_MOMENT }
@@ -92,7 +93,7 @@ impl PortNumbers {
         }
     }
 
-    // The latch that is restored.
+    // Returns the latch of the restored port.
     fn latch(&self) -> bool
         ensures { result ≡ latch_of self.now.iir self.now.thr_ipending }
     {
@@ -103,7 +104,7 @@ impl PortNumbers {
         }
     }
 
-    // 7: a latch that may be, set only where the transmit list is empty.
+    // Rule 7: the latch is -1, 0 or 1, and is set only if the transmit list is empty.
     #[tactic(auto, unfolding(crate::specs::Rules::latch_holds))]
     fn latch_holds(&self) -> bool
         ensures { result ≡ latch_holds self.now }
@@ -112,7 +113,7 @@ impl PortNumbers {
         is_known && (!self.latch() || has(self.lsr, THRE))
     }
 
-    // 9: each direction is stored in one way alone.
+    // Rule 9: each direction is stored in only one way.
     #[tactic(auto, unfolding(crate::specs::Rules::once_holds))]
     fn once_holds(&self) -> bool
         ensures { result ≡ once_holds self.now }
@@ -120,7 +121,7 @@ impl PortNumbers {
         is_stored_once(self.rx, self.rx_ring) && is_stored_once(self.tx, self.tx_ring)
     }
 
-    // 10: both rings are rings.
+    // Rule 10: both rings are valid.
     #[tactic(auto, unfolding(crate::specs::Rules::rings_hold))]
     fn rings_hold(&self) -> bool
         ensures { result ≡ rings_hold self.now }
@@ -128,7 +129,7 @@ impl PortNumbers {
         self.rx_ring.holds() && self.tx_ring.holds()
     }
 
-    // The port of these numbers.
+    // Returns the port that these numbers describe.
     #[tactic(auto, unfolding(crate::specs::PortNumbers::port_of))]
     fn to_port(&self, level: u8) -> Serial
         ensures { result ≡ port_of level self.now }
@@ -151,7 +152,11 @@ impl PortNumbers {
         }
     }
 
-    /// The port of these numbers at a level and a moment, or the first rule that fails.
+    /// Returns the port that these numbers describe, at the level `level` and the moment `now`.
+    ///
+    /// # Errors
+    ///
+    /// The number of the first rule that fails, from 1 to 10.
     #[tactic(auto, unfolding(crate::specs::Rules::restored, crate::specs::Rules::id_holds))]
     pub fn restore(&self, level: u8, now: u64) -> Result<Serial, u8>
         requires { now ≤ LAST_MOMENT }
@@ -178,21 +183,21 @@ impl PortNumbers {
     }
 }
 
-// A direction is stored neither in its counted array nor in its ring.
+// Reports whether a direction is stored neither in its counted array nor in its ring.
 fn is_unused(array: Counted, ring: Ring) -> bool
     ensures { result ≡ is_unused_of array ring }
 {
     array.count == 0 && ring.number == 0
 }
 
-// A direction is not stored in both.
+// Reports whether a direction is stored at most once.
 fn is_stored_once(array: Counted, ring: Ring) -> bool
     ensures { result ≡ is_stored_once_of array ring }
 {
     array.count == 0 || ring.number == 0
 }
 
-// The bytes of a FIFO: those of the counted array where there are any, else those of the ring.
+// Returns the bytes of a FIFO: those of the counted array if it has any, else those of the ring.
 fn stored_bytes(array: Counted, ring: Ring) -> ArrayVec<u8, FIFO_BYTES>
     ensures items { result.items ≡ stored_bytes_of array ring }
     ensures few { length result.items ≤ FIFO_BYTES }
@@ -204,7 +209,7 @@ fn stored_bytes(array: Counted, ring: Ring) -> ArrayVec<u8, FIFO_BYTES>
     }
 }
 
-// The bytes of a list: without FIFOs one byte where there is one.
+// Returns the bytes of a list. While FIFOs are off these are `byte` alone, if it is held.
 fn bytes_held(
     fcr: u8,
     is_held: bool,
@@ -223,7 +228,7 @@ fn bytes_held(
     single
 }
 
-// The FIFO switch with its trigger.
+// Returns the trigger if the FIFOs are on.
 fn fifos_of(fcr: u8) -> Option<Trigger>
     ensures { result ≡ fifos_of_number fcr }
 {
@@ -234,14 +239,14 @@ fn fifos_of(fcr: u8) -> Option<Trigger>
     }
 }
 
-// The moment of a timer.
+// Returns the moment of a timer, if it is pending.
 fn moment_of(number: u64) -> Option<u64>
     ensures { result ≡ moment_of_number number }
 {
     if number == NEVER { None } else { Some(number) }
 }
 
-// The shift register.
+// Returns the shift register's contents, if it isn't idle.
 fn shift_of(byte: u8, due: u64) -> Option<Shift>
     ensures { result ≡ shift_of_numbers byte due }
 {

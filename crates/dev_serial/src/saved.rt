@@ -23,10 +23,14 @@ impl Hooked for Serial {
 impl Serial {
     ghost use Rattle.dev_serial.specs.Saved.{CanSave, CanRestore, cells_at, restored_cells};
 
-    /// The cells of the pass's set, in the order of its description: the registers, then the latch, and
-    /// in the sets that have them the FIFOs, the timeout and the rings.
+    /// Returns the cells of the set of `pass`, in the order of its description.
     ///
-    /// The pass has the port's own level and a set at or above it.
+    /// These are the registers, then the latch, and under the sets that have them the FIFOs, the
+    /// timeout and the rings.
+    ///
+    /// # Requires
+    ///
+    /// `pass` has the port's own level, and a set at or above it.
     pub fn cells(&self, pass: &Pass) -> DevCells
         requires { CanSave pass.now self.now }
         ensures cells { result.items ≡ cells_at pass.now self.now }
@@ -35,8 +39,15 @@ impl Serial {
         PortNumbers::of_port(self, pass.set(), pass.now()).cells(pass.set())
     }
 
-    /// The port of the newest set's cells, at the pass's level and moment, or the number of the first
-    /// rule that fails, from 1 to 10.
+    /// Returns the port with the newest set's `cells`, at the level and the moment of `pass`.
+    ///
+    /// # Errors
+    ///
+    /// The number of the first rule that fails, from 1 to 10.
+    ///
+    /// # Requires
+    ///
+    /// `cells` are a port's cells in the newest set.
     pub fn of_cells(pass: &Pass, cells: &DevCells) -> Result<Serial, u8>
         requires { CanRestore pass.now cells.now.items }
         ensures restored { result ≡ restored_cells pass.now cells.now.items }

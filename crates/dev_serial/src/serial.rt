@@ -22,9 +22,9 @@ use std::marker::Model;
 
 /// A serial port with its registers, its two lists of bytes and its shift register.
 ///
-/// Levels go from 1 to 4: a 16450 at level 1, a 16550A without the character timeout at level 2, and
-/// one with it from level 3 on. Parity, framing and break faults never come, and interrupts aren't gated
-/// by OUT2.
+/// Levels are 1 to 4: a 16450 at level 1, a 16550A without the character timeout at level 2, and
+/// one with it from level 3 on. Parity, framing and break errors don't occur, and OUT2 doesn't gate
+/// interrupts.
 #[derive(Drop)]
 pub struct Serial {
     pub(crate) level: u8,
@@ -58,7 +58,9 @@ impl Serial {
     ghost use Rattle.dev_serial.specs.Port.{power_on, mode_of, is_data_ready, has_timed_out, interrupt, line_of};
     ghost use Rattle.dev_serial.specs.Access.{lsr_of, byte_read, id_read, lsr_read, read_of, thr_written, ier_written, receiver_cleared, transmitter_cleared, fcr_written, written, came_in, advanced, room_of};
 
-    /// A port of a level at power on: divisor 12, and all else empty or 0.
+    /// Creates a port of the level `level`, from 1 to 4, as it is at power on.
+    ///
+    /// Its divisor is 12, and all else is empty or 0.
     #[tactic(auto, unfolding(crate::specs::Port::power_on))]
     pub fn new(level: u8) -> Serial
         requires { IsLevel level }
@@ -79,7 +81,7 @@ impl Serial {
         }
     }
 
-    // How characters go over the line.
+    // Returns how characters are sent and received.
     fn mode(&self) -> Mode
         ensures mode { result ≡ mode_of self.now }
         ensures longest { result.character ≤ LONGEST_CHARACTER }
@@ -93,7 +95,7 @@ impl Serial {
         }
     }
 
-    // The interrupt that is identified.
+    // Returns the identified interrupt.
     #[tactic(auto, unfolding(crate::specs::Port::interrupt))]
     pub(crate) fn interrupt(&self, now: u64) -> Interrupt
         ensures { result ≡ interrupt now self.now }
@@ -113,7 +115,7 @@ impl Serial {
         Interrupt::NonePending
     }
 
-    // As many bytes are held as ask for an interrupt.
+    // Reports whether enough bytes are held to request an interrupt.
     fn is_data_ready(&self) -> bool
         ensures { result ≡ is_data_ready self.now.fifos self.now.receiver.held }
     {
@@ -124,7 +126,7 @@ impl Serial {
         }
     }
 
-    // The character timeout has come.
+    // Reports whether the character timeout has passed.
     fn has_timed_out(&self, now: u64) -> bool
         ensures { result ≡ has_timed_out now self.now }
     {
@@ -135,7 +137,11 @@ impl Serial {
             }
     }
 
-    /// Reads the register at an offset from 0 to 7, at a moment up to `LAST_MOMENT`.
+    /// Reads the register at `offset`, from 0 to 7, at the moment `now`.
+    ///
+    /// # Requires
+    ///
+    /// `offset` is at most 7, and `now` at most `LAST_MOMENT`.
     #[tactic(auto, unfolding(crate::specs::Access::read_of))]
     pub fn read(&mut self, offset: u8, now: u64) -> u8
         requires offset { offset ≤ 7 }
@@ -157,7 +163,7 @@ impl Serial {
         }
     }
 
-    // The first received byte leaves, "Receiver Buffer Register".
+    // Removes and returns the oldest received byte ("Receiver Buffer Register").
     fn read_byte(&mut self, now: u64) -> u8
         requires { now ≤ LAST_MOMENT }
         ensures { (result, self.new) ≡ byte_read now self.old }
@@ -166,7 +172,8 @@ impl Serial {
         self.receiver.take(mode, now)
     }
 
-    // "Interrupt Identification Register". Reading it answers the interrupt of an empty transmit list.
+    // Reads the "Interrupt Identification Register". Doing so clears the interrupt of an empty
+    // transmit list.
     #[tactic(auto, unfolding(crate::specs::Access::iir_of))]
     fn read_id(&mut self, now: u64) -> u8
         ensures { (result, self.new) ≡ id_read now self.old }
@@ -178,7 +185,7 @@ impl Serial {
         interrupt.number() | bits_where(self.fifos.is_some(), FIFOS_ENABLED)
     }
 
-    // "Line Status Register". Reading it clears the overrun flag.
+    // Reads the "Line Status Register". Doing so clears the overrun flag.
     fn read_line_status(&mut self) -> u8
         ensures { (result, self.new) ≡ lsr_read self.old }
     {
@@ -187,7 +194,7 @@ impl Serial {
         status
     }
 
-    // What the Line Status Register reads.
+    // Returns what the Line Status Register reads.
     #[tactic(auto, unfolding(crate::specs::Access::lsr_of))]
     pub(crate) fn line_status(&self) -> u8
         ensures { result ≡ lsr_of self.now }
@@ -199,7 +206,11 @@ impl Serial {
             | bit_where(is_empty && self.transmitter.shift().is_none(), TEMT)
     }
 
-    /// Writes the register at an offset from 0 to 7, at a moment up to `LAST_MOMENT`.
+    /// Writes `value` to the register at `offset`, from 0 to 7, at the moment `now`.
+    ///
+    /// # Requires
+    ///
+    /// `offset` is at most 7, and `now` at most `LAST_MOMENT`.
     #[tactic(auto, unfolding(crate::specs::Access::written))]
     pub fn write(&mut self, offset: u8, value: u8, now: u64)
         requires offset { offset ≤ 7 }
@@ -228,8 +239,8 @@ impl Serial {
         }
     }
 
-    // "Transmitter Holding Register". The latch is cleared, and set again where the byte goes on into
-    // the shift register at once.
+    // Writes the "Transmitter Holding Register". This clears the latch, which is set again if the
+    // byte moves on to the shift register at once.
     #[tactic(auto, unfolding(crate::specs::Access::thr_written))]
     fn write_byte(&mut self, byte: u8, now: u64)
         requires { now ≤ LAST_MOMENT }
@@ -241,7 +252,8 @@ impl Serial {
         self.thr_empty = self.transmitter.waiting().is_empty();
     }
 
-    // "Interrupt Enable Register". Enabling the interrupt of an empty transmit list samples the list.
+    // Writes the "Interrupt Enable Register". Enabling the interrupt of an empty transmit list
+    // samples the list.
     #[tactic(auto, unfolding(crate::specs::Access::ier_written))]
     fn write_enable(&mut self, value: u8)
         ensures state { self.new ≡ ier_written value self.old }
@@ -254,8 +266,8 @@ impl Serial {
         self.ier = enabled;
     }
 
-    // "FIFO Control Register". Switching the FIFOs on or off clears both lists; while they stay on two
-    // bits clear one list each.
+    // Writes the "FIFO Control Register". Switching the FIFOs on or off clears both lists. While
+    // they stay on, one bit clears each list.
     #[tactic(auto, unfolding(crate::specs::Access::fcr_written, crate::specs::Access::fcr_cleared))]
     fn write_fifo_control(&mut self, value: u8)
         ensures state { self.new ≡ fcr_written value self.old }
@@ -270,7 +282,7 @@ impl Serial {
         self.fifos = fifos;
     }
 
-    // Clears the receive list, the transmit list, or both. Bytes that waited set the latch.
+    // Clears the receive list, the transmit list, or both. If bytes waited, the latch is set.
     fn clear(&mut self, held: bool, waiting: bool)
         ensures state { self.new ≡ transmitter_cleared waiting (receiver_cleared held self.old) }
         ensures level { self.new.level ≡ self.old.level }
@@ -286,7 +298,8 @@ impl Serial {
         }
     }
 
-    /// A byte comes on the line at a moment up to `LAST_MOMENT`. In loop mode it is ignored.
+    /// Receives `value` from the line at the moment `now`, at most `LAST_MOMENT`; loop mode ignores
+    /// it.
     #[tactic(auto, unfolding(crate::specs::Access::came_in))]
     pub fn byte_in(&mut self, value: u8, now: u64)
         requires { now ≤ LAST_MOMENT }
@@ -299,8 +312,13 @@ impl Serial {
         }
     }
 
-    /// Lets time pass up to a moment, at most `LAST_MOMENT`, and answers the bytes that left for the line, first
-    /// out first, at most `MOST_SENT`. In loop mode what leaves the shift register comes in again at its moment.
+    /// Lets time pass up to `to` and returns the bytes that left on the line, the oldest first.
+    ///
+    /// In loop mode bytes that leave the shift register are received again at the same moment.
+    ///
+    /// # Requires
+    ///
+    /// `to` is at most `LAST_MOMENT`.
     #[tactic(auto, unfolding(crate::specs::Access::advanced))]
     pub fn advance(&mut self, to: u64) -> ArrayVec<u8, MOST_SENT>
         requires { to ≤ LAST_MOMENT }
@@ -318,7 +336,8 @@ impl Serial {
         sent
     }
 
-    /// The interrupt line at a moment: it is high exactly where an interrupt is identified.
+    /// Returns whether the interrupt line is high at `now`, which it is if an interrupt is
+    /// identified.
     #[tactic(auto, unfolding(crate::specs::Port::line_of))]
     pub fn line(&self, now: u64) -> bool
         ensures { result ≡ line_of now self.now }
@@ -351,7 +370,7 @@ impl Serial {
     }
 }
 
-// The switch and the trigger that the FIFO Control Register says.
+// Returns the trigger if `value` of the FIFO Control Register switches the FIFOs on.
 fn switch_of(value: u8) -> Option<Trigger>
     ensures { result ≡ switch_of_number value }
 {
@@ -362,7 +381,7 @@ fn switch_of(value: u8) -> Option<Trigger>
     }
 }
 
-// What the Modem Status Register reads: in loop mode the modem control outputs.
+// Returns what the Modem Status Register reads: in loop mode the modem control's outputs.
 #[tactic(auto, unfolding(crate::specs::Access::msr_of))]
 fn modem_status(mcr: u8) -> u8
     ensures { result ≡ msr_of mcr }

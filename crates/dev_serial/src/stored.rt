@@ -12,19 +12,22 @@ use arrayvec::ArrayVec;
 use dev_base::byte_at;
 use vms_kinds::DevCells;
 
-/// The cells of a counted array: the count, and sixteen bytes.
+/// The number of cells of a counted array: the count and sixteen bytes.
 pub(crate) const ARRAY_CELLS: usize = FIFO_BYTES + 1;
 
-/// The cells of a ring: sixteen bytes, the place of the first that is held, and how many are held.
+/// The number of cells of a ring: sixteen bytes, the index of the first byte held, and the number
+/// held.
 pub(crate) const RING_CELLS: usize = FIFO_BYTES + 2;
 
-/// The cells of a port in the newest set, of which older sets have fewer.
+/// The number of cells of a port in the newest set. Older sets have fewer.
 pub const PORT_CELLS: usize = 84;
 
-/// A list of bytes as a counted array: how many there are, and sixteen bytes that begin with them.
+/// A list of bytes as a counted array: their number, and sixteen bytes that begin with them.
 #[derive(Clone, Copy)]
 pub(crate) struct Counted {
+    /// The number of bytes held.
     pub count: u8,
+    /// The bytes held, followed by bytes that aren't part of the list.
     pub bytes: [u8; FIFO_BYTES],
 }
 
@@ -32,7 +35,7 @@ impl Counted {
     ghost use Rattle.dev_serial.specs.Stored.{counted_of, counted_bytes};
     ghost use Rattle.dev_serial.specs.Cells.{array_cells, array_at};
 
-    /// The array of at most sixteen bytes, with zeros behind them.
+    /// Returns the array of `bytes`, at most sixteen, with zeros after them.
     pub fn of(bytes: &[u8]) -> Counted
         requires { length bytes.now ≤ FIFO_BYTES }
         ensures { result ≡ counted_of bytes.now }
@@ -43,7 +46,7 @@ impl Counted {
         }
     }
 
-    /// The bytes that it holds.
+    /// Returns the first `count` bytes, at most sixteen.
     pub fn list(&self) -> ArrayVec<u8, FIFO_BYTES>
         ensures items { result.items ≡ counted_bytes self.now }
         ensures few { length result.items ≤ FIFO_BYTES }
@@ -55,7 +58,7 @@ impl Counted {
         list
     }
 
-    /// Its cells: the count, and then the sixteen bytes.
+    /// Returns the cells: `count`, and then the sixteen bytes.
     #[tactic(auto, unfolding(crate::specs::Cells::array_cells))]
     pub fn cells(&self) -> ArrayVec<i128, ARRAY_CELLS>
         ensures items { result.items ≡ array_cells self.now }
@@ -69,7 +72,7 @@ impl Counted {
         cells
     }
 
-    /// The array whose count is the cell at a place.
+    /// Returns the array whose count is the cell at index `place`.
     pub fn at(cells: &DevCells, place: usize) -> Counted
         requires small { place < MOST_CELLS }
         requires within { place + ARRAY_CELLS ≤ length cells.now.items }
@@ -83,11 +86,14 @@ impl Counted {
     }
 }
 
-/// A list of bytes as a ring: the list begins at `head` and goes on round the sixteen elements.
+/// A list of bytes as a ring: it begins at `head` and wraps around after element 15.
 #[derive(Clone, Copy)]
 pub(crate) struct Ring {
+    /// The sixteen elements.
     pub elements: [u8; FIFO_BYTES],
+    /// The index of the oldest byte.
     pub head: u8,
+    /// The number of bytes held.
     pub number: u8,
 }
 
@@ -95,7 +101,7 @@ impl Ring {
     ghost use Rattle.dev_serial.specs.Stored.{ring_of, ring_bytes, ring_holds};
     ghost use Rattle.dev_serial.specs.Cells.{ring_cells, ring_at};
 
-    /// The ring of at most sixteen bytes, from element 0 on.
+    /// Returns the ring of `bytes`, at most sixteen, which begins at element 0.
     pub fn of(bytes: &[u8]) -> Ring
         requires { length bytes.now ≤ FIFO_BYTES }
         ensures { result ≡ ring_of bytes.now }
@@ -107,7 +113,7 @@ impl Ring {
         }
     }
 
-    /// The bytes that it holds, the first at `head`. A ring that breaks its rule holds bytes too.
+    /// Returns the bytes held, from `head` on. An invalid ring has such bytes too.
     pub fn list(&self) -> ArrayVec<u8, FIFO_BYTES>
         ensures items { result.items ≡ ring_bytes self.now }
         ensures few { length result.items ≤ FIFO_BYTES }
@@ -119,7 +125,7 @@ impl Ring {
         list
     }
 
-    /// Whether the head and the number are a ring's, and the elements outside of the bytes held are 0.
+    /// Reports whether `head` and `number` are valid and all elements that aren't held are 0.
     #[tactic(auto, unfolding(crate::specs::Stored::ring_holds))]
     pub fn holds(&self) -> bool
         ensures { result ≡ ring_holds self.now }
@@ -130,7 +136,7 @@ impl Ring {
             && self.is_zero_outside()
     }
 
-    // Whether each element outside of the bytes held is 0.
+    // Reports whether each element that isn't held is 0.
     fn is_zero_outside(&self) -> bool
         requires { self.now.head ≤ 15 }
         ensures { result ≡ list_all (is_held_or_zero_of self.now) (range_with_len 0 FIFO_BYTES) }
@@ -143,7 +149,7 @@ impl Ring {
         true
     }
 
-    // Whether an element is one of the bytes held, or 0.
+    // Reports whether an element is held or 0.
     fn is_held_or_zero(&self, place: usize) -> bool
         requires head { self.now.head ≤ 15 }
         requires place { place < FIFO_BYTES }
@@ -153,7 +159,7 @@ impl Ring {
         behind_head < self.number as usize || self.elements[place] == 0
     }
 
-    /// Its cells: the sixteen elements, the head and the number.
+    /// Returns the cells: the sixteen elements, `head` and `number`.
     #[tactic(auto, unfolding(crate::specs::Cells::ring_cells))]
     pub fn cells(&self) -> ArrayVec<i128, RING_CELLS>
         ensures items { result.items ≡ ring_cells self.now }
@@ -168,7 +174,7 @@ impl Ring {
         cells
     }
 
-    /// The ring whose first element is the cell at a place.
+    /// Returns the ring whose first element is the cell at index `place`.
     pub fn at(cells: &DevCells, place: usize) -> Ring
         requires small { place < MOST_CELLS }
         requires within { place + RING_CELLS ≤ length cells.now.items }
@@ -183,7 +189,7 @@ impl Ring {
     }
 }
 
-// Sixteen bytes: those given, and then zeros.
+// Returns `bytes` followed by zeros, sixteen in all.
 fn padded(bytes: &[u8]) -> [u8; FIFO_BYTES]
     ensures { result ≡ padded_of bytes.now }
 {
@@ -194,7 +200,7 @@ fn padded(bytes: &[u8]) -> [u8; FIFO_BYTES]
     sixteen
 }
 
-// The byte at a place, 0 behind the last.
+// Returns the byte at index `place`, or 0 after the last byte.
 fn byte_or_zero(bytes: &[u8], place: usize) -> u8
     ensures { result ≡ byte_of bytes.now place }
 {
@@ -204,7 +210,7 @@ fn byte_or_zero(bytes: &[u8], place: usize) -> u8
     }
 }
 
-// Sixteen bytes of cells from a place on.
+// Returns sixteen bytes from the cells at index `place` on.
 fn bytes_at(cells: &DevCells, place: usize) -> [u8; FIFO_BYTES]
     requires small { place ≤ MOST_CELLS }
     requires within { place + FIFO_BYTES ≤ length cells.now.items }

@@ -1,4 +1,4 @@
-// The sending part of a port.
+// The sending half of a port.
 ghost use Rattle.std.specs.Prelude.{◌≡◌, ◌≤◌, ◌+◌, ◌++◌, length, Some, [], ◌∷◌, false};
 ghost use Rattle.dev_serial.specs.Transmit.{on_line, looped_in, gone_of, still_of, transmitter_of, IsSentAfter};
 ghost use Rattle.dev_serial.specs.Parts.{IsShort};
@@ -13,10 +13,11 @@ use arrayvec::ArrayVec;
 use dev_base::LAST_MOMENT;
 use std::marker::Model;
 
-/// The most bytes that leave a port while time passes: those of a full FIFO and of the shift register.
+/// The most bytes that one [`advance`](crate::Serial::advance) sends: a full FIFO and the shift
+/// register.
 pub const MOST_SENT: usize = FIFO_BYTES + 1;
 
-/// The Transmitter Holding Register or, with FIFOs, the transmit FIFO, and the shift register behind
+/// The Transmitter Holding Register or, with FIFOs, the transmit FIFO; and the shift register after
 /// it, which may be idle.
 #[derive(Drop)]
 pub(crate) struct Transmitter {
@@ -37,15 +38,18 @@ impl Model for Transmitter {
 impl Transmitter {
     ghost use Rattle.dev_serial.specs.Transmit.{after_write, run_until, gone_from};
 
-    /// A transmitter of these bytes, first in first, and this shift register.
+    /// Creates a transmitter with the bytes `waiting`, the oldest first, and the shift register
+    /// `shift`.
     pub fn new(waiting: ArrayVec<u8, FIFO_BYTES>, shift: Option<Shift>) -> Transmitter
         ensures { result ≡ record { waiting = waiting.items; shift = shift } }
     {
         Transmitter { waiting, shift }
     }
 
-    /// A byte is written. Where the shift register is idle it takes the first byte at once, to be sent
-    /// at the moment `due`.
+    /// Writes `byte` to be sent.
+    ///
+    /// If the shift register is idle, it takes the first byte at once, which is sent at the moment
+    /// `due`.
     #[tactic(auto, unfolding(crate::specs::Transmit::queued, crate::specs::Transmit::loaded))]
     pub fn write(&mut self, has_fifos: bool, byte: u8, due: u64)
         ensures state { self.new ≡ after_write has_fifos byte due self.old }
@@ -65,29 +69,30 @@ impl Transmitter {
         }
     }
 
-    /// Lets all bytes that wait go. The shift register goes on.
+    /// Removes all bytes that wait. The shift register stays.
     pub fn empty(&mut self)
         ensures { self.new ≡ record self.old { waiting = [] } }
     {
         self.waiting.clear();
     }
 
-    /// The bytes that wait behind the shift register, first in first, at most 16.
+    /// Returns the bytes that wait to enter the shift register, the oldest first, at most 16.
     pub fn waiting(&self) -> &ArrayVec<u8, FIFO_BYTES>
         ensures items { result.now.items ≡ self.now.waiting }
     {
         &self.waiting
     }
 
-    /// The shift register.
+    /// Returns the shift register's contents, if it isn't idle.
     pub fn shift(&self) -> Option<Shift>
         ensures { result ≡ self.now.shift }
     {
         self.shift
     }
 
-    /// Sends the bytes that are due at or before a moment, each to the line or, in loop mode, to the
-    /// receiver, and answers those that left for the line.
+    /// Sends the bytes that are due by the moment `to`, and returns those that left on the line.
+    ///
+    /// In loop mode the bytes are received by `receiver` instead.
     #[tactic(auto, unfolding(crate::specs::Transmit::run_until, crate::specs::Transmit::departures, crate::specs::Transmit::gone, crate::specs::Transmit::arrived))]
     pub fn advance(
         &mut self,
@@ -116,7 +121,7 @@ impl Transmitter {
     }
 }
 
-/// Sends what is due, byte by byte.
+/// Sends the bytes that are due, one by one.
 fn send_due(
     mode: Mode,
     to: u64,
@@ -155,7 +160,7 @@ fn send_due(
     }
 }
 
-/// A byte leaves the shift register, to the line or to the receiver.
+/// Sends the byte in the shift register, to the line or to the receiver.
 #[tactic(auto, unfolding(crate::specs::Transmit::arrived))]
 fn leave(mode: Mode, shift: Shift, line: &mut ArrayVec<u8, MOST_SENT>, receiver: &mut Receiver)
     requires longest { mode.character ≤ LONGEST_CHARACTER }

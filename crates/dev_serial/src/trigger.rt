@@ -2,8 +2,8 @@
 ghost use Rattle.std.specs.Prelude.{◌≡◌};
 ghost use Rattle.dev_serial.specs.Fifo.{trigger_of, trigger_number, trigger_bytes};
 
-/// How many received bytes ask for an interrupt while the FIFOs are on ("FIFO Control Register",
-/// bits 6 and 7).
+/// The number of received bytes that request an interrupt while FIFOs are on ("FIFO Control
+/// Register", bits 6 and 7).
 #[derive(Clone, Copy, Debug, PartialEq, Eq)]
 pub(crate) enum Trigger {
     One,
@@ -13,7 +13,7 @@ pub(crate) enum Trigger {
 }
 
 impl Trigger {
-    /// The trigger of two bits, from 0 to 3.
+    /// Returns the trigger with the two bits `bits`, from 0 to 3.
     pub(crate) fn of_bits(bits: u8) -> Trigger
         ensures { result ≡ trigger_of bits }
     {
@@ -25,14 +25,14 @@ impl Trigger {
         }
     }
 
-    /// Its two bits, from 0 to 3.
+    /// Returns the two bits of the trigger, from 0 to 3.
     pub(crate) fn bits(self) -> u8
         ensures { result ≡ trigger_number self }
     {
         self as u8
     }
 
-    /// The number of bytes.
+    /// Returns the number of bytes.
     pub(crate) fn bytes(self) -> usize
         ensures { result ≡ trigger_bytes self }
     {

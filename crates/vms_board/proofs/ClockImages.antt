@@ -1,4 +1,4 @@
--- Images of the newest clock set: the chip's, and behind it those of the newest shipped set.
+-- Images of the newest clock set: the chip's, then those of the newest shipped set.
 use Rattle.std.proofs.Common.{◌≡◌, ℕ, zero, suc, ◌-◌, ◌≤◌, List, [], ◌∷◌, length, take, drop, map, get_or, Some, ℤ, refl, sym, ap, ◌∙◌, subst, arith}
 use Rattle.std.proofs.lemmas.Bool.{leb-true}
 use Rattle.std.proofs.lemmas.List.{take_rest}
@@ -37,7 +37,7 @@ chip_room images image are is =
 inner : (k : ℕ) (image : Typed) → IsImageOf (clock_set NEWEST_CLOCK) (suc k) image → IsImageOf (shipped_set NEWEST) k image
 inner k image i = record { subs = i.subs; cells = i.cells; kinds = i.kinds }
 
--- those behind the first, as a slice
+-- the images after the first, as a slice
 abbrev pub rest : List Typed → List Typed
 rest images = take (length images - 1) (drop 1 images)
 

@@ -20,7 +20,7 @@ use Rattle.dev_images.specs.Images.{bare, image_of, images_of, needed_from}
 use Rattle.vms_spec.specs.Streams.{AreReady}
 use Rattle.vms_board.specs.Imaging.{FitDevice, typed_of, needed_at, version_needed}
 
--- the cells below a place have their numbers
+-- the cells below an index have their numbers
 pub record Put (image old : Typed) (numbers : List ℤ) (cell : ℕ) : Type 0 where
   pub version : image.version ≡ old.version
   pub came : image.came ≡ old.came
@@ -33,7 +33,7 @@ put_all image old numbers cell p all =
     same_image image (record old { numbers = numbers }) p.version p.came
     (ext_get_or (pos 0) image.numbers numbers p.long (λ k lt. p.put k (omega (arith, lt, p.long, all)))) p.kinds
 
--- the subsections below a number have come where they are needed
+-- the subsections below a number are present if they are needed
 pub record Marked (set : Set) (d : Device) (image old : Typed) (sub : ℕ) : Type 0 where
   pub version : image.version ≡ old.version
   pub numbers : image.numbers ≡ old.numbers
@@ -80,7 +80,7 @@ no_image = record { version = 0; came = []; numbers = [] }
 abbrev pub no_typed : Typed
 no_typed = record { version = 0; came = []; numbers = []; kinds = [] }
 
--- where there is an image of each device, there are numbers for each
+-- if there is an image of each device, there are numbers for each
 lists-long : (set : Set) (devices : List Device) (lists : List (List ℤ)) → length (images_of set devices lists) ≡ length devices → length devices ≤ length lists
 lists-long set [] lists l = omega arith
 lists-long set (d ∷ devices) [] l = absurd (omega (arith, l))
@@ -113,7 +113,7 @@ fit-device set k numbers f =
       };
     }
 
--- so do those of ready images
+-- so do the numbers of ready images
 pub fit_each : (set : Set) (lists : List (List ℤ)) → AreReady set (images_of set set.devices lists) → (k : ℕ) → k < length set.devices → FitDevice set k (get_or lists k [])
 unfolding no_device
 fit_each set lists r k lt =
@@ -123,12 +123,12 @@ fit_each set lists r k lt =
     slice_get-get_or images k no_image (omega (arith, lt, all)) ∙ ap (λ (i : Image). Some i) (image-get set lists r.one_each k lt) in
     fit-device set k (get_or lists k []) (r.ready k (device_at set k) (image_of set (device_at set k) (get_or lists k [])) (slice_get-get_or set.devices k no_device lt) here).normal.cells
 
--- those below a number are made
+-- the images below an index are made
 pub record Made (set : Set) (lists : List (List ℤ)) (images : List Typed) (device : ℕ) : Type 0 where
   pub long : length images ≡ device
   pub each : (k : ℕ) → k < device → get_or images k no_typed ≡ typed_of set k (get_or lists k [])
 
--- one more
+-- one image more
 pub made_push : (set : Set) (lists : List (List ℤ)) (old new : List Typed) (image : Typed) (device next : ℕ) → Made set lists old device → new ≡ old ++ image ∷ [] → image ≡ typed_of set device (get_or lists device []) → next ≡ suc device
     → Made set lists new next
 made_push set lists old new image device next m e f n =
@@ -164,7 +164,7 @@ at_below (y ∷ xs) (suc k) x e = let below = at_below xs k x e in omega (arith,
 is-of : (set : Set) (k : ℕ) (numbers : List ℤ) → FitDevice set k numbers → IsImageOf set k (typed_of set k numbers)
 is-of set k numbers f = record { subs = needed-long set (device_at set k) (bare (device_at set k) numbers) 0 (device_at set k).subs; cells = f.long; kinds = refl }
 
--- all are made: their states, and each is one of its device
+-- all images are made: they have these states, and each is one of its device
 pub made_states : (set : Set) (lists : List (List ℤ)) (images : List Typed) (device : ℕ) → AreReady set (images_of set set.devices lists) → Made set lists images device → device ≡ length set.devices
     → map state_of images ≡ images_of set set.devices lists
 made_states set lists images device r m e =
@@ -187,7 +187,7 @@ made_of set lists images device r m e =
           subst (λ (i : Typed). IsImageOf set k i) (sym is) (is-of set k (get_or lists k []) (fit_each set lists r k (omega (arith, below, long, e))));
     }
 
--- ---- a board's, under the set of a number
+-- ---- the images of a board, under a set
 
 pub listed : (set own : Set) (lists : List (List ℤ)) (k : ℕ) → AreReady own (images_of own own.devices lists) → set ≡ own → k < length set.devices → k < length lists
 listed set own lists k r e lt =

@@ -1,4 +1,4 @@
--- What a call that reads a board's stream says of what is told, and how much is given.
+-- The result of a call that reads a board's stream from a known input, and the bytes that it reads.
 use Rattle.std.proofs.Common.{◌≡◌, ◌≤◌, ℕ, ◌+◌, inl, inr, List, Option, Some, None, IfSome, Result, Ok, Err, arith}
 use Rattle.vms_io.proofs.ReadingLemmas.{reads_told}
 use Rattle.vms_io.specs.Causes.{capped}

@@ -1,4 +1,4 @@
--- What a load brings to a board.
+-- The effect of a load on a board.
 use Rattle.std.proofs.Common.{◌≡◌, inl, inr, ℕ, zero, suc, ◌-◌, ◌<◌, ◌≤◌, List, [], ◌∷◌, length, get_or, Option, Some, None, IfSome, Ok, Err, Result, refl, sym, ap, ◌∙◌, subst, arith}
 use Rattle.std.specs.List.{slice_get}
 use Rattle.vms_io.proofs.ReadingLemmas.{reads_as}
@@ -25,9 +25,9 @@ get-at (y ∷ xs) zero x e = cc
 get-at (y ∷ xs) (suc k) x e = get-at xs k x e
 
 module _ {S : Type 0} (f : Family S) where
-  -- ---- what is taken
+  -- ---- what is read
 
-  -- the board's machine alone is accepted
+  -- only the board's machine is accepted
   names-are : (number n : ℕ) (set : Set) → slice_get (f.set f.newest).machines (number - 1) ≡ Some (f.machine number) → n ≡ number - 1 → set ≡ f.set f.newest → accepted_of set (Some n) ≡ f.machine number ∷ []
   names-are number n set h e i =
       ap (λ (n : ℕ). accepted_of set (Some n)) e ∙ ap (λ (s : Set). accepted_of s (Some (number - 1))) i
@@ -39,7 +39,7 @@ module _ {S : Type 0} (f : Family S) where
       let same : length set.machines ≡ length (f.set f.newest).machines = ap (λ (s : Set). length s.machines) i in
       omega (arith, below, same, e)
 
-  -- a stream that the loader took is one that the board takes
+  -- a stream that the loader read is one that the board reads
   pub taken_so : (number n : ℕ) (set : Set) (old left : Option (List ℕ)) (images : List Image) (taken : ℕ) (machine : Option ℕ) → slice_get (f.set f.newest).machines (number - 1) ≡ Some (f.machine number) → n ≡ number - 1 → set ≡ f.set f.newest
       → IfSome old (λ input. Loads set (accepted_of set (Some n)) input left images taken (Ok machine)) → IfSome old (λ input. Takings f number input left images taken (Ok tt))
   taken_so number n set None left images taken machine h e i loaded = tt
@@ -55,7 +55,7 @@ module _ {S : Type 0} (f : Family S) where
       let own = subst (λ (names : List (List ℕ)). Fault set names input r.at r.section r.reason loaded.0) (names-are number n set h e i) loaded.1 in
       ((loaded.0, subst (λ (s : Set). Fault s (f.machine number ∷ []) input r.at r.section r.reason loaded.0) i own), loaded.2)
 
-  -- the same, read
+  -- the same, for a source
   pub taken_read : {a b : Intake} (number n : ℕ) (set : Set) (images : List Image) (taken : ℕ) (machine : Option ℕ) → slice_get (f.set f.newest).machines (number - 1) ≡ Some (f.machine number) → n ≡ number - 1 → set ≡ f.set f.newest
       → LoadReads a b set (accepted_of set (Some n)) images taken (Ok machine) → TakingsRead f number a b images taken (Ok tt)
   taken_read number n set images taken machine h e i p =
@@ -70,9 +70,9 @@ module _ {S : Type 0} (f : Family S) where
       → LoadReads a b set (accepted_of set (Some n)) images taken (Err loads.ReadFault) → TakingsRead f number a b images taken (Err faults.ReadFault)
   broken_read number n set images taken i p = reads_as (λ k l. subst (λ (s : Set). k ≤ most_given s) i l) (λ rest more said. tt) p
 
-  -- ---- what comes of it
+  -- ---- the results
 
-  -- a board comes back
+  -- a board is restored
   pub comes_back : (own number : ℕ) (old left : Option (List ℕ)) (images : List Image) (taken : ℕ) (m : S) (count : ℕ) → number ≡ own → count ≡ taken → f.restored number (lists_in images) ≡ Ok m
       → IfSome old (λ input. Takings f number input left images taken (Ok tt)) → IfSome old (λ input. ComesTo f own (record { state = m; taken = count }) input left (Ok tt))
   comes_back own number None left images taken m count l e d h = tt
@@ -93,7 +93,7 @@ module _ {S : Type 0} (f : Family S) where
       subst (λ (x : Result (Unit {0}) RestoreFault). IfSome old (λ input. ComesTo f own new input left x)) (sym e)
       (subst (λ (k : ℕ). IfSome old (λ input. ComesTo f k new input left (Err fault))) l (came-fault number new old left images taken fault h))
 
-  -- images that are no board's
+  -- images that no board has
   pub comes_unfit : (number : ℕ) (new : Standing S) (old left : Option (List ℕ)) (images : List Image) (taken : ℕ) (fault : RestoreFault) → IsUnfit f number taken images fault
       → IfSome old (λ input. Takings f number input left images taken (Ok tt)) → IfSome old (λ input. ComesTo f number new input left (Err fault))
   comes_unfit number new None left images taken fault u h = tt
@@ -101,7 +101,7 @@ module _ {S : Type 0} (f : Family S) where
       subst (λ (x : RestoreFault). ComesTo f number new input left (Err x)) (sym u.fault_is)
       (inr (record { images = images; taken = h.0; misfit = u.misfit; fails = u.fails; section_is = refl; reason_is = refl }, h.1))
 
-  -- ---- the same, read
+  -- ---- the same, for a source
 
   pub back_read : {a b : Intake} (own number : ℕ) (images : List Image) (taken : ℕ) (m : S) (count : ℕ) → number ≡ own → count ≡ taken → f.restored number (lists_in images) ≡ Ok m
       → TakingsRead f number a b images taken (Ok tt) → RestoreReads f own a b (record { state = m; taken = count }) (Ok tt)

@@ -1,4 +1,4 @@
--- What is written of a board.
+-- The bytes that a save writes.
 use Rattle.std.proofs.Common.{◌≡◌, ℕ, ◌-◌, ◌<◌, ◌≤◌, ℤ, length, arith, List, Option, Some, None, Result, Err, sym, ap, ◌∙◌, subst}
 use Rattle.std.specs.List.{slice_get}
 use Rattle.vms_io.proofs.WritingLemmas.{stops_as}
@@ -15,7 +15,7 @@ use Rattle.vms_board.specs.declared.save.SaveFault.{SaveFault}
 use Rattle.vms_board.specs.declared.save.SaveFault.TheVariants as faults
 
 module _ {S : Type 0} (f : Family S) {IsSound : S → Type 0} {AreTold : List (List ℤ) → Type 0} (stands : Stands f IsSound AreTold) where
-  -- a sound board's machine stands at its number among those of a set under which it may be saved
+  -- a sound board's machine has its index in a set under which the board may be saved
   pub machine_named : (d m : S) (s : ℕ) → IsSound d → d ≡ m → MaySaveIn f m s → slice_get (f.set s).machines (f.number m - 1) ≡ Some (f.machine (f.number m))
   machine_named d m s sound e may = stands.named (f.number m) s (subst (λ (x : S). 1 ≤ f.number x) e (stands.numbered d sound).first) may.level_le_set may.set_le_newest
 
@@ -27,7 +27,7 @@ module _ {S : Type 0} (f : Family S) {IsSound : S → Type 0} {AreTold : List (L
       omega (arith, below, same, is, number)
 
 module _ {S : Type 0} (f : Family S) where
-  -- what is written of the images that were made is the board's stream
+  -- the bytes written for the images that were made are the board's stream
   pub saved_bytes : (s : ℕ) (m : S) (set : Set) (made listed sent : List Image) (told text : List ℕ) (machine : ℕ)
       → slice_get (f.set s).machines (f.number m - 1) ≡ Some (f.machine (f.number m)) → machine ≡ f.number m - 1
       → set ≡ f.set s → made ≡ images_saved f s m → listed ≡ made → sent ≡ made → told ≡ described_text set listed → text ≡ told
@@ -41,7 +41,7 @@ module _ {S : Type 0} (f : Family S) where
       ∙ ap (λ (x : List ℕ). written (f.set s) (Some (f.machine (f.number m))) (images_saved f s m) (Some x))
       (u ∙ t ∙ ap (λ (x : Set). described_text x listed) e ∙ ap (λ (l : List Image). described_text (f.set s) l) (g ∙ i))
 
-  -- what is written of them without a description
+  -- the bytes written for them without a description
   pub bare_bytes : (s : ℕ) (m : S) (set : Set) (made sent : List Image) (machine : ℕ)
       → slice_get (f.set s).machines (f.number m - 1) ≡ Some (f.machine (f.number m)) → machine ≡ f.number m - 1
       → set ≡ f.set s → made ≡ images_saved f s m → sent ≡ made

@@ -14,6 +14,7 @@ use Rattle.vms_board.specs.Family.{Family}
 -- the machine that a board of a version is
 pub use Rattle.vms_shipped.specs.ClockSets.{clock_machine}
 
+-- The family: the sets, the machines, the events, and saving and restoring.
 abbrev pub clock : Family ClockState
 clock = record {
   set = clock_set;
@@ -32,6 +33,6 @@ clock = record {
   restored = λ version lists. restored version (cells_of lists);
 }
 
--- numbers of normal images of the newest clock set
+-- The lists are the numbers of normal images of the newest clock set.
 abbrev pub AreTold : List (List ℤ) → Type 0
 AreTold lists = AreClockCells (cells_of lists)

@@ -1,4 +1,4 @@
--- The family of the boards clk-1 and clk-2 is such as code asks for.
+-- The family of the boards clk-1 and clk-2 has the properties that code needs.
 use Rattle.std.proofs.Common.{◌≡◌, ℕ, zero, suc, ◌-◌, ◌≤◌, Some, refl, arith}
 use Rattle.std.specs.List.{slice_get}
 use Rattle.dev_clock.proofs.ClockLaws.{answers_tell_int, clock_goes_on}
@@ -35,6 +35,7 @@ begun : (version : ℕ) → (power_on version).clock.version ≡ version
 unfolding power_on
 begun version = version_stays.power_on version
 
+-- The family has these properties.
 pub clock_stands : Stands clock IsSound AreTold
 clock_stands = record {
   named = machine_at;

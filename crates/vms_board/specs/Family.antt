@@ -1,4 +1,4 @@
--- Boards of one kind: their sets, how a board goes on, and what of it is saved and restored.
+-- Boards of one kind: their sets, their events, and what is saved and restored.
 use Rattle.std.specs.Prelude.{◌≡◌, ℕ, ◌-◌, ◌≤◌, Bool, List, map, Some, Result, Ok, ℤ}
 use Rattle.std.specs.List.{slice_get}
 use Rattle.dev_base.specs.Levels.{IsUpTo, ReachesSet}
@@ -13,48 +13,52 @@ use Rattle.vms_spec.specs.Sets.{Set}
 use Rattle.vms_spec.specs.Streams.{AreReady}
 use Rattle.vms_spec.specs.WellFormed.{WellFormed}
 
+-- A family of boards with states in `S`.
 pub record Family (S : Type 0) : Type 0 where
-  -- its sets by number, the newest number, and the machine that a board of a number is
+  -- The sets by number, the newest number, and the machine's name of a board with a number.
   pub set : ℕ → Set
   pub newest : ℕ
   pub machine : ℕ → List ℕ
-  -- the number of a board, and its moment
+  -- The number of a board, and its present moment.
   pub number : S → ℕ
   pub moment : S → ℕ
-  -- its interrupt output, OUT of a counter of the timer chip at the present moment, the ports that have a device, how many bytes may
-  -- arrive on the serial line before one is lost, and the time of a character on it
+  -- The interrupt output; OUT of a counter of the timer chip at the present moment; the ports that
+  -- have a device; the number of bytes that may arrive on the serial line before one is lost; and
+  -- the time of a character on it.
   pub int : S → Bool
   pub output : ℕ → S → Bool
   pub has_port : ℕ → S → Bool
   pub room : S → ℕ
   pub character : S → ℕ
-  -- the board of a number at power on, and what an event does
+  -- The board with a number at power on, and the effect of an event.
   pub power_on : ℕ → S
   pub step : Event → S → Answer × S
-  -- the numbers of its devices under a set, in the set's order, and the board that those of the newest set tell
+  -- The numbers of the devices under a set, in the set's order; and the board with the numbers of
+  -- the newest set.
   pub lists : ℕ → S → List (List ℤ)
   pub restored : ℕ → List (List ℤ) → Result S Misfit
 
--- the numbers of images
+-- The numbers of images.
 abbrev pub lists_in : List Image → List (List ℤ)
 lists_in images = map (λ image. image.numbers) images
 
 module _ {S : Type 0} (f : Family S) where
-  -- there are boards of this number
+  -- Some board has this number.
   abbrev pub IsNumber : ℕ → Type 0
   IsNumber number = IsUpTo f.newest number
 
-  -- a board may be saved under this set: one from its number to the newest
+  -- The board may be saved under this set: one from its number to the newest.
   abbrev pub MaySaveIn : S → ℕ → Type 0
   MaySaveIn m set = ReachesSet f.newest (f.number m) set
 
-  -- the images of a board under the set of a number
+  -- The images of a board under the set `set`.
   abbrev pub images_saved : ℕ → S → List Image
   images_saved set m = images_of (f.set set) (f.set set).devices (f.lists set m)
 
-  -- What code asks of a family: each machine has its place in the sets. A sound board has a number, which it begins with, and
-  -- which events and a restore keep. Its images are ready, and those of a stream that was taken are such as a board may be
-  -- restored from. The newest set is well formed, and its sections' names fit their heads.
+  -- The properties that code needs of a family. Each machine has its index in the sets. A sound
+  -- board has a number, which it begins with, and which events and a restore keep. Its images are
+  -- ready, and a board may be restored from those of a stream that was read. The newest set is well
+  -- formed, and its sections' names fit their heads.
   pub record Stands (IsSound : S → Type 0) (AreTold : List (List ℤ) → Type 0) : Type 0 where
     pub named : (number set : ℕ) → 1 ≤ number → number ≤ set → set ≤ f.newest → slice_get (f.set set).machines (number - 1) ≡ Some (f.machine number)
     pub numbered : (m : S) → IsSound m → IsNumber (f.number m)

@@ -1,4 +1,4 @@
--- The family of the boards isa-1 to isa-4 is such as code asks for.
+-- The family of the boards isa-1 to isa-4 has the properties that code needs.
 use Rattle.std.proofs.Common.{◌≡◌, ℕ, zero, suc, ◌+◌, ◌-◌, ◌<◌, ◌≤◌, ◌&&◌, Bool, true, List, [], ◌∷◌, length, Some, refl, ap, ◌∙◌, arith}
 use Rattle.std.specs.Str.{bytes_eq}
 use Rattle.std.proofs.lemmas.Bool.{and_parts}
@@ -18,7 +18,7 @@ use Rattle.vms_spec.specs.WellFormed.{first_fault}
 use Rattle.vms_board.specs.Family.{Stands}
 use Rattle.vms_board.specs.Isa.{isa, machine_of, cells_of, AreTold}
 
--- names are those of the levels from one on
+-- The names are those of the levels from `level` on.
 are_from : ℕ → List (List ℕ) → Bool
 are_from level [] = true
 are_from level (name ∷ names) = bytes_eq name (machine_of level) && are_from (level + 1) names
@@ -35,7 +35,7 @@ named-from level (name ∷ names) (suc k) e lt =
     named-from (level + 1) names k (and_parts (bytes_eq name (machine_of level)) (are_from (level + 1) names) e).1 (omega (arith, lt))
     ∙ ap (λ (n : ℕ). Some (machine_of n)) later
 
--- a shipped set from 1 on has the machines of the levels up to its number
+-- A shipped set from 1 on has the machines of the levels up to its number.
 record HasMachines (s : ℕ) : Type 0 where
   pub count : length (shipped_set s).machines ≡ s
   pub named : are_from 1 (shipped_set s).machines ≡ true
@@ -60,6 +60,7 @@ power_on-level : (level : ℕ) → (power_on level).level ≡ level
 unfolding power_on
 power_on-level level = refl
 
+-- The family has these properties.
 pub isa_stands : Stands isa IsSound AreTold
 isa_stands = record {
   named = λ level s first le last. machine_at s level first le last;

@@ -1,4 +1,4 @@
-// The cells of a board's devices in images of them.
+// Reads the cells of a board's devices from their images.
 ghost use Rattle.std.specs.Prelude.{◌≡◌, ◌<◌, map};
 ghost use Rattle.dev_base.specs.declared.limits.TheConstants.{NEWEST as newest};
 ghost use Rattle.dev_clock_images.specs.Images.{cells_in as clock_cells_of};
@@ -13,7 +13,7 @@ use dev_images::image_cells;
 use vms_image::Image;
 use vms_kinds::DevCells;
 
-/// The cells in images of the devices of the newest set, in its order.
+/// Returns the cells in `images` of the devices of the newest set, in its order.
 pub(crate) fn cells_in(images: &[Image]) -> BoardCells
     requires { AreImagesOf (shipped_set newest) images.now }
     ensures { result ≡ cells_of (map state_of images.now) }
@@ -27,7 +27,7 @@ pub(crate) fn cells_in(images: &[Image]) -> BoardCells
     }
 }
 
-/// The cells in images of the devices of the newest clock set, in its order.
+/// Returns the cells in `images` of the devices of the newest clock set, in its order.
 pub(crate) fn clock_cells_in(images: &[Image]) -> ClockCells
     requires { AreImagesOf (clock_set newest_clock) images.now }
     ensures { result ≡ clock_cells_of (map state_of images.now) }
@@ -38,7 +38,7 @@ pub(crate) fn clock_cells_in(images: &[Image]) -> ClockCells
     }
 }
 
-// The cells of the device of a number.
+// Returns the cells of device `device`.
 fn cells_at(images: &[Image], device: usize) -> DevCells
     requires of { AreImagesOf (shipped_set newest) images.now }
     requires device { device < 5 }

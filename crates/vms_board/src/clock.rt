@@ -101,7 +101,15 @@ impl Machine for ClockDevices {
     ghost stands = { clock_stands };
 }
 
-/// The clock set of a number, 1 or 2. Fails only where memory is wanting.
+/// Returns the shipped clock set with the number `c`, 1 or 2.
+///
+/// # Errors
+///
+/// [`NoMemory`] if memory runs out.
+///
+/// # Requires
+///
+/// `c` is 1 or 2.
 pub fn clock_set(alloc: Global, c: u8) -> Result<DescSet, NoMemory>
     requires { IsUpTo newest c }
     ensures { IfOk result (λ set. described set ≡ clock_set_of c) }
@@ -109,7 +117,11 @@ pub fn clock_set(alloc: Global, c: u8) -> Result<DescSet, NoMemory>
     DescSet::clock(alloc, c)
 }
 
-/// The machine that a board of a version is, `clk-1` or `clk-2`.
+/// Returns the machine's name of a board with the version `version`: `clk-1` or `clk-2`.
+///
+/// # Requires
+///
+/// `version` is 1 or 2.
 pub fn clock_machine_name(version: u8) -> &'static str
     requires { IsUpTo newest version }
     ensures { result.now ≡ clock_machine version }
@@ -118,7 +130,7 @@ pub fn clock_machine_name(version: u8) -> &'static str
 }
 
 impl MachineBoard<ClockDevices> {
-    /// The version of the chip, 1 or 2.
+    /// Returns the version of the clock chip, 1 or 2.
     pub fn version(&self) -> u8
         ensures { result ≡ self.now.state.clock.version }
     {

@@ -97,7 +97,11 @@ impl Machine for Devices {
     ghost stands = { isa_stands };
 }
 
-/// The machine that a board of a level is, `isa-1` to `isa-4`.
+/// Returns the machine's name of a board with the level `level`: `isa-1` to `isa-4`.
+///
+/// # Requires
+///
+/// `level` is from 1 to 4.
 pub fn machine_name(level: u8) -> &'static str
     requires { IsLevel level }
     ensures { result.now ≡ machine_of level }
@@ -106,7 +110,7 @@ pub fn machine_name(level: u8) -> &'static str
 }
 
 impl MachineBoard<Devices> {
-    /// The level, 1 to 4.
+    /// Returns the level, 1 to 4.
     pub fn level(&self) -> u8
         ensures { result ≡ self.now.state.level }
     {

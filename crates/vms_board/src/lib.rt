@@ -1,4 +1,4 @@
-//! A board: devices on one clock, which saves its state as a stream and is restored from one.
+//! A board: devices that share one clock. It saves its state as a stream and is restored from one.
 #![tactic(auto)]
 
 mod board;
@@ -21,8 +21,8 @@ pub use save::SaveFault;
 pub use vms_io::NoMemory;
 pub use vms_load::{Reason, Refusal};
 
-/// A board of a level from 1 to 4, the machine `isa-1` to `isa-4`.
+/// A board with a level from 1 to 4: the machine `isa-1` to `isa-4`.
 pub type Board = MachineBoard<Devices>;
 
-/// A board of a version, 1 or 2, of the clock chip, the machine `clk-1` or `clk-2`.
+/// A board with a clock chip, of version 1 or 2: the machine `clk-1` or `clk-2`.
 pub type ClockBoard = MachineBoard<ClockDevices>;

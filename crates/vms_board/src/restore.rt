@@ -1,4 +1,4 @@
-// Restoring a board.
+// Restores a board.
 ghost use Rattle.std.specs.Prelude.{◌≡◌, IfErr, IfOk, OnErr, OnOk};
 ghost use Rattle.vms_io.specs.Told.{intake};
 ghost use Rattle.vms_load.specs.Kept.{loads, kept, taken_by};
@@ -13,25 +13,33 @@ use thiserror::Error;
 use vms_io::Source;
 use vms_load::{LoadFault, Loader, Reason, Refusal};
 
-/// Why a board wasn't restored; it is as it was.
+/// Why a board wasn't restored. It is as it was.
 #[derive(Debug, Drop, Error)]
 pub enum RestoreFault {
-    /// The input is no stream of the newest set that names this board's machine or none, or the stream is
-    /// no board's.
+    /// The input isn't a stream of the newest set that names this board's machine or none, or no
+    /// board has the state in it.
     #[error("the stream is refused")]
     Refused(Refusal),
-    /// The source failed; its count of faults has risen.
+    /// The source failed and counted a failure.
     #[error("a read has failed")]
     ReadFault,
 }
 
 impl<M: Machine> MachineBoard<M> {
-    /// Takes one stream from the source, and makes the board what it saved. The stream is one of the newest
-    /// set, and names this board's machine or none.
+    /// Reads one stream from `source` and restores the board from it.
     ///
-    /// Refused is the fault of the input, or else, behind the whole stream, the first rule that fails in the
-    /// order of the devices and of the rules' numbers (`Unsound`), or lines that the master remembers otherwise
-    /// than the devices have them (`LinesDisagree`). After an error the board is as it was. No memory is taken.
+    /// The stream is one of the newest set, and names this board's machine or none. No memory is
+    /// allocated.
+    ///
+    /// # Errors
+    ///
+    /// After an error the board is as it was.
+    ///
+    /// - [`RestoreFault::Refused`]: the input is invalid, or no board has the state in it. In the
+    ///   second case the whole stream is valid. The reason is then the first rule that fails, by
+    ///   devices and then by rules (`Unsound`); or `LinesDisagree`, if the master remembers other
+    ///   lines than the devices have.
+    /// - [`RestoreFault::ReadFault`]: the source failed.
     pub fn restore<S: Source>(&mut self, source: &mut S) -> Result<(), RestoreFault>
         ensures reads { RestoreReads M.family (M.family.number self.old.state)
             (intake S.Source source.old) (intake S.Source source.new) self.new result }
@@ -47,7 +55,7 @@ impl<M: Machine> MachineBoard<M> {
     }
 }
 
-// Takes a stream that names the machine of a number or none.
+// Reads a stream that names the machine with the number `number` or none.
 fn take<M: Machine, S: Source>(
     loader: &mut Loader,
     number: u8,
@@ -67,7 +75,7 @@ fn take<M: Machine, S: Source>(
     }
 }
 
-// The devices of a number that the images tell which a loader keeps, or the refusal of the stream.
+// Returns the devices in the images that `loader` keeps, or the refusal of the stream.
 fn devices_of<M: Machine>(number: u8, loader: &Loader) -> Result<M, RestoreFault>
     requires number { IsNumber M.family number }
     requires newest { loads loader.now ≡ M.family.set M.family.newest }
@@ -83,7 +91,7 @@ fn devices_of<M: Machine>(number: u8, loader: &Loader) -> Result<M, RestoreFault
     }
 }
 
-// The refusal of a stream of this length whose cells are no board's.
+// Returns the refusal of a stream of `taken` bytes whose cells no board has.
 fn refusal_of(taken: u64, misfit: Misfit) -> Refusal
     ensures { result ≡ refusal_by taken misfit }
 {

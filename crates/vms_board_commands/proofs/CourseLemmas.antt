@@ -1,4 +1,4 @@
--- How the commands of boards end, by their steps.
+-- The endings of the commands of boards, by their steps.
 use Rattle.std.proofs.Common.{◌≡◌, ℕ, Bool, true, false, ◌||◌, ◌==◌, List, [], ◌∷◌, ◌++◌, Result, Ok, Err, refl, sym, ap, subst, ◌∙◌}
 use Rattle.std.proofs.lemmas.Bool.{or_right}
 use Rattle.std.proofs.KnownBytes.{Keeps-refl}
@@ -29,7 +29,7 @@ or_here : (b c d : Bool) → b || c ≡ true → (c ≡ true → d ≡ true) →
 or_here true c d e f = refl
 or_here false c d e f = f e
 
--- a status is among those of two lists where it is among those of one
+-- a status is in a joined list if it is in its first part
 pub among_left : (xs ys : List ℕ) (k : ℕ) → is_among xs k ≡ true → is_among (xs ++ ys) k ≡ true
 among_left [] ys k e = absurd (cc)
 among_left (n ∷ xs) ys k e = or_here (n == k) (is_among xs k) (is_among (xs ++ ys) k) e (among_left xs ys k)
@@ -38,13 +38,13 @@ pub among_right : (xs ys : List ℕ) (k : ℕ) → is_among ys k ≡ true → is
 among_right [] ys k e = e
 among_right (n ∷ xs) ys k e = or_right (n == k) (is_among (xs ++ ys) k) (among_right xs ys k e)
 
--- those of what the shelf holds come where it is asked
+-- the statuses of the shelf are included if the command reads the shelf
 pub shelf_has : (own : List ℕ) (asks : Bool) (k : ℕ) → asks ≡ true → is_among (of_shelf true) k ≡ true → is_among (own ++ of_shelf asks) k ≡ true
 shelf_has own asks k is one = among_right own (of_shelf asks) k (ap (λ (x : Bool). is_among (of_shelf x) k) is ∙ one)
 
--- ---- a set or a script that isn't had
+-- ---- a set or a script that isn't available
 
--- a course that asks the shelf, or doesn't, and what it can answer then
+-- a course that may read the shelf, and the statuses that this allows
 pub record MayAsk (course : Course) (asks : Bool) : Type 0 where
   pub held : (k : ℕ) → asks ≡ true → is_among (of_shelf true) k ≡ true → is_among course.statuses k ≡ true
   pub memory : is_among course.statuses 10 ≡ true
@@ -61,7 +61,7 @@ load_asks = text_asks (0 ∷ 1 ∷ 5 ∷ 6 ∷ 10 ∷ []) (0 ∷ 1 ∷ 5 ∷ 6 �
 pub play_asks : MayAsk play_course true
 play_asks = record { held = shelf_has (0 ∷ 6 ∷ 10 ∷ []) true; memory = refl }
 
--- input and out aren't touched
+-- input and output aren't touched
 module _ (course : Course) (asks : Bool) (may : MayAsk course asks) (i : Intake) (o : Outlet) {s s' : Stock} (looks : Looks s s') (same : course.asks ≡ false → s' ≡ s) where
   untouched : (e : Ending) → is_among course.statuses (status_of e) ≡ true → Risen i i o o s s' e → EndsSo i i o o s s' course e
   untouched e can risen = looked_so i o course e looks same can risen
@@ -92,9 +92,9 @@ module _ (i : Intake) (s : Stock) (o o' : Outlet) where
       unshelved_so s drill_course WriteFault refl w.rose (λ f. absurd (wrong f)) (λ f. refl) (draws_none i) (writes_serve text o o' WriteFault w)
   drilled_so text e w = absurd w
 
--- ---- a stream is taken
+-- ---- a stream is read
 
--- whether or not the shelf may be asked
+-- whether or not the command reads the shelf
 module _ {asks : Bool} {i i' : Intake} (s : Stock) (draws : Draws i i') where
   pub traced_so : (text : List ℕ) (o o' : Outlet) (e : Ending) → WritesAs text o o' e → EndsSo i i' o o' s s (stream_course asks) e
   traced_so text o o' Done w =

@@ -1,4 +1,4 @@
--- From what a restore and a trace say to the outcome of `load`.
+-- The outcome of `load`, from the results of a restore and of a trace.
 use Rattle.std.proofs.Common.{◌≡◌, inl, inr, ℕ, ◌+◌, ◌≤◌, List, [], ◌∷◌, length, length-append, Option, Some, Ok, Err, arith, refl, sym, ap, ◌∙◌, subst}
 use Rattle.arrayvec.specs.ArrayVec.{ArrayVec}
 use Rattle.std.specs.Prelude.{IsSomeAnd}
@@ -69,7 +69,7 @@ module _ {S : Type 0} (kind : Family S) (level : ℕ) (lines : List ScriptLine) 
   abbrev OfLoads : Option Held → List ℕ → Outcome → Type 0
   OfLoads held bytes x = Loads kind level lines bytes held x
 
-  -- a board came back, and its trace was written, or some of it
+  -- a board was restored, and its trace was written, or some of it
   pub trace_seen : {i i' : Intake} {o o' : Outlet} {s s' : Stock} (new : Standing S) (e : Ending) → s'.held ≡ s.held → RestoreReads kind level i i' new (Ok tt)
       → WritesAs (trace_from kind (events_of lines) new.state) o o' e → Seen (OfLoads s.held) i i' o o' s s' e
   trace_seen {i} {i'} {o} {o'} {s} new e held reads w =
@@ -77,7 +77,7 @@ module _ {S : Type 0} (kind : Family S) (level : ℕ) (lines : List ScriptLine) 
       seen_written {P = OfLoads s.held} text new.taken e held
       (reads_as {M = λ n. n ≡ new.taken} {Q = λ input left. OfLoads s.held input (done text s.held new.taken)} (λ n l. l.0) (λ input left comes. Traces new.state new.taken comes.0) reads) w
 
-  -- a refusal takes the bytes up to the end of the unit at fault, or those of the stream that is no board's
+  -- a refusal reads the bytes up to the end of the invalid unit, or the whole stream
   refusal_takes : (held : Option Held) (r : Refusal) (line input left : List ℕ) → line ≡ refused_line (kind.set kind.newest) r.at r.section r.reason → IsRefused kind level input (Some left) r
       → TakesSo (λ bytes n. OfLoads held bytes (ended 1 line n)) input left
   refusal_takes held r line input left said (inl f) = record {
@@ -101,7 +101,7 @@ module _ {S : Type 0} (kind : Family S) (level : ℕ) (lines : List ScriptLine) 
       seen_refused {P = OfLoads s.held} line (length reads.bytes)
       (reads_all (λ bytes n. OfLoads s.held bytes (ended 1 line.items n)) reads (λ input left comes. refusal_takes s.held r line.items input left said comes))
 
--- ---- how many bytes the input gives
+-- ---- the number of bytes that the input gives
 
 pub gives_some : {A T S : Type 0} (kind : Family S) (view : T → A) (step : Step A) (t : T) (i i' : Intake) → StepAs view step (Ok t)
     → i'.given ≤ i.given + most_given (kind.set kind.newest) → LoadGives kind step i i'
@@ -114,6 +114,6 @@ gives_none kind Untold i = omega arith
 gives_none kind (Gives a) i = omega arith
 gives_none kind (Ends status line) i = refl
 
--- the outcome on the board of a number, where so much of the input is told
+-- the outcome for the board with this number, if the input is known
 abbrev pub loads_under : {S : Type 0} → Family S → ℕ → Option (List ℕ) → Option Held → List ScriptLine → Outcome → Type 0
 loads_under kind level input held lines x = IsSomeAnd input (λ bytes. Loads kind level lines bytes held x)

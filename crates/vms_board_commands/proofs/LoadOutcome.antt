@@ -23,7 +23,7 @@ pub record OneLoad {S : Type 0} (kind : Family S) (level : ℕ) (lines : List Sc
   pub only : (other : Outcome) → Loads kind level lines bytes held other → other ≡ outcome
 
 module _ {S : Type 0} (kind : Family S) (well : WellFormed (kind.set kind.newest)) (heads : FitsHeads (kind.set kind.newest)) (level : ℕ) (lines : List ScriptLine) (bytes : List ℕ) (held : Option Held) (ok : IsBytes bytes) where
-  -- of an input at fault
+  -- an invalid input
   faulty-is : (place : ℕ) (section : Option ℕ) (reason : Reason) (f : IsFaultAt kind level bytes place section reason) (x : Outcome) → Loads kind level lines bytes held x
       → x ≡ ended 1 (refused_line (kind.set kind.newest) place section reason) (place + f.0)
   faulty-is place section reason f x (Traces board long s) =
@@ -35,7 +35,7 @@ module _ {S : Type 0} (kind : Family S) (well : WellFormed (kind.set kind.newest
   faulty-is place section reason f x (Unfit other section' reason' g) =
       absurd (no_fault kind well heads level bytes ok other g.images place section reason g.taken f)
 
-  -- of a stream that is no board's
+  -- a stream whose state no board has
   unfit-is : (place : ℕ) (section : Option ℕ) (reason : Reason) (f : IsMisfitAt kind level bytes place section reason) (x : Outcome) → Loads kind level lines bytes held x
       → x ≡ ended 1 (refused_line (kind.set kind.newest) place section reason) place
   unfit-is place section reason f x (Traces board long s) =

@@ -1,4 +1,4 @@
--- From what the playing of lines says to how `play` ends.
+-- The ending of `play`, from the results of its lines.
 use Rattle.std.proofs.Common.{◌≡◌, ℕ, ◌<◌, ◌≤◌, ◌^◌, List, [], length, take, drop, arith, inl, inr, Option, Some, None, Result, Ok, Err, refl, sym, ap, ◌∙◌, subst}
 use Rattle.std.specs.Prelude.{IsSomeAnd}
 use Rattle.std.specs.Io.KnownBytes.{Appends}
@@ -21,7 +21,7 @@ use Rattle.vms_session.proofs.PartLemmas.{begun_whole}
 use Rattle.vms_session.specs.declared.line.PlayFault.TheVariants as faults
 use Rattle.vms_board_commands.specs.Play.{PlaysAll, ending_by}
 
--- what the playing says, of the parts and the session that the lines come to
+-- the parts and the session that the lines result in
 abbrev pub Content : List ScriptLine → State → State → (o o' : Outlet) (s s' : Stock) → Result Unit PlayFault → Type 0
 Content lines board board' o o' s s' result =
     (held : Held) (parts : List Part) (new : Session) → s.held ≡ Some held → Plays lines (session_of board held) parts new → LinesEnd parts new o o' s s' board' result

@@ -1,4 +1,4 @@
--- From what a save of a board says to how `save` ends.
+-- The ending of `save`, from the result of saving a board.
 use Rattle.std.proofs.Common.{◌≡◌, ℕ, List, Result, Ok, Err, refl, subst}
 use Rattle.std.specs.Io.KnownBytes.{Appends}
 use Rattle.dev_board.specs.State.{power_on}

@@ -19,7 +19,7 @@ use Rattle.vms_script.specs.Views.{event_lines, ReadsLines}
 use Rattle.vms_script.specs.declared.line.ScriptFault.{ScriptFault}
 
 module _ {T : Type 0} (lines : T → List ScriptLine) where
-  -- lines that are read may stand in a script
+  -- lines that are read may be in a script
   pub good_lines : (play : Option ℕ) (text : List ℕ) (t : T) → ReadsLines lines (script_read play text) (Ok t) → AreLines play (lines t)
   good_lines play text t h = by (script_read play text) refl h
     where
@@ -29,13 +29,13 @@ module _ {T : Type 0} (lines : T → List ScriptLine) where
           subst (AreLines play) (sym h) are
       by (Err fault) e h = absurd h
 
-  -- and so are those that are had of it
+  -- and so are those that are obtained from it
   pub had_lines : (play : Option ℕ) (text : List ℕ) (read : Result T ScriptFault) (r : Result T Ending) → ReadsLines lines (script_read play text) read → IfOk r (λ t. read ≡ Ok t)
       → IfOk r (λ t. AreLines play (lines t))
   had_lines play text read (Ok t) h same = good_lines play text t (subst (ReadsLines lines (script_read play text)) same h)
   had_lines play text read (Err e) h same = tt
 
--- a text that isn't fetched, or isn't read, isn't had
+-- a text that isn't fetched or isn't read isn't available
 pub unfetched : (T : Type 0) (asks : Bool) (s s' : Stock) (e : Ending) → asks ≡ true → FetchCause {T = T} s s' (Err e) → SetCause asks s s' e
 unfetched T asks s s' ShelfFault is c = (is, c)
 unfetched T asks s s' (NotThere line) is c = is
@@ -48,7 +48,7 @@ unread T asks s s' (BadText line) c = c
 unread T asks s s' NoMemory c = tt
 unread T asks s s' e c = absurd c
 
--- what is read of a text that was fetched, and the end where it wasn't
+-- the lines of a text that was fetched, or the end if it wasn't
 pub read_asks : {T : Type 0} {s s' : Stock} (r : Result T Ending) → Looks s s' → ReadCause true r → Asks (HadCause true) s s' r
 read_asks (Ok v) looks h = record { looks = looks; cause = tt }
 read_asks {T} {s} {s'} (Err e) looks h = record { looks = looks; cause = unread T true s s' e h }
@@ -57,7 +57,7 @@ pub unfetched_asks : {T U : Type 0} {s s' : Stock} {e : Ending} (r : Result U En
 unfetched_asks (Ok v) h a = absurd h
 unfetched_asks {T} {U} {s} {s'} {e} (Err x) h a = rw h (record { looks = a.looks; cause = unfetched T true s s' e refl a.cause })
 
--- events that are had may happen
+-- events that are obtained may be applied
 pub had_events : (text : List ℕ) (read : Result (Vec Event Global) ScriptFault) (r : Result (Vec Event Global) Ending) → ReadsLines (λ (v : Vec Event Global). event_lines v.items) (script_read None text) read
     → IfOk r (λ v. read ≡ Ok v) → IfOk r (λ v. AreEvents v.items)
 had_events text read (Ok v) h same = are_events None v.items (had_lines (λ (v : Vec Event Global). event_lines v.items) None text read (Ok v) h same)

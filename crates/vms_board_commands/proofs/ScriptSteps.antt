@@ -1,5 +1,5 @@
--- The step that gives a script: it is told where the shelf is, never ends by the status 0, and gives what is there, of lines that
--- may stand in a script.
+-- The step that gives a script. It is known if the shelf is, never ends with the status 0, and
+-- gives lines that may be in a script.
 use Rattle.std.proofs.Common.{◌≡◌, ℕ, ◌≤◌, List, length, Option, Some, None, Ok, Err, refl, ap, ◌∙◌, arith}
 use Rattle.vms_board.specs.Family.{Family}
 use Rattle.vms_board.specs.Saving.{saved_stream}
@@ -29,7 +29,7 @@ pub sound_saved : {S : Type 0} (f : Family S) (number set : ℕ) (held : Option 
 sound_saved f number set held name =
     sound_next held (scripted None held name) (λ lines. Gives (saved_stream f set (after_events f (events_of lines) (f.power_on number)))) (sound_script None held name) (λ lines. tt)
 
--- lines that the step gives may stand in a script, of a session on a board of a level where one is named
+-- lines that the step gives may be in a script, for a session on a board of this level
 abbrev pub AreStepLines : Option ℕ → Step (List ScriptLine) → Type 0
 AreStepLines play Untold = Unit {0}
 AreStepLines play (Gives lines) = AreLines play lines

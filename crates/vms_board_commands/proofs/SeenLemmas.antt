@@ -1,4 +1,4 @@
--- What is seen of an input, from the calls that read it to how a command ends.
+-- What can be said of an input: from the calls that read it to the ending of a command.
 use Rattle.std.proofs.Common.{◌≡◌, ℕ, ◌+◌, ◌≤◌, Bool, false, List, [], ◌∷◌, ◌++◌, length, drop, drop_at, Option, Some, None, Ok, Err, IfSome, refl, sym, ap, ◌∙◌, subst, arith, length-append, length-drop}
 use Rattle.std.specs.Io.KnownBytes.{Consumes}
 use Rattle.std.specs.Prelude.{IsSomeAnd}
@@ -27,7 +27,7 @@ use Rattle.vms_commands.specs.declared.ending.Ending.{Ending}
 use Rattle.vms_commands.specs.declared.ending.Ending.TheVariants.{Refused, WouldLose, BadText, ShelfFault, NotThere, TooLarge, NoMemory}
 use Rattle.vms_board_commands.specs.Seen.{IsGiven, Seen, SeenAs, Sees, WithGiven}
 
--- ---- what is taken
+-- ---- what is read
 
 pub takes_bytes : {i i' : Intake} {bytes : List ℕ} (n : ℕ) → Takes i i' bytes → length bytes ≡ n → TakesBytes i i' n
 takes_bytes {i} {i'} {bytes} n t all = record { left = rest i.left i'.left t.told; given = t.given ∙ ap (λ (k : ℕ). capped (i.given + k)) all }
@@ -37,12 +37,12 @@ takes_bytes {i} {i'} {bytes} n t all = record { left = rest i.left i'.left t.tol
     rest (Some input) None took = absurd took
     rest (Some input) (Some more) took = ap (λ (l : List ℕ). Some l) (sym (ap (drop n) took ∙ drop_at bytes more n all))
 
--- what is said to take so many bytes, and leaves what is left, takes those that were taken
+-- if a number of bytes is read and this is left, they are the bytes that were read
 same_length : (bytes more : List ℕ) (n : ℕ) → n ≤ length (bytes ++ more) → Some more ≡ Some (drop n (bytes ++ more)) → n ≡ length bytes
 same_length bytes more n within left =
     omega (arith, within, ap length (same_Some more (drop n (bytes ++ more)) left), length-append bytes more, length-drop n (bytes ++ more))
 
--- so many bytes are taken of an input by what is said, and this is left
+-- so many bytes are read from an input, and this is left
 pub record TakesSo (Says : List ℕ → ℕ → Type 0) (input left : List ℕ) : Type 0 where
   pub taken : ℕ
   pub says : Says input taken
@@ -66,7 +66,7 @@ given_so m Untold t h = tt
 given_so m (Gives a) t h = h
 given_so m (Ends status line) t h = absurd h
 
--- what isn't had is seen of nothing
+-- nothing is seen of what wasn't fetched
 pub set_other : (asks : Bool) (s s' : Stock) (e : Ending) → SetCause asks s s' e → is_among (0 ∷ 1 ∷ 6 ∷ 11 ∷ []) (status_of e) ≡ false
 set_other asks s s' (BadText line) c = refl
 set_other asks s s' ShelfFault c = refl
@@ -109,7 +109,7 @@ module _ {i i' : Intake} {o o' : Outlet} {s s' : Stock} where
   pub seen_refused : {P : List ℕ → Outcome → Type 0} (line : ArrayVec ℕ) (taken : ℕ) → Sees P i i' (ended 1 line.items taken) → Seen P i i' o o' s s' (Refused line)
   seen_refused {P} line taken sees = record { outcome = ended 1 line.items taken; sees = sees; ends = ended-as P 1 line.items taken sees }
 
-  -- a refusal of a load takes the bytes up to the end of the unit at fault
+  -- a refused load reads the bytes up to the end of the invalid unit
   pub load_seen : {P : List ℕ → Outcome → Type 0} (set : Set) (names : List (List ℕ)) (images : List Image) (taken : ℕ) (r : Refusal) (line : ArrayVec ℕ) → LoadReads i i' set names images taken (Err (loads.Refused r))
       → ((input : List ℕ) (size : ℕ) → Fault set names input r.at r.section r.reason size → P input (ended 1 line.items (r.at + size))) → Seen P i i' o o' s s' (Refused line)
   load_seen {P} set names images taken r line reads is =
@@ -125,9 +125,9 @@ module _ {i i' : Intake} {o o' : Outlet} {s s' : Stock} where
   pub seen_lost : {P : List ℕ → Outcome → Type 0} (line : ArrayVec ℕ) (taken : ℕ) → Sees P i i' (ended 11 line.items taken) → Seen P i i' o o' s s' (WouldLose line)
   seen_lost {P} line taken sees = record { outcome = ended 11 line.items taken; sees = sees; ends = ended-as P 11 line.items taken sees }
 
-  -- ---- the outcome of what is told
+  -- ---- the outcome of a known input
 
-  -- where an input has one outcome, it is the one that is seen
+  -- if an input has one outcome, it is the one that is seen
   pub content_seen : {P : List ℕ → Outcome → Type 0} (e : Ending) (x : Outcome) → ((bytes : List ℕ) (y : Outcome) → IsBytes bytes → P bytes x → P bytes y → y ≡ x) → IfSome i.left IsBytes
       → Seen P i i' o o' s s' e → IsSomeAnd i.left (λ bytes. P bytes x) → EndsAs i i' o o' s s' e x
   content_seen {P} e x one octets v has =

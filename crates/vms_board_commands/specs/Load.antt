@@ -1,4 +1,4 @@
--- The command `load`: its outcome, and what is seen of its input.
+-- The outcome of the command `load`, and what can be said of its input.
 use Rattle.std.specs.Prelude.{◌≡◌, ℕ, ◌+◌, ◌≤◌, List, [], ◌∷◌, Option, None, IsSomeAnd}
 use Rattle.vms_board.specs.Family.{Family}
 use Rattle.vms_board.specs.Restoring.{Back, IsMisfitAt, Restores}
@@ -19,8 +19,9 @@ use Rattle.vms_board_commands.specs.Runs.{RunsBehind, Task}
 use Rattle.vms_board_commands.specs.Scripts.{scripted}
 use Rattle.vms_board_commands.specs.Seen.{WithGiven}
 
--- the trace of the script's events on the board that the input restores; or where and why the input is refused, up to the end
--- of the unit at fault, or because the stream is no board's; the shelf tells the same as before
+-- The outcome is the trace of the script's events on the board that the input restores. If the
+-- input is refused, it is the refusal's line, and the bytes up to the end of the invalid unit are
+-- read; or those of the whole stream, if no board has its state. The shelf is unchanged.
 pub data Loads {S : Type 0} (f : Family S) (number : ℕ) (lines : List ScriptLine) (input : List ℕ) (held : Option Held) : Outcome → Type 0 where
   Traces : (board : S) (taken : ℕ) → Restores f number input (Back board taken)
       → Loads f number lines input held (done (trace_of (answers_to f (events_of lines) board)) held taken)
@@ -30,21 +31,23 @@ pub data Loads {S : Type 0} (f : Family S) (number : ℕ) (lines : List ScriptLi
   Unfit : (place : ℕ) (section : Option ℕ) (reason : Reason) → IsMisfitAt f number input place section reason
       → Loads f number lines input held (ended 1 (refused_line (f.set f.newest) place section reason) place)
 
--- by the step that gives the script: the outcome with it, or the end of that step, before anything of the input is taken
+-- The outcome with the script that `step` gives, if the input is known; or the end of that step,
+-- before the input is read.
 abbrev pub LoadsBy : {S : Type 0} → Family S → ℕ → Step (List ScriptLine) → Option (List ℕ) → Option Held → Outcome → Type 0
 LoadsBy f number step input held o =
     HasBy (λ lines x. IsSomeAnd input (λ bytes. Loads f number lines bytes held x)) step o
 
--- how many bytes the input gives at most: as a stream of the newest set may have, and none where there is no script
+-- The most bytes that are read from the input: as many as a stream of the newest set may have, and
+-- none without a script.
 abbrev pub LoadGives : {A S : Type 0} → Family S → Step A → Intake → Intake → Type 0
 LoadGives f (Ends status line) input input' = input' ≡ input
 LoadGives f step input input' = input'.given ≤ input.given + most_given (f.set f.newest)
 
--- the outcome of these bytes with the script that the step gave, or may have given where it isn't told
+-- The outcome of these bytes, with the script that `step` gave, or with any if that is unknown.
 abbrev pub LoadsWith : {S : Type 0} → Family S → ℕ → Step (List ScriptLine) → Option Held → List ℕ → Outcome → Type 0
 LoadsWith f number step held = WithGiven step (λ lines bytes o. Loads f number lines bytes held o)
 
--- of the board of a number, with the script under a name
+-- The task of `load` for the board with this number and the script `name`.
 abbrev pub load_task : {S : Type 0} → Family S → ℕ → List ℕ → Task
 load_task f number name = record {
   has = λ left held o. LoadsBy f number (scripted None held name) left held o;
@@ -53,7 +56,7 @@ load_task f number name = record {
   course = load_course;
 }
 
--- once the script is there
+-- The same, once the script has been read.
 pub record LoadsStream {S : Type 0} (f : Family S) (number : ℕ) (lines : List ScriptLine) (i i' : Intake) (o o' : Outlet) (e : Ending) : Type 0 where
   pub runs : RunsBehind (λ left held x. IsSomeAnd left (λ bytes. Loads f number lines bytes held x)) (λ held bytes x. Loads f number lines bytes held x) stream_course i i' o o' e
   pub given : i'.given ≤ i.given + most_given (f.set f.newest)

@@ -1,4 +1,4 @@
--- The command `play`: its outcome.
+-- The outcome of the command `play`.
 use Rattle.std.specs.Prelude.{◌≡◌, ℕ, List, [], Option, Some, IsSomeAnd}
 use Rattle.vms_io.specs.Shelves.{Held}
 use Rattle.vms_commands.specs.Outcomes.{Outcome, Part}
@@ -14,26 +14,26 @@ use Rattle.vms_board_commands.specs.Causes.{play_course}
 use Rattle.vms_board_commands.specs.Runs.{Task, unread_task}
 use Rattle.vms_board_commands.specs.Scripts.{scripted}
 
--- all lines of a session are played, from power on and what the shelf holds: one part for each
+-- All lines of a session are played, from power on and the files held. Each writes one part.
 pub record PlaysAll (level : ℕ) (lines : List ScriptLine) (held : Held) (o : Outcome) : Type 0 where
   pub parts : List Part
   pub new : Session
   pub plays : Plays lines (begun level held) parts new
   pub outcome : o ≡ record { status = 0; parts = parts; note = []; taken = 0 }
 
--- by the step that gives the script: the outcome with it, where the shelf is told, or the end of that step
+-- The outcome with the script that `step` gives, if the shelf is known; or the end of that step.
 abbrev pub PlaysBy : ℕ → Step (List ScriptLine) → Option Held → Outcome → Type 0
 PlaysBy level step held o = HasBy (λ lines x. IsSomeAnd held (λ map. PlaysAll level lines map x)) step o
 
--- of the script under a name
+-- The task of `play` with the script `name`.
 abbrev pub play_task : ℕ → List ℕ → Task
 play_task level name = unread_task (λ held o. PlaysBy level (scripted (Some level) held name) held o) play_course
 
--- of the lines of a script
+-- The task of `play` once the script has been read.
 abbrev pub lines_task : ℕ → List ScriptLine → Task
 lines_task level lines = unread_task (λ held o. IsSomeAnd held (λ map. PlaysAll level lines map o)) play_course
 
--- how a session that stopped ends
+-- The ending of a session that stopped.
 abbrev pub ending_by : PlayFault → Ending
 ending_by faults.WriteFault = endings.WriteFault
 ending_by faults.ShelfFault = endings.ShelfFault

@@ -1,6 +1,6 @@
-// What the words of a command ask for.
+// The arguments of a command, after they were read.
 
-/// What `save` is asked for: a board by its number, a set of its kind, and a script on the shelf.
+/// The arguments of `save`: a board, a set of its kind, and a script in the current folder.
 #[derive(Clone, Copy)]
 pub struct Saving<'a> {
     /// The board's number.
@@ -11,7 +11,7 @@ pub struct Saving<'a> {
     pub script: &'a str,
 }
 
-/// What `load` and `play` are asked for: a board by its number, and a script on the shelf.
+/// The arguments of `load` and `play`: a board, and a script in the current folder.
 #[derive(Clone, Copy)]
 pub struct OnBoard<'a> {
     /// The board's number.

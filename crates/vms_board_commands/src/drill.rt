@@ -1,4 +1,4 @@
-// The command `drill`: what events that a seed chooses come to, with saves between them.
+// The command `drill`: events that a seed selects, with saves between them.
 ghost use Rattle.std.specs.Prelude.{◌≡◌, IfOk, string_bytes};
 ghost use Rattle.dev_base.specs.Levels.{IsLevel};
 ghost use Rattle.vms_drill.specs.Views.{summary_view};
@@ -13,8 +13,19 @@ use vms_commands::{Ending, write_text};
 use vms_drill::{Summary, drill};
 use vms_io::{NoMemory, Sink};
 
-/// Writes what so many events that a seed chooses come to, on a board of a level at power on that is saved and
-/// restored after every thousand of them.
+/// Writes the result of `count` events that `seed` selects to `out`, as one line.
+///
+/// They are applied to a board of the level `level` at power on, which is saved and restored after
+/// every thousand of them.
+///
+/// # Errors
+///
+/// - [`Ending::WriteFault`]: `out` failed. A prefix of the line has been written.
+/// - [`Ending::NoMemory`]: out of memory. Nothing has been written.
+///
+/// # Requires
+///
+/// `level` is from 1 to 4.
 #[inline(never)]
 pub fn drill_board<O: Sink>(
     alloc: Global,
@@ -31,7 +42,7 @@ pub fn drill_board<O: Sink>(
     write_text(line.as_bytes(), out)
 }
 
-// What a drill comes to, as a line.
+// Returns the line of a drill. Fails only if memory runs out.
 fn drilled_line(alloc: Global, level: u8, seed: u64, count: u32) -> Result<String, NoMemory>
     requires { IsLevel level }
     ensures { IfOk result (λ line. string_bytes line ≡ drill_line level seed count) }
@@ -40,7 +51,7 @@ fn drilled_line(alloc: Global, level: u8, seed: u64, count: u32) -> Result<Strin
     summary_line(alloc, level, seed, &drilled.summary)
 }
 
-// The line of a drill.
+// Returns the line of a drill's summary. Fails only if memory runs out.
 fn summary_line(alloc: Global, level: u8, seed: u64, summary: &Summary) -> Result<String, NoMemory>
     requires { IsLevel level }
     ensures { let s = summary_view summary.now in

@@ -1,5 +1,7 @@
-//! The commands of boards: `save`, `load`, `drill` and `play`. Each has its outcome, what it can answer and its code
-//! here; the top call adds its words.
+//! The commands of boards: `save`, `load`, `drill` and `play`.
+//!
+//! This crate has the outcome, the possible endings and the code of each. The top call reads their
+//! arguments.
 #![tactic(auto)]
 
 mod asked;

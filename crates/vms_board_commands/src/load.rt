@@ -1,4 +1,4 @@
-// The command `load`: what goes on, by a script, from the board that a stream restores.
+// The command `load`: a script's events on the board that a stream restores.
 ghost use Rattle.dev_board.specs.Laws.{AreEvents};
 ghost use Rattle.vms_board.specs.Family.{IsNumber};
 ghost use Rattle.vms_io.specs.Told.{intake, outlet};
@@ -17,9 +17,24 @@ use vms_commands::{Ending, refused_line};
 use vms_io::{Shelf, Sink, Source};
 use vms_session::trace;
 
-/// Restores a board of a kind from the input's stream, and writes the trace of a script's events on it.
+/// Restores a board from the stream in `input`, and writes the trace of a script's events on it to
+/// `out`.
 ///
-/// The script is there, and all memory is taken, before anything of the input is.
+/// The script is fetched and all memory is allocated before the first read of the input.
+///
+/// # Errors
+///
+/// - [`Ending::Refused`]: the input is refused. Nothing has been written.
+/// - [`Ending::ReadFault`]: `input` failed. Nothing has been written.
+/// - [`Ending::WriteFault`]: `out` failed. A prefix of the trace has been written.
+/// - [`Ending::BadText`]: the script is refused. The input hasn't been read.
+/// - [`Ending::ShelfFault`], [`Ending::NotThere`] or [`Ending::TooLarge`]: the script can't be
+///   fetched. The input hasn't been read.
+/// - [`Ending::NoMemory`]: out of memory. The input hasn't been read.
+///
+/// # Requires
+///
+/// `asked.number` is the number of a board of this kind.
 pub fn load_board<M: Machine, I: Source, O: Sink, H: Shelf>(
     alloc: Global,
     asked: OnBoard,
@@ -36,7 +51,7 @@ pub fn load_board<M: Machine, I: Source, O: Sink, H: Shelf>(
     load_events::<M, I, O>(alloc, asked.number, &events, input, out)
 }
 
-// Once the script is there.
+// Continues once the script has been read.
 fn load_events<M: Machine, I: Source, O: Sink>(
     alloc: Global,
     number: u8,
@@ -54,7 +69,7 @@ fn load_events<M: Machine, I: Source, O: Sink>(
     load_on(&mut board, events, input, out)
 }
 
-// Once a board and its set are there.
+// Continues once a board has been made.
 fn load_on<M: Machine, I: Source, O: Sink>(
     board: &mut MachineBoard<M>,
     events: &[Event],
@@ -75,7 +90,7 @@ fn load_on<M: Machine, I: Source, O: Sink>(
     }
 }
 
-// Once the board is restored.
+// Continues once the board has been restored.
 fn go_on<M: Machine, O: Sink>(
     board: &mut MachineBoard<M>,
     events: &[Event],

@@ -17,7 +17,20 @@ use vms_io::{Shelf, Sink};
 use vms_script::Line;
 use vms_session::{PlayFault, play};
 
-/// Plays a session on a board at power on and the shelf, and writes its trace.
+/// Plays a session on a board at power on and the files in `shelf`, and writes its trace to `out`.
+///
+/// # Errors
+///
+/// - [`Ending::BadText`]: the script is refused. Nothing has been written.
+/// - [`Ending::NotThere`] or [`Ending::TooLarge`]: the script can't be fetched. Nothing has been
+///   written.
+/// - [`Ending::WriteFault`]: `out` failed, possibly after some lines were played.
+/// - [`Ending::ShelfFault`]: `shelf` failed, possibly after some lines were played.
+/// - [`Ending::NoMemory`]: out of memory, possibly after some lines were played.
+///
+/// # Requires
+///
+/// `asked.number` is a level from 1 to 4.
 #[inline(never)]
 pub fn play_board<O: Sink, H: Shelf>(
     alloc: Global,
@@ -34,7 +47,7 @@ pub fn play_board<O: Sink, H: Shelf>(
     play_lines(alloc, asked.number, &lines, out, shelf)
 }
 
-// Once the script is there.
+// Continues once the script has been read.
 fn play_lines<O: Sink, H: Shelf>(
     alloc: Global,
     level: u8,
@@ -52,7 +65,7 @@ fn play_lines<O: Sink, H: Shelf>(
     play(alloc, lines, &mut board, out, shelf).map_err(fault_ending)
 }
 
-// How a session that stopped ends.
+// Returns how the command ends if a session stopped with `fault`.
 fn fault_ending(fault: PlayFault) -> Ending
     ensures { result ≡ ending_by fault }
 {

@@ -23,8 +23,20 @@ use vms_commands::Ending;
 use vms_io::{Shelf, Sink};
 use vms_session::run_events;
 
-/// Writes the stream of a board of a kind, at power on, after the events of a script, under a set from the
-/// board's number to the newest.
+/// Writes the stream of a board to `out`, after the events of a script from power on.
+///
+/// # Errors
+///
+/// - [`Ending::BadText`]: the script is refused. Nothing has been written.
+/// - [`Ending::ShelfFault`], [`Ending::NotThere`] or [`Ending::TooLarge`]: the script can't be
+///   fetched. Nothing has been written.
+/// - [`Ending::WriteFault`]: `out` failed. A prefix of the stream has been written.
+/// - [`Ending::NoMemory`]: out of memory. Nothing has been written.
+///
+/// # Requires
+///
+/// `asked.number` is the number of a board of this kind, and `asked.set` is a number from it to the
+/// newest.
 pub fn save_board<M: Machine, O: Sink, H: Shelf>(
     alloc: Global,
     asked: Saving,
@@ -42,7 +54,7 @@ pub fn save_board<M: Machine, O: Sink, H: Shelf>(
     save_after::<M, O>(alloc, asked.number, asked.set, &events, out)
 }
 
-// Once the script is there.
+// Continues once the script has been read.
 fn save_after<M: Machine, O: Sink>(
     alloc: Global,
     number: u8,
@@ -64,7 +76,7 @@ fn save_after<M: Machine, O: Sink>(
     board.save(alloc, set, out).map_err(fault_ending)
 }
 
-// How a save that failed ends.
+// Returns how the command ends if a save failed with `fault`.
 fn fault_ending(fault: SaveFault) -> Ending
     ensures { result ≡ ending_by fault }
 {

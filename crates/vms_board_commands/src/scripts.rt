@@ -1,4 +1,4 @@
-// Scripts that the words name: fetched from the shelf, and then read.
+// The scripts that arguments name: they are fetched from the shelf and read.
 ghost use Rattle.std.specs.Prelude.{◌≡◌, true, List, None, Ok, Some, IfOk, string_bytes};
 ghost use Rattle.dev_board.specs.Laws.{AreEvents};
 ghost use Rattle.vms_io.specs.Told.{stock};
@@ -15,10 +15,16 @@ use vms_commands::{Ending, fetch};
 use vms_io::{NoMemory, Shelf};
 use vms_script::{Line, ScriptFault, ScriptReason, read_events, read_script};
 
-/// The greatest script, in bytes.
+/// The length of the longest script, in bytes.
 pub const LONGEST_SCRIPT: u32 = 4_194_304;
 
-/// The lines of the session's script under a name, on a board of a level; or how the command ends.
+/// Returns the lines of the session's script `name`, for a board of the level `level`.
+///
+/// # Errors
+///
+/// - [`Ending::BadText`]: the script is refused.
+/// - [`Ending::ShelfFault`], [`Ending::NotThere`] or [`Ending::TooLarge`]: it can't be fetched.
+/// - [`Ending::NoMemory`]: out of memory.
 pub(crate) fn session_of<H: Shelf>(
     alloc: Global,
     name: &str,
@@ -34,7 +40,13 @@ pub(crate) fn session_of<H: Shelf>(
     had(alloc, read_script(alloc, &text, Some(level)))
 }
 
-/// The events of the script under a name; or how the command ends.
+/// Returns the events of the script `name`.
+///
+/// # Errors
+///
+/// - [`Ending::BadText`]: the script is refused.
+/// - [`Ending::ShelfFault`], [`Ending::NotThere`] or [`Ending::TooLarge`]: it can't be fetched.
+/// - [`Ending::NoMemory`]: out of memory.
 pub(crate) fn events_of<H: Shelf>(
     alloc: Global,
     name: &str,
@@ -49,7 +61,7 @@ pub(crate) fn events_of<H: Shelf>(
     had(alloc, read_events(alloc, &text))
 }
 
-// What was read of a script, or how the command ends.
+// Returns what was read from a script, or how the command ends.
 fn had<T: Drop>(alloc: Global, read: Result<T, ScriptFault>) -> Result<T, Ending>
     ensures read { (lines : T → List ScriptLine) (reading : Reading) → ReadsLines lines reading read
         → StepAs lines (said_lines reading) result }
@@ -65,7 +77,7 @@ fn had<T: Drop>(alloc: Global, read: Result<T, ScriptFault>) -> Result<T, Ending
     }
 }
 
-// The line of a script that is refused.
+// Returns the line that reports a refused script. Fails only if memory runs out.
 fn script_line(alloc: Global, line: u32, reason: ScriptReason) -> Result<String, NoMemory>
     ensures { IfOk result (λ text. string_bytes text ≡ script_line line reason) }
 {

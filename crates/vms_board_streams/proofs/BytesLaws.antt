@@ -1,4 +1,4 @@
--- What bytes are to a restore is one thing.
+-- A restore of bytes has exactly one outcome.
 use Rattle.std.proofs.Common.{◌≡◌, ◌⊎◌, inl, inr, ℕ, List, [], ◌∷◌, Option, Result, Ok, Err, refl, sym, ap, ◌∙◌}
 use Rattle.dev_board.specs.declared.misfit.Misfit.{Misfit}
 use Rattle.vms_spec.specs.Heads.{FitsHeads}
@@ -22,7 +22,7 @@ pub never_each : {S : Type 0} (m : S) (n : Misfit) (r : Result S Misfit) → r �
 never_each m n r e f = cc
 
 module _ {S : Type 0} (f : Family S) (well : WellFormed (f.set f.newest)) (heads : FitsHeads (f.set f.newest)) where
-  -- bytes on which a restore comes to something
+  -- the outcome of restoring the bytes
   abbrev pub Comes : ℕ → List ℕ → Type 0
   Comes number bytes = (restore : Restore S) × Restores f number bytes restore
 

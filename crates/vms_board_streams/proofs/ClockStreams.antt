@@ -1,4 +1,4 @@
--- What laws of streams ask of the family of the boards clk-1 and clk-2.
+-- The properties that the laws of streams need of the boards clk-1 and clk-2.
 use Rattle.std.proofs.Common.{arith}
 use Rattle.dev_clock.proofs.AlikeLaws.{alike_stays}
 use Rattle.dev_clock.specs.Sound.{IsSound, Alike}

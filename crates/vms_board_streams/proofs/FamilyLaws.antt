@@ -1,4 +1,4 @@
--- The stream that is written of a board of a family restores one that is like it.
+-- The stream of a board of a family restores a board like it.
 use Rattle.std.proofs.Common.{◌≡◌, inl, inr, ℕ, zero, suc, ◌-◌, ◌≤◌, ◌||◌, Bool, true, false, List, [], ◌∷◌, length, Option, Some, None, IfSome, Ok, ℤ, arith, refl, sym, ap, subst, ◌∙◌, append-nil}
 use Rattle.std.specs.List.{slice_get}
 use Rattle.std.specs.Str.{bytes_eq}
@@ -30,7 +30,7 @@ same_bytes name = (bytes_eq-Decides name name).1 refl
 named-alone : (name : List ℕ) → is_one_of (name ∷ []) name ≡ true
 named-alone name = ap (λ (b : Bool). b || false) (same_bytes name)
 
--- a stream is taken under other names too, where they have its machine
+-- a stream is read under other names too, if they include its machine
 configured_under : (names others : List (List ℕ)) (machine : Option (List ℕ)) (bytes : List ℕ) → IfSome machine (λ name. is_one_of others name ≡ true)
     → IsConfiguration names machine bytes → IsConfiguration others machine bytes
 configured_under names others None bytes h c = c
@@ -67,7 +67,7 @@ alone : (set : Set) (names : List (List ℕ)) (input : List ℕ) (taken : ℕ) (
 alone set names input taken name images t = takes_under set names (name ∷ []) input taken (Some name) images (named-alone name) t
 
 module _ {S : Type 0} (f : Family S) (Alike : S → S → Type 0) {IsSound : S → Type 0} {AreTold : List (List ℤ) → Type 0} (stands : Stands f IsSound AreTold) (st : StreamsStand f Alike IsSound) where
-  -- ---- what is written of a board
+  -- ---- the stream of a board
 
   module _ (set : ℕ) (m : S) (text : Option (List ℕ)) (short : HasRoomFor text) (s : IsSound m) (may : MaySaveIn f m set) where
     abbrev stream : List ℕ
@@ -131,7 +131,7 @@ module _ {S : Type 0} (f : Family S) (Alike : S → S → Type 0) {IsSound : S �
     never-refused bytes place section reason (inr misfit) =
         never_each _ misfit.misfit _ (same-restore misfit.images place misfit.taken) misfit.fails
 
-  -- ---- what a board saves, with its own description
+  -- ---- the stream of a board, with its own description
 
   own : (set : ℕ) (m : S) → saved_stream f set m ≡ stream_with f set m (Some (saved_text f set m))
   unfolding saved_stream stream_with

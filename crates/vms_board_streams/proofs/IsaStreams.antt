@@ -1,4 +1,4 @@
--- What laws of streams ask of the family of the boards isa-1 to isa-4.
+-- The properties that the laws of streams need of the boards isa-1 to isa-4.
 use Rattle.std.proofs.Common.{◌≡◌, ℕ, ◌≤◌, Bool, true, false, nat_lt, arith, refl, sym, subst}
 use Rattle.std.proofs.lemmas.Bool.{ltb-true, ltb-false}
 use Rattle.dev_base.specs.declared.limits.TheConstants.{NEWEST}

@@ -1,4 +1,4 @@
--- The text that describes the devices of a set is bytes: names are, and the rest is written in ASCII.
+-- The description of a set's devices is bytes: names are, and the rest is ASCII.
 use Rattle.std.proofs.Common.{◌≡◌, ℕ, zero, suc, ◌+◌, ◌<◌, ◌&&◌, List, [], ◌∷◌, ◌++◌, length, map, get_or, ℤ, Bool, true, false, nat_lt, refl, sym, subst, arith, Option, Some, None, is_some, decimal, codes}
 use Rattle.std.proofs.lemmas.Bool.{and_parts}
 use Rattle.std.proofs.lemmas.Option.{get_or_from_slice_get}
@@ -101,7 +101,7 @@ shapes-spelled structs named (suc k) j n at =
     one_more (λ (s : Shape). (n : List ℤ) (at : ℕ) → Each HasBytes (s.elements n at)) no_shape (λ n at. tt) ss (shapes-spelled structs named k) (shape ss d)
     (λ n at. desc-spelled ss (shapes-spelled structs named k) d d.version n at (named k)) j n at
 
--- ---- what is listed of them
+-- ---- their entries
 
 entries_append : (xs ys : List Entry) → AreSpelled Byte xs → AreSpelled Byte ys → AreSpelled Byte (xs ++ ys)
 entries_append [] ys p q = q
@@ -130,7 +130,7 @@ elements-listed sent (x ∷ xs) p =
 
 -- ---- sets
 
--- a description, whose name and whose fields' names are bytes
+-- a description whose name and fields' names are bytes
 record IsTold (d : Desc) : Type 0 where
   name : AllByRecursion Byte d.name
   fields : AreNamed d.fields

@@ -6,10 +6,10 @@ use Rattle.vms_desc.specs.Described.{described}
 use Rattle.vms_board_streams.specs.declared.sets.KeptSet.{KeptSet}
 use Rattle.vms_board_streams.specs.declared.sets.KeptSets.{KeptSets}
 
--- a set is that of its number in a family
+-- The set is the one with its number in the family `f`.
 abbrev pub IsOf : {S : Type 0} → Family S → KeptSet → Type 0
 IsOf f kept = described kept.set ≡ f.set kept.number
 
--- each is
+-- All kept sets are those with their numbers in the family `f`.
 abbrev pub AreOf : {S : Type 0} → Family S → KeptSets → Type 0
 AreOf f kept = All (IsOf f) kept.sets.items

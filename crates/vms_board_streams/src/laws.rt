@@ -1,69 +1,81 @@
-// Laws of streams of boards, each in a clause of a function that does nothing.
+// Laws of the streams of boards. Each is a clause of a function with an empty body.
 ghost use Rattle.dev_board.specs.Sound.{IsSound, Alike};
 ghost use Rattle.dev_clock.specs.Sound.{IsSound as IsSoundClock, Alike as AlikeClocks};
 ghost use Rattle.vms_board.specs.Clock.{clock};
 ghost use Rattle.vms_board.specs.Isa.{isa};
 ghost use Rattle.vms_board_streams.specs.Streams.{StreamsComeBack, BoardsGoOn, BytesAreOne, StreamsAreShort, StreamsAreBytes};
 
-/// The stream that is written of a sound board under any set from its level on restores a board that is like it, and the
-/// restore takes all of it: whatever a restore makes of these bytes is that board, and none is a refusal.
+/// States that the stream of a sound board restores a board like it, for each set from its level
+/// on.
+///
+/// The restore reads the whole stream. Whatever a restore of these bytes results in is that board,
+/// and none is refused.
 #[tactic(auto, using(crate::proofs::IsaLaws::streams_come_back))]
 pub fn stream_law()
     ensures { StreamsComeBack isa Alike IsSound }
 {}
 
-/// The stream that is written of a sound board has less than 65,536 bytes.
+/// States that the stream of a sound board is shorter than `STREAM_ROOM`, 65,536 bytes.
 #[tactic(auto, using(crate::proofs::IsaBytes::streams_are_short))]
 pub fn short_law()
     ensures { StreamsAreShort isa IsSound }
 {}
 
-/// The stream that is written of a sound board is bytes: each number of it is below 256.
+/// States that each number in the stream of a sound board is a byte, less than 256.
 #[tactic(auto, using(crate::proofs::IsaBytes::streams_are_bytes))]
 pub fn octets_law()
     ensures { StreamsAreBytes isa IsSound }
 {}
 
-/// On the stream that is written of a sound board under any set from its level on, with any description text that a stream
-/// may have or none, every list of events leaves the trace of that board itself going on.
+/// States that a restored board continues as the saved one does.
+///
+/// The stream of a sound board under any set from its level on may have any description that fits,
+/// or none. On the board that it restores, each list of events leaves the same trace as on the
+/// saved board.
 #[tactic(auto, using(crate::proofs::IsaLaws::boards_go_on))]
 pub fn continuation_law()
     ensures { BoardsGoOn isa Alike IsSound }
 {}
 
-/// Bytes are one thing to a restore: the board that their stream restores, or one refusal.
+/// States that restoring a [`Board`](vms_board::Board) from bytes has exactly one outcome.
+///
+/// It is the board that their stream restores, or one refusal.
 #[tactic(auto, using(crate::proofs::IsaLaws::bytes_are_one))]
 pub fn bytes_law()
     ensures { BytesAreOne isa }
 {}
 
-/// The stream that is written of a sound clock board under any clock set from its version on restores a board that is like
-/// it, and nothing else.
+/// States that the stream of a sound clock board restores a board like it, and nothing else.
+///
+/// This holds for each clock set from its version on.
 #[tactic(auto, using(crate::proofs::ClockLaws::streams_come_back))]
 pub fn clock_stream_law()
     ensures { StreamsComeBack clock AlikeClocks IsSoundClock }
 {}
 
-/// The stream that is written of a sound clock board has less than 65,536 bytes.
+/// States that the stream of a sound clock board is shorter than `STREAM_ROOM`, 65,536 bytes.
 #[tactic(auto, using(crate::proofs::ClockBytes::streams_are_short))]
 pub fn clock_short_law()
     ensures { StreamsAreShort clock IsSoundClock }
 {}
 
-/// The stream that is written of a sound clock board is bytes.
+/// States that each number in the stream of a sound clock board is a byte.
 #[tactic(auto, using(crate::proofs::ClockBytes::streams_are_bytes))]
 pub fn clock_octets_law()
     ensures { StreamsAreBytes clock IsSoundClock }
 {}
 
-/// On the stream that is written of a sound clock board under any clock set from its version on, with any description text
-/// that a stream may have or none, every list of events leaves the trace of that board itself going on.
+/// States that a restored clock board continues as the saved one does.
+///
+/// The stream of a sound clock board under any clock set from its version on may have any
+/// description that fits, or none. On the board that it restores, each list of events leaves the
+/// same trace as on the saved board.
 #[tactic(auto, using(crate::proofs::ClockLaws::boards_go_on))]
 pub fn clock_continuation_law()
     ensures { BoardsGoOn clock AlikeClocks IsSoundClock }
 {}
 
-/// Bytes are one thing to a restore of a clock board.
+/// States that restoring a [`ClockBoard`](vms_board::ClockBoard) from bytes has one outcome.
 #[tactic(auto, using(crate::proofs::ClockLaws::bytes_are_one))]
 pub fn clock_bytes_law()
     ensures { BytesAreOne clock }

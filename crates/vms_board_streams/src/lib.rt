@@ -1,4 +1,4 @@
-//! Streams of boards of one kind: what is written of them, what restores them, and their laws.
+//! The streams of boards in memory: saving to them, restoring from them, and their laws.
 #![tactic(auto)]
 
 mod laws;

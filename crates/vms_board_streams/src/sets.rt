@@ -1,4 +1,4 @@
-// The sets of a family that saves went by, kept for those that follow.
+// The sets of a family that saves have used, kept for later saves.
 ghost use Rattle.std.specs.Prelude.{◌≡◌, ◌<◌, ◌≤◌, length, IfOk, IfSome};
 ghost use Rattle.vms_board.specs.Family.{MaySaveIn};
 ghost use Rattle.vms_board.specs.Saving.{saved_stream};
@@ -18,14 +18,14 @@ struct KeptSet {
     set: DescSet,
 }
 
-/// The sets that saves went by, each made once. They are those of one family.
+/// The sets that saves of one family's boards have used. Each is made once.
 #[derive(Drop)]
 pub struct KeptSets {
     sets: Vec<KeptSet>,
 }
 
 impl KeptSets {
-    /// No sets.
+    /// Creates an empty list of sets.
     pub fn new<M: Machine>(alloc: Global) -> KeptSets
         ensures { AreOf M.family result }
     {
@@ -34,7 +34,7 @@ impl KeptSets {
         }
     }
 
-    // The set of a number, if it is kept.
+    // Returns the set with the number `number`, if it is kept.
     fn find<M: Machine>(&self, number: u8) -> Option<&DescSet>
         requires { AreOf M.family self.now }
         ensures { IfSome result (λ set. described set.now ≡ M.family.set number) }
@@ -47,7 +47,7 @@ impl KeptSets {
         None
     }
 
-    // Keeps the set of a number.
+    // Keeps a set under its number. Fails only if memory runs out.
     fn keep<M: Machine>(&mut self, number: u8, set: DescSet) -> Result<(), NoMemory>
         requires of { AreOf M.family self.old }
         requires set { described set ≡ M.family.set number }
@@ -58,7 +58,17 @@ impl KeptSets {
     }
 }
 
-/// The stream of a board as `stream_of` makes it, by a kept set, or by one that is kept from then on.
+/// Returns the stream of `board` as `stream_of` does, and keeps the set for later saves.
+///
+/// If the set is in `sets`, it isn't made again.
+///
+/// # Errors
+///
+/// [`NoMemory`] if memory runs out.
+///
+/// # Requires
+///
+/// `set` and the stream are as `stream_of` requires, and `sets` are of the board's family.
 pub fn stream_by<M: Machine>(
     alloc: Global,
     board: &MachineBoard<M>,

@@ -5,7 +5,7 @@ use vms_spec::Count;
 /// The number of registers.
 pub const REGISTERS: usize = 64;
 
-/// The version, and the clock set, from which on there is a mask of NMI.
+/// The first version, and the first clock set, with an NMI mask.
 pub const NMI_SINCE: u8 = 2;
 
 /// The fields of the clock chip, in the order of their cells in the newest clock set.
@@ -28,12 +28,16 @@ pub const MC146818: [Row; 4] = [
     ("pf", Shape { part: 1, ..FLAG }),
 ];
 
-/// Where the cells of each field begin in the newest clock set: the contracts of what reads them ask for the places of
-/// the names.
+/// The index of the first cell of `index` in the newest clock set.
+///
+/// Contracts of the functions that read cells compare these constants with the places of the names.
 pub const INDEX: usize = 0;
 
+/// The index of the first cell of `cmos` in the newest clock set.
 pub const CMOS: usize = INDEX + 1;
 
+/// The index of the cell of `nmi_mask` in the newest clock set.
 pub const NMI_MASK: usize = CMOS + REGISTERS;
 
+/// The index of the cell of `pf` in the newest clock set.
 pub const PF: usize = NMI_MASK + 1;

@@ -1,27 +1,34 @@
-//! The fields of the devices: for each device one list, of which its cells, the shipped sets and their definitions are made.
+//! The fields of the devices.
+//!
+//! Each device has one list. Its cells, the shipped sets and their definitions are all made from
+//! it.
 #![tactic(auto)]
 
+/// The fields of the clock chip, an MC146818.
 pub mod clock;
 
 use vms_kinds::Kind;
 use vms_spec::Count;
 
-/// A field of a device: its name, and what stands in it.
+/// A field of a device: its name and its shape.
 pub type Row = (&'static str, Shape);
 
-/// What stands in a field.
+/// The type, number and place of a field's cells.
 #[derive(Clone, Copy)]
 pub struct Shape {
+    /// The kind of each cell.
     pub kind: Kind,
+    /// The number of cells.
     pub count: Count,
-    /// The number of the set, and the version of the device, from which on it is there.
+    /// The first set, and the first version of the device, that has the field.
     pub since: u32,
+    /// The number in each cell if a stream doesn't have the field.
     pub default: i128,
-    /// The number of the subsection, from 1 on, that has it; 0 is the section.
+    /// The number of the subsection that has the field, from 1 on; 0 is the section.
     pub part: u8,
 }
 
-/// A number of one byte in the section, for a row that says what is other in it.
+/// A one-byte number in the section. Rows start from it and name what differs.
 pub const BYTE: Shape = Shape {
     kind: Kind::U8,
     count: Count::One,

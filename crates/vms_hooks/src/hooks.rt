@@ -1,4 +1,4 @@
-// A struct of two stored closures, with what is known of them.
+// A struct of two stored closures, with the facts about them.
 ghost use Rattle.std.specs.Prelude.{ℤ, List, Result};
 ghost use Rattle.vms_hooks.specs.Facts.{Saves, Loads};
 ghost use Rattle.vms_hooks.specs.Numbers.{Numbers};
@@ -10,26 +10,27 @@ use crate::steps::{LoadStep, SaveStep};
 use std::marker::PhantomData;
 use vms_kinds::DevCells;
 
-/// What saving and restoring mean for a device type, at a level, a set and a moment.
+/// The meaning of saving and restoring for a device type, at a level, a set and a moment.
 pub trait Hooked {
-    /// A device may be saved with these numbers.
+    /// Holds if the device may be saved with these numbers.
     ghost can_save: { Numbers → Self → Type 0 };
 
-    /// Cells may be restored.
+    /// Holds if the cells may be restored with these numbers.
     ghost can_restore: { Numbers → List ℤ → Type 0 };
 
-    /// The cells that are saved of a device.
+    /// Relates a device to the cells that are saved.
     ghost saves_as: { Numbers → Self → List ℤ → Type 0 };
 
-    /// The device that is restored, or its first failing rule.
+    /// Relates cells to the restored device or to the first rule that fails.
     ghost restores_to: { Numbers → List ℤ → Result Self HookFault → Type 0 };
 }
 
-/// The two stored closures of a device: `pre` makes its cells before a section is written, as
-/// VMState's `pre_save`, and `post` makes the device of the cells that came, as `post_load`.
+/// The two stored closures of a device, one that saves it and one that restores it.
 ///
-/// The struct keeps beside them the fact that they may be called on all that the device's meanings
-/// allow and answer by them.
+/// `pre` makes the cells before a section is written, like VMState's `pre_save`. `post` makes the
+/// device from the cells that were read, like `post_load`. The struct also keeps a proof that both
+/// may be called on all that the device's meanings allow, and that their results are what these
+/// say.
 #[derive(Drop)]
 pub struct Hooks<D: Hooked, P: SaveStep<D>, L: LoadStep<D>> {
     pre: P,
@@ -40,7 +41,11 @@ pub struct Hooks<D: Hooked, P: SaveStep<D>, L: LoadStep<D>> {
 }
 
 impl<D: Hooked, P: SaveStep<D>, L: LoadStep<D>> Hooks<D, P, L> {
-    /// Stores two closures that are known to save and to restore by the device's meanings.
+    /// Stores the closures `pre` and `post`.
+    ///
+    /// # Requires
+    ///
+    /// Both save and restore as the device's meanings say.
     pub fn new(pre: P, post: L) -> Self
         requires saves { Saves D.can_save D.saves_as P.may_save P.gives_cells pre }
         requires loads { Loads D.can_restore D.restores_to L.may_load L.answers post }
@@ -52,13 +57,17 @@ impl<D: Hooked, P: SaveStep<D>, L: LoadStep<D>> Hooks<D, P, L> {
         }
     }
 
-    // Brings out what the struct keeps.
+    // Proves the facts that the struct keeps.
     fn known(&self)
         ensures { Saves D.can_save D.saves_as P.may_save P.gives_cells self.now.pre
             × Loads D.can_restore D.restores_to L.may_load L.answers self.now.post }
     {}
 
-    /// The cells of a device that may be saved, made by the stored closure, which is lent the pass.
+    /// Returns the cells of `device`, made by the stored closure, which borrows the pass.
+    ///
+    /// # Requires
+    ///
+    /// The device may be saved at `level`, under `set`, at `moment`.
     pub fn save_with(&self, level: u8, set: u8, moment: u64, device: &D) -> DevCells
         requires { D.can_save record { level = level; set = set; moment = moment } device.now }
         ensures { D.saves_as record { level = level; set = set; moment = moment }
@@ -69,7 +78,15 @@ impl<D: Hooked, P: SaveStep<D>, L: LoadStep<D>> Hooks<D, P, L> {
         self.pre.save(&pass, device)
     }
 
-    /// The device of cells that may be restored, or the first of the device's rules that fails.
+    /// Returns the device that `cells` restore, made by the stored closure, which borrows the pass.
+    ///
+    /// # Errors
+    ///
+    /// [`HookFault`] with the number of the first of the device's rules that fails.
+    ///
+    /// # Requires
+    ///
+    /// The cells may be restored at `level`, under `set`, at `moment`.
     pub fn load_with(
         &self,
         level: u8,
@@ -88,9 +105,13 @@ impl<D: Hooked, P: SaveStep<D>, L: LoadStep<D>> Hooks<D, P, L> {
     }
 }
 
-/// Saves a device by two closures that are stored for this one call.
+/// Saves `device` by the closures `pre` and `post`, which are stored for this one call.
 ///
-/// Concrete closures are stored in a generic function alone, as this one.
+/// Only a generic function, such as this one, can store concrete closures.
+///
+/// # Requires
+///
+/// Both save and restore as the device's meanings say, and the device may be saved.
 pub fn save_by<D: Hooked + Drop, P: SaveStep<D> + Drop, L: LoadStep<D> + Drop>(
     pre: P,
     post: L,
@@ -108,7 +129,15 @@ pub fn save_by<D: Hooked + Drop, P: SaveStep<D> + Drop, L: LoadStep<D> + Drop>(
     Hooks::new(pre, post).save_with(level, set, moment, device)
 }
 
-/// Restores a device by two closures that are stored for this one call.
+/// Restores a device from `cells` by the closures `pre` and `post`, stored for this one call.
+///
+/// # Errors
+///
+/// [`HookFault`] with the number of the first of the device's rules that fails.
+///
+/// # Requires
+///
+/// Both save and restore as the device's meanings say, and the cells may be restored.
 pub fn load_by<D: Hooked + Drop, P: SaveStep<D> + Drop, L: LoadStep<D> + Drop>(
     pre: P,
     post: L,

@@ -1,7 +1,7 @@
-//! Stored closures that save and restore devices, in the manner of VMState's `pre_save` and `post_load`.
+//! Stored closures that save and restore devices, like VMState's `pre_save` and `post_load`.
 //!
-//! A device type says by `Hooked` what saving and restoring mean; `Hooks` keeps two closures with the
-//! fact that they do so; a `Pass` is lent to them alone, so a device's cells are taken and set nowhere
+//! A device type says in `Hooked` what saving and restoring mean. `Hooks` keeps two closures and a
+//! proof that they do so. Only they borrow a `Pass`, so a device's cells are read and set nowhere
 //! else.
 #![tactic(auto)]
 

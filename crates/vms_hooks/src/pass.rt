@@ -1,11 +1,12 @@
-// The pass that a stored closure is lent.
+// The pass that a stored closure borrows.
 ghost use Rattle.std.specs.Prelude.{◌≡◌};
 
 use std::marker::Model;
 
 /// The level, the set and the moment of one call of a stored closure.
 ///
-/// There is no public constructor, `Clone`, `Copy` or `Default`: a pass is lent by `Hooks` for one call.
+/// There is no public constructor, `Clone`, `Copy` or `Default`: only `Hooks` makes a pass, for one
+/// call.
 #[derive(Drop)]
 pub struct Pass {
     level: u8,
@@ -22,21 +23,21 @@ impl Model for Pass {
 }
 
 impl Pass {
-    /// The level of the board, from 1 on.
+    /// Returns the level of the board, from 1 on.
     pub fn level(&self) -> u8
         ensures { result ≡ self.now.level }
     {
         self.level
     }
 
-    /// The number of the set under which is saved; for a restore, the newest.
+    /// Returns the number of the set to save under. For a restore it is the newest.
     pub fn set(&self) -> u8
         ensures { result ≡ self.now.set }
     {
         self.set
     }
 
-    /// The moment of the save or the restore, in nanoseconds.
+    /// Returns the moment of the save or the restore, in nanoseconds.
     pub fn now(&self) -> u64
         ensures { result ≡ self.now.moment }
     {
@@ -44,6 +45,7 @@ impl Pass {
     }
 }
 
+/// Creates a pass.
 pub(crate) fn make_pass(level: u8, set: u8, moment: u64) -> Pass
     ensures { result ≡ record { level = level; set = set; moment = moment } }
 {

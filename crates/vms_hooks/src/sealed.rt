@@ -1,9 +1,9 @@
-// Keeps the steps of other crates out.
+// Seals the step traits: other crates can't implement them.
 use crate::fault::HookFault;
 use crate::pass::Pass;
 use vms_kinds::DevCells;
 
-/// What can be called to save a device.
+/// Types that can be called to save a device.
 pub trait CallsToSave<D> {
     fn is_called(&self);
 }
@@ -12,7 +12,7 @@ impl<D, F: Fn(&Pass, &D) -> DevCells> CallsToSave<D> for F {
     fn is_called(&self) {}
 }
 
-/// What can be called to load a device.
+/// Types that can be called to restore a device.
 pub trait CallsToLoad<D> {
     fn is_called(&self);
 }

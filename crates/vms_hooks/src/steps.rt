@@ -1,4 +1,4 @@
-// What can be called on a pass and a device, and on a pass and cells.
+// The types that can be called with a pass and a device, or with a pass and cells.
 ghost use Rattle.std.specs.Prelude.{ℤ, Result};
 ghost use Rattle.std.specs.Borrow.{Bor};
 ghost use Rattle.arrayvec.specs.ArrayVec.{ArrayVec};
@@ -10,15 +10,19 @@ use crate::pass::Pass;
 use crate::sealed::{CallsToLoad, CallsToSave};
 use vms_kinds::DevCells;
 
-/// Takes a device to its cells.
+/// A step that saves a device: it returns the device's cells.
 pub trait SaveStep<D>: CallsToSave<D> {
-    /// The step may be taken.
+    /// Holds if the step may be called.
     ghost may_save: { Self → Bor Numbers → Bor D → Type 0 };
 
-    /// The cells that it may give.
+    /// Relates the arguments to the cells that the step may return.
     ghost gives_cells: { Self → Bor Numbers → Bor D → ArrayVec ℤ → Type 0 };
 
-    /// The cells of a device.
+    /// Returns the cells of `device`.
+    ///
+    /// # Requires
+    ///
+    /// The step may be called with these arguments.
     fn save(&self, pass: &Pass, device: &D) -> DevCells
         requires { may_save self.now pass device }
         ensures { gives_cells self.now pass.entry device.entry result };
@@ -34,15 +38,23 @@ impl<D, F: Fn(&Pass, &D) -> DevCells> SaveStep<D> for F {
     }
 }
 
-/// Takes cells to a device, or to the first rule that fails.
+/// A step that restores a device: it returns the device, or the first rule that fails.
 pub trait LoadStep<D>: CallsToLoad<D> {
-    /// The step may be taken.
+    /// Holds if the step may be called.
     ghost may_load: { Self → Bor Numbers → Bor (ArrayVec ℤ) → Type 0 };
 
-    /// What it may answer.
+    /// Relates the arguments to the results that the step may return.
     ghost answers: { Self → Bor Numbers → Bor (ArrayVec ℤ) → Result D HookFault → Type 0 };
 
-    /// The device that cells restore, or the first rule that fails.
+    /// Returns the device that `cells` restore.
+    ///
+    /// # Errors
+    ///
+    /// [`HookFault`] with the number of the first rule that fails.
+    ///
+    /// # Requires
+    ///
+    /// The step may be called with these arguments.
     fn load(&self, pass: &Pass, cells: &DevCells) -> Result<D, HookFault>
         requires { may_load self.now pass cells }
         ensures { answers self.now pass.entry cells.entry result };

@@ -1,4 +1,4 @@
--- Bytes that are joined and cut.
+-- Bytes that are joined and split.
 use Rattle.std.proofs.Common.{ℕ, zero, suc, ◌<◌, List, ◌∷◌, ◌++◌, take, arith, []}
 use Rattle.vms_kinds.specs.Bytes.{IsBytes}
 

@@ -90,7 +90,7 @@ plain_code I16 z s h = cc
 plain_code I32 z s h = cc
 plain_code I64 z s h = cc
 
--- what the bytes of a signed number give
+-- the number that the bytes of a signed kind give
 pub signed_take : (kind : Kind) (bs : List ℕ) → is_signed kind ≡ true → length bs ≡ width kind → IsBytes bs
     → InRange kind (twos_complement (width kind) (big_number (width kind) bs)) × (bs ≡ code kind (twos_complement (width kind) (big_number (width kind) bs)))
 unfolding code
@@ -105,7 +105,7 @@ signed_take U64 z s len ok = cc
 signed_take Bool z s len ok = cc
 signed_take Timer z s len ok = cc
 
--- what the bytes of another number give
+-- the number that the bytes of another kind give
 pub plain_take : (kind : Kind) (bs : List ℕ) → is_signed kind ≡ false → length bs ≡ width kind → IsBytes bs → (IsBadBool kind bs → ⊥)
     → InRange kind (pos (big_number (width kind) bs)) × (bs ≡ code kind (pos (big_number (width kind) bs)))
 plain_take kind bs s len ok bad = let r = in_range kind bs s ok bad in (r, sym (sym (plain_code kind _ s r) ∙ again kind bs len ok)) where
@@ -138,7 +138,7 @@ pub as_i64 : (z : ℤ) → InRange I64 z → SFits w64 z × (cast_unsigned w64 z
 as_i64 (pos n) h = (omega (arith, ints), omega (arith, ints))
 as_i64 (negsuc n) h = (omega (arith, ints), omega (arith, ints))
 
--- what is cast from 128 bits to a width that it fits
+-- a cast from 128 bits to a width that the number fits
 cast_back : (w : Width) (z : ℤ) → SFits w128 z → SFits w z → to_z w (of_z w (to_z w128 (of_z w128 z))) ≡ z
 cast_back w z f g = ap (λ (v : ℤ). to_z w (of_z w v)) (to_z-of_z w128 z f) ∙ to_z-of_z w z g
 
@@ -147,7 +147,7 @@ first_put : (old : List ℕ) (n : ℕ) → 1 ≤ length old → n < 256 → slic
 first_put [] n some h = absurd (omega arith)
 first_put (x ∷ old) n some h = ap (λ v. v ∷ old) (omega arith)
 
--- what a write of a signed number leaves
+-- the bytes after a signed number was written
 pub written_signed : (kind k : Kind) (w : Width) (z : ℤ) (old new : List ℕ) → kind ≡ k → InRange kind z → SFits w128 z
     → (InRange k z → SFits w z × (cast_unsigned w z ≡ residue (width k) z))
     → new ≡ big_bytes (width k) (cast_unsigned w (to_z w (of_z w (to_z w128 (of_z w128 z))))) ++ drop (width k) old
@@ -176,7 +176,7 @@ not_negative I16 n s h = cc
 not_negative I32 n s h = cc
 not_negative I64 n s h = cc
 
--- what a write of another number leaves
+-- the bytes after another number was written
 pub written_plain : (kind : Kind) (z : ℤ) (w : ℕ) (old new : List ℕ) → w ≡ width kind → is_signed kind ≡ false → InRange kind z → SFits w128 z
     → new ≡ big_bytes w (nat_abs (to_z w128 (of_z w128 z))) ++ drop w old
     → new ≡ code kind z ++ drop (width kind) old
@@ -186,17 +186,17 @@ written_plain kind (pos n) w old new ew s h f e =
     ∙ ap (λ (v : List ℕ). v ++ drop (width kind) old) (plain_code kind n s h)
 written_plain kind (negsuc n) w old new ew s h f e = absurd (not_negative kind n s h)
 
--- what a write of one byte leaves
+-- the bytes after one byte was written
 pub written_byte : (kind : Kind) (z : ℤ) (old : List ℕ) → 1 ≡ width kind → is_signed kind ≡ false → InRange kind z → SFits w128 z → 1 ≤ length old
     → nat_abs (to_z w128 (of_z w128 z)) < 256
     → slice_set old 0 (nat_abs (to_z w128 (of_z w128 z))) ≡ code kind z ++ drop (width kind) old
 written_byte kind z old ew s h f some small = written_plain kind z 1 old _ ew s h f (first_put old _ some small)
 
--- what a reading gives, at the number that stands for it
+-- a reading, for an equal number
 pub taken : (kind : Kind) (bs : List ℕ) (y z : ℤ) → z ≡ y → InRange kind y × (bs ≡ code kind y) → InRange kind z × (bs ≡ code kind z)
 taken kind bs y z e h = let P : ℤ → Type 0 = λ v. InRange kind v × (bs ≡ code kind v) in subst P (sym e) h
 
--- what bytes give
+-- a reading of bytes
 pub value_taken : (kind : Kind) (bs : List ℕ) → length bs ≡ width kind → IsBytes bs → (IsBadBool kind bs → ⊥)
     → InRange kind (value_of kind bs) × (bs ≡ code kind (value_of kind bs))
 value_taken U8 bs len ok bad = plain_take U8 bs refl len ok bad

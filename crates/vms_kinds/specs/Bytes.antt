@@ -1,6 +1,6 @@
 -- Lists of bytes.
 use Rattle.std.specs.Prelude.{ℕ, ◌<◌, List, get_or}
 
--- each number of the list is below 256
+-- Each number of the list is less than 256.
 abbrev pub IsBytes : List ℕ → Type 0
 IsBytes bytes = (i : ℕ) → get_or bytes i 0 < 256

@@ -1,9 +1,10 @@
--- The kinds of number in a stream: how many bytes each takes, which numbers it holds, and its bytes.
+-- The kinds of number in a stream: their widths, ranges and bytes (docs/format.md).
 use Rattle.std.specs.Prelude.{◌≡◌, ℕ, ◌-◌, ◌*◌, ◌%◌, ◌^◌, ◌<◌, List, ℤ, pos, negsuc, ◌≤ℤ◌, slice_index, if◌then◌else◌, Bool as Truth, true, false}
 use Rattle.byteorder.specs.Endian.{big_bytes, big_number, twos_complement}
 use Rattle.vms_kinds.specs.declared.Kind.{Kind}
 use Rattle.vms_kinds.specs.declared.Kind.TheVariants.{U8, U16, U32, U64, I8, I16, I32, I64, Bool, Timer}
 
+-- The number of bytes.
 abbrev pub width : Kind → ℕ
 width U8 = 1
 width U16 = 2
@@ -16,6 +17,7 @@ width I64 = 8
 width Bool = 1
 width Timer = 8
 
+-- The least number of the kind.
 abbrev pub lowest : Kind → ℤ
 lowest U8 = pos 0
 lowest U16 = pos 0
@@ -28,6 +30,7 @@ lowest I64 = negsuc 0x7fff_ffff_ffff_ffff
 lowest Bool = pos 0
 lowest Timer = pos 0
 
+-- The greatest number of the kind.
 abbrev pub highest : Kind → ℤ
 highest U8 = pos 0xff
 highest U16 = pos 0xffff
@@ -40,6 +43,7 @@ highest I64 = pos 0x7fff_ffff_ffff_ffff
 highest Bool = pos 1
 highest Timer = pos 0xffff_ffff_ffff_ffff
 
+-- Whether the kind has negative numbers.
 abbrev pub is_signed : Kind → Truth
 is_signed I8 = true
 is_signed I16 = true
@@ -47,22 +51,23 @@ is_signed I32 = true
 is_signed I64 = true
 is_signed _ = false
 
+-- The number `z` is in the range of the kind.
 abbrev pub InRange : Kind → ℤ → Type 0
 InRange kind z = (lowest kind ≤ℤ z) × (z ≤ℤ highest kind)
 
--- the number modulo 2 ^ (8 * w)
+-- The number modulo 2 ^ (8 * w).
 abbrev pub residue : ℕ → ℤ → ℕ
 residue w (pos n) = n % 2 ^ (8 * w)
 residue w (negsuc n) = 2 ^ (8 * w) - 1 - n % 2 ^ (8 * w)
 
--- the bytes of a number of this kind, the highest first
+-- The bytes of a number of this kind: two's complement, the highest byte first.
 unfoldable pub code : Kind → ℤ → List ℕ
 code kind z = big_bytes (width kind) (residue (width kind) z)
 
--- a truth value's byte is neither 0 nor 1
+-- The byte of a truth value is neither 0 nor 1.
 abbrev pub IsBadBool : Kind → List ℕ → Type 0
 IsBadBool kind bytes = (kind ≡ Bool) × (1 < slice_index bytes 0)
 
--- the number that bytes stand for
+-- The number with these bytes.
 abbrev pub value_of : Kind → List ℕ → ℤ
 value_of kind bytes = if is_signed kind then twos_complement (width kind) (big_number (width kind) bytes) else pos (big_number (width kind) bytes)

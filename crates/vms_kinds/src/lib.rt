@@ -1,7 +1,7 @@
-//! The kinds of number that stand in a device section, and their bytes.
+//! The kinds of number in a device section, and their bytes.
 //!
-//! The names follow VMState's number fields: each kind has a width in bytes, a range, and one code, its
-//! two's complement with the highest byte first.
+//! The names follow VMState's number fields. Each kind has a width in bytes, a range and one
+//! encoding: two's complement, the highest byte first.
 #![tactic(auto)]
 
 ghost use Rattle.std.specs.Prelude.{◌++◌, drop, ◌≡◌, ◌<◌, ◌≤◌, ◌↔◌, length, IsTrue, IfSome, IsNone};
@@ -10,51 +10,59 @@ ghost use Rattle.vms_kinds.specs.Codes.{width, lowest, highest, InRange, code, v
 use arrayvec::ArrayVec;
 use byteorder::{BigEndian, ByteOrder};
 
-/// The kind of one number, as VMState's `VMSTATE_UINT8` to `VMSTATE_INT64`, `VMSTATE_BOOL` and
+/// The kind of a number, like VMState's `VMSTATE_UINT8` to `VMSTATE_INT64`, `VMSTATE_BOOL` and
 /// `VMSTATE_TIMER`.
 #[derive(Clone, Copy, Debug, PartialEq, Eq)]
 pub enum Kind {
+    /// An unsigned number of 1 byte.
     U8,
+    /// An unsigned number of 2 bytes.
     U16,
+    /// An unsigned number of 4 bytes.
     U32,
+    /// An unsigned number of 8 bytes.
     U64,
+    /// A signed number of 1 byte.
     I8,
+    /// A signed number of 2 bytes.
     I16,
+    /// A signed number of 4 bytes.
     I32,
+    /// A signed number of 8 bytes.
     I64,
-    /// One byte, 0 or 1; no other byte is read.
+    /// One byte, 0 or 1. Any other byte is refused.
     Bool,
-    /// A moment in nanoseconds, 8 bytes; 2^64 - 1 where the timer isn't pending.
+    /// A moment in nanoseconds, 8 bytes; 2^64 - 1 if the timer isn't pending.
     Timer,
 }
 
-/// What one field of a description puts into a section.
+/// What one field of a description writes to a section.
 #[derive(Clone, Copy, Debug, PartialEq, Eq)]
 pub enum Item {
     /// A number, held in one cell.
     Num(Kind),
-    /// A number that must be `value`, as `VMSTATE_UINT8_EQUAL`; it has no cell.
+    /// A number that must be `value`, like `VMSTATE_UINT8_EQUAL`. It has no cell.
     Equal { kind: Kind, value: i128 },
-    /// Bytes that are written as zeros and skipped, as `VMSTATE_UNUSED`; they have no cell.
+    /// Bytes that are written as zeros and skipped, like `VMSTATE_UNUSED`. They have no cell.
     Unused { bytes: u16 },
-    /// The structure of this number in the set.
+    /// The structure with this number in the set.
     Struct(u32),
 }
 
-/// The most numbers of one device's state.
+/// The most numbers in one device's state.
 pub const MOST_CELLS: usize = 96;
 
-/// The number of the newest shipped set of the boards isa-0 to isa-4, which are numbered from 0.
+/// The number of the newest shipped set of the boards isa-0 to isa-4. The oldest is 0.
 pub const NEWEST_SET: u8 = 4;
 
-/// The number of the newest shipped set of the boards with a clock chip; the first is 1.
+/// The number of the newest shipped set of the boards with a clock chip. The oldest is 1.
 pub const NEWEST_CLOCK_SET: u8 = 2;
 
 /// The numbers of one device's state, in the order of its description, at most `MOST_CELLS`.
 pub type DevCells = ArrayVec<i128, MOST_CELLS>;
 
 impl Kind {
-    /// The number of bytes, 1, 2, 4 or 8.
+    /// Returns the number of bytes: 1, 2, 4 or 8.
     pub fn width(self) -> usize
         ensures { result ≡ width self }
     {
@@ -66,7 +74,7 @@ impl Kind {
         }
     }
 
-    // The least number of this kind.
+    // Returns the least number of this kind.
     fn lowest(self) -> i128
         ensures { result ≡ lowest self }
     {
@@ -79,7 +87,7 @@ impl Kind {
         }
     }
 
-    // The greatest number of this kind.
+    // Returns the greatest number of this kind.
     fn highest(self) -> i128
         ensures { result ≡ highest self }
     {
@@ -96,14 +104,18 @@ impl Kind {
         }
     }
 
-    /// Tells whether the kind holds this number.
+    /// Reports whether `value` is in this kind's range.
     pub fn in_range(self, value: i128) -> bool
         ensures { IsTrue result ↔ InRange self value }
     {
         self.lowest() <= value && value <= self.highest()
     }
 
-    /// The code of a number in range: its bytes, the highest first.
+    /// Returns the bytes of `value`, the highest first.
+    ///
+    /// # Requires
+    ///
+    /// `value` is in this kind's range.
     pub fn put(self, value: i128) -> ArrayVec<u8, 8>
         requires { InRange self value }
         ensures { result.items ≡ code self value }
@@ -116,7 +128,11 @@ impl Kind {
         out
     }
 
-    /// Puts the code of a number in range into the front of `bytes`; the rest stays.
+    /// Writes the bytes of `value`, the highest first, to the front of `bytes`. The rest stays.
+    ///
+    /// # Requires
+    ///
+    /// `value` is in this kind's range, and `bytes` is at least this kind's width long.
     pub fn write(self, value: i128, bytes: &mut [u8])
         requires range { InRange self value }
         requires room { width self ≤ length bytes.old }
@@ -134,14 +150,18 @@ impl Kind {
         }
     }
 
-    // Tells whether this byte is no truth value.
+    // Reports whether `byte` is an invalid truth value of this kind.
     fn is_bad_bool(self, byte: u8) -> bool
         ensures { IsTrue result ↔ ((self ≡ Kind.Bool) × (1 < byte)) }
     {
         self == Kind::Bool && byte > 1
     }
 
-    /// The number whose code the bytes are, or `None` exactly for a `Bool` byte above 1.
+    /// Returns the number with these `bytes`, or `None` exactly for a `Bool` byte above 1.
+    ///
+    /// # Requires
+    ///
+    /// `bytes` is exactly this kind's width long.
     pub fn take(self, bytes: &[u8]) -> Option<i128>
         requires { length bytes.now ≡ width self }
         ensures some { IfSome result (λ value. InRange self value × (bytes.now ≡ code self value)) }
@@ -154,7 +174,7 @@ impl Kind {
         Some(self.read(bytes))
     }
 
-    // The number that the bytes stand for.
+    // Returns the number with these bytes.
     fn read(self, bytes: &[u8]) -> i128
         requires { length bytes.now ≡ width self }
         ensures { result ≡ value_of self bytes.now }

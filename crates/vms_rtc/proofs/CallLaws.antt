@@ -1,4 +1,4 @@
--- What reads and writes change.
+-- The effects of reads and writes.
 use Rattle.std.proofs.Common.{◌≡◌, ◌≢◌, ℕ, ◌==◌, ◌||◌, true, false, eqb-true, refl, arith, sym, ◌∙◌}
 use Rattle.std.proofs.lemmas.Bool.{eq-eqb, false≢true, cond_both}
 use Rattle.std.proofs.lemmas.Bool.Decides.{nat_tests}
@@ -28,7 +28,7 @@ reads_clear = record { of_c = of-c; others = of-others }
 
 -- ---- registers C and D
 
--- what is written to another register leaves one
+-- a write to another register leaves this one
 pub left_as : (number value : ℕ) (chip : Rtc) → (chip.index ≡ number → (chip.index == REGISTER_C) || (chip.index == REGISTER_D) ≡ true)
     → register number (data_written value chip) ≡ register number chip
 unfolding data_written

@@ -1,4 +1,4 @@
--- What holds of the cells of any list of fields. (Its place is dev_base/proofs.)
+-- Properties of the cells of any list of fields. (It belongs in dev_base/proofs.)
 use Rattle.std.proofs.Common.{◌≡◌, ℕ, zero, suc, ◌+◌, ◌-◌, ◌<◌, true, false, List, [], ◌∷◌, ◌++◌, length, take, replicate, if◌then◌else◌, ℤ, pos, ◌⊎◌, inl, inr, refl, sym, ap, ◌∙◌, arith, length-append, append_assoc}
 use Rattle.std.proofs.lemmas.Bool.{cases_Bool}
 use Rattle.std.proofs.lemmas.Slice.Eq.{bytes_eq-Decides}
@@ -13,12 +13,12 @@ use Rattle.dev_base.specs.Cells.{cell_at, AreOf}
 use Rattle.dev_base.specs.Tables.{carried_by, default_of, places}
 use Rattle.vms_rtc.specs.Origins.{origins_from}
 
--- in each row stand as many numbers of its kind as it counts
+-- each row has the numbers that it counts, of its kind
 abbrev pub AllHold : Named → List Row → Type 0
 AllHold named [] = Unit {0}
 AllHold named (row ∷ rows) = AreOf (replicate (size_of row) row.1.kind) (numbers_of named row.0) × AllHold named rows
 
--- and its default where a set hasn't it
+-- and its default in a set that lacks it
 abbrev pub AllLack : Named → ℕ → List Row → Type 0
 AllLack named set [] = Unit {0}
 AllLack named set (row ∷ rows) = (is_in row.1.since set ≡ false → numbers_of named row.0 ≡ replicate (size_of row) row.1.default) × AllLack named set rows
@@ -84,7 +84,7 @@ size_at [] name = 0
 size_at (row ∷ rows) name = if bytes_eq row.0 name then size_of row else size_at rows name
 
 module _ (named : Named) (name : List ℕ) where
-  -- a cell of a field stands at the place of its name
+  -- a cell of a field is at the index of its name
   abbrev Stands : List Row → Type 0
   Stands rows = (before : List ℤ) (at k : ℕ) → at ≡ length before → k < size_at rows name
       → cell_at (before ++ whole named rows) (place_from at rows name + k) ≡ cell_at (numbers_of named name) k

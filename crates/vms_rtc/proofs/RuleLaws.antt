@@ -1,4 +1,4 @@
--- The chip is sound exactly where its cells in the newest clock set meet the rules.
+-- The chip is sound exactly if its cells in the newest clock set meet the rules.
 use Rattle.std.proofs.Common.{◌≡◌, ℕ, suc, ◌+◌, ◌<◌, get_or, map, pos, None, ap, subst, ◌∙◌, arith}
 use Rattle.std.proofs.lemmas.List.{get_or-map, get_or_append_left, length-map}
 use Rattle.vms_fields.specs.declared.clock.TheConstants.{CMOS}
@@ -17,7 +17,7 @@ use Rattle.vms_rtc.specs.Sound.{IsSound}
 use Rattle.vms_rtc.specs.declared.limits.TheConstants.{NEWEST_CLOCK, REGISTERS}
 use Rattle.vms_rtc.specs.declared.rtc.Rtc.{Rtc}
 
--- a chip that a stream can tell has bytes
+-- a chip that a stream can describe has bytes
 module _ (chip : Rtc) (t : IsTold chip) where
   small : (k : ℕ) → k < CMOS + REGISTERS → nat_of (cell_at (newest chip) k) < 256
   unfolding saved_cells

@@ -1,4 +1,4 @@
--- What was saved is restored as it was.
+-- A saved chip is restored as it was.
 use Rattle.std.proofs.Common.{◌≡◌, ℕ, zero, suc, ◌+◌, ◌<◌, ◌≤◌, ◌==◌, ◌||◌, not, nat_le, Bool, true, false, List, [], ◌∷◌, length, map, replicate, get_or, ℤ, pos, codes, Ok, refl, sym, ap, subst, ◌∙◌, arith}
 use Rattle.std.proofs.lemmas.Bool.{false≢true}
 use Rattle.std.proofs.lemmas.Bool.Decides.{nat_tests}
@@ -29,7 +29,7 @@ of-bytes (x ∷ xs) zero len small = absurd (omega (arith, len))
 of-bytes (x ∷ xs) (suc n) len small =
     of_more U8 (pos x) (replicate n U8) (map pos xs) (byte x (small 0 (omega arith))) (of-bytes xs n (omega (arith, len)) (λ k lt. small (suc k) (omega (arith, lt))))
 
--- the index and as many registers as there are, each a byte
+-- the index and all registers are bytes
 pub record IsWide (chip : Rtc) : Type 0 where
   pub index : chip.index < 256
   pub count : length chip.cmos ≡ REGISTERS
@@ -38,7 +38,7 @@ pub record IsWide (chip : Rtc) : Type 0 where
 wide : (chip : Rtc) → IsSound chip → IsWide chip
 wide chip s = record { index = let index = s.index in omega (arith, index); count = s.count; bytes = s.bytes }
 
--- what stands in each field
+-- the numbers of each field
 holds : (chip : Rtc) → IsWide chip → AllHold (named chip) mc146818_rows
 holds chip s =
     let index = s.index in (

@@ -24,7 +24,7 @@ on-sound version v = record {
   mask = λ none. refl;
 }
 
--- nothing hangs on the flag of the periodic interrupt
+-- the flag of the periodic interrupt isn't part of soundness
 flagged : (flag : Bool) (chip : Rtc) → IsSound chip → IsSound (record chip { pf = flag })
 flagged flag chip s = record {
   version = s.version;

@@ -1,4 +1,4 @@
--- The cells of the chip: those of its list of fields, each by the field's name.
+-- The cells of the chip, which are the cells of its list of fields.
 use Rattle.std.specs.Prelude.{ℕ, ℤ, pos, List, [], ◌∷◌, map, codes}
 use Rattle.vms_fields.specs.Clock.{mc146818_rows}
 use Rattle.vms_fields.specs.Fields.{Named, kinds_under, cells_under}
@@ -8,7 +8,7 @@ use Rattle.dev_base.specs.Tables.{Origin, carried_by}
 use Rattle.vms_rtc.specs.Origins.{origins_under}
 use Rattle.vms_rtc.specs.declared.rtc.Rtc.{Rtc}
 
--- what stands in each field
+-- The numbers of each field, by its name.
 abbrev pub named : Rtc → Named
 named chip =
     (codes "index", pos chip.index ∷ [])
@@ -16,16 +16,18 @@ named chip =
     ∷ (codes "nmi_mask", pos (flag_number chip.nmi_mask) ∷ [])
     ∷ (codes "pf", pos (flag_number chip.pf) ∷ []) ∷ []
 
+-- The kinds of the cells of clock set `set`.
 abbrev pub kinds : ℕ → List Kind
 kinds set = kinds_under mc146818_rows set
 
+-- `saved_cells set chip` are the cells that clock set `set` saves for `chip`.
 unfoldable pub saved_cells : ℕ → Rtc → List ℤ
 saved_cells set chip = cells_under mc146818_rows set (named chip)
 
--- where the cells of the newest clock set stand in a clock set, with the default where that hasn't one
+-- For each cell of the newest clock set, its index in clock set `set`, or its default.
 abbrev pub origins : ℕ → List Origin
 origins set = origins_under mc146818_rows set
 
--- the cells of a clock set at their places in the newest one
+-- The cells of clock set `set` in the order of the newest one.
 abbrev pub carried : ℕ → List ℤ → List ℤ
 carried set cells = carried_by (origins set) cells

@@ -1,11 +1,11 @@
--- When the chip is sound.
+-- The states that the chip may have.
 use Rattle.std.specs.Prelude.{◌≡◌, ℕ, ◌<◌, ◌≤◌, false, length}
 use Rattle.dev_base.specs.Levels.{IsUpTo}
 use Rattle.vms_rtc.specs.Chip.{register, has_mask}
 use Rattle.vms_rtc.specs.declared.limits.TheConstants.{NEWEST_CLOCK, REGISTER_A, REGISTER_C, REGISTER_D, REGISTERS}
 use Rattle.vms_rtc.specs.declared.rtc.Rtc.{Rtc}
 
--- there are chips of its version, its registers are bytes, and no rule fails of what is saved of it
+-- The version exists, the registers are bytes, and no rule fails for what is saved.
 pub record IsSound (chip : Rtc) : Type 0 where
   pub version : IsUpTo NEWEST_CLOCK chip.version
   pub index : chip.index ≤ 63

@@ -11,7 +11,7 @@ use dev_base::byte_at;
 use vms_fields::clock::CMOS;
 use vms_kinds::DevCells;
 
-/// The cells of the index and of the registers.
+/// Returns the cells of `index` and of the registers `cmos`.
 pub(crate) fn byte_cells(index: u8, cmos: &[u8; REGISTERS]) -> DevCells
     ensures items { result.items ≡ pos index ∷ map pos cmos.now }
     ensures count { length result.items ≡ 65 }
@@ -24,7 +24,7 @@ pub(crate) fn byte_cells(index: u8, cmos: &[u8; REGISTERS]) -> DevCells
     cells
 }
 
-// The register of a number, in cells of the newest clock set.
+// Returns register `number` from `cells` of the newest clock set.
 fn register_at(cells: &DevCells, number: usize) -> u8
     requires of_kinds { AreOf (kinds NEWEST_CLOCK) cells.now.items }
     requires within { number < REGISTERS }
@@ -33,7 +33,7 @@ fn register_at(cells: &DevCells, number: usize) -> u8
     byte_at(cells, CMOS + number)
 }
 
-/// The registers of cells of the newest clock set.
+/// Returns the registers from `cells` of the newest clock set.
 pub(crate) fn registers_at(cells: &DevCells) -> [u8; REGISTERS]
     requires { AreOf (kinds NEWEST_CLOCK) cells.now.items }
     ensures { result ≡ firsts REGISTERS (register_in cells.now.items) }
@@ -45,7 +45,7 @@ pub(crate) fn registers_at(cells: &DevCells) -> [u8; REGISTERS]
     cmos
 }
 
-/// Tells whether register A has bits 6 to 0 alone, and C and D keep nothing.
+/// Reports whether register A has only bits 6 to 0, and C and D are 0.
 pub(crate) fn has_registers(cells: &DevCells) -> bool
     requires { AreOf (kinds NEWEST_CLOCK) cells.now.items }
     ensures { result ≡ registers_hold cells.now.items }

@@ -1,8 +1,8 @@
-//! The clock chip of a PC, an MC146818, as far as a guest sees it by its periodic interrupt.
+//! The clock chip of a PC, an MC146818, as far as a guest sees it through its periodic interrupt.
 //!
-//! Sixty-four registers stand behind an index. The time of day isn't counted: its registers are plain bytes, and
-//! alarm and update interrupts never come. Nothing is counted step by step: whether a period has ended in a span
-//! follows from the crystal's ticks at its two moments.
+//! Sixty-four registers are accessed through an index. The time of day isn't counted: its registers
+//! are plain bytes, and alarm and update interrupts don't occur. Nothing is counted step by step:
+//! whether a period has ended in a span of time follows from the crystal's ticks at both ends.
 #![tactic(auto)]
 
 mod cells;

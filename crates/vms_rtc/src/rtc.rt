@@ -7,14 +7,18 @@ use crate::limits::{
 use crate::ticks::{ends_within, period_of};
 use dev_base::{bits_where, has};
 
-/// The clock chip, of version 1 or 2: from 2 on it has a mask of NMI.
+/// The clock chip, of version 1 or 2. Version 2 has an NMI mask.
 #[derive(Clone, Copy, Debug, PartialEq, Eq)]
 pub struct Rtc {
+    /// The version, 1 or 2.
     pub(crate) version: u8,
+    /// The index of the selected register, 0 to 63.
     pub(crate) index: u8,
+    /// The registers.
     pub(crate) cmos: [u8; REGISTERS],
+    /// Whether NMI is masked. Version 1 has no mask.
     pub(crate) nmi_mask: bool,
-    // The flag of the periodic interrupt.
+    // The periodic interrupt flag.
     pub(crate) pf: bool,
 }
 
@@ -23,7 +27,11 @@ impl Rtc {
     ghost use Rattle.vms_rtc.specs.Chip.{is_port, data_read, data_written, flags_of, index_read, index_written, line_of, passed, power_on, read_of, register, written};
     ghost use Rattle.vms_rtc.specs.declared.limits.TheConstants.{NEWEST_CLOCK};
 
-    /// The chip of a version, 1 or 2, at power on: all is 0 or false.
+    /// Creates the chip of version `version`, 1 or 2, as it is at power on: all is 0 or false.
+    ///
+    /// # Requires
+    ///
+    /// `version` is 1 or 2.
     #[tactic(auto, unfolding(crate::specs::Chip::power_on))]
     pub fn new(version: u8) -> Rtc
         requires { IsUpTo NEWEST_CLOCK version }
@@ -38,21 +46,26 @@ impl Rtc {
         }
     }
 
-    /// The version, 1 or 2.
+    /// Returns the version, 1 or 2.
     pub fn version(&self) -> u8
         ensures { result ≡ self.now.version }
     {
         self.version
     }
 
-    /// Tells whether a port is one of the chip's: 0x70 for the index, 0x71 for the register that it names.
+    /// Reports whether `port` is one of the chip's: 0x70 for the index, 0x71 for the selected
+    /// register.
     pub fn is_port(port: u16) -> bool
         ensures { result ≡ is_port port }
     {
         port == INDEX_PORT || port == DATA_PORT
     }
 
-    /// Reads a byte from a port. A read of register C clears the flag of the periodic interrupt.
+    /// Reads a byte from `port`. A read of register C clears the periodic interrupt flag.
+    ///
+    /// # Requires
+    ///
+    /// [`Rtc::is_port`] holds for `port`.
     #[tactic(auto, unfolding(crate::specs::Chip::read_of))]
     pub fn read(&mut self, port: u16) -> u8
         requires { IsTrue (is_port port) }
@@ -91,7 +104,7 @@ impl Rtc {
         }
     }
 
-    // The byte of a register, 0 where there is none of this number.
+    // Returns the byte of register `number`, 0 if there is none.
     fn register(&self, number: u8) -> u8
         ensures { result ≡ register number self.now }
     {
@@ -101,7 +114,7 @@ impl Rtc {
         }
     }
 
-    // What register C reads.
+    // Returns what register C reads.
     #[tactic(auto, unfolding(crate::specs::Chip::flags_of))]
     fn flags(&self) -> u8
         ensures { result ≡ flags_of self.now }
@@ -109,7 +122,11 @@ impl Rtc {
         bits_where(self.pf, 0x40) | bits_where(self.line(), 0x80)
     }
 
-    /// Writes a byte to a port. Registers C and D keep nothing.
+    /// Writes `value` to `port`. Registers C and D don't keep what is written to them.
+    ///
+    /// # Requires
+    ///
+    /// [`Rtc::is_port`] holds for `port`.
     #[tactic(auto, unfolding(crate::specs::Chip::written))]
     pub fn write(&mut self, port: u16, value: u8)
         requires { IsTrue (is_port port) }
@@ -150,8 +167,9 @@ impl Rtc {
         }
     }
 
-    /// Lets time pass from one moment to another, in nanoseconds from power on: the flag of the periodic interrupt is
-    /// set where a period ends after the first and not after the second.
+    /// Lets time pass from `from` to `to`, both in nanoseconds since power on.
+    ///
+    /// The periodic interrupt flag is set if a period ends after `from` and not after `to`.
     #[tactic(auto, unfolding(crate::specs::Chip::passed))]
     pub fn passed(&mut self, from: u64, to: u64)
         ensures { self.new ≡ passed from to self.old }
@@ -160,7 +178,7 @@ impl Rtc {
         self.pf = self.pf || ends;
     }
 
-    /// The interrupt line.
+    /// Returns whether the interrupt line is high.
     #[tactic(auto, unfolding(crate::specs::Chip::line_of))]
     pub fn line(&self) -> bool
         ensures { result ≡ line_of self.now }

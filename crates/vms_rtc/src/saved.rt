@@ -26,7 +26,11 @@ impl Rtc {
     ghost use Rattle.vms_rtc.specs.Cells.{saved_cells};
     ghost use Rattle.vms_rtc.specs.Saved.{CanSave, CanRestore, restored};
 
-    /// The cells of the chip under the pass's clock set, which is at or above its version.
+    /// Returns the cells of the chip under the clock set of `pass`.
+    ///
+    /// # Requires
+    ///
+    /// `pass` has the chip's version, and a clock set at or above it.
     #[tactic(auto, unfolding(crate::specs::Cells::saved_cells))]
     pub fn cells(&self, pass: &Pass) -> DevCells
         requires { CanSave pass.now self.now }
@@ -41,11 +45,19 @@ impl Rtc {
         cells
     }
 
-    /// The chip of cells of the newest clock set, at the pass's version, or the number of the first rule that fails:
+    /// Returns the chip with the newest clock set's `cells`, at the version of `pass`.
+    ///
+    /// # Errors
+    ///
+    /// The number of the first rule that fails:
     ///
     /// 1. The index is at most 63.
     /// 2. Register A is at most 127, and C and D are 0.
-    /// 3. The mask of NMI is clear on a chip of version 1.
+    /// 3. The NMI mask is clear if the version is 1.
+    ///
+    /// # Requires
+    ///
+    /// `cells` are a chip's cells in the newest clock set, which is the set of `pass`.
     #[tactic(auto, unfolding(dev_base::specs::Rules::judged_by, crate::specs::Saved::chip_of))]
     pub fn of_cells(pass: &Pass, cells: &DevCells) -> Result<Rtc, u8>
         requires { CanRestore pass.now cells.now.items }

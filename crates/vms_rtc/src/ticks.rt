@@ -1,20 +1,20 @@
-// The ticks of the crystal, and the periods of the periodic interrupt.
+// The crystal's ticks, and the periods of the periodic interrupt.
 ghost use Rattle.std.specs.Prelude.{◌≡◌, ◌<◌, IfSome};
 ghost use Rattle.vms_rtc.specs.Chip.{ends_within as ends_within_of, period_of as period_by, period_of_rate as period_by_rate, ticks as ticks_of};
 
 use crate::limits::CRYSTAL_HERTZ;
 use dev_base::NANOSECONDS;
 
-// The whole ticks from power on to a moment in nanoseconds.
+// Returns the whole ticks from power on to `moment`, in nanoseconds.
 #[tactic(auto, unfolding(crate::specs::Chip::ticks))]
 fn ticks(moment: u64) -> u64
     ensures { result ≡ ticks_of moment }
 {
-    // Whole seconds and the rest, since 64 bits don't hold the product of the whole.
+    // Seconds and the rest are converted apart, since the product of both would exceed 64 bits.
     moment / NANOSECONDS * CRYSTAL_HERTZ + moment % NANOSECONDS * CRYSTAL_HERTZ / NANOSECONDS
 }
 
-// The ticks of a period by the rate.
+// Returns the ticks of a period at `rate`.
 fn period_of_rate(rate: u8) -> Option<u64>
     requires { rate < 16 }
     ensures period { result ≡ period_by_rate rate }
@@ -28,7 +28,7 @@ fn period_of_rate(rate: u8) -> Option<u64>
     }
 }
 
-/// The ticks of a period by register A, or `None` where nothing is counted.
+/// Returns the ticks of a period by register A, or `None` if nothing is counted.
 #[tactic(auto, unfolding(crate::specs::Chip::period_of))]
 pub(crate) fn period_of(a: u8) -> Option<u64>
     ensures period { result ≡ period_by a }
@@ -41,7 +41,7 @@ pub(crate) fn period_of(a: u8) -> Option<u64>
     }
 }
 
-/// Tells whether a period ends after one moment and not after another.
+/// Reports whether a period ends after `from` and not after `to`.
 pub(crate) fn ends_within(period: Option<u64>, from: u64, to: u64) -> bool
     requires { IfSome period (λ period. 0 < period) }
     ensures { result ≡ ends_within_of period from to }

@@ -1,4 +1,5 @@
-//! The program: it hands the system's words, folder, input and outputs to `program`, and ends with the status.
+//! The program. It passes the system's arguments, folder, input and outputs to `program`, and exits
+//! with the status.
 #![tactic(auto)]
 
 use std::alloc::Global;
@@ -14,7 +15,7 @@ fn main(rt: HostRuntime) -> ExitCode {
     ExitCode::from(status)
 }
 
-// The words, and the files of the current folder.
+// Returns the words, and the files of the current folder.
 fn handed(rt: &HostRuntime) -> Result<(Words, FileShelf<HostRuntime>), NoMemory> {
     let alloc = rt.alloc();
     let words = words(rt, alloc)?;
@@ -22,7 +23,7 @@ fn handed(rt: &HostRuntime) -> Result<(Words, FileShelf<HostRuntime>), NoMemory>
     Ok((words, FileShelf::new(rt.clone()?, folder)))
 }
 
-// The words after the program's name; one empty word where one of them isn't UTF-8.
+// Returns the words after the program's name, or one empty word if one of them isn't UTF-8.
 fn words(rt: &HostRuntime, alloc: Global) -> Result<Words, NoMemory> {
     let mut words = Words::new(alloc);
     match env::args(rt) {
@@ -45,7 +46,7 @@ mod tests {
     use std::test::Fail;
     use vms_io::MemShelf;
 
-    // A writer that takes so many bytes and then fails.
+    // A writer that accepts `room` bytes and then fails.
     #[derive(Drop)]
     struct Full {
         bytes: Vec<u8>,
@@ -75,7 +76,7 @@ mod tests {
         }
     }
 
-    // The status of a run of `drill isa-1 1 1` with so much room for out and notes, and what stands on them.
+    // Runs `drill isa-1 1 1` with this room for both outputs. Returns the status and both texts.
     fn drilled(alloc: Global, out: usize, notes: usize) -> Result<(u8, Vec<u8>, Vec<u8>), Fail> {
         let mut words = Words::new(alloc);
         for word in ["drill", "isa-1", "1", "1"] {

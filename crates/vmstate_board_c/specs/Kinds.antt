@@ -1,4 +1,4 @@
--- Boards of both kinds.
+-- The boards of both kinds.
 use Rattle.std.specs.Prelude.{ℕ, ◌==◌, Bool, false, ◌&&◌, ◌||◌, nat_le, if◌then◌else◌}
 use Rattle.dev_board.specs.State.{State}
 use Rattle.dev_board.specs.declared.event.Answer.{Answer}
@@ -11,52 +11,60 @@ use Rattle.vms_board.specs.Standing.{Standing}
 use Rattle.vmstate_board_c.specs.declared.held.AnyBoard.{AnyBoard}
 use Rattle.vmstate_board_c.specs.declared.held.AnyBoard.TheVariants.{Isa, Clock}
 
--- there are boards isa-1 to isa-4, which are of kind 0, and clk-1 and clk-2, of kind 1
+-- Whether such a board exists: isa-1 to isa-4 have kind 0, and clk-1 and clk-2 have kind 1.
 abbrev pub is_made : (kind level : ℕ) → Bool
 is_made kind level =
     if kind == 0 then nat_le 1 level && nat_le level 4
     else (if kind == 1 then nat_le 1 level && nat_le level 2 else false)
 
--- a board at power on, which no stream was restored to
+-- A board at power on, which was never restored.
 abbrev pub on : {S : Type 0} → Family S → ℕ → Standing S
 on f level = record { state = f.power_on level; taken = 0 }
 
+-- The board of kind `kind` and level `level` at power on.
 abbrev pub power_on_of : (kind level : ℕ) → AnyBoard
 power_on_of kind level = if kind == 0 then Isa (on isa level) else Clock (on clock level)
 
--- what an event does to a board
+-- The answer and the board after an event.
 abbrev pub step_in : {S : Type 0} → Family S → Event → Standing S → Answer × Standing S
 step_in f event board = let done = f.step event board.state in (done.0, record board { state = done.1 })
 
+-- The answer and the board, of either kind, after an event.
 abbrev pub step_of : Event → AnyBoard → Answer × AnyBoard
 step_of event (Isa board) = let done = step_in isa event board in (done.0, Isa done.1)
 step_of event (Clock board) = let done = step_in clock event board in (done.0, Clock done.1)
 
--- what a board answers to a question
+-- The present moment.
 abbrev pub now_of : AnyBoard → ℕ
 now_of (Isa board) = isa.moment board.state
 now_of (Clock board) = clock.moment board.state
 
+-- The level, or the version of the clock chip.
 abbrev pub level_of : AnyBoard → ℕ
 level_of (Isa board) = isa.number board.state
 level_of (Clock board) = clock.number board.state
 
+-- Whether the interrupt output is high.
 abbrev pub int_of : AnyBoard → Bool
 int_of (Isa board) = isa.int board.state
 int_of (Clock board) = clock.int board.state
 
+-- Whether OUT of the counter is high.
 abbrev pub output_of : ℕ → AnyBoard → Bool
 output_of counter (Isa board) = isa.output counter board.state
 output_of counter (Clock board) = clock.output counter board.state
 
+-- Whether a device uses the port.
 abbrev pub has_port_of : ℕ → AnyBoard → Bool
 has_port_of port (Isa board) = isa.has_port port board.state
 has_port_of port (Clock board) = clock.has_port port board.state
 
+-- The number of bytes that may arrive on the serial line before one is lost.
 abbrev pub room_of : AnyBoard → ℕ
 room_of (Isa board) = isa.room board.state
 room_of (Clock board) = clock.room board.state
 
+-- The time of one character on the serial line.
 abbrev pub character_of : AnyBoard → ℕ
 character_of (Isa board) = isa.character board.state
 character_of (Clock board) = clock.character board.state

@@ -1,9 +1,9 @@
--- The numbers by which C tells why a stream is refused.
+-- The numbers by which C learns why a stream is refused.
 use Rattle.std.specs.Prelude.{ℕ}
 use Rattle.vms_spec.specs.declared.Reason.{Reason}
 use Rattle.vms_spec.specs.declared.Reason.TheVariants as reasons
 
--- the number of a reason, in the order in which vms_spec declares them
+-- The number of a reason, in the order in which vms_spec declares them.
 abbrev pub reason_number : Reason → ℕ
 reason_number reasons.Truncated = 1
 reason_number reasons.BadMagic = 2
@@ -32,7 +32,7 @@ reason_number reasons.LinesDisagree = 24
 reason_number reasons.Trailing = 25
 reason_number reasons.DescriptionTooLong = 26
 
--- the number of the device's rule that fails, or 0
+-- The number of the device's rule that fails, or 0.
 abbrev pub rule_of : Reason → ℕ
 rule_of (reasons.Unsound rule) = rule
 rule_of _ = 0

@@ -1,4 +1,4 @@
--- What saving and restoring a board, or none, answer.
+-- The results of saving and restoring, for a board or none.
 use Rattle.std.specs.Prelude.{◌≡◌, ◌⊎◌, ◌&&◌, ℕ, Bool, true, false, nat_le, nat_lt, if◌then◌else◌, Result, Ok, Err, OnErr, List, ◌++◌, length, drop, Option, Some, None}
 use Rattle.vms_board.specs.Clock.{clock}
 use Rattle.vms_board.specs.Comes.{RestoreReads}
@@ -19,34 +19,38 @@ use Rattle.vmstate_board_c.specs.declared.stream.CRestored.{CRestored}
 
 -- ---- saving
 
--- the board may be saved under this set, one from its number to the newest of its kind
+-- Whether the board may be saved under this set: one from its number to the newest of its kind.
 abbrev pub may_save_in : {S : Type 0} → Family S → ℕ → Standing S → Bool
 may_save_in f set board = nat_le (f.number board.state) set && nat_le set f.newest
 
+-- Whether a board of either kind may be saved under this set.
 abbrev pub may_save : ℕ → AnyBoard → Bool
 may_save set (Isa board) = may_save_in isa set board
 may_save set (Clock board) = may_save_in clock set board
 
--- the board's stream under the set, with the description of itself or without
+-- The board's stream under this set, with or without its description.
 abbrev pub stream_in : {S : Type 0} → Family S → ℕ → Bool → Standing S → List ℕ
 stream_in f set describe board =
     if describe then saved_stream f set board.state else stream_with f set board.state None
 
+-- The stream of a board of either kind.
 abbrev pub stream_of : ℕ → Bool → AnyBoard → List ℕ
 stream_of set describe (Isa board) = stream_in isa set describe board
 stream_of set describe (Clock board) = stream_in clock set describe board
 
--- the bytes stand at the beginning of the room, or the room is too small for them and as before
+-- The bytes are at the beginning of the buffer, or it is too small for them and unchanged.
 pub record Lands (bytes old new : List ℕ) (answer : CNumber) : Type 0 where
   pub length_is : answer.number ≡ length bytes
   pub status_is : answer.status ≡ (if nat_lt (length old) (length bytes) then 100 else 0)
   pub room_is : new ≡ (if nat_lt (length old) (length bytes) then old else bytes ++ drop (length bytes) old)
 
--- the bytes land, or memory ran out and the room is as before; under a set that is none of the board's the room is as before
+-- The bytes were written, or memory ran out and the buffer is unchanged. If the board can't be
+-- saved under this set, the buffer is unchanged.
 abbrev pub SavedIf : Bool → List ℕ → (old new : List ℕ) → CNumber → Type 0
 SavedIf true bytes old new answer = Lands bytes old new answer ⊎ ((answer ≡ no_number 10) × (new ≡ old))
 SavedIf false bytes old new answer = (answer ≡ no_number 2) × (new ≡ old)
 
+-- The result of a save. The status is 3 if there is no board.
 abbrev pub HasSaved : ℕ → Bool → Option AnyBoard → (old new : List ℕ) → CNumber → Type 0
 HasSaved set describe None old new answer = (answer ≡ no_number 3) × (new ≡ old)
 HasSaved set describe (Some board) old new answer =
@@ -54,20 +58,20 @@ HasSaved set describe (Some board) old new answer =
 
 -- ---- restoring
 
--- a source in memory of which no read was made, and of which none fails
+-- A source in memory, before the first read. No read fails.
 abbrev pub fresh : List ℕ → Intake
 fresh bytes = record { left = Some bytes; given = 0; faults = 0; promise = true }
 
--- the device that a refusal names, or 2^32 - 1 where it names none
+-- The device that a refusal names, or 2^32 - 1 if it names none.
 abbrev pub device_said : Option ℕ → ℕ
 device_said None = 4294967295
 device_said (Some device) = device
 
--- the answer of a call that restores nothing
+-- The result of a call that restores nothing.
 abbrev pub nothing_restored : ℕ → CRestored
 nothing_restored status = record { status = status; device = 0; offset = 0; reason = 0; rule = 0 }
 
--- what C is told of a refusal
+-- The result of a refusal.
 abbrev pub refused_said : Refusal → CRestored
 refused_said refusal = record {
   status = 1;
@@ -77,13 +81,13 @@ refused_said refusal = record {
   rule = rule_of refusal.reason;
 }
 
--- what C is told of a restore, and of the bytes that the stream has. No read of memory fails
+-- The result of a restore, whose stream has `taken` bytes. No read from memory fails.
 abbrev pub Said : ℕ → Result Unit RestoreFault → CRestored → Type 0
 Said taken (Ok u) answer = answer ≡ record { status = 0; device = 0; offset = taken; reason = 0; rule = 0 }
 Said taken (Err (faults.Refused refusal)) answer = answer ≡ refused_said refusal
 Said taken (Err faults.ReadFault) answer = ⊥
 
--- the restore of a board from these bytes says what is answered
+-- The result is that of restoring the board from these bytes.
 pub record IsRestored {S : Type 0} (f : Family S) (stream : List ℕ) (old new : Standing S) (answer : CRestored) : Type 0 where
   pub result : Result Unit RestoreFault
   pub after : Intake
@@ -91,13 +95,14 @@ pub record IsRestored {S : Type 0} (f : Family S) (stream : List ℕ) (old new :
   pub same : OnErr result (new ≡ old)
   pub said : Said new.taken result answer
 
+-- The same for a board of either kind, which stays of its kind.
 abbrev pub RestoredTo : List ℕ → AnyBoard → AnyBoard → CRestored → Type 0
 RestoredTo stream (Isa old) (Isa new) answer = IsRestored isa stream old new answer
 RestoredTo stream (Clock old) (Clock new) answer = IsRestored clock stream old new answer
 RestoredTo stream (Isa old) (Clock new) answer = ⊥
 RestoredTo stream (Clock old) (Isa new) answer = ⊥
 
--- the same of a board, if there is one
+-- The same for a board, if there is one. Otherwise the status is 3.
 abbrev pub HasRestored : List ℕ → (old new : Option AnyBoard) → CRestored → Type 0
 HasRestored stream None new answer = (answer ≡ nothing_restored 3) × (new ≡ None)
 HasRestored stream (Some old) None answer = ⊥

@@ -1,31 +1,39 @@
-// Answers as C has them.
+// The results of calls, as C structures.
 ghost use Rattle.std.specs.Prelude.{◌≡◌, ◌≤◌, length};
 ghost use Rattle.vmstate_board_c.specs.Answers.{flag as flag_of, no_number as no_number_of, nothing_said, number as number_of, said};
 
-/// The most bytes that leave a board at once.
+/// The most bytes that a board sends at once.
 const MOST_SENT: usize = 17;
 
-/// What an event answers: a status, the value or 0, 1 if the interrupt output is high, and the bytes that left, of
-/// which the room behind `count` is 0.
+/// The result of an event.
+///
+/// A call whose status isn't 0 did nothing, and its other fields are 0.
 #[repr(C)]
 #[derive(Clone, Copy)]
 pub struct CAnswer {
+    /// The status: 0 on success.
     pub status: u32,
+    /// The byte that was read or the vector of the interrupt, else 0.
     pub value: u8,
+    /// 1 if the interrupt output is high, else 0.
     pub output: u8,
+    /// The number of bytes that left on the serial line, 0 to 17.
     pub count: u8,
+    /// The bytes that left on the serial line, the oldest first, followed by zeros.
     pub sent: [u8; 17],
 }
 
-/// A status, and a number that was asked for.
+/// The result of a question or of a save.
 #[repr(C)]
 #[derive(Clone, Copy)]
 pub struct CNumber {
+    /// The status: 0 on success.
     pub status: u32,
+    /// The number, 0 unless the function says otherwise for its status.
     pub number: u64,
 }
 
-/// Returns the answer of a call that does nothing.
+/// Returns the result of a call that does nothing, with the status `status`.
 pub(crate) fn nothing(status: u32) -> CAnswer
     ensures { result ≡ nothing_said status }
 {
@@ -38,7 +46,7 @@ pub(crate) fn nothing(status: u32) -> CAnswer
     }
 }
 
-/// Returns the answer of an event.
+/// Returns the result of an event.
 pub(crate) fn answered(value: Option<u8>, int: bool, sent: &[u8]) -> CAnswer
     requires { length sent.now ≤ 17 }
     ensures { result ≡ said value int sent.now }
@@ -57,21 +65,21 @@ pub(crate) fn answered(value: Option<u8>, int: bool, sent: &[u8]) -> CAnswer
     }
 }
 
-/// Returns a number that a board tells.
+/// Returns a result with the number `number` and the status 0.
 pub(crate) fn number(number: u64) -> CNumber
     ensures { result ≡ number_of number }
 {
     CNumber { status: 0, number }
 }
 
-/// Returns whether a board tells so, as 1 or 0.
+/// Returns a result with the number 1 if `is` holds, else 0.
 pub(crate) fn flag(is: bool) -> CNumber
     ensures { result ≡ flag_of is }
 {
     number(u64::from(is))
 }
 
-/// Returns the answer to a question that a board doesn't answer.
+/// Returns a result without a number, with the status `status`.
 pub(crate) fn no_number(status: u32) -> CNumber
     ensures { result ≡ no_number_of status }
 {

@@ -1,4 +1,4 @@
-// Making and freeing a board, and what happens to it.
+// The calls that create and free a board, and those that are its events.
 ghost use Rattle.std.specs.Prelude.{◌≡◌, IsTrue, IfSome, Some, None};
 ghost use Rattle.dev_board.specs.Step.{names_wire};
 ghost use Rattle.dev_board.specs.declared.event.Event.TheVariants.{Read, Write, Byte};
@@ -14,9 +14,10 @@ use dev_board::{Event, is_wire};
 use std::alloc::Global;
 use std::mem;
 
-/// Makes the board of kind `kind` and level `level` at power on, and frees the board that the handle owns, if any.
+/// Creates the board of kind `kind` and level `level` as it is at power on.
 ///
-/// The status is 2 if there is no such board, and 10 if memory runs out; the handle is as it was then.
+/// The board that the handle owned before, if any, is freed. The status is 2 if there is no such
+/// board, and 10 if memory runs out; in both cases the handle is unchanged.
 #[unsafe(no_mangle)]
 pub extern "C" fn vmstate_board_new(alloc: Global, handle: &mut Handle, kind: u8, level: u8) -> u32
     ensures { Made kind level (board_of handle.old) (board_of handle.new) result }
@@ -33,7 +34,7 @@ pub extern "C" fn vmstate_board_new(alloc: Global, handle: &mut Handle, kind: u8
     }
 }
 
-// A board at power on, on the heap.
+// Returns a board at power on, on the heap, or `None` if memory runs out.
 fn made(alloc: Global, kind: u8, level: u8) -> Option<Box<Held>>
     requires { IsTrue (is_made kind level) }
     ensures { IfSome result (λ held. held.value.board ≡ power_on_of kind level) }
@@ -42,7 +43,7 @@ fn made(alloc: Global, kind: u8, level: u8) -> Option<Box<Held>>
     Box::new(alloc, Held { board }).ok()
 }
 
-/// Frees the board that the handle owns, if any.
+/// Frees the board that `handle` owns, if any.
 #[unsafe(no_mangle)]
 pub extern "C" fn vmstate_board_free(alloc: Global, handle: &mut Handle)
     ensures { board_of handle.new ≡ None }
@@ -50,7 +51,9 @@ pub extern "C" fn vmstate_board_free(alloc: Global, handle: &mut Handle)
     drop(handle.take(alloc));
 }
 
-/// Lets time pass up to `moment`, and reads a port.
+/// Reads the port `port` at `moment`, after time has passed up to it.
+///
+/// The status is 3 if the handle owns no board, and 4 if `moment` is before the board's.
 #[unsafe(no_mangle)]
 #[tactic(auto, unfolding(dev_board::specs::Step::names_wire))]
 pub extern "C" fn vmstate_board_in(
@@ -64,7 +67,9 @@ pub extern "C" fn vmstate_board_in(
     access(alloc, handle, moment, Event::Read { port })
 }
 
-/// Lets time pass up to `moment`, and writes a byte to a port.
+/// Writes `value` to the port `port` at `moment`, after time has passed up to it.
+///
+/// The status is 3 if the handle owns no board, and 4 if `moment` is before the board's.
 #[unsafe(no_mangle)]
 #[tactic(auto, unfolding(dev_board::specs::Step::names_wire))]
 pub extern "C" fn vmstate_board_out(
@@ -80,7 +85,9 @@ pub extern "C" fn vmstate_board_out(
     access(alloc, handle, moment, Event::Write { port, value })
 }
 
-/// Lets time pass up to `moment`, at which a byte arrives on the serial line.
+/// Receives the byte `value` from the serial line at `moment`, after time has passed up to it.
+///
+/// The status is 3 if the handle owns no board, and 4 if `moment` is before the board's.
 #[unsafe(no_mangle)]
 #[tactic(auto, unfolding(dev_board::specs::Step::names_wire))]
 pub extern "C" fn vmstate_board_receive(
@@ -94,9 +101,11 @@ pub extern "C" fn vmstate_board_receive(
     access(alloc, handle, moment, Event::Byte { value })
 }
 
-/// Lets time pass up to `moment`, at which a wire rises or falls.
+/// Raises the wire `input` at `moment` if `up` is set, else lowers it, after time has passed up to
+/// it.
 ///
-/// The status is 2 if `input` is none of 1, 3, 5, 6, 7 and 8 to 15.
+/// The status is 2 if `input` is none of 1, 3, 5, 6, 7 and 8 to 15; else 3 if the handle owns no
+/// board, and 4 if `moment` is before the board's.
 #[unsafe(no_mangle)]
 #[tactic(auto, unfolding(dev_board::specs::Step::names_wire))]
 pub extern "C" fn vmstate_board_wire(
@@ -115,6 +124,8 @@ pub extern "C" fn vmstate_board_wire(
 }
 
 /// Lets time pass up to `moment`.
+///
+/// The status is 3 if the handle owns no board, and 4 if `moment` is before the board's.
 #[unsafe(no_mangle)]
 pub extern "C" fn vmstate_board_advance(alloc: Global, handle: &mut Handle, moment: u64) -> CAnswer
     ensures { (result, board_of handle.new) ≡ time_to moment (board_of handle.old) }
@@ -127,7 +138,9 @@ pub extern "C" fn vmstate_board_advance(alloc: Global, handle: &mut Handle, mome
     answer
 }
 
-/// Acknowledges an interrupt: the value is its vector.
+/// Acknowledges an interrupt at the board's moment; `value` of the result is its vector.
+///
+/// The status is 3 if the handle owns no board.
 #[unsafe(no_mangle)]
 #[tactic(auto, unfolding(dev_board::specs::Step::names_wire))]
 pub extern "C" fn vmstate_board_ack(alloc: Global, handle: &mut Handle) -> CAnswer
@@ -141,7 +154,7 @@ pub extern "C" fn vmstate_board_ack(alloc: Global, handle: &mut Handle) -> CAnsw
     answer
 }
 
-// Lets an event happen at a moment.
+// Applies `event` at `moment`.
 #[inline(always)]
 fn access(alloc: Global, handle: &mut Handle, moment: u64, event: Event) -> CAnswer
     requires wire { IsTrue (names_wire event) }
@@ -156,7 +169,7 @@ fn access(alloc: Global, handle: &mut Handle, moment: u64, event: Event) -> CAns
     answer
 }
 
-// Lets time pass up to a moment that isn't before the board's.
+// Lets time pass up to `moment`, unless it is before the board's.
 #[tactic(auto, unfolding(dev_board::specs::Step::names_wire))]
 fn pass(board: &mut AnyBoard, moment: u64) -> CAnswer
     ensures { (result, Some board.new) ≡ time_to moment (Some board.old) }
@@ -168,7 +181,7 @@ fn pass(board: &mut AnyBoard, moment: u64) -> CAnswer
     act(board, Event::Wait { ns: moment - now })
 }
 
-// Lets an event happen at a moment that isn't before the board's.
+// Applies `event` at `moment`, unless it is before the board's.
 #[inline(always)]
 fn act_at(board: &mut AnyBoard, moment: u64, event: Event) -> CAnswer
     requires wire { IsTrue (names_wire event) }
@@ -185,7 +198,7 @@ fn act_at(board: &mut AnyBoard, moment: u64, event: Event) -> CAnswer
     act_later(board, moment - now, event)
 }
 
-// Lets an event happen now.
+// Applies `event` now.
 #[inline(always)]
 fn act(board: &mut AnyBoard, event: Event) -> CAnswer
     requires { IsTrue (names_wire event) }
@@ -195,7 +208,7 @@ fn act(board: &mut AnyBoard, event: Event) -> CAnswer
     answered(answer.value, answer.int, answer.sent.as_slice())
 }
 
-// Lets time pass, and then an event happen, by which no byte leaves.
+// Lets `ns` nanoseconds pass, and then applies `event`, which sends no byte.
 #[tactic(auto, unfolding(dev_board::specs::Step::names_wire))]
 fn act_later(board: &mut AnyBoard, ns: u64, event: Event) -> CAnswer
     requires wire { IsTrue (names_wire event) }

@@ -5,7 +5,7 @@ ghost use Rattle.std.specs.Bool.{OnFalse};
 use std::alloc::Global;
 use vms_io::{Failed, Sink};
 
-/// Bytes in memory that is taken as they come. A write fails only where memory is wanting.
+/// Bytes in memory, which is allocated as they are written. A write fails only if memory runs out.
 #[derive(Drop)]
 pub(crate) struct Growing {
     bytes: Vec<u8>,
@@ -13,7 +13,7 @@ pub(crate) struct Growing {
 }
 
 impl Growing {
-    /// No byte.
+    /// Creates a sink without bytes.
     pub(crate) fn new(alloc: Global) -> Growing
         ensures bytes { result.bytes.items ≡ [] }
         ensures faults { result.faults ≡ 0 }
@@ -24,14 +24,14 @@ impl Growing {
         }
     }
 
-    /// Whether memory was wanting for a write.
+    /// Reports whether a write failed because memory ran out.
     pub(crate) fn is_wanting(&self) -> bool
         ensures { OnFalse result (self.now.faults ≡ 0) }
     {
         self.faults > 0
     }
 
-    /// What was written.
+    /// Returns the bytes that were written.
     pub(crate) fn into_bytes(self) -> Vec<u8>
         ensures { result ≡ self.bytes }
     {

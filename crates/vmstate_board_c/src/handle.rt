@@ -1,4 +1,4 @@
-// What C keeps: a board or none.
+// The handle that C keeps: a board or none.
 ghost use Rattle.std.specs.Prelude.{◌≡◌, Option, Some, None, MatchOption};
 ghost use Rattle.std.specs.Option.{is_some};
 
@@ -8,7 +8,7 @@ use crate::seal::Seal;
 use std::alloc::Global;
 use std::mem;
 
-/// A board of the caller's, or none. All bytes 0 are none.
+/// A handle for C programs, which owns a board or none. If its bytes are all 0 it owns none.
 #[repr(C)]
 #[derive(Drop)]
 pub struct Handle {
@@ -18,7 +18,7 @@ pub struct Handle {
 }
 
 impl Handle {
-    /// Returns a handle of no board.
+    /// Creates a handle that owns no board.
     pub(crate) fn none(alloc: Global) -> Handle
         ensures { result.seal.held ≡ None }
     {
@@ -28,7 +28,7 @@ impl Handle {
         }
     }
 
-    /// Returns a handle that owns a board.
+    /// Creates a handle that owns `held`.
     pub(crate) fn of(held: Box<Held>) -> Handle
         ensures { result.seal.held ≡ Some held.value }
     {
@@ -50,7 +50,7 @@ impl Handle {
         }
     }
 
-    /// Returns the board, if there is one, and leaves a handle of none.
+    /// Returns the board, if there is one, and leaves a handle that owns none.
     pub(crate) fn take(&mut self, alloc: Global) -> Option<Box<Held>>
         ensures taken { MatchOption result (self.old.seal.held ≡ None)
             (λ held. self.old.seal.held ≡ Some held.value) }

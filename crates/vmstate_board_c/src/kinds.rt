@@ -1,4 +1,4 @@
-// Boards of both kinds.
+// The calls of boards of both kinds.
 ghost use Rattle.std.specs.Prelude.{◌≡◌, ◌<◌, IsTrue, IfOk};
 ghost use Rattle.dev_board.specs.Step.{names_wire};
 ghost use Rattle.vmstate_board_c.specs.Kinds.{character_of, has_port_of, int_of, is_made, level_of, now_of, output_of, power_on_of, room_of, step_of};
@@ -14,7 +14,7 @@ const ISA: u8 = 0;
 /// The number of the kind of `clk-1` and `clk-2`.
 const CLOCK: u8 = 1;
 
-/// Tells whether there are boards of kind `kind` and level `level`.
+/// Reports whether boards of kind `kind` and level `level` exist.
 pub(crate) fn is_kind(kind: u8, level: u8) -> bool
     ensures { result ≡ is_made kind level }
 {
@@ -26,7 +26,7 @@ pub(crate) fn is_kind(kind: u8, level: u8) -> bool
 }
 
 impl AnyBoard {
-    /// Returns the board of kind `kind` and level `level` at power on.
+    /// Creates the board of kind `kind` and level `level` as it is at power on.
     ///
     /// # Errors
     ///
@@ -42,7 +42,7 @@ impl AnyBoard {
         }
     }
 
-    /// Lets an event happen, and answers.
+    /// Applies `event` and returns the answer.
     #[inline(always)]
     pub(crate) fn event(&mut self, event: Event) -> Answer
         requires { IsTrue (names_wire event) }
@@ -54,7 +54,7 @@ impl AnyBoard {
         }
     }
 
-    /// Returns the present moment.
+    /// Returns the present moment, in nanoseconds since power on.
     pub(crate) fn now(&self) -> u64
         ensures { result ≡ now_of self.now }
     {
@@ -74,7 +74,7 @@ impl AnyBoard {
         }
     }
 
-    /// Tells whether the interrupt output is high.
+    /// Reports whether the interrupt output is high.
     pub(crate) fn int(&self) -> bool
         ensures { result ≡ int_of self.now }
     {
@@ -84,7 +84,7 @@ impl AnyBoard {
         }
     }
 
-    /// Tells whether OUT of counter `counter` is high at the present moment.
+    /// Reports whether OUT of counter `counter` is high at the present moment.
     pub(crate) fn output(&self, counter: u8) -> bool
         requires { counter < 3 }
         ensures { result ≡ output_of counter self.now }
@@ -95,7 +95,7 @@ impl AnyBoard {
         }
     }
 
-    /// Tells whether a device is behind the port `port`.
+    /// Reports whether a device uses the port `port`.
     pub(crate) fn has_port(&self, port: u16) -> bool
         ensures { result ≡ has_port_of port self.now }
     {
@@ -115,7 +115,7 @@ impl AnyBoard {
         }
     }
 
-    /// Returns the time of one character on the serial line.
+    /// Returns the time of one character on the serial line, in nanoseconds.
     pub(crate) fn character(&self) -> u64
         ensures { result ≡ character_of self.now }
     {

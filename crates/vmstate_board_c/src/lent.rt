@@ -1,14 +1,17 @@
-// A source over bytes that a caller lends.
+// A source over bytes that it borrows.
 ghost use Rattle.std.specs.Prelude.{◌^◌, ◌<◌, ◌≤◌, length};
 ghost use Rattle.vms_kinds.specs.Bytes.{IsBytes};
 
 use vms_io::{Failed, Source};
 
-/// Bytes in memory of another. No read fails.
+/// Borrowed bytes in memory. No read fails.
 #[derive(Drop)]
 pub(crate) struct Lent<'a> {
+    /// All bytes.
     pub(crate) bytes: &'a [u8],
+    /// The offset of the next byte to read.
     pub(crate) at: usize,
+    /// The number of bytes read, at most 2^64 - 1.
     pub(crate) given: u64,
     ghost within: { at ≤ length bytes.now },
     ghost octets: { IsBytes bytes.now },

@@ -1,4 +1,7 @@
-//! A board for programs in C and Rust. The caller keeps a handle, which owns a board or none.
+//! A board for programs in C and Rust.
+//!
+//! The caller keeps a handle, which owns a board or none. The header is
+//! `examples/embed/vmstate_board.h`.
 #![tactic(auto)]
 
 mod answer;

@@ -1,4 +1,5 @@
-// Questions to a board.
+// Questions about a board, which don't change it. The status of each is 3 if the handle owns no
+// board.
 ghost use Rattle.std.specs.Prelude.{◌≡◌};
 ghost use Rattle.vmstate_board_c.specs.Answers.{board_of, flag as flag_of, number as number_of, output_told, told};
 ghost use Rattle.vmstate_board_c.specs.Kinds.{character_of, has_port_of, int_of, level_of, now_of, room_of};
@@ -8,7 +9,7 @@ use crate::handle::Handle;
 use crate::status::{NO_BOARD, NONE_SUCH};
 use std::alloc::Global;
 
-/// Tells whether the interrupt output is high, as 1 or 0.
+/// Returns 1 if the interrupt output is high, else 0; `handle` keeps its board.
 #[unsafe(no_mangle)]
 pub extern "C" fn vmstate_board_int(alloc: Global, handle: &mut Handle) -> CNumber
     ensures same { board_of handle.new ≡ board_of handle.old }
@@ -22,7 +23,8 @@ pub extern "C" fn vmstate_board_int(alloc: Global, handle: &mut Handle) -> CNumb
     answer
 }
 
-/// Returns how many bytes may arrive on the serial line before one is lost.
+/// Returns how many bytes may arrive on the serial line of the board in `handle` before one is
+/// lost.
 #[unsafe(no_mangle)]
 pub extern "C" fn vmstate_board_room(alloc: Global, handle: &mut Handle) -> CNumber
     ensures same { board_of handle.new ≡ board_of handle.old }
@@ -36,7 +38,7 @@ pub extern "C" fn vmstate_board_room(alloc: Global, handle: &mut Handle) -> CNum
     answer
 }
 
-/// Returns the time of one character on the serial line, in nanoseconds.
+/// Returns the time of one character on the serial line of the board in `handle`, in nanoseconds.
 #[unsafe(no_mangle)]
 pub extern "C" fn vmstate_board_character(alloc: Global, handle: &mut Handle) -> CNumber
     ensures same { board_of handle.new ≡ board_of handle.old }
@@ -50,7 +52,7 @@ pub extern "C" fn vmstate_board_character(alloc: Global, handle: &mut Handle) ->
     answer
 }
 
-/// Tells whether a device of the board is behind the port `port`, as 1 or 0.
+/// Returns 1 if a device of the board uses the port `port`, else 0.
 #[unsafe(no_mangle)]
 pub extern "C" fn vmstate_board_has_port(alloc: Global, handle: &mut Handle, port: u16) -> CNumber
     ensures same { board_of handle.new ≡ board_of handle.old }
@@ -64,7 +66,7 @@ pub extern "C" fn vmstate_board_has_port(alloc: Global, handle: &mut Handle, por
     answer
 }
 
-/// Returns the board's moment.
+/// Returns the moment of the board in `handle`, in nanoseconds since power on.
 #[unsafe(no_mangle)]
 pub extern "C" fn vmstate_board_now(alloc: Global, handle: &mut Handle) -> CNumber
     ensures same { board_of handle.new ≡ board_of handle.old }
@@ -78,7 +80,7 @@ pub extern "C" fn vmstate_board_now(alloc: Global, handle: &mut Handle) -> CNumb
     answer
 }
 
-/// Returns the board's level, or the version of its clock chip.
+/// Returns the level of the board in `handle`, or the version of its clock chip.
 #[unsafe(no_mangle)]
 pub extern "C" fn vmstate_board_level(alloc: Global, handle: &mut Handle) -> CNumber
     ensures same { board_of handle.new ≡ board_of handle.old }
@@ -92,7 +94,7 @@ pub extern "C" fn vmstate_board_level(alloc: Global, handle: &mut Handle) -> CNu
     answer
 }
 
-/// Tells whether OUT of counter `counter`, 0 to 2, is high at the board's moment, as 1 or 0.
+/// Returns 1 if OUT of counter `counter`, 0 to 2, is high at the board's moment, else 0.
 ///
 /// The status is 2 if there is no such counter.
 #[unsafe(no_mangle)]

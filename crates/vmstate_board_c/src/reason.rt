@@ -4,7 +4,7 @@ ghost use Rattle.vmstate_board_c.specs.Reasons.{reason_number as reason_number_o
 
 use vms_load::Reason;
 
-/// Returns the number of a reason, from 1 on.
+/// Returns the number of `reason`, from 1 on.
 pub(crate) fn reason_number(reason: Reason) -> u32
     ensures { result ≡ reason_number_of reason }
 {
@@ -38,7 +38,7 @@ pub(crate) fn reason_number(reason: Reason) -> u32
     }
 }
 
-/// Returns the number of the rule that a reason names, or 0.
+/// Returns the number of the rule that `reason` names, or 0.
 pub(crate) fn rule_of(reason: Reason) -> u32
     ensures { result ≡ rule_of_reason reason }
 {

@@ -1,5 +1,5 @@
-// What a call answers.
-/// Done.
+// The statuses of calls.
+/// Success.
 pub(crate) const DONE: u32 = 0;
 
 /// The stream is refused.
@@ -14,8 +14,8 @@ pub(crate) const NO_BOARD: u32 = 3;
 /// The moment is before the board's.
 pub(crate) const PAST: u32 = 4;
 
-/// Memory has run out.
+/// Out of memory.
 pub(crate) const NO_MEMORY: u32 = 10;
 
-/// The room is too small for the stream.
+/// The buffer is too small for the stream.
 pub(crate) const TOO_SMALL: u32 = 100;

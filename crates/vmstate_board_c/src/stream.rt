@@ -1,4 +1,4 @@
-// A board's stream in rooms of the caller's.
+// Saves a board's stream to the caller's memory, and restores it from there.
 ghost use Rattle.std.specs.Prelude.{◌≡◌};
 ghost use Rattle.vmstate_board_c.specs.Answers.{board_of};
 ghost use Rattle.vmstate_board_c.specs.Streams.{HasRestored, HasSaved, IsRestored, Lands, RestoredTo, SavedIf, may_save, may_save_in, nothing_restored, refused_said, stream_in, stream_of};
@@ -13,22 +13,31 @@ use crate::status::{DONE, NO_BOARD, NO_MEMORY, NONE_SUCH, REFUSED, TOO_SMALL};
 use std::alloc::Global;
 use vms_board::{Machine, MachineBoard, Refusal, RestoreFault};
 
-/// What a restore answers: the status; of a stream that is refused the offset, the device or 2^32 - 1, and the number of the
-/// reason with that of its rule or 0; and of one that is taken the number of its bytes.
+/// The result of a restore.
+///
+/// With the status 0, `offset` is the length of the stream. With 1, the stream is refused and the
+/// fields say why. With 3, the handle owns no board. All other fields are 0.
 #[repr(C)]
 #[derive(Clone, Copy)]
 pub struct CRestored {
+    /// The status: 0, 1 or 3.
     pub status: u32,
+    /// The device that the refusal names, or 2^32 - 1 if it names none.
     pub device: u32,
+    /// The offset of the refusal, or the length of the stream, in bytes.
     pub offset: u64,
+    /// The number of the reason, from 1 on.
     pub reason: u32,
+    /// The number of the device's rule that fails, or 0.
     pub rule: u32,
 }
 
-/// Writes the board's stream under set `set` to the beginning of `room`, with the description of itself or without.
+/// Writes the board's stream under set `set` to the beginning of `room`.
 ///
-/// The number is the length of the stream. The status is 100 if the room is too small for it, 2 if the set is none of the
-/// board's, and 10 if memory runs out; the room is as it was then.
+/// The stream has the board's description if `describe` is set. The number is the length of the
+/// stream. The board is unchanged. The status is 100 if `room` is too small for the stream, and the
+/// number is then its length too. It is 2 if the board can't be saved under `set`, 3 if the handle
+/// owns no board, and 10 if memory runs out. If it isn't 0, `room` is unchanged.
 #[unsafe(no_mangle)]
 pub extern "C" fn vmstate_board_save(
     alloc: Global,
@@ -100,7 +109,10 @@ fn land(bytes: &[u8], room: &mut [u8]) -> CNumber
     }
 }
 
-/// Restores the board from a stream. At any status but 0 it is as it was.
+/// Restores the board from `stream`.
+///
+/// The status is 1 if the stream is refused, and 3 if the handle owns no board. If it isn't 0, the
+/// board is unchanged.
 #[unsafe(no_mangle)]
 pub extern "C" fn vmstate_board_restore(
     alloc: Global,

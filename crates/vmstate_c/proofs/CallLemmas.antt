@@ -1,4 +1,4 @@
--- What a call over fresh objects in memory comes to.
+-- The result of a call on fresh objects in memory.
 use Rattle.std.proofs.Common.{◌≡◌, ◌∙◌, ap, subst, ℕ, true, List, [], Some, None}
 use Rattle.vms_io.specs.Memory.{Supply, is_empty}
 use Rattle.vms_io.specs.Shelves.{Held}
@@ -8,7 +8,7 @@ use Rattle.vms_cli.specs.Answers.{Answers}
 use Rattle.vmstate_c.specs.Calls.{Comes, NoneFailed, before, file_of, words_of}
 use Rattle.vmstate_c.specs.declared.request.Request.{Request}
 
--- a source of bytes that no read was made of, and of which none fails
+-- a source of bytes before the first read; no read fails
 abbrev fresh : List ℕ → Intake
 fresh bytes = record { left = Some bytes; given = 0; faults = 0; promise = true }
 

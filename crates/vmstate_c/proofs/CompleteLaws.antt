@@ -1,4 +1,4 @@
--- What can be done at C's border is done.
+-- A call from C that can succeed does.
 use Rattle.std.proofs.Common.{◌≡◌, ◌⊎◌, inl, inr, refl, ℕ, Bool, true, false, if◌then◌else◌, ap, ◌∙◌, arith}
 use Rattle.vms_commands.specs.Outcomes.{Outside}
 use Rattle.vms_cli.specs.Laws.{NoneRises}
@@ -8,7 +8,7 @@ use Rattle.vmstate_c.specs.Calls.{NoneFailed, before, words_of}
 use Rattle.vmstate_c.specs.Laws.{CompleteLaw}
 use Rattle.vmstate_c.specs.declared.request.Answer.{Answer}
 
--- no count rises from 0 where none failed
+-- no count rises if none failed
 none_rises : (old new : Outside) → NoneFailed old → NoneFailed new → NoneRises old new
 none_rises old new a b = record {
   input = λ rose. absurd (omega (arith, rose, a.input, b.input));

@@ -1,4 +1,4 @@
--- What is held once a file is put on a shelf.
+-- The files held after one was added to a shelf.
 use Rattle.std.proofs.Common.{◌≡◌, ◌≢◌, ◌∙◌, refl, sym, ap, subst, ℕ, Bool, true, false, ◌&&◌, List, if◌then◌else◌, Some}
 use Rattle.std.specs.Str.{IsUtf8, is_utf8, bytes_eq}
 use Rattle.std.proofs.lemmas.Bool.Decides.{not_from_Decides}
@@ -21,7 +21,7 @@ held-put file old new utf8 puts name = by (bytes_eq file.name.now name) refl
         let other : name ≢ file.name.now = λ same. not_from_Decides (bytes_eq file.name.now name) (bytes_eq-Decides file.name.now name) e (sym same) in
         puts.others name other
 
--- a file under a name that isn't UTF-8 is none that a text names
+-- a file whose name isn't UTF-8 has no name that a text equals
 pub held-other : (file : File) (held : Held) → ¬ (IsUtf8 file.name.now) → (name : List ℕ) → held name ≡ file_over file held name
 held-other file held bad name = by (bytes_eq file.name.now name) (is_utf8 name) refl refl
   where

@@ -1,4 +1,4 @@
--- What follows of all calls.
+-- Consequences for all calls.
 use Rattle.std.specs.Prelude.{◌≡◌, ◌⊎◌, ℕ, List, Some}
 use Rattle.vms_io.specs.Shelves.{Held}
 use Rattle.vms_cli.specs.Commands.{asked_of}
@@ -8,12 +8,12 @@ use Rattle.vmstate_c.specs.Calls.{file_of, words_of}
 use Rattle.vmstate_c.specs.declared.request.Answer.{Answer}
 use Rattle.vmstate_c.specs.declared.request.Request.{Request}
 
--- what the words ask for is in the input and on the shelf of the files
+-- The input and the files have what the words need.
 abbrev pub IsDoable : Request → Type 0
 IsDoable request = (held : Held) → ((name : List ℕ) → held name ≡ file_of name request.files.now)
     → CanBeDone (asked_of (words_of request.words.now)) (Some request.input.now) (Some held)
 
--- then it is done, or memory runs out, or a room is too small
+-- If they do, the status is 0, or 10 if memory runs out, or 100 if a buffer is too small.
 abbrev pub CompleteLaw : Type 0
 CompleteLaw = (request : Request) (old new : Both) (answer : Answer) → IsDoable request → Answered request old new answer
     → (answer.status ≡ 0) ⊎ ((answer.status ≡ 10) ⊎ (answer.status ≡ 100))

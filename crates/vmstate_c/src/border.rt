@@ -11,12 +11,13 @@ const NO_MEMORY: Answer = Answer {
     notes: 0,
 };
 
-/// Runs the command that the words name, as `vmstate` does, over the input and the files that are handed in. Its
-/// texts are put at the beginning of the rooms, and the answer has its status and their lengths.
+/// Runs the command in `request`, as `vmstate` does, and copies its outputs to `out` and `notes`.
 ///
-/// Where one of the rooms is too small for its text the status is 100, and the lengths are those that are wanted.
-/// Where memory is wanting before or after the command's work the status is 10 and the lengths are 0. In both cases
-/// the rooms are as they were. Bytes of the rooms behind the texts stay as they were.
+/// `out` gets standard output and `notes` standard error; the result has the status and both
+/// lengths. Bytes of the buffers after the texts are unchanged. If a buffer is too small for its
+/// text, the status is 100 and the lengths are those that are needed. If memory runs out before or
+/// after the command's work, the status is 10 and the lengths are 0. In both cases the buffers are
+/// unchanged.
 #[unsafe(no_mangle)]
 pub extern "C" fn vmstate_call(
     alloc: Global,
@@ -32,7 +33,7 @@ pub extern "C" fn vmstate_call(
     }
 }
 
-// Hands out the texts, if there is room for them.
+// Copies both texts into the caller's buffers, if they fit.
 fn land(ended: &Ended, out: &mut [u8], notes: &mut [u8]) -> Answer
     ensures { Lands ended.now.status (both ended.now.out.items ended.now.notes.items)
         (both out.old notes.old) (both out.new notes.new) result }

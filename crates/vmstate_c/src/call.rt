@@ -1,4 +1,4 @@
-// The top call over objects in memory.
+// The top call on objects in memory.
 ghost use Rattle.std.specs.Prelude.{◌≡◌, ◌∷◌, [], IfOk, OnOk, List, ℕ};
 ghost use Rattle.vms_io.specs.Cabinets.{cabinet};
 ghost use Rattle.vms_io.specs.Supplies.{supply};
@@ -11,15 +11,22 @@ use std::str;
 use vms_cli::{Words, vmstate};
 use vms_io::{MemShelf, MemSource, NoMemory};
 
-/// What a call came to: the status, and what stands on out and notes.
+/// The result of a call: the status, and both outputs.
 #[derive(Drop)]
 pub(crate) struct Ended {
+    /// The status.
     pub status: u8,
+    /// The bytes written to standard output.
     pub out: Vec<u8>,
+    /// The bytes written to standard error.
     pub notes: Vec<u8>,
 }
 
-/// Makes the call that is asked for, over objects in memory.
+/// Makes the call in `request` on objects in memory.
+///
+/// # Errors
+///
+/// [`NoMemory`] if memory runs out.
 pub(crate) fn call(alloc: Global, request: &Request<'_>) -> Result<Ended, NoMemory>
     ensures { IfOk result (λ ended.
         Comes request.now ended.status ended.out.items ended.notes.items) }
@@ -44,7 +51,7 @@ pub(crate) fn call(alloc: Global, request: &Request<'_>) -> Result<Ended, NoMemo
     })
 }
 
-// The words; one empty word where one of them isn't UTF-8, as the program has them.
+// Returns the words, or one empty word if one of them isn't UTF-8, like the program.
 fn words_of(alloc: Global, asked: &[Bytes<'_>]) -> Result<Words, NoMemory>
     ensures { IfOk result (λ words. words ≡ words_of asked.now) }
 {
@@ -66,7 +73,7 @@ fn empty_word(alloc: Global) -> Result<Words, NoMemory>
     Ok(words)
 }
 
-// The files on a shelf. No word names a file whose name isn't UTF-8.
+// Returns a shelf with these files. No word names a file whose name isn't UTF-8.
 fn shelf_of(alloc: Global, files: &[File<'_>]) -> Result<MemShelf, NoMemory>
     ensures held { (name : List ℕ) →
         IfOk result (λ shelf. (cabinet shelf).held name ≡ file_of name files.now) }

@@ -1,11 +1,13 @@
 //! The top call for programs in C and Rust: a static library with one function, `vmstate_call`.
 //!
-//! What the caller hands over is read and left as it is; what memory a call takes it gives back before it answers.
+//! It reads the caller's data and doesn't change it. Memory that a call allocates is freed before
+//! it returns. The header is `examples/embed/vmstate.h`.
 #![tactic(auto)]
 
 mod border;
 mod call;
 mod growing;
+/// Laws of all calls.
 pub mod laws;
 mod request;
 

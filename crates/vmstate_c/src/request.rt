@@ -1,38 +1,47 @@
-// What crosses the border. C sees these as structs of pointers with lengths, in the order of their fields.
+// The arguments and results of a call. C sees them as structures of pointers with lengths, in the
+// order of their fields.
 
-/// Bytes of the caller's.
+/// A slice of the caller's bytes.
 #[repr(C)]
 #[derive(Clone, Copy)]
 pub struct Bytes<'a> {
+    /// The bytes.
     pub bytes: &'a [u8],
 }
 
-/// A file of the shelf.
+/// A file that a command can read.
 #[repr(C)]
 #[derive(Clone, Copy)]
 pub struct File<'a> {
+    /// The name. A name that isn't UTF-8 can't be read.
     pub name: &'a [u8],
+    /// The contents.
     pub bytes: &'a [u8],
 }
 
-/// What is asked: the words after a program's name, the input, and the files of the shelf. Of two files with one name
-/// the later is there.
+/// The arguments of a call.
 #[repr(C)]
 #[derive(Clone, Copy)]
 pub struct Request<'a> {
+    /// The words after the program's name.
     pub words: &'a [Bytes<'a>],
+    /// The bytes of standard input.
     pub input: &'a [u8],
+    /// The files of the current folder. If two have the same name, the later one counts.
     pub files: &'a [File<'a>],
 }
 
-/// The status of an answer where a room is too small for its text.
+/// The status if a buffer is too small for its text.
 pub const TOO_SMALL: u32 = 100;
 
-/// What a call answers: the status, and how many bytes out and notes have.
+/// The result of a call.
 #[repr(C)]
 #[derive(Clone, Copy, Debug, PartialEq, Eq)]
 pub struct Answer {
+    /// The status.
     pub status: u32,
+    /// The length of standard output, in bytes.
     pub out: usize,
+    /// The length of standard error, in bytes.
     pub notes: usize,
 }

@@ -47,7 +47,7 @@ returns g c =
           (subst (λ (l : List Event). SeenAs (outcome (event_lines l)) i i' (outlet g.O.Sink c.args.out.now) (outlet g.O.Sink c.load_events.new.out) shelf shelf' e) c.deref.ensures.value (behind.seen shelf shelf' had.asks.looks.held));
     }
 
--- the script isn't had
+-- the script isn't available
 pub returns-in_err-events : goal.returns-in_err-events
 returns-in_err-events g c = rw (ending_passed c.from_residual.result c.from_residual.ensures.1) (
     let f = g.M.Machine.family in

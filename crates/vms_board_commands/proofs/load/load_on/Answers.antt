@@ -16,7 +16,7 @@ use Rattle.vms_board_commands.proofs.SeenLemmas.{content_seen, other_seen}
 use Rattle.vms_board_commands.proofs.load.load_on.Goals as goal
 use Rattle.vms_commands.specs.Endings.{ending_of}
 
--- the board came back, and its trace was written
+-- the board was restored, and its trace was written
 pub returns-in-Ok : goal.returns-in-Ok
 returns-in-Ok g c =
     let f = g.M.Machine.family in

@@ -16,7 +16,7 @@ write_stream-requires-clause-machine g c =
     machine_below g.M.Machine.family g.met.M.Machine.stands c.self.inside.devices c.args.self.now.state c.args.set (described c.args.own.now) c.machine-machine.result
     c.self.invariant.sound (ap (λ b. b.state) c.self.view_is) c.requires.may c.machine-machine.ensures c.requires.own
 
--- what is written is the board's stream without a description
+-- the bytes written are the board's stream without a description
 bytes_are : (g : Over) (c : goal.After-deref g) → written (described c.args.own.now) (slice_get (described c.args.own.now).machines c.machine-machine.result) (map state_of c.deref.result.now) None ≡ stream_with g.M.Machine.family c.args.set c.args.self.now.state None
 bytes_are g c =
     let f = g.M.Machine.family in

@@ -1,4 +1,5 @@
--- The field says only that a proof of its facts exists. An entailment is a proposition, so the proof may be opened in front of the walk that Rattle made.
+-- The field says only that a proof of its facts exists. An entailment is a proposition, so the
+-- proof may be opened before the walk that Rattle made.
 use seplogic.Bi.Basic.{Entails-prop}
 use mathlib.Core.Logic.{∥∥₁_elim}
 use base.Logic.{via, mono_r}
