@@ -1,5 +1,6 @@
--- The shipped sets 0 to 4. Set 0 has the timer alone; set s of the others describes the boards isa-1 to isa-s. Defaults
--- and `since` are 0 where nothing else is said, and there are no validations.
+-- The shipped sets 0 to 4 (docs/sets.md). Set 0 has the device `timer` alone. Set s of the others
+-- describes the boards isa-1 to isa-s. Defaults and `since` are 0 unless a table says otherwise,
+-- and there are no validations.
 use Rattle.std.specs.Prelude.{ℕ, ◌+◌, List, [], ◌∷◌, ◌++◌, Some, None, pos, negsuc, codes}
 use Rattle.vms_kinds.specs.declared.Kind.{Kind}
 use Rattle.vms_kinds.specs.declared.Kind.TheVariants.{U8, U16, U64, I8, Bool as Truth, Timer}
@@ -12,26 +13,32 @@ use Rattle.vms_spec.specs.Sets.{Set, Device, Sub, Desc, Field, Formula, Cell, Or
 
 -- ---- words for tables of fields
 
+-- a single field without a test, of this name and item
 abbrev pub field : List ℕ → Item → Field
 field name item = record { name = name; former = []; item = item; count = One; since = 0; test = None; default = pos 0 }
 
+-- a field that is a number of a kind
 abbrev pub number : Kind → List ℕ → Field
 number kind name = field name (Num kind)
 
+-- a field for each of the names, all numbers of one kind
 abbrev pub numbers : Kind → List (List ℕ) → List Field
 numbers kind [] = []
 numbers kind (name ∷ names) = number kind name ∷ numbers kind names
 
--- the moment of a timer that isn't pending, and the mask of all bits
+-- the moment of a timer that isn't pending, 2 ^ 64 - 1, which is also the mask of all bits
 abbrev pub never : ℕ
 never = 0xffff_ffff_ffff_ffff
 
+-- a description of this name, version and fields, whose minimum version is 1
 abbrev pub desc : List ℕ → ℕ → List Field → Desc
 desc name version fields = record { name = name; version = version; minimum = 1; fields = fields; validate = [] }
 
+-- a device of this instance
 abbrev pub device : ℕ → Desc → List Sub → Device
 device instance d subs = record { instance = instance; desc = d; subs = subs }
 
+-- a subsection of version 1, with its needed test
 abbrev pub sub : List ℕ → List Field → Formula → Sub
 sub name fields needed = record { desc = desc name 1 fields; needed = needed }
 
@@ -62,7 +69,7 @@ i8259_with_elcr = desc (codes "i8259") 2 (i8259_fields ++ elcr ∷ [])
 abbrev pub i8259_at_2 : ℕ → Device
 i8259_at_2 instance = device instance i8259_with_elcr []
 
--- the level mode
+-- the subsection of the level mode
 abbrev pub ltim : Sub
 ltim = sub (codes "i8259/ltim") (number Truth (codes "ltim") ∷ []) (Cell Own 0 1 Eq 1)
 
@@ -71,7 +78,7 @@ i8259_at_4 instance = device instance i8259_with_elcr (ltim ∷ [])
 
 -- ---- i8254
 
--- one counter, whose last item has changed since
+-- the structure of one counter, whose last item differs between the sets
 abbrev pub pit_channel : Item → Desc
 pit_channel gate = desc (codes "pit_channel") 1 (
     number U16 (codes "count") ∷ number U8 (codes "mode") ∷ number U8 (codes "rw")
@@ -122,7 +129,7 @@ fifo = sub (codes "serial/fifo") (
 abbrev pub timeout : Sub
 timeout = sub (codes "serial/timeout") (record (number Timer (codes "timeout_at")) { default = pos never } ∷ []) (Cell Own 0 never Ne never)
 
--- the FIFOs as rings: sixteen bytes, the place of the first that is held, and how many are held
+-- the FIFOs as rings: sixteen bytes, the position of the oldest byte, and the number of bytes
 abbrev pub ring : Sub
 ring = sub (codes "serial/ring") (
     record (number U8 (codes "rx_data")) { count = Fixed 16 } ∷ number U8 (codes "rx_head") ∷ number U8 (codes "rx_number")
@@ -134,7 +141,7 @@ serial version fields subs = device 0 (desc (codes "serial") version fields) sub
 
 -- ---- the sets
 
--- the machine that a board of a level is, isa-0 to isa-4
+-- the machine name of a board of a level: isa-0 to isa-4
 abbrev pub isa_machine : ℕ → List ℕ
 isa_machine level = codes "isa-" ++ (48 + level) ∷ []
 
@@ -172,6 +179,6 @@ set_4 = record {
       ∷ serial 4 (divisor ∷ serial_fields ++ fcr ∷ []) (thr_ipending ∷ fifo ∷ timeout ∷ ring ∷ []) ∷ [];
 }
 
--- the shipped sets, by their numbers
+-- the shipped sets by their numbers, 0 to 4
 abbrev pub shipped_sets : List Set
 shipped_sets = set_0 ∷ set_1 ∷ set_2 ∷ set_3 ∷ set_4 ∷ []
