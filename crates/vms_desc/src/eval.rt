@@ -19,6 +19,7 @@ use vms_kinds::{Item, Kind};
 pub trait Cells {
     ghost use Rattle.std.specs.Prelude.{◌≡◌, ◌<◌, List, ℤ, length, get_or, pos};
 
+    /// The numbers of all cells, in order.
     ghost numbers: { Self → List ℤ };
 
     /// Returns the number of cell `cell`.

@@ -60,6 +60,7 @@ own_seen own =
     object (member (codes "field") (view own.field) (member (codes "is") (view own.rel)
     (member (codes "mask") (view own.mask) (member (codes "value") (view own.value) no_members))))
 
+-- the test that the members of the code say
 abbrev pub own_said : Scope → OwnCell → Answer Formula
 own_said scope own =
     next (under (codes "field") (name_in scope.own (view own.field))) (λ k.

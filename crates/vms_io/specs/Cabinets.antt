@@ -12,8 +12,8 @@ use Rattle.vms_io.specs.Shelves.{Held, HoldsAll, HoldsBytes}
 use Rattle.vms_io.specs.declared.memory.shelf.Content.{Content}
 use Rattle.vms_io.specs.declared.memory.shelf.MemShelf.{MemShelf}
 
--- a shelf in memory: the bytes under each name, the numbers of the calls that fail, the number of
--- calls so far, and of faults
+-- A shelf in memory: the bytes under each name, and the numbers of the calls that fail. It counts the
+-- calls and the faults.
 pub record Cabinet : Type 0 where
   pub held : Held
   pub failing : List ℕ

@@ -5,8 +5,8 @@ use Rattle.std.proofs.lemmas.List.{get_or-drop}
 use Rattle.vms_io.specs.Causes.{KeepsPromise, capped}
 use Rattle.vms_kinds.specs.Bytes.{IsBytes}
 
--- A source in memory: the rest of the bytes, the greatest piece of each read, the numbers of the
--- reads that fail, and the numbers of reads, of given bytes and of faults so far.
+-- A source in memory: the rest of the bytes, the greatest piece of each read, and the numbers of the
+-- reads that fail. It counts the reads, the given bytes and the faults.
 pub record Supply : Type 0 where
   pub left : List ℕ
   pub pieces : List ℕ
@@ -15,8 +15,8 @@ pub record Supply : Type 0 where
   pub given : ℕ
   pub faults : ℕ
 
--- A sink in memory: the written bytes, the room for them, the numbers of the writes that fail, and
--- the numbers of writes and of faults so far.
+-- A sink in memory: the written bytes, the room for them, and the numbers of the writes that fail. It
+-- counts the writes and the faults.
 pub record Store : Type 0 where
   pub bytes : List ℕ
   pub room : ℕ
@@ -43,6 +43,7 @@ abbrev pub is_empty : List ℕ → Bool
 is_empty [] = true
 is_empty (x ∷ xs) = false
 
+-- a list that is_empty finds empty is empty
 pub empty_is : (xs : List ℕ) → IsTrue (is_empty xs) → xs ≡ []
 empty_is [] h = refl
 empty_is (x ∷ xs) h = cc
@@ -56,6 +57,7 @@ abbrev pub promise_of : List ℕ → ℕ → Option ℕ
 promise_of [] room = Some room
 promise_of (x ∷ xs) room = None
 
+-- the promise of a sink that counts no fault while there is room
 pub promise_kept : (failing : List ℕ) (room : ℕ) (bytes : List ℕ) (faults : ℕ) → (failing ≡ [] → length bytes < room → faults ≡ 0) → KeepsPromise (promise_of failing room) (Some bytes) faults
 promise_kept [] room bytes faults h = h refl
 promise_kept (x ∷ xs) room bytes faults h = tt

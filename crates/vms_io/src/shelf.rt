@@ -75,7 +75,9 @@ pub trait Shelf {
         ensures cause { HasStoreCause (faults self.old) (faults self.new) result }
         ensures promise { promise self.new ≡ promise self.old };
 
+    /// If no call fails, none has failed.
     ghost promised: { (shelf : Self) → IsTrue (promise shelf) → faults shelf ≡ 0 };
 
+    /// What is stored consists of bytes, if it is known.
     ghost octets: { (shelf : Self) → IfSome (held shelf) HoldsAll };
 }

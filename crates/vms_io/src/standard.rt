@@ -165,7 +165,7 @@ impl<W: Write + Drop> StdSink<W> {
         }
     }
 
-    /// Returns the writer, which has the bytes that have been flushed.
+    /// Returns the writer. It hasn't got the bytes that are still buffered.
     pub fn get_ref(&self) -> &W
         ensures { result.now ≡ writer_of self.now }
     {
@@ -208,8 +208,7 @@ impl<W: Write + Drop> StdSink<W> {
         self.end = 0;
     }
 
-    /// Returns the writer, which has the bytes that have been flushed. Bytes that are still
-    /// buffered are dropped.
+    /// Returns the writer. The bytes that are still buffered are dropped.
     pub fn into_inner(self) -> W
         ensures { result ≡ writer_of self }
     {

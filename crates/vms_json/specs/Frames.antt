@@ -22,6 +22,7 @@ before (d ∷ ds) rest = item d (before ds rest)
 abbrev pub room : List Frame → ℕ
 room fs = max_depth - length fs
 
+-- the grammar of a value in the innermost list or object
 abbrev pub inside : List Frame → Parse json.Json
 inside fs = value (max_depth - length fs - 1)
 

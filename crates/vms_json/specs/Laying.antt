@@ -12,9 +12,11 @@ use Rattle.vms_json.specs.Nodes.{count_at, front, items_in, members_in, rows_vie
 use Rattle.vms_json.specs.declared.parse.Laid.{Laid}
 use Rattle.vms_json.specs.Frames.{Frame, in_list, in_object, before, after, due}
 
+-- the items of these rows
 abbrev pub items_of : List Row → Items
 items_of rs = items_in (2 * length rs + 1) rs
 
+-- the members of these rows, after the earlier ones
 abbrev pub members_of : List Row → Members → Members
 members_of rs found = members_in (2 * length rs + 1) rs found
 
@@ -24,10 +26,11 @@ pub record IsRun (rs : List Row) (d : Data) : Type 0 where
   pub all : (more : List Row) → front (rs ++ more) ≡ length rs
   pub says : rows_view rs ≡ d
 
--- the rows of these items, and of these members, whatever follows them
+-- the rows of these items, whatever follows them
 pub record AreItems (rs : List Row) (done : List Data) : Type 0 where
   pub first : (more : List Row) → items_of (rs ++ more) ≡ before done (items_of more)
 
+-- the rows of these members, whatever follows them
 pub record AreMembers (rs : List Row) (found : Members) : Type 0 where
   pub first : (more : List Row) → members_of (rs ++ more) no_members ≡ members_of more found
 
@@ -43,10 +46,11 @@ pub record IsOpen (Below : List Row → List ℕ → Type 0) (row : ℕ → Row)
   pub inside : Own own
   pub laid : Below below places
 
--- an open list with these items, and an open object with these members
+-- an open list with these items
 abbrev pub InList : (List Row → List ℕ → Type 0) → List Data → List Row → List ℕ → Type 0
 InList Below done = IsOpen Below rows.List (λ own. AreItems own done)
 
+-- an open object with these members
 abbrev pub InObject : (List Row → List ℕ → Type 0) → Members → List Row → List ℕ → Type 0
 InObject Below found = IsOpen Below rows.Object (λ own. AreMembers own found)
 

@@ -44,12 +44,15 @@ up_to most (Some n) = if nat_le n most then good n else bad []
 abbrev pub natural : ℕ → Data → Answer ℕ
 natural most d = up_to most (option_and_then as_u64 (as_number d))
 
+-- a whole number from 0 to 2 ^ 16 - 1
 abbrev pub u16_of : Data → Answer ℕ
 u16_of = natural 65535
 
+-- a whole number from 0 to 2 ^ 32 - 1
 abbrev pub u32_of : Data → Answer ℕ
 u32_of = natural 4294967295
 
+-- a whole number from 0 to 2 ^ 64 - 1
 abbrev pub u64_of : Data → Answer ℕ
 u64_of = natural 18446744073709551615
 
@@ -57,5 +60,6 @@ u64_of = natural 18446744073709551615
 abbrev pub integer_of : Data → Answer ℤ
 integer_of d = given (option_and_then as_integer (as_number d))
 
+-- the bytes of a text
 abbrev pub text_of : Data → Answer (List ℕ)
 text_of d = given (as_str d)

@@ -38,9 +38,10 @@ pub record Scope : Type 0 where
   pub own : Names
   pub parent : Option Names
 
--- the names and the scope of the code
+-- the names of the code
 abbrev pub names_seen : Option (Bor FieldNames) → Names
 names_seen names = option_map (λ fields. numbers fields.now) names
 
+-- the scope of a test of the code
 abbrev pub scope_seen : Asked → Scope
 scope_seen a = record { own = names_seen a.own; parent = option_map names_seen a.parent }

@@ -18,26 +18,32 @@ count_at (rows.List n) = n
 count_at (rows.Object n) = n
 count_at _ = 1
 
+-- the number of a row, if it is one
 abbrev pub number_at : Row → Option Num
 number_at (rows.Number n) = Some (number_view n)
 number_at _ = None
 
+-- the text of a row, if it is one
 abbrev pub text_at : Row → Option (List ℕ)
 text_at (rows.Text s) = Some s.now
 text_at _ = None
 
+-- the bool of a row, if it is one
 abbrev pub flag_at : Row → Option Bool
 flag_at (rows.Bool b) = Some b
 flag_at _ = None
 
+-- the row is that of a list
 abbrev pub is_list : Row → Bool
 is_list (rows.List n) = true
 is_list _ = false
 
+-- the row is that of an object
 abbrev pub is_object : Row → Bool
 is_object (rows.Object n) = true
 is_object _ = false
 
+-- the key of a row, if it is one
 abbrev pub key_at : Row → Option (Bor (List ℕ))
 key_at (rows.Key s) = Some s
 key_at _ = None
@@ -78,15 +84,19 @@ unfoldable mutual
   members_in (suc n) (rows.List k ∷ rs) found = found
   members_in (suc n) (rows.Object k ∷ rs) found = found
 
+-- the value of a run of rows
 abbrev pub rows_view : List Row → Data
 rows_view rs = data_in (2 * length rs) rs
 
+-- the value of a tree
 abbrev pub tree_view : Tree → Data
 tree_view t = rows_view t.rows.items
 
+-- the value of a node
 abbrev pub view : Node → Data
 view v = rows_view v.rows.now
 
+-- the rest of a list's items
 abbrev pub items_left : ItemsLeft → Items
 items_left l = items_in (2 * length l.rows.now + 1) l.rows.now
 
@@ -94,5 +104,6 @@ items_left l = items_in (2 * length l.rows.now + 1) l.rows.now
 abbrev pub members_on : MembersLeft → Members → Members
 members_on l found = members_in (2 * length l.rows.now + 1) l.rows.now found
 
+-- the rest of an object's members
 abbrev pub members_left : MembersLeft → Members
 members_left l = members_on l no_members

@@ -42,7 +42,9 @@ impl Fault {
         Fault::Shape(Text::new(String::new(alloc)))
     }
 
-    /// Returns the fault of the member `key` as a fault of the whole: `key`, a dot and the path.
+    /// Returns the fault of the member `key` as a fault of the whole.
+    ///
+    /// Its path is `key`, followed by a dot and the path if that isn't empty.
     ///
     /// If memory runs out, it is [`NoMemory`](Fault::NoMemory).
     pub fn under(self, alloc: Global, key: &str) -> Fault

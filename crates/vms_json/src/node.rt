@@ -97,7 +97,7 @@ impl<'a> Row<'a> {
     }
 }
 
-/// The value of a JSON text. Its texts borrow from the text that was read.
+/// The value of a JSON text. Its texts borrow from the text that was read, or from the scratch.
 #[derive(Drop)]
 pub struct Tree<'a> {
     pub(crate) rows: Vec<Row<'a>>,

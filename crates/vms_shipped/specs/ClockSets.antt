@@ -8,9 +8,11 @@ use Rattle.vms_spec.specs.declared.Whose.TheVariants.{Own}
 use Rattle.vms_spec.specs.Sets.{Set, Device, Sub, Field, Cell}
 use Rattle.vms_spec.specs.Shipped.{number, desc, device, sub, set_4}
 
+-- the fields of an MC146818: the index register, and the 64 bytes of registers and memory
 abbrev pub mc146818_fields : List Field
 mc146818_fields = number U8 (codes "index") ∷ record (number U8 (codes "cmos")) { count = Fixed 64 } ∷ []
 
+-- the mask of the NMI, from version 2 on
 abbrev pub nmi_mask : Field
 nmi_mask = record (number Truth (codes "nmi_mask")) { since = 2 }
 
@@ -18,9 +20,11 @@ nmi_mask = record (number Truth (codes "nmi_mask")) { since = 2 }
 abbrev pub pending : Sub
 pending = sub (codes "mc146818/pending") (number Truth (codes "pf") ∷ []) (Cell Own 0 1 Eq 1)
 
+-- the clock chip of set 1
 abbrev pub mc146818_at_1 : Device
 mc146818_at_1 = device 0 (desc (codes "mc146818") 1 mc146818_fields) (pending ∷ [])
 
+-- the clock chip of set 2
 abbrev pub mc146818_at_2 : Device
 mc146818_at_2 = device 0 (desc (codes "mc146818") 2 (mc146818_fields ++ nmi_mask ∷ [])) (pending ∷ [])
 
@@ -28,9 +32,11 @@ mc146818_at_2 = device 0 (desc (codes "mc146818") 2 (mc146818_fields ++ nmi_mask
 abbrev pub clock_machine : ℕ → List ℕ
 clock_machine version = codes "clk-" ++ (48 + version) ∷ []
 
+-- clock set 1: the board clk-1
 abbrev pub clock_1 : Set
 clock_1 = record { machines = clock_machine 1 ∷ []; structs = set_4.structs; devices = mc146818_at_1 ∷ set_4.devices }
 
+-- clock set 2: the boards clk-1 and clk-2
 abbrev pub clock_2 : Set
 clock_2 = record { machines = clock_machine 1 ∷ clock_machine 2 ∷ []; structs = set_4.structs; devices = mc146818_at_2 ∷ set_4.devices }
 

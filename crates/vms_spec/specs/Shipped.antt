@@ -44,28 +44,35 @@ sub name fields needed = record { desc = desc name 1 fields; needed = needed }
 
 -- ---- timer
 
+-- the field of the timer: the moment in nanoseconds
 abbrev pub now : Field
 now = number U64 (codes "now")
 
+-- the device `timer`, in every set
 abbrev pub timer : Device
 timer = device 0 (desc (codes "timer") 1 (now ∷ [])) []
 
 -- ---- i8259
 
+-- the fields of an 8259A: its registers, lines and initialization state, and then its flags
 abbrev pub i8259_fields : List Field
 i8259_fields =
     numbers U8 (codes "irr" ∷ codes "isr" ∷ codes "imr" ∷ codes "lines" ∷ codes "lowest" ∷ codes "base" ∷ codes "init_state" ∷ [])
     ++ numbers Truth (codes "icw4" ∷ codes "single" ∷ codes "read_isr" ∷ codes "poll" ∷ codes "special_mask" ∷ codes "auto_eoi" ∷ codes "rotate" ∷ codes "nested" ∷ [])
 
+-- the edge and level control register, from version 2 on
 abbrev pub elcr : Field
 elcr = record (number U8 (codes "elcr")) { since = 2 }
 
+-- an 8259A of set 1
 abbrev pub i8259_at_1 : ℕ → Device
 i8259_at_1 instance = device instance (desc (codes "i8259") 1 i8259_fields) []
 
+-- an 8259A with its control register of edges and levels
 abbrev pub i8259_with_elcr : Desc
 i8259_with_elcr = desc (codes "i8259") 2 (i8259_fields ++ elcr ∷ [])
 
+-- an 8259A of sets 2 and 3
 abbrev pub i8259_at_2 : ℕ → Device
 i8259_at_2 instance = device instance i8259_with_elcr []
 
@@ -73,6 +80,7 @@ i8259_at_2 instance = device instance i8259_with_elcr []
 abbrev pub ltim : Sub
 ltim = sub (codes "i8259/ltim") (number Truth (codes "ltim") ∷ []) (Cell Own 0 1 Eq 1)
 
+-- an 8259A of set 4
 abbrev pub i8259_at_4 : ℕ → Device
 i8259_at_4 instance = device instance i8259_with_elcr (ltim ∷ [])
 
@@ -89,12 +97,15 @@ pit_channel gate = desc (codes "pit_channel") 1 (
     ∷ record (number U16 (codes "latch")) { test = Some (Cell Own 9 1 Eq 1) }
     ∷ field (codes "gate") gate ∷ [])
 
+-- the three counters
 abbrev pub channels : Field
 channels = record (field (codes "channels") (Struct 0)) { count = Fixed 3 }
 
+-- the 8253 of set 1
 abbrev pub i8254_at_1 : Device
 i8254_at_1 = device 0 (desc (codes "i8254") 1 (channels ∷ [])) []
 
+-- the 8254 of sets 2 to 4, with the latched status of each counter
 abbrev pub i8254_at_2 : Device
 i8254_at_2 = device 0 (desc (codes "i8254") 2 (
     channels
@@ -103,29 +114,36 @@ i8254_at_2 = device 0 (desc (codes "i8254") 2 (
 
 -- ---- serial
 
+-- the fields of a 16450: its registers, and the moment at which the transmitter is done
 abbrev pub serial_fields : List Field
 serial_fields =
     numbers U8 (codes "ier" ∷ codes "iir" ∷ codes "lcr" ∷ codes "mcr" ∷ codes "lsr" ∷ codes "scr" ∷ codes "rbr" ∷ codes "thr" ∷ codes "tsr" ∷ [])
     ++ record (number Timer (codes "tx_due")) { default = pos never } ∷ []
 
+-- the divisor latch in sets 1 and 2
 abbrev pub divider : Field
 divider = number U16 (codes "divider")
 
+-- the divisor latch in sets 3 and 4, with its former name
 abbrev pub divisor : Field
 divisor = record (number U16 (codes "divisor")) { former = codes "divider" ∷ [] }
 
+-- the FIFO control register, from version 2 on
 abbrev pub fcr : Field
 fcr = record (number U8 (codes "fcr")) { since = 2 }
 
+-- the subsection of a hidden interrupt of the empty transmitter register
 abbrev pub thr_ipending : Sub
 thr_ipending = sub (codes "serial/thr_ipending") (record (number I8 (codes "thr_ipending")) { default = negsuc 0 } ∷ []) (Cell Own 0 255 Ne 255)
 
+-- the FIFOs: for each a count, and the bytes that it counts
 abbrev pub fifo : Sub
 fifo = sub (codes "serial/fifo") (
     number U8 (codes "rx_count") ∷ record (number U8 (codes "rx")) { count = Counted 0 16 }
     ∷ number U8 (codes "tx_count") ∷ record (number U8 (codes "tx")) { count = Counted 2 16 } ∷ [])
     (Or (Cell Own 0 255 Ge 1) (Cell Own 2 255 Ge 1))
 
+-- the moment of the character timeout
 abbrev pub timeout : Sub
 timeout = sub (codes "serial/timeout") (record (number Timer (codes "timeout_at")) { default = pos never } ∷ []) (Cell Own 0 never Ne never)
 
@@ -136,6 +154,7 @@ ring = sub (codes "serial/ring") (
     ∷ record (number U8 (codes "tx_data")) { count = Fixed 16 } ∷ number U8 (codes "tx_head") ∷ number U8 (codes "tx_number") ∷ [])
     (Or (Cell Own 2 255 Ge 1) (Cell Own 5 255 Ge 1))
 
+-- the serial port of a version
 abbrev pub serial : ℕ → List Field → List Sub → Device
 serial version fields subs = device 0 (desc (codes "serial") version fields) subs
 
@@ -145,9 +164,11 @@ serial version fields subs = device 0 (desc (codes "serial") version fields) sub
 abbrev pub isa_machine : ℕ → List ℕ
 isa_machine level = codes "isa-" ++ (48 + level) ∷ []
 
+-- set 0: the timer alone
 abbrev pub set_0 : Set
 set_0 = record { machines = isa_machine 0 ∷ []; structs = []; devices = timer ∷ [] }
 
+-- set 1: the board isa-1
 abbrev pub set_1 : Set
 set_1 = record {
   machines = isa_machine 1 ∷ [];
@@ -155,6 +176,7 @@ set_1 = record {
   devices = timer ∷ i8259_at_1 0 ∷ i8259_at_1 1 ∷ i8254_at_1 ∷ serial 1 (divider ∷ serial_fields) (thr_ipending ∷ []) ∷ [];
 }
 
+-- set 2: the boards isa-1 and isa-2
 abbrev pub set_2 : Set
 set_2 = record {
   machines = isa_machine 1 ∷ isa_machine 2 ∷ [];
@@ -163,6 +185,7 @@ set_2 = record {
       ∷ serial 2 (divider ∷ serial_fields ++ fcr ∷ []) (thr_ipending ∷ fifo ∷ []) ∷ [];
 }
 
+-- set 3: the boards isa-1 to isa-3
 abbrev pub set_3 : Set
 set_3 = record {
   machines = isa_machine 1 ∷ isa_machine 2 ∷ isa_machine 3 ∷ [];
@@ -171,6 +194,7 @@ set_3 = record {
       ∷ serial 3 (divisor ∷ serial_fields ++ fcr ∷ []) (thr_ipending ∷ fifo ∷ timeout ∷ []) ∷ [];
 }
 
+-- set 4: the boards isa-1 to isa-4
 abbrev pub set_4 : Set
 set_4 = record {
   machines = isa_machine 1 ∷ isa_machine 2 ∷ isa_machine 3 ∷ isa_machine 4 ∷ [];

@@ -80,6 +80,7 @@ module _ (set : Set) where
   image (Filler bytes ∷ u) = image u
   image _ = record { version = 0; came = []; numbers = [] }
 
+  -- the slots of subsection j if it came, otherwise none
   abbrev pub slots_of_sub : Device → Image → ℕ → Option Sub → Option (Option ℕ) → List Slot
   slots_of_sub d i j (Some s) (Some (Some v)) = sub_slots set s v i.numbers (sub_place set (own_cells set d) d.subs j)
   slots_of_sub d i j _ _ = []

@@ -41,6 +41,7 @@ sub_head name version = 0x05 ∷ (length name ∷ name) ++ be32 version
 abbrev pub foot : ℕ → List ℕ
 foot id = 0x7e ∷ be32 id
 
+-- the end mark
 abbrev pub end_mark : List ℕ
 end_mark = 0x00 ∷ []
 

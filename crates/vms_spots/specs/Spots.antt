@@ -68,6 +68,7 @@ pub record Held : Type 0 where
   pub kinds : List Kind
   pub numbers : List ℤ
 
+-- the kinds and the numbers in these bytes at these spots
 abbrev pub held : List Spot → List ℕ → Held
 held spots bytes = record { kinds = kinds_of spots; numbers = map (number_at bytes) spots }
 
@@ -80,6 +81,7 @@ pub record IsHeld (spots : List Spot) (bytes : List ℕ) : Type 0 where
 
 -- ---- the properties of the spots of these kinds
 
+-- each spot is of its number's kind, aligned and inside of the buffer, and no two overlap
 pub record AreApart (kinds : List Kind) (spots : List Spot) : Type 0 where
   pub long : length spots ≡ length kinds
   -- each has its number's kind, is at a multiple of its width, and is inside of the buffer
@@ -91,6 +93,7 @@ pub record AreApart (kinds : List Kind) (spots : List Spot) : Type 0 where
 
 -- ---- numbers of one kind, one after the other
 
+-- the codes of numbers of a kind, one after the other
 abbrev pub codes_of : Kind → List ℤ → List ℕ
 codes_of kind numbers = flat_map (code kind) numbers
 
