@@ -1,4 +1,5 @@
--- What tests and counts of a well-formed set ask is there, and what it says is what the definition says.
+-- The fields that tests and counts of a well-formed set name exist, and the code's answers are
+-- those of the definitions.
 use Rattle.std.proofs.Common.{◌≡◌, ℕ, zero, suc, ◌+◌, ◌<◌, ◌≤◌, List, [], ◌∷◌, length, length-append, get_or, map, Option, Some, None, refl, sym, ap, ◌∙◌, subst, arith, Bool, true, ◌&&◌, ℤ}
 use Rattle.std.specs.List.{flat_map, slice_get, list_all}
 use Rattle.std.proofs.lemmas.Bool.{and_parts}
@@ -106,9 +107,9 @@ module _ (set : Set) (well : is_well_formed set ≡ true) where
       names_more (is_steady_in s.desc) (is_number_in s.desc.fields) (is_steady_in d.desc) (is_number_in d.desc.fields) (steady_number s.desc) (steady_number d.desc) s.needed
       (sub_clean set well i j h lt).own.1.1.1.0
 
--- ---- what they say
+-- ---- the answers of the code
 
--- a subsection that the code found
+-- a subsection that the code found is that of the set
 pub found_sub : (set : Set) (i j : ℕ) (device : CodeDevice) (subs : List CodeSub) (s : CodeSub) → device_of device ≡ device_at set i → subs ≡ device.subs → j < length (device_at set i).subs → s ≡ get_or subs j s
     → sub_of s ≡ sub_at (device_at set i) j
 found_sub set i j device subs s d e lt is =
@@ -117,11 +118,11 @@ found_sub set i j device subs s d e lt is =
     let long : j < length subs = omega (arith, ap length same, length-map subs sub_of) in
     sym (get_map_at sub_of subs j s none long is) ∙ ap (λ (l : List Sub). get_or l j none) same
 
--- the fields of a part, as the code has them
+-- the fields of a part, in the code's form
 pub here_fields : (set : Set) (part : Part) (d : CodeDesc) (fields : List CodeField) → desc_of d ≡ desc_at set part → fields ≡ d.fields → map field_of fields ≡ (desc_at set part).fields
 here_fields set part d fields is e = ap (map field_of) e ∙ ap (λ (x : Desc). x.fields) is
 
--- a field that the code found
+-- a field that the code found is that of the set
 pub found_field : (fields : List CodeField) (all : List Field) (k : ℕ) (f : CodeField) → map field_of fields ≡ all → k < length all → f ≡ get_or fields k f → field_of f ≡ get_or all k no_field
 found_field fields all k f e lt is =
     let long : k < length fields = omega (arith, ap length e, length-map fields field_of) in
@@ -191,6 +192,6 @@ few_cells set well i =
     let here : get_or (layout_of set) i [] ≡ map form_of (device_cells set (device_at set i)) = get_or-map (λ d. map form_of (device_cells set d)) set.devices i (record { instance = 0; desc = no_desc; subs = [] }) in
     omega (arith, small_layout set well i, ap length here, length-map (device_cells set (device_at set i)) form_of)
 
--- a device that stands at an index is the one there
+-- a device that is at an index is the one there
 pub device_is : (set : Set) (i : ℕ) (d : Device) → slice_get set.devices i ≡ Some d → device_at set i ≡ d
 device_is set i d there = get_or_from_slice_get set.devices i d _ there

@@ -1,4 +1,4 @@
--- What well-formed sets have no more of than they may.
+-- The limits of well-formed sets.
 use Rattle.std.proofs.Common.{◌≡◌, ℕ, zero, suc, ◌+◌, ◌*◌, ◌≤◌, List, ◌∷◌, ◌++◌, length, length-append, get_or, map, refl, sym, ap, ◌∙◌, arith, true, ◌&&◌, nat_le, Option, Some, None, is_none, []}
 use Rattle.std.specs.List.{flat_map}
 use Rattle.std.proofs.lemmas.Bool.{and_parts, leb-true}
@@ -66,14 +66,14 @@ few_items set h =
     let c = set_clean set h in
     leb-true (devices_items (struct_items set.structs) set.devices) MOST_ITEMS c.last.1.1.1.1.1.1.0
 
--- where instances and versions fit, it is fit, and good
+-- a set whose instances and versions fit is fit, and good
 pub fit_of : (set : Set) → is_well_formed set ≡ true → FitsHeads set → IsFit set
 fit_of set well heads = record { well = none_is (first_fault set) well; heads = heads }
 
 pub good_of : (set : Set) → is_well_formed set ≡ true → FitsHeads set → IsGood set
 good_of set h heads = well_good set (none_is (first_fault set) h) heads
 
--- ---- there are no more cells than items
+-- ---- there are at most as many cells as items
 
 -- each number of one list is at most that of the other
 abbrev Less : List ℕ → List ℕ → Type 0

@@ -1,4 +1,5 @@
--- The sizes of structures are the numbers of their cells, and the forms of cells those of their forms.
+-- The sizes of structures are the numbers of their cells, and the forms of cells are those of their
+-- structures.
 use Rattle.std.proofs.Common.{◌≡◌, ℕ, zero, suc, ◌*◌, List, [], ◌∷◌, ◌++◌, length, length-append, get_or, map, refl, sym, ap, ◌∙◌, arith, ℤ}
 use Rattle.std.specs.List.{flat_map}
 use Rattle.std.proofs.lemmas.List.{map-append}

@@ -1,4 +1,4 @@
--- What a well-formed set has, part by part.
+-- The properties of a well-formed set, part by part.
 use Rattle.std.proofs.Common.{◌≡◌, ℕ, suc, ◌<◌, ◌≤◌, List, ◌∷◌, length, get_or, Some, refl, ap, ◌∙◌, arith, Bool, true, ◌&&◌, nat_le, []}
 use Rattle.std.specs.List.{list_all, slice_get}
 use Rattle.std.proofs.lemmas.Bool.{leb-true, and_parts}
@@ -122,7 +122,7 @@ module _ (set : Set) (well : is_well_formed set ≡ true) where
   field_clean (parts.Device k) h i lt = (device_clean k h).fields i lt
   field_clean (parts.Sub k j) h i lt = (sub_clean k j h.0 h.1).fields i lt
 
-  -- the rules that it keeps
+  -- the rules that hold for a field
   pub field_sound : (part : Part) → HasPart set part → (i : ℕ) → i < length (desc_at set part).fields
       → AllTrue (field_rules (reach set part) (desc_at set part) i (get_or (desc_at set part).fields i no_field))
   field_sound parts.Set h i lt = absurd h

@@ -1,4 +1,4 @@
--- The heads of the sections of the clock sets can hold their numbers.
+-- The numbers of the clock sets fit their heads.
 use Rattle.std.proofs.Common.{ℕ, zero, suc, refl}
 use Rattle.vms_spec.specs.Heads.{FitsHeads}
 use Rattle.vms_spec.proofs.ShippedSets.{heads_fit}

@@ -64,13 +64,13 @@ module _ (set : sets.Set) (k : ℕ) (forms : List CellForm) (laid : forms ≡ ma
       subst (λ (x : Kind). InRange x (get_or (map (λ form. form.default) forms) c (pos 0))) (sym kind)
       (subst (λ (z : ℤ). InRange (get_or cells c no_cell).kind z) (sym default) (fit c within).0)
 
-  -- so they are the numbers of its cells
+  -- so the defaults are those of the device's cells
   pub defaults_are : form_numbers forms ≡ defaults_at set k
   defaults_are =
       ap (λ (l : List Kind). let h : Held = record { kinds = l; numbers = map (λ form. form.default) forms } in h) form_kinds
       ∙ ap (λ (l : List ℤ). let h : Held = record { kinds = kinds_at set k; numbers = l } in h) form_defaults
 
--- forms that are kept as their kinds and their defaults
+-- forms as their kinds and their defaults
 module _ (forms : Forms) (cells : List CellForm) (are : AreForms forms cells) where
   pub kinds_long : length forms.kinds.items ≡ length cells
   kinds_long = ap length are.kinds ∙ length-map cells (λ form. form.kind)
@@ -93,7 +93,7 @@ module _ (forms : Forms) (cells : List CellForm) (are : AreForms forms cells) wh
 abbrev no_device : sets.Device
 no_device = record { instance = 0; desc = no_desc; subs = [] }
 
--- the entry of a table that was made with the set
+-- the entry of a table that was computed with the set
 pub entry_is : (set : sets.Set) (defaults : List Held) (k : ℕ) (here : Held) → defaults ≡ map form_numbers (layout_of set) → k < length set.devices → here ≡ get_or defaults k here → here ≡ defaults_at set k
 entry_is set defaults k here tabled lt is =
     let within : k < length (layout_of set) = omega (arith, lt, length-map set.devices (λ d. map form_of (device_cells set d))) in
@@ -113,7 +113,7 @@ forms_here parts i d lt is =
     ∙ device_forms_are (set_of parts) (device_of d)
     ∙ ap (λ (x : sets.Device). map form_of (device_cells (set_of parts) x)) (sym here)
 
--- as a call has made them
+-- the forms that a call made
 pub forms_are : (parts : Parts) (i : ℕ) (d : Device) (forms : List CellForm) → i < length parts.devices → d ≡ get_or parts.devices i d → {structs : List Desc} → structs ≡ parts.structs
     → forms ≡ device_forms (forms_to (map desc_of structs) (length structs)) (device_of d) → forms ≡ map form_of (device_cells (set_of parts) (device_at (set_of parts) i))
 forms_are parts i d forms lt is {structs} same e =

@@ -57,7 +57,7 @@ take_min k xs = by_test (nat_le k (length xs)) refl
         let lt : length xs < k = leb-false k (length xs) e in
         take_all (min k (length xs)) xs (omega arith) ∙ sym (take_all k xs (omega arith))
 
--- sizes that end at 2 ^ 32 - 1 serve where there are few cells
+-- sizes that are cut at 2 ^ 32 - 1 are exact if there are few cells
 pub exact : (cs : List (List OneCell)) (fs : List Field) → fields_size Cells (map length cs) fs ≤ MOST_ITEMS
     → fields_size Cells (map (λ cells. in_u32 (length cells)) cs) fs ≡ fields_size Cells (map length cs) fs
 exact cs fs few =
@@ -89,7 +89,7 @@ module _ (set : Set) (d : Desc) (few : length (desc_cells (struct_cells set) d) 
         ap (λ (n : ℕ). base + n) (start_is k ∙ x) ∙ sym (place_is (struct_cells set) d.fields 0 base d.fields k) in
         ap (λ (n : ℕ). residue (width (kind_of (get_or d.fields k no_field).item)) (get_or numbers n (pos 0))) p
 
-    -- the cells that may be asked are among so many
+    -- the cells of the fields that may be named are among n cells
     pub cells_inside : (base n : ℕ) → base + length (desc_cells (struct_cells set) d) ≤ n → (k : ℕ) → is_number_in d.fields k ≡ true → place_in starts d.fields base k < n
     cells_inside base n room k number = omega (arith, start_is k, number_below (sizes_of set) d.fields k number, inside_is, room)
 

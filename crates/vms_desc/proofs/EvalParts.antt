@@ -1,4 +1,4 @@
--- What a test asks of a part and of its device.
+-- The fields of a part and of its device that a test names.
 use Rattle.std.proofs.Common.{◌≡◌, ℕ, ◌+◌, ◌<◌, ◌≤◌, List, length, refl, sym, ap, ◌∙◌, arith, subst, Bool, true, Option, Some, None, ℤ}
 use Rattle.vms_spec.specs.declared.TheConstants.{MOST_ITEMS}
 use Rattle.vms_spec.specs.declared.Part.{Part}

@@ -1,4 +1,4 @@
--- Forms that are put one after the other.
+-- Forms that are appended.
 use Rattle.std.proofs.Common.{◌≡◌, ℕ, zero, suc, ◌+◌, ◌-◌, ◌*◌, ◌<◌, ◌≤◌, List, [], ◌∷◌, ◌++◌, length, get_or, drop, take, map, refl, sym, ap, ◌∙◌, arith, ℤ, append_assoc, append-nil, length-append, take_all}
 use Rattle.std.proofs.lemmas.List.{drop_all, drop_at, length-map, map-append, take-map, length-take-le, take_at, take-append-drop, get_or_past}
 use Rattle.std.proofs.lemmas.Nat.{mul-le}
@@ -19,9 +19,9 @@ use Rattle.vms_parts.specs.Views.{field_of, desc_of, sub_of, device_of, set_of, 
 use Rattle.vms_parts.proofs.Items.{drop_is, get_map_at}
 use Rattle.vms_spec.proofs.Tables.{first_at, first_take, first_long}
 
--- ---- put one after the other
+-- ---- forms in order
 
--- none are put
+-- none are appended
 pub puts_none : (a : Forms) (cells : List CellForm) → cells ≡ [] → Puts a a cells
 puts_none a cells none = record {
   kinds = sym (append-nil a.kinds.items) ∙ ap (λ (l : List CellForm). a.kinds.items ++ map (λ form. form.kind) l) (sym none);
@@ -32,7 +32,7 @@ both_put : {X : Type 0} (g : CellForm → X) (a b c : List X) (x y : List CellFo
 both_put {X} g a b c x y none first second =
     second ∙ ap (λ (l : List X). l ++ map g y) (first ∙ ap (λ (l : List X). l ++ map g x) none) ∙ sym (map-append g x y)
 
--- some that are put behind others, where there were none
+-- forms that are appended to others, of which there were none
 pub are_both : (kinds : List Kind) (defaults : List ℤ) (b c : Forms) (x y : List CellForm) → kinds ≡ [] → defaults ≡ []
     → b.kinds.items ≡ kinds ++ map (λ form. form.kind) x → b.defaults.items ≡ defaults ++ map (λ form. form.default) x → Puts b c y → AreForms c (x ++ y)
 are_both kinds defaults b c x y bare none first also second = record {
@@ -40,7 +40,7 @@ are_both kinds defaults b c x y bare none first also second = record {
   defaults = both_put (λ form. form.default) defaults b.defaults.items c.defaults.items x y none also second.defaults;
 }
 
--- what is there and what is still to come is the whole
+-- the forms so far and the remaining ones are the whole
 pub record Left (from here : Forms) (rest all : List CellForm) : Type 0 where
   pub kinds : here.kinds.items ++ map (λ form. form.kind) rest ≡ from.kinds.items ++ map (λ form. form.kind) all
   pub defaults : here.defaults.items ++ map (λ form. form.default) rest ≡ from.defaults.items ++ map (λ form. form.default) all
@@ -80,7 +80,7 @@ subs_next ts subs i s lt is = ap (λ (l : List Sub). subs_forms ts (map sub_of l
 pub subs_over : (ts : List (List CellForm)) (subs : List Sub) (i : ℕ) → length subs ≤ i → subs_forms ts (map sub_of (drop i subs)) ≡ []
 subs_over ts subs i all = ap (λ (l : List Sub). subs_forms ts (map sub_of l)) (drop_all i subs all)
 
--- one element, so many times
+-- one element, repeated
 module _ {X : Type 0} (part : List X) where
   abbrev pub repeated : ℕ → List X
   repeated n = times n (λ _. part) 0 0
@@ -97,14 +97,14 @@ module _ {X : Type 0} (part : List X) where
       let e : suc n + m ≡ suc (n + m) = omega arith in
       ap repeated e ∙ ap (λ (l : List X). part ++ l) (repeated_both n m) ∙ sym (append_assoc part (repeated n) (repeated m))
 
-  -- some first of them
+  -- a front of them
   repeated_first : (n m : ℕ) → m ≤ n → take (length part * m) (repeated n) ≡ repeated m
   repeated_first n m le =
       let e : n ≡ m + (n - m) = omega (arith, le) in
       ap (λ (k : ℕ). take (length part * m) (repeated k)) e ∙ ap (take (length part * m)) (repeated_both m (n - m))
       ∙ take_at (repeated m) (repeated (n - m)) (length part * m) (repeated_long m)
 
-  -- more of them behind those that are there
+  -- more of them are appended
   pub repeats_more : (front items new : List X) (done more start size : ℕ) → start ≡ length front → size ≡ length part → items ≡ front ++ repeated done → more ≤ done
       → new ≡ items ++ take ((start + size * more) - start) (drop start items) → new ≡ front ++ repeated (done + more)
   repeats_more front items new done more start size at wide is le e =
@@ -131,7 +131,7 @@ module _ {X : Type 0} (g : CellForm → X) where
   times_put part zero = refl
   times_put part (suc n) = map-append g part (times n (λ _. part) 0 0) ∙ ap (λ (l : List X). map g part ++ l) (times_put part n)
 
-  -- what was put is repeated
+  -- the appended forms are repeated
   pub repeated_put : (old list new : List X) (part : List CellForm) (start n : ℕ) → start ≡ length old → list ≡ old ++ map g part
       → new ≡ take start list ++ times n (λ _. drop start list) 0 0 → new ≡ old ++ map g (times n (λ _. part) 0 0)
   repeated_put old list new part start n at put is =

@@ -10,7 +10,7 @@ use Rattle.vms_spec.specs.Good.{IsFit}
 use Rattle.vms_spec.proofs.ShippedSets.{all_fit, device_fits, each, fit, is_fit}
 use Rattle.vms_desc.specs.Formed.{is_well_formed, shipped_set, clock_set}
 
--- what holds of each shipped set of the list holds of that of each number
+-- a property of each shipped set of the list holds of the set of each number
 pub by_number : (p : Set → Bool) → list_all p shipped_sets ≡ true → (s : ℕ) → p (shipped_set s) ≡ true
 by_number p all zero = each p shipped_sets 0 set_0 all refl
 by_number p all (suc zero) = each p shipped_sets 1 set_1 all refl

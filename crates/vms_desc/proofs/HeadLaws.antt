@@ -7,13 +7,13 @@ use Rattle.vms_parts.specs.declared.types.Parts.{Parts}
 use Rattle.vms_parts.specs.Views.{set_of, device_of}
 use Rattle.vms_desc.specs.Heads.{HeadsFit}
 
--- what stands at a number of a mapped list is made of what stood there
+-- an element of a mapped list is made of the one at the same number
 pub at_mapped : {X Y : Type 0} (f : X → Y) (xs : List X) (i : ℕ) (x : X) (y : Y) → x ≡ get_or xs i x → slice_get (map f xs) i ≡ Some y → y ≡ f x
 at_mapped f [] i x y is e = cc
 at_mapped f (z ∷ xs) zero x y is e = let g : f z ≡ y = cc in sym g ∙ ap f (sym is)
 at_mapped f (z ∷ xs) (suc i) x y is e = at_mapped f xs i x y is e
 
--- what the code has device by device, of a set
+-- the property of the code's devices, for the set
 pub heads_of : (parts : Parts) (devices : List Device) → devices ≡ parts.devices → HeadsFit (map device_of devices) → FitsHeads (set_of parts)
 heads_of parts devices is h =
     let all : HeadsFit (map device_of parts.devices) = subst (λ (l : List Device). HeadsFit (map device_of l)) is h in

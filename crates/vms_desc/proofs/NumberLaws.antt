@@ -1,4 +1,4 @@
--- Where the numbers of fields stand.
+-- The cells of the fields' numbers.
 use Rattle.std.proofs.Common.{◌≡◌, ℕ, zero, suc, ◌*◌, ◌<◌, List, [], ◌∷◌, length, take, map, refl, arith, true, ◌&&◌}
 use Rattle.std.specs.List.{slice_get}
 use Rattle.vms_kinds.specs.declared.Item.{Item}

@@ -1,4 +1,4 @@
--- Where paths begin.
+-- The first cells of paths.
 use Rattle.std.proofs.Common.{◌≡◌, ℕ, zero, suc, ◌+◌, ◌≤◌, List, [], ◌∷◌, length, length-append, get_or, take, map, refl, sym, ap, ◌∙◌, arith, Option, Some, None}
 use Rattle.std.specs.List.{flat_map, slice_get}
 use Rattle.std.proofs.lemmas.List.{length-map}
@@ -47,7 +47,7 @@ place_of_sub set base (s ∷ subs) (suc j) =
     let c = cells_size (struct_cells set) s.desc.fields 0 s.desc.fields in
     omega (arith, c, place_of_sub set (base + length (desc_cells (struct_cells set) s.desc)) subs j)
 
--- ---- where a path begins
+-- ---- the first cell of a path
 
 pub long_sizes : (set : sets.Set) (sizes : List ℕ) → sizes ≡ sizes_of set → length sizes ≡ length set.structs
 long_sizes set sizes e = ap length e ∙ length-map (struct_cells set) (λ cells. in_u32 (length cells)) ∙ first_long desc_cells set.structs (length set.structs)

@@ -1,4 +1,4 @@
--- The cell of a path by the sizes of structures.
+-- The cell of a path, given the numbers of cells of the structures.
 use Rattle.std.proofs.Common.{◌≡◌, ℕ, zero, suc, ◌+◌, ◌*◌, ◌<◌, ◌≤◌, List, ◌∷◌, length, length-take-le, get_or, take, map, refl, sym, ap, subst, ◌∙◌, arith, Bool, true, false, Option, Some, None, []}
 use Rattle.std.specs.Prelude.{nat_lt, nat_le, if◌then◌else◌}
 use Rattle.std.specs.List.{slice_get}
@@ -45,7 +45,7 @@ pub element_fits : (sizes : List ℕ) (fs : List sets.Field) (base i e : ℕ) (f
 element_fits sizes fs base i e f there lt few =
     omega (arith, field_room sizes fs i f there, element_room e (capacity_of f.count) (size_of Cells sizes f.item) lt, few)
 
--- the fields before it are few too
+-- the fields before it have few cells too
 pub before_fits : (sizes : List ℕ) (fields : List Field) (base i before : ℕ) → base + fields_size Cells sizes (map field_of fields) ≤ MOST_ITEMS
     → before ≡ in_u32 (fields_size Cells sizes (map field_of (take i fields))) → before ≡ fields_size Cells sizes (take i (map field_of fields))
 before_fits sizes fields base i before few e =
@@ -80,7 +80,7 @@ pub element_within : (sizes : List ℕ) (d : sets.Desc) (base : ℕ) (step : ℕ
     → Some el ≡ element_of sizes d base step → el.cell + size_of Cells sizes el.item ≤ MOST_ITEMS
 element_within sizes d base step el few e = within_in sizes d base step el (slice_get d.fields step.0) refl few e
 
--- ---- sizes that end at 2 ^ 32 - 1
+-- ---- sizes that are cut at 2 ^ 32 - 1
 
 size_capped : (cs : List (List Cell)) (item : Item) → size_of Cells (map (λ cells. in_u32 (length cells)) cs) item ≡ in_u32 (item_size cs item)
 size_capped cs (Num kind) = refl
@@ -128,7 +128,7 @@ module _ (set : sets.Set) (p : Placed) (placed : IsPlaced set p) where
       let product : e * size_of Cells p.sizes.now f.item ≡ e * item_size cells f.item = ap (λ (n : ℕ). e * n) size in
       omega (arith, front, product, place_is cells fields 0 p.base fields i)
 
-  -- what is left of a path at an element
+  -- the cell of the rest of a path at an element
   abbrev pub after : List (ℕ × ℕ) → Option Element → Option ℕ
   after path None = None
   after path (Some el) = item_at (λ j cell. if nat_lt j (length p.sizes.now) then path_at set path j (slice_get set.structs j) cell else None) path el.item el.cell
@@ -169,7 +169,7 @@ module _ (set : sets.Set) (p : Placed) (placed : IsPlaced set p) where
         room = omega (arith, capped, made, here, few, enters.base_is);
       }
 
--- ---- where a path goes on
+-- ---- the rest of a path
 
 -- in a structure
 pub in_struct : (set : sets.Set) (below : ℕ) (path : List (ℕ × ℕ)) (j cell : ℕ) (d : sets.Desc) → j < below → slice_get set.structs j ≡ Some d

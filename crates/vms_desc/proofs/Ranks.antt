@@ -1,4 +1,4 @@
--- How far down the calls over structures may still go.
+-- How many levels of structures the calls can still go down.
 use Rattle.std.proofs.Common.{◌≡◌, ℕ, ◌+◌, ◌*◌, ◌<◌, ◌≤◌, length, refl, arith, true}
 use Rattle.std.proofs.lemmas.Bool.{ltb-true, lt-ltb}
 use Rattle.vms_kinds.specs.declared.Item.{Item}

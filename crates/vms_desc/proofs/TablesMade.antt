@@ -16,7 +16,7 @@ use Rattle.vms_spec.proofs.Tables.{last_is}
 use Rattle.vms_desc.specs.declared.table.Table.{Table}
 use Rattle.vms_desc.specs.Tables.{AreStarts, IsTable, no_table, AreTables, device_fields, AreDeviceTables}
 
--- what holds of each that is there holds with one more
+-- a property of each element holds with one more
 one_more : {X : Type 0} (P : ℕ → X → Type 0) (xs : List X) (x d : X) → ((k : ℕ) → k < length xs → P k (get_or xs k d)) → P (length xs) x → (k : ℕ) → k < suc (length xs) → P k (get_or (xs ++ x ∷ []) k d)
 one_more P xs x d h here k lt = by_test (nat_lt k (length xs)) refl
   where
@@ -27,7 +27,7 @@ one_more P xs x d h here k lt = by_test (nat_lt k (length xs)) refl
         let same : length xs ≡ k = omega arith in
         subst (P k) (sym (last_is xs x d k same)) (subst (λ (i : ℕ). P i x) same here)
 
--- ---- where fields begin
+-- ---- the first cells of fields
 
 size_taken : (sizes : List ℕ) (fs : List Field) (i : ℕ) → i < length fs → fields_size Cells sizes (take (suc i) fs) ≡ fields_size Cells sizes (take i fs) + capacity_of (get_or fs i no_field).count * size_of Cells sizes (get_or fs i no_field).item
 size_taken sizes [] i lt = absurd (omega arith)
@@ -94,7 +94,7 @@ tables_more sizes descs tables fields t h x =
             subst (λ (y : Table). IsTable sizes (get_or (descs ++ fields ∷ []) k []) y) (sym (last_is tables t no_table k (h.long ∙ same)))
             (subst (λ (fs : List Field). IsTable sizes fs t) (sym (last_is descs fields [] k same)) x)
 
--- the next of the descriptions that a list of the code has
+-- the next description of a list of the code
 pub tables_next : {X Y : Type 0} (view : X → Y) (fields : Y → List Field) (sizes : List ℕ) (front : List (List Field)) (items : List X) (i : ℕ) (x : X) (tables : List Table) (t : Table) → i < length items → x ≡ get_or items i x
     → AreTables sizes (front ++ map fields (map view (take i items))) tables → IsTable sizes (fields (view x)) t
     → AreTables sizes (front ++ map fields (map view (take (i + 1) items))) (tables ++ t ∷ [])

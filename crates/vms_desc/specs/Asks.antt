@@ -1,4 +1,4 @@
--- What a walk over a set asks of it.
+-- What a walk over a set needs to know about it.
 use Rattle.std.specs.Prelude.{ℕ, ◌+◌, ◌≤◌, Bool, List, [], length, get_or, ℤ}
 use Rattle.vms_spec.specs.declared.Part.{Part}
 use Rattle.vms_spec.specs.declared.Part.TheVariants as parts
@@ -10,7 +10,7 @@ use Rattle.vms_spec.specs.Streams.{is_needed}
 use Rattle.vms_parts.specs.Devices.{device_at}
 use Rattle.vms_desc.specs.Parts.{desc_at, sub_at}
 
--- where the cells of a part begin among those of its device; a structure begins wherever it is used
+-- the first cell of a part among the cells of its device; a structure begins wherever it is used
 abbrev pub first_cell : Set → Part → ℕ
 first_cell set (parts.Sub i j) = sub_place set (own_cells set (device_at set i)) (device_at set i).subs j
 first_cell set part = 0
@@ -19,14 +19,15 @@ first_cell set part = 0
 abbrev pub field_at : Set → Part → ℕ → Field
 field_at set part k = get_or (desc_at set part).fields k no_field
 
--- the numbers of the fields of a part, or of one element of a structure, whose cells begin at a place
+-- the numbers of the fields of a part, or of one element of a structure, whose cells begin at a
+-- place
 abbrev pub own_numbers : Set → Part → List ℤ → ℕ → ℕ → ℕ
 own_numbers set part numbers base = numbers_of (struct_cells set) (desc_at set part) numbers base
 
--- its cells are among the numbers
+-- the cells of the part are among the numbers
 abbrev pub HasCells : Set → Part → List ℤ → ℕ → Type 0
 HasCells set part numbers base = base + own_cell_count set (desc_at set part) ≤ length numbers
 
--- whether subsection j of device i is needed, where the device's cells have these numbers
+-- subsection j of device i is needed, if the device's cells have these numbers
 abbrev pub needed_at : Set → ℕ → ℕ → List ℤ → Bool
 needed_at set i j numbers = is_needed set (device_at set i) (record { version = 0; came = []; numbers = numbers }) (sub_at (device_at set i) j) j

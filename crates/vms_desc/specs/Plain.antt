@@ -2,6 +2,7 @@
 use Rattle.std.specs.Prelude.{Bool, true, false}
 use Rattle.vms_spec.specs.Sets.{Formula, AtLeast, Below, Cell, Not, And, Or}
 
+-- the test is such a test
 abbrev pub is_plain : Formula → Bool
 is_plain (AtLeast n) = true
 is_plain (Below n) = true

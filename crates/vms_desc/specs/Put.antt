@@ -1,14 +1,14 @@
--- Forms of cells that are put one after the other, as their kinds and their defaults.
+-- Forms of cells that are appended, as their kinds and their defaults.
 use Rattle.std.specs.Prelude.{◌≡◌, List, ◌++◌, map}
 use Rattle.vms_parts.specs.declared.types.CellForm.{CellForm}
 use Rattle.vms_desc.specs.declared.forms.Forms.{Forms}
 
--- they are the kinds and the defaults of these
+-- the kinds and the defaults are those of these cells
 pub record AreForms (forms : Forms) (cells : List CellForm) : Type 0 where
   pub kinds : forms.kinds.items ≡ map (λ form. form.kind) cells
   pub defaults : forms.defaults.items ≡ map (λ form. form.default) cells
 
--- those of these stand behind the ones that were there
+-- the kinds and defaults of these cells are appended
 pub record Puts (old new : Forms) (cells : List CellForm) : Type 0 where
   pub kinds : new.kinds.items ≡ old.kinds.items ++ map (λ form. form.kind) cells
   pub defaults : new.defaults.items ≡ old.defaults.items ++ map (λ form. form.default) cells

@@ -1,4 +1,4 @@
-// What a walk over a set asks of it.
+// What a walk over a set needs to know about it.
 ghost use Rattle.vms_spec.specs.declared.TheConstants.{MOST_ITEMS};
 ghost use Rattle.std.specs.Prelude.{◌≡◌, ◌<◌, ◌≤◌, ◌*◌, length};
 ghost use Rattle.vms_spec.specs.Layout.{capacity_of, elements_of, counted, all_hold, item_size, struct_cells, device_cells, no_parent};
@@ -18,8 +18,12 @@ use vms_parts::{Measure, capacity, item_size};
 impl DescSet {
     ghost use Rattle.vms_desc.specs.Described.{described, device_at};
 
-    /// Where the cells of a part begin among those of its device: at 0, or after the cells that stand
-    /// before a subsection.
+    /// Returns the first cell of `part` among the cells of its device: 0, or the first cell after
+    /// those that precede a subsection's.
+    ///
+    /// # Requires
+    ///
+    /// The set has `part`.
     pub fn first_cell(&self, part: Part) -> u32
         requires { HasPart (described self.now) part }
         ensures { result ≡ first_cell (described self.now) part }
@@ -41,14 +45,18 @@ impl DescSet {
         cell
     }
 
-    /// How many cells one element has, at most 2^32 - 1.
+    /// Returns the number of cells of one element of `item`, at most 2^32 - 1.
     pub fn item_cells(&self, item: Item) -> u32
         ensures { result ≡ in_u32 (item_size (struct_cells (described self.now)) item) }
     {
         item_size(Measure::Cells, self.sizes(), item)
     }
 
-    /// How many fields a part has.
+    /// Returns the number of fields of `part`.
+    ///
+    /// # Requires
+    ///
+    /// The set has `part`.
     pub fn field_count(&self, part: Part) -> u32
         requires { HasPart (described self.now) part }
         ensures { result ≡ length (desc_at (described self.now) part).fields }
@@ -56,7 +64,11 @@ impl DescSet {
         self.desc(part).fields.as_slice().len() as u32
     }
 
-    /// How many subsections a device has.
+    /// Returns the number of subsections of device `device`.
+    ///
+    /// # Requires
+    ///
+    /// The set has the device.
     pub fn sub_count(&self, device: u32) -> u32
         requires { device < length (described self.now).devices }
         ensures { result ≡ length (device_at (described self.now) device).subs }
@@ -64,8 +76,12 @@ impl DescSet {
         self.device(device).subs.as_slice().len() as u32
     }
 
-    /// How many cells the field of this number has, at most 2^32 - 1: of an array those of all elements
-    /// for which there is room.
+    /// Returns the number of cells of field `field` of `part`, at most 2^32 - 1. An array has cells
+    /// for its full length or capacity.
+    ///
+    /// # Requires
+    ///
+    /// The set has `part`, and the part has the field.
     pub fn field_cells(&self, part: Part, field: u32) -> u32
         requires part { HasPart (described self.now) part }
         requires field { field < length (desc_at (described self.now) part).fields }
@@ -77,8 +93,12 @@ impl DescSet {
         capacity(field.count).saturating_mul(self.item_cells(field.item))
     }
 
-    /// The least of the capacities of the arrays whose elements the field of this number counts, or `None` where it
-    /// counts none.
+    /// Returns the least capacity of the arrays whose elements field `field` of `part` counts, or
+    /// `None` if it counts none.
+    ///
+    /// # Requires
+    ///
+    /// The set has `part`, and the part has the field.
     pub fn most(&self, part: Part, field: u32) -> Option<u32>
         requires part { HasPart (described self.now) part }
         requires field { field < length (desc_at (described self.now) part).fields }
@@ -87,7 +107,7 @@ impl DescSet {
         self.table(part).mosts.as_slice()[field as usize]
     }
 
-    // The fields of a part, or of one element of a structure, whose first cell is `base`.
+    // Returns the scope of a part, or of one element of a structure, whose first cell is `base`.
     #[inline(always)]
     pub(crate) fn scope(&self, part: Part, base: u32) -> Scope<'_>
         requires { HasPart (described self.now) part }
@@ -100,7 +120,14 @@ impl DescSet {
         }
     }
 
-    /// Whether the field of this number is there at a version.
+    /// Returns whether field `field` of `part` is present at `version`, by the numbers of `cells`.
+    ///
+    /// `base` is the first cell of the part, or of one element of a structure.
+    ///
+    /// # Requires
+    ///
+    /// The set has `part`, the part has the field, and `cells` has the part's cells from `base` on
+    /// and at most [`MOST_ITEMS`](vms_spec::MOST_ITEMS) numbers.
     #[inline(always)]
     pub fn is_there<C: Cells>(
         &self,
@@ -125,7 +152,15 @@ impl DescSet {
         }
     }
 
-    /// How many elements of the field of this number stand in the bytes, where it is there.
+    /// Returns the number of elements of field `field` of `part` in the bytes, if the field is
+    /// present.
+    ///
+    /// `base` is the first cell of the part, or of one element of a structure. The answer is at
+    /// most the capacity.
+    ///
+    /// # Requires
+    ///
+    /// As [`is_there`](Self::is_there).
     #[inline(always)]
     pub fn elements<C: Cells>(&self, part: Part, base: u32, field: u32, cells: &C) -> u32
         requires part { HasPart (described self.now) part }
@@ -146,7 +181,14 @@ impl DescSet {
         }
     }
 
-    /// Whether all validations of a part hold.
+    /// Returns whether all validations of `part` hold at `version`, by the numbers of `cells`.
+    ///
+    /// `base` is the first cell of the part, or of one element of a structure.
+    ///
+    /// # Requires
+    ///
+    /// The set has `part`, and `cells` has the part's cells from `base` on and at most
+    /// [`MOST_ITEMS`](vms_spec::MOST_ITEMS) numbers.
     pub fn holds_rules<C: Cells>(&self, part: Part, base: u32, version: u32, cells: &C) -> bool
         requires part { HasPart (described self.now) part }
         requires few { length (C.numbers cells.now) ≤ MOST_ITEMS }
@@ -158,7 +200,13 @@ impl DescSet {
         all_hold(tests, version, &self.scope(part, base), cells)
     }
 
-    /// Whether a subsection of a device is needed, by the numbers of the device's cells.
+    /// Returns whether subsection `sub` of device `device` is needed, by the numbers of the
+    /// device's cells.
+    ///
+    /// # Requires
+    ///
+    /// The set has the subsection, and `cells` has all cells of the device and at most
+    /// [`MOST_ITEMS`](vms_spec::MOST_ITEMS) numbers.
     pub fn is_needed<C: Cells>(&self, device: u32, sub: u32, cells: &C) -> bool
         requires part { HasPart (described self.now) (parts.Sub device sub) }
         requires few { length (C.numbers cells.now) ≤ MOST_ITEMS }

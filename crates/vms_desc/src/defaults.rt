@@ -1,4 +1,4 @@
-// The numbers of cells where none came.
+// The defaults of cells.
 ghost use Rattle.vms_spec.specs.declared.TheConstants.{MOST_ITEMS};
 ghost use Rattle.std.specs.Prelude.{◌≡◌, ◌<◌, ◌≤◌, ℕ, true, length, get_or, slice_set, map, replicate, pos, IfOk};
 ghost use Rattle.vms_kinds.specs.Codes.{InRange};
@@ -13,7 +13,8 @@ use crate::forms::{Forms, device_cells};
 use std::alloc::{AllocError, Global};
 use vms_spots::Buffer;
 
-// The numbers of each device's cells at their defaults, in order. Each structure has so many cells.
+// Returns the numbers of each device's cells at their defaults, in order. `sizes` has the number of
+// cells of each structure.
 pub(crate) fn device_defaults(
     alloc: Global,
     sizes: &[u32],
@@ -32,7 +33,7 @@ pub(crate) fn device_defaults(
     Ok(defaults)
 }
 
-// The numbers of cells of these kinds, each at its default.
+// Returns the numbers of cells of these kinds, each at its default.
 fn numbers_of(alloc: Global, forms: &Forms) -> Result<Buffer, AllocError>
     requires few { length forms.now.kinds.items ≤ MOST_ITEMS }
     requires long { length forms.now.defaults.items ≡ length forms.now.kinds.items }
@@ -50,7 +51,7 @@ fn numbers_of(alloc: Global, forms: &Forms) -> Result<Buffer, AllocError>
     Ok(numbers)
 }
 
-// Each cell, which is 0, gets its default.
+// Sets each cell, which is 0, to its default.
 fn put_defaults(cells: &mut Buffer, defaults: &[i128])
     requires few { length defaults.now ≤ MOST_ITEMS }
     requires zero { cells.old.numbers ≡ replicate (length defaults.now) (pos 0) }
@@ -63,7 +64,7 @@ fn put_defaults(cells: &mut Buffer, defaults: &[i128])
     }
 }
 
-// A cell, which is 0, gets its default.
+// Sets a cell, which is 0, to its default.
 fn put_default(cells: &mut Buffer, cell: u32, default: i128)
     requires cell { cell < length cells.old.numbers }
     requires zero { get_or cells.old.numbers cell (pos 0) ≡ pos 0 }

@@ -15,21 +15,27 @@ ghost use Rattle.vms_desc.specs.Scopes.{may_ask, may_ask_parent, IsInside, IsIns
 use crate::{Field, Rel, Test, Whose};
 use vms_kinds::{Item, Kind};
 
-/// Numbers by cell, as an image has them.
+/// The numbers of cells, as an image has them. Tests are evaluated over any type that has them.
 pub trait Cells {
     ghost use Rattle.std.specs.Prelude.{◌≡◌, ◌<◌, List, ℤ, length, get_or, pos};
 
+    /// The numbers of all cells, in order.
     ghost numbers: { Self → List ℤ };
 
-    /// The number of a cell.
+    /// Returns the number of cell `cell`.
+    ///
+    /// # Requires
+    ///
+    /// There is such a cell.
     fn number(&self, cell: u32) -> i128
         requires { cell < length (numbers self.now) }
         ensures { result ≡ get_or (numbers self.now) cell (pos 0) };
 }
 
-/// Numbers that stand in a slice.
+/// The numbers of cells in a slice.
 #[derive(Clone, Copy)]
 pub struct Numbers<'a> {
+    /// The numbers, in the order of the cells.
     pub numbers: &'a [i128],
 }
 
@@ -41,7 +47,8 @@ impl Cells for Numbers<'_> {
     }
 }
 
-// The fields that a test may ask, where the cells of each begin in their description, and the first cell of that.
+// The fields that a test may name, the first cell of each in their description, and the first cell
+// of the description.
 #[derive(Clone, Copy)]
 pub(crate) struct Scope<'a> {
     pub(crate) fields: &'a [Field],
@@ -49,7 +56,7 @@ pub(crate) struct Scope<'a> {
     pub(crate) base: u32,
 }
 
-// Whether a test holds at a version.
+// Returns whether a test holds at a version.
 pub(crate) fn holds<C: Cells>(
     test: &Test,
     version: u32,
@@ -88,8 +95,8 @@ pub(crate) fn holds<C: Cells>(
     }
 }
 
-// Whether a test of the version or of one number holds; nothing of another test. It is laid in where it is asked, so
-// that the leaves of a test take no call.
+// Returns whether a test of the version or of one number holds, and `None` for any other test. It
+// is inlined, so the leaves of a test need no call.
 #[inline(always)]
 fn plain_holds<C: Cells>(
     test: &Test,
@@ -128,7 +135,7 @@ fn plain_holds<C: Cells>(
     }
 }
 
-// Whether all tests of a description hold at a version.
+// Returns whether all tests of a description hold at a version.
 pub(crate) fn all_hold<C: Cells>(tests: &[Test], version: u32, own: &Scope, cells: &C) -> bool
     requires names { list_all (names_well (may_ask own.now) nobody) (map formula tests.now)
         ≡ true }
@@ -145,7 +152,7 @@ pub(crate) fn all_hold<C: Cells>(tests: &[Test], version: u32, own: &Scope, cell
     true
 }
 
-// The number of a field, modulo 2^(8w).
+// Returns the number of a field, modulo 2^(8w).
 #[inline(always)]
 pub(crate) fn number_at<C: Cells>(scope: &Scope, field: u32, cells: &C) -> u64
     requires asked { may_ask scope.now field ≡ true }
@@ -171,7 +178,7 @@ fn parent_number<C: Cells>(parent: Option<&Scope>, field: u32, cells: &C) -> u64
     }
 }
 
-// The kind of an item's number; of another item any.
+// Returns the kind of an item's number, and any kind for another item.
 fn kind_of(item: Item) -> Kind
     ensures { result ≡ kind_of item }
 {
@@ -181,7 +188,7 @@ fn kind_of(item: Item) -> Kind
     }
 }
 
-// The number modulo 2^(8w). Each modulus stands in an arm of its own, so that no division is needed.
+// Returns the number modulo 2^(8w). Each modulus has its own arm, so no division is needed.
 fn unsigned(kind: Kind, number: i128) -> u64
     ensures { result ≡ residue (width kind) number }
 {

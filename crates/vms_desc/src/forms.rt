@@ -10,8 +10,8 @@ use std::alloc::{AllocError, Global};
 use vms_kinds::{Item, Kind};
 use vms_parts::{Measure, capacity, size_of_fields, size_of_subs};
 
-// The forms of cells, in order: what kind each has, and its default. So they take half of the room that a list of
-// `CellForm` would.
+// The forms of cells, in order: the kind and the default of each. Two lists take half of the memory
+// of a list of `CellForm`.
 #[derive(Drop)]
 pub(crate) struct Forms {
     pub(crate) kinds: Vec<Kind>,
@@ -19,7 +19,7 @@ pub(crate) struct Forms {
 }
 
 impl Forms {
-    // Puts the form of one cell after those that are there.
+    // Appends the form of one cell.
     #[inline(always)]
     fn put(&mut self, kind: Kind, default: i128) -> Result<(), AllocError>
         ensures kinds { OnOk result (self.new.kinds.items ≡ self.old.kinds.items ++ kind ∷ []) }
@@ -32,8 +32,7 @@ impl Forms {
     }
 }
 
-// Puts the forms of the cells of these fields after those that are there. `structs` are the structures that
-// they may use.
+// Appends the forms of the cells of these fields. `structs` are the structures that they may use.
 #[cycle(forms)]
 pub(crate) fn put_fields(
     structs: &[Desc],
@@ -68,7 +67,7 @@ fn put_field(structs: &[Desc], field: &Field, forms: &mut Forms) -> Result<(), A
     Ok(())
 }
 
-// What stands from a place on is repeated, so that it stands there so many times.
+// Repeats the part of a list from `start` on, so that it is there `count` times.
 #[inline(always)]
 fn repeat<T: Copy>(list: &mut Vec<T>, start: usize, count: u32) -> Result<(), AllocError>
     requires within { start ≤ length list.old.items }
@@ -118,7 +117,8 @@ fn put_subs(structs: &[Desc], subs: &[Sub], forms: &mut Forms) -> Result<(), All
     Ok(())
 }
 
-// The forms of a device's cells: its fields', and then each subsection's. Each structure has so many cells.
+// Returns the forms of a device's cells: those of its fields, then those of each subsection.
+// `sizes` has the number of cells of each structure.
 pub(crate) fn device_cells(
     alloc: Global,
     sizes: &[u32],

@@ -10,8 +10,13 @@ use std::alloc::Global;
 use vms_rules::check;
 
 impl DescSet {
-    /// The set of these parts where they are well formed. Else the fault is the first place at which a rule fails, with
-    /// the lowest rule that fails there, unless memory is wanting.
+    /// Returns the set of `parts`, if they are well formed.
+    ///
+    /// # Errors
+    ///
+    /// - [`DescFault::IllFormed`]: the first place at which a rule of well-formed sets fails, with the
+    ///   lowest rule that fails there.
+    /// - [`DescFault::NoMemory`]: out of memory.
     pub fn new(alloc: Global, parts: Parts) -> Result<DescSet, DescFault>
         ensures made { IfOk result (λ set. described set ≡ set_of parts) }
         ensures judged { Judges (first_fault (set_of parts)) result }

@@ -1,6 +1,6 @@
-//! Description sets: which devices a stream has sections of, and what stands in them.
+//! Description sets: the devices whose sections a stream has, and the contents of these sections.
 //!
-//! A set is well formed, and so every layer above takes one `DescSet` and judges nothing of it again.
+//! A [`DescSet`] is well formed, so the crates above take one and don't check it again.
 #![tactic(auto)]
 
 mod asks;

@@ -1,4 +1,4 @@
-// Names among others.
+// Names in lists.
 ghost use Rattle.std.specs.Prelude.{◌≡◌, ◌<◌, ◌^◌, length, map};
 ghost use Rattle.vms_spec.specs.Lookup.{find_sub};
 ghost use Rattle.vms_spec.specs.Streams.{is_one_of};
@@ -7,7 +7,7 @@ ghost use Rattle.vms_desc.specs.Names.{IsNameAt, first_named};
 
 use crate::{Sub, Text};
 
-/// Whether a name is one of these, byte by byte.
+/// Returns whether `name` is one of `names`, byte by byte.
 pub fn is_one_of(names: &[Text], name: &[u8]) -> bool
     ensures { result ≡ is_one_of names.now name.now }
 {
@@ -19,7 +19,11 @@ pub fn is_one_of(names: &[Text], name: &[u8]) -> bool
     false
 }
 
-/// The number, from 0, of the first of these names that is this one; `None` if none is.
+/// Returns the number, from 0, of the first of `names` that is `name`, or `None` if there is none.
+///
+/// # Requires
+///
+/// There are fewer than 2^32 names.
 pub fn find_name(names: &[Text], name: &[u8]) -> Option<u32>
     requires { length names.now < 2 ^ 32 }
     ensures first { result ≡ first_named names.now name.now }
@@ -33,7 +37,12 @@ pub fn find_name(names: &[Text], name: &[u8]) -> Option<u32>
     None
 }
 
-/// The number, from 0, of the first of these subsections that has this name; `None` if none has.
+/// Returns the number, from 0, of the first of `subs` whose full name is `name`, or `None` if there
+/// is none.
+///
+/// # Requires
+///
+/// There are fewer than 2^32 subsections.
 pub fn find_sub(subs: &[Sub], name: &[u8]) -> Option<u32>
     requires { length subs.now < 2 ^ 32 }
     ensures { result ≡ find_sub 0 (map sub_of subs.now) name.now }

@@ -12,7 +12,8 @@ use crate::{Desc, DescSet, Device, Parts};
 use vms_kinds::Item;
 use vms_parts::{Measure, capacity, item_size, size_of_fields, size_of_subs};
 
-// A description whose first cell is `base`, and how many cells the structures have that it may use.
+// A description whose first cell is `base`, and the numbers of cells of the structures that it may
+// use.
 #[derive(Clone, Copy)]
 pub(crate) struct Placed<'a> {
     pub(crate) desc: &'a Desc,
@@ -20,7 +21,7 @@ pub(crate) struct Placed<'a> {
     pub(crate) sizes: &'a [u32],
 }
 
-// What a step of a path leads to: an item, and its first cell.
+// The target of a step of a path: an item, and its first cell.
 #[derive(Clone, Copy)]
 pub(crate) struct Element {
     pub(crate) item: Item,
@@ -28,8 +29,11 @@ pub(crate) struct Element {
 }
 
 impl DescSet {
-    /// The cell of a path of field numbers and element numbers in a device, or in a subsection of it; the element
-    /// number of a single item is 0. `None` exactly where there is no such cell.
+    /// Returns the cell of `path` in device `device`, or in its subsection `part`. It is `None`
+    /// exactly if there is no such cell.
+    ///
+    /// Each step of the path is the number of a field and the number of an element. The element of
+    /// a single item is 0.
     pub fn cell(&self, device: u32, part: Option<u32>, path: &[(u32, u32)]) -> Option<u32>
         ensures { result ≡ cell_at (described self.now) device part path.now }
     {
@@ -39,7 +43,7 @@ impl DescSet {
     }
 }
 
-// The fields of a device, or of the subsection of this number.
+// Returns the fields of a device, or those of a subsection.
 fn placed_at<'a>(device: &'a Device, part: Option<u32>, sizes: &'a [u32]) -> Option<Placed<'a>>
     ensures { MatchOption result (begin_desc (device_of device.now) part ≡ None)
         (Begins sizes.now (device_of device.now) part) }
@@ -68,7 +72,7 @@ fn placed_at<'a>(device: &'a Device, part: Option<u32>, sizes: &'a [u32]) -> Opt
     }
 }
 
-// The cell of a path in a description.
+// Returns the cell of a path in a description.
 fn path_cell(parts: &Parts, placed: Placed, path: &[(u32, u32)]) -> Option<u32>
     requires { IsPlaced (set_of parts.now) placed }
     ensures { result ≡ path_at (set_of parts.now) path.now (length placed.entry.sizes.now)
@@ -86,7 +90,7 @@ fn path_cell(parts: &Parts, placed: Placed, path: &[(u32, u32)]) -> Option<u32>
     }
 }
 
-// The element of a step: of its field number, and its element number.
+// Returns the element of a step, which is the number of a field and the number of an element.
 fn element_at(placed: Placed, step: (u32, u32)) -> Option<Element>
     requires { placed.base
         + fields_size Cells placed.sizes.now (map field_of placed.desc.now.fields) ≤ MOST_ITEMS }
@@ -106,7 +110,7 @@ fn element_at(placed: Placed, step: (u32, u32)) -> Option<Element>
     })
 }
 
-// The structure of this number, if it may be used.
+// Returns the structure of this number, if it may be used.
 fn structure<'a>(parts: &'a Parts, sizes: &'a [u32], number: u32, base: u32) -> Option<Placed<'a>>
     requires { length sizes.now ≤ length parts.now.structs }
     ensures { MatchOption result (length sizes.now ≤ number)

@@ -27,15 +27,15 @@ use vms_parts::{Measure, struct_sizes};
 use vms_shipped::{clock_parts, shipped_parts};
 use vms_spots::Buffer;
 
-/// A well-formed set, with the cells of each device laid out beside it.
+/// A well-formed description set, with the layout of each device's cells.
 #[derive(Drop)]
 pub struct DescSet {
     parts: Parts,
     // The numbers of each device's cells at their defaults.
     defaults: Listed<Buffer>,
-    // How many cells each structure has, at most 2^32 - 1.
+    // The number of cells of each structure, at most 2^32 - 1.
     pub(crate) sizes: Listed<u32>,
-    // What walks ask of each structure, and of each device and its subsections.
+    // The tables of each structure, and of each device with its subsections.
     struct_tables: Listed<Table>,
     device_tables: Listed<Listed<Table>>,
     ghost well_formed: { is_well_formed (set_of parts) ≡ true },
@@ -52,7 +52,15 @@ pub struct DescSet {
 impl DescSet {
     ghost use Rattle.vms_desc.specs.Described.{described, device_at};
 
-    /// The shipped set of this number, 0 to 4. Fails only where memory is wanting.
+    /// Returns the shipped set `@s` for number `s`, 0 to 4.
+    ///
+    /// # Errors
+    ///
+    /// - [`NoMemory`]: out of memory.
+    ///
+    /// # Requires
+    ///
+    /// `s` is at most 4.
     pub fn shipped(alloc: Global, s: u8) -> Result<DescSet, NoMemory>
         requires { s ≤ NEWEST_SET }
         ensures { IfOk result (λ set. described set ≡ shipped_set s) }
@@ -60,7 +68,15 @@ impl DescSet {
         Ok(Self::assemble(alloc, shipped_parts(alloc, s)?)?)
     }
 
-    /// The clock set of this number, 1 or 2; number 0 stands for the first too. Fails only where memory is wanting.
+    /// Returns the shipped set `@cN` for number `c`, 1 or 2. For 0 it is that of 1.
+    ///
+    /// # Errors
+    ///
+    /// - [`NoMemory`]: out of memory.
+    ///
+    /// # Requires
+    ///
+    /// `c` is at most 2.
     pub fn clock(alloc: Global, c: u8) -> Result<DescSet, NoMemory>
         requires { c ≤ NEWEST_CLOCK_SET }
         ensures { IfOk result (λ set. described set ≡ clock_set c) }
@@ -68,7 +84,7 @@ impl DescSet {
         Ok(Self::assemble(alloc, clock_parts(alloc, c)?)?)
     }
 
-    // The set of parts that are well formed, laid out.
+    // Returns the set of well-formed parts, laid out.
     pub(crate) fn assemble(alloc: Global, parts: Parts) -> Result<DescSet, AllocError>
         requires { is_well_formed (set_of parts) ≡ true }
         ensures { IfOk result (λ set. described set ≡ set_of parts) }
@@ -86,21 +102,26 @@ impl DescSet {
         })
     }
 
-    /// The parts that the set is made of.
+    /// Returns the parts of the set.
     pub fn parts(&self) -> &Parts
         ensures { set_of result.now ≡ described self.now }
     {
         &self.parts
     }
 
-    /// The number of the device of this name and instance id, or `None` exactly where there is none.
+    /// Returns the number of the device with this `name` and `instance` id, or `None` exactly if
+    /// there is none.
     pub fn find(&self, name: &[u8], instance: u32) -> Option<u32>
         ensures { result ≡ find_device 0 (described self.now).devices name.now instance }
     {
         find_from(self.parts.devices.as_slice(), name, instance)
     }
 
-    /// The device of this number.
+    /// Returns device `device`.
+    ///
+    /// # Requires
+    ///
+    /// The set has the device.
     pub fn device(&self, device: u32) -> &Device
         requires { device < length (described self.now).devices }
         ensures { device_of result.now ≡ device_at (described self.now) device }
@@ -108,7 +129,11 @@ impl DescSet {
         &self.parts.devices.as_slice()[device as usize]
     }
 
-    /// How many cells the device of this number has, with those of its subsections.
+    /// Returns the number of cells of device `device`, those of its subsections included.
+    ///
+    /// # Requires
+    ///
+    /// The set has the device.
     pub fn cells(&self, device: u32) -> u32
         requires { device < length (described self.now).devices }
         ensures { result
@@ -117,7 +142,12 @@ impl DescSet {
         self.defaults(device).len()
     }
 
-    /// The number that each cell of the device of this number holds where it doesn't stand in the bytes, in order.
+    /// Returns the defaults of the cells of device `device`, in order. A cell holds its default if
+    /// it isn't in the bytes.
+    ///
+    /// # Requires
+    ///
+    /// The set has the device.
     pub fn defaults(&self, device: u32) -> &Buffer
         requires { device < length (described self.now).devices }
         ensures defaults { result.now ≡ defaults_at (described self.now) device }
@@ -126,7 +156,11 @@ impl DescSet {
         &self.defaults.as_slice()[device as usize]
     }
 
-    /// The description of a part.
+    /// Returns the description of `part`.
+    ///
+    /// # Requires
+    ///
+    /// The set has `part`.
     #[inline(always)]
     pub fn desc(&self, part: Part) -> &Desc
         requires { HasPart (described self.now) part }
@@ -142,8 +176,12 @@ impl DescSet {
         }
     }
 
-    /// How many cells the fields of a structure, a device or a subsection have, without those of a device's
-    /// subsections. Of a structure that no device uses it is at most 2^32 - 1.
+    /// Returns the number of cells of the fields of part `desc`, without those of a device's
+    /// subsections. For a structure that no device uses it is at most 2^32 - 1.
+    ///
+    /// # Requires
+    ///
+    /// The set has the part.
     pub fn cells_of(&self, desc: Part) -> u32
         requires { HasPart (described self.now) desc }
         ensures { result
@@ -153,7 +191,7 @@ impl DescSet {
         starts[starts.len() - 1]
     }
 
-    // What walks ask of a part.
+    // Returns the table of a part.
     #[inline(always)]
     pub(crate) fn table(&self, part: Part) -> &Table
         requires { HasPart (described self.now) part }
@@ -168,7 +206,7 @@ impl DescSet {
         }
     }
 
-    // Of a device and its subsections.
+    // Returns the tables of a device and its subsections.
     fn tables_of(&self, device: u32) -> &[Table]
         requires { device < length (described self.now).devices }
         ensures { AreTables (sizes_of (described self.now))
@@ -177,14 +215,15 @@ impl DescSet {
         self.device_tables.as_slice()[device as usize].as_slice()
     }
 
-    /// How many cells each structure has. Of one that no device uses it is at most 2^32 - 1.
+    /// Returns the number of cells of each structure. For one that no device uses it is at most
+    /// 2^32 - 1.
     pub fn sizes(&self) -> &[u32]
         ensures { result.now ≡ sizes_of (described self.now) }
     {
         self.sizes.as_slice()
     }
 
-    // What a test of a part may ask of its device.
+    // Returns the scope of the device that a test of the part may name, if it is a subsection's.
     fn parent(&self, part: Part) -> Option<Scope<'_>>
         requires { HasPart (described self.now) part }
         ensures { IsParent (described self.now) part result }
@@ -195,8 +234,16 @@ impl DescSet {
         }
     }
 
-    /// Whether a test holds at a version, where `base` is the first cell of the part, or of one element of a
-    /// structure. A needed test may ask its subsection's numbers and its device's.
+    /// Returns whether `test` of part `desc` holds at `version`, by the numbers of `cells`.
+    ///
+    /// `base` is the first cell of the part, or of one element of a structure. A test of a
+    /// subsection may name fields of the subsection and of its device.
+    ///
+    /// # Requires
+    ///
+    /// The set has the part. The test names only single numbers of the part, and for a subsection
+    /// of its device. `cells` has all their cells, and at most [`MOST_ITEMS`](vms_spec::MOST_ITEMS)
+    /// numbers.
     pub fn eval<C: Cells>(
         &self,
         desc: Part,

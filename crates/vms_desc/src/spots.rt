@@ -1,4 +1,4 @@
-// Where the numbers of devices stand in their images' bytes.
+// The places of numbers in the bytes of images.
 ghost use Rattle.vms_spec.specs.declared.TheConstants.{MOST_ITEMS};
 ghost use Rattle.std.specs.Prelude.{◌≡◌, ◌<◌, ◌≤◌, length, get_or};
 ghost use Rattle.vms_spec.specs.Layout.{device_cells};
@@ -11,9 +11,15 @@ use crate::DescSet;
 use vms_spots::{Spot, size};
 
 impl DescSet {
-    /// Where each number of the device of this number stands in its image's bytes, in the order of its cells:
-    /// each at the least multiple of its kind's width that isn't below the end of the one before, the first at
-    /// 0. So each lies inside those bytes and overlaps no other.
+    /// Returns the spot of each number of device `device` in the bytes of its image, in the order
+    /// of the cells.
+    ///
+    /// The first spot is at 0. Each further one is at the least multiple of its kind's width that
+    /// isn't below the end of the one before. So each is inside of the bytes, and no two overlap.
+    ///
+    /// # Requires
+    ///
+    /// The set has the device.
     pub fn spots(&self, device: u32) -> &[Spot]
         requires { device < length (described self.now).devices }
         ensures spots { result.now ≡ spots_of (kinds_at (described self.now) device) }
@@ -23,7 +29,11 @@ impl DescSet {
         self.defaults(device).spots()
     }
 
-    /// Where the number of a cell stands in the bytes of an image of the device of this number.
+    /// Returns the spot of the number of `cell` in the bytes of an image of device `device`.
+    ///
+    /// # Requires
+    ///
+    /// The set has the device, and the device has the cell.
     pub fn spot(&self, device: u32, cell: u32) -> Spot
         requires is_device { device < length (described self.now).devices }
         requires is_cell { cell
@@ -33,7 +43,11 @@ impl DescSet {
         self.spots(device)[cell as usize]
     }
 
-    /// How many bytes an image of the device of this number has, at most 131,072.
+    /// Returns the number of bytes of an image of device `device`, at most 131,072.
+    ///
+    /// # Requires
+    ///
+    /// The set has the device.
     pub fn image_bytes(&self, device: u32) -> u32
         requires { device < length (described self.now).devices }
         ensures bytes { result ≡ bytes_of (kinds_at (described self.now) device) }

@@ -1,4 +1,4 @@
-// What walks ask of descriptions again and again, worked out once.
+// Tables of descriptions, which walks use often. They are computed once.
 ghost use Rattle.std.specs.Prelude.{◌<◌, map, IfOk, OnOk};
 ghost use Rattle.vms_parts.specs.Views.{field_of, desc_of, device_of};
 ghost use Rattle.vms_desc.specs.Heads.{FitsHead, HeadsFit};
@@ -7,12 +7,12 @@ ghost use Rattle.vms_desc.specs.Tables.{AreStarts, IsTable, AreTables, AreDevice
 use std::alloc::{AllocError, Global};
 use vms_parts::{Desc, Device, Field, Listed, Measure, capacity, item_size, least_capacities};
 
-// Of one description.
+// The table of one description.
 #[derive(Drop)]
 pub(crate) struct Table {
-    // Where the cells of each field begin, and last where those of all fields end, at most 2^32 - 1.
+    // The first cell of each field, and last the end of all cells, at most 2^32 - 1.
     pub(crate) starts: Listed<u32>,
-    // The least of the capacities of the arrays whose elements each field counts.
+    // The least capacity of the arrays whose elements each field counts.
     pub(crate) mosts: Listed<Option<u32>>,
 }
 
@@ -41,7 +41,7 @@ fn starts(alloc: Global, sizes: &[u32], fields: &[Field]) -> Result<Vec<u32>, Al
     Ok(starts)
 }
 
-// Those of each structure.
+// Returns the table of each structure.
 pub(crate) fn struct_tables(
     alloc: Global,
     sizes: &[u32],
@@ -57,7 +57,8 @@ pub(crate) fn struct_tables(
     Ok(tables)
 }
 
-// Those of a device: its own, and then each subsection's. By their types its numbers fit their heads.
+// Returns the tables of a device: its own, and then each subsection's. By their types, its numbers
+// fit their heads.
 fn part_tables(alloc: Global, sizes: &[u32], device: &Device) -> Result<Vec<Table>, AllocError>
     ensures tables { IfOk result (λ tables.
         AreTables sizes.now (device_fields (device_of device.now)) tables.items) }

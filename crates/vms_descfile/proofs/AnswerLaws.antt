@@ -1,4 +1,4 @@
--- Good answers: of members, of lists, and of numbers and texts as they are written.
+-- Good answers: of members, of lists, and of numbers and texts in their written form.
 use Rattle.std.proofs.Common.{◌≡◌, ℕ, suc, ◌+◌, ◌≤◌, List, [], ◌∷◌, map, Bool, true, false, if◌then◌else◌, Option, Some, None, option_map, ℤ, pos, negsuc, refl, ap, ◌∙◌, decimal, int_le, int_lt, ◌&&◌}
 use Rattle.std.specs.List.{slice_get}
 use Rattle.std.proofs.lemmas.Bool.{le-leb}

@@ -1,4 +1,4 @@
--- The files of descriptions, devices and sets say these again.
+-- Descriptions, devices and sets can be read back from their files.
 use Rattle.std.proofs.Common.{◌≡◌, ℕ, ◌≤◌, List, ◌∷◌, get_or, length, map, Bool, true, false, ◌&&◌, ◌==◌, nat_le, Option, Some, None, refl, sym, ap, ◌∙◌, subst, codes, arith, []}
 use Rattle.std.specs.List.{slice_get}
 use Rattle.std.specs.Option.{option_and_then}
@@ -34,7 +34,7 @@ use Rattle.vms_descfile.proofs.FieldBack.{field_table, field_tabled, field_back}
 abbrev own_scope : Bool → List (List ℕ) → Scope
 own_scope asks names = record { own = asked asks names; parent = None }
 
--- ---- tests that name fields of their own description alone
+-- ---- tests that name only fields of their own description
 
 shallow : (t : Formula) → is_small_test t ≡ true → depth t ≤ DEEPEST
 shallow t small = omega (arith, leb-true (depth t) 16 (and_parts (nat_le (nodes t) 64) (nat_le (depth t) 16) small).1)
@@ -96,7 +96,7 @@ names_listed : (own : List (List ℕ)) (fs : List Field) → names_of (items_of 
 names_listed own [] = refl
 names_listed own (f ∷ fs) = ap (λ n. n ∷ names_of (items_of (map (field_file own) fs))) (field_named own f) ∙ ap (λ l. f.name ∷ l) (names_listed own fs)
 
--- ---- what every description's object has
+-- ---- the members of every description
 
 pub record HasDesc (d : Desc) (o : Data) : Type 0 where
   pub fields : get (codes "fields") o ≡ Some (list_file (field_file (own_names d.fields)) d.fields)

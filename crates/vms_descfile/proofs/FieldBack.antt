@@ -1,4 +1,4 @@
--- A field's file says the field again.
+-- A field can be read back from its file.
 use Rattle.std.proofs.Common.{◌≡◌, ℕ, ◌≤◌, List, [], ◌∷◌, get_or, map, Bool, true, false, not, ◌&&◌, ◌==◌, if◌then◌else◌, Option, Some, None, option_map, is_some, ℤ, pos, negsuc, int_le, int_lt, IfSome, refl, sym, ap, ◌∙◌, subst, codes, arith}
 use Rattle.std.specs.Option.{option_and_then}
 use Rattle.std.proofs.lemmas.Bool.{and_parts, and_from, eqb-true, false≢true}
@@ -178,7 +178,7 @@ constant_good (items.Equal kind v) z well y is =
 constant_good (items.Unused n) z well y is = cc
 constant_good (items.Struct j) z well y is = cc
 
--- ---- what its parts say
+-- ---- the parts of a field
 
 most_of : (most : ℕ) (o : Option ℕ) → IfSome o (λ n. n ≤ most) → (n : ℕ) → o ≡ Some n → n ≤ most
 most_of most None fits n is = cc
@@ -222,7 +222,7 @@ field_made asks f =
 -- ---- the field
 
 module _ (asks : Bool) (own : List (List ℕ)) (names : Names) (may : ℕ → Bool) where
-  -- what a field may name is found
+  -- the fields that a field may name are found
   pub record Named (f : Field) : Type 0 where
     pub counter : (k : ℕ) → counter_in f.count ≡ Some k → number_in names (get_or own k []) ≡ good (number_shown asks k)
     pub test : (t : Formula) → f.test ≡ Some t → test_of (record { own = names; parent = None }) (test_file own [] t) ≡ good (test_shown asks t)

@@ -1,4 +1,4 @@
--- What a text says, from what its value says.
+-- What a text says, by what its value says.
 use Rattle.std.proofs.Common.{◌≡◌, ℕ, List, Some, sym, ap, ◌∙◌, Err}
 use Rattle.serde_json.specs.Data.{Data}
 use Rattle.vms_spec.specs.Sets.{Set}

@@ -62,7 +62,7 @@ number_found true fields k f few there none =
 
 -- ---- of a description without a fault
 
--- such a field's number is found by its name
+-- the number of such a field is found by its name
 pub record Found (asks : Bool) (d : Desc) : Type 0 where
   pub number : (k : ℕ) → is_steady_in d k ≡ true → number_in (asked asks (own_names d.fields)) (get_or (own_names d.fields) k []) ≡ good (number_shown asks k)
 

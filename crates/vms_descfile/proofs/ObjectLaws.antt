@@ -1,4 +1,4 @@
--- Objects of members each of which may be missing, and what stands under their keys.
+-- Objects whose members may be missing, and the values under their keys.
 use Rattle.std.proofs.Common.{◌≡◌, ℕ, List, [], ◌∷◌, ◌++◌, Bool, true, false, ◌&&◌, if◌then◌else◌, Option, Some, None, is_some, option_map, Ordering, Less, Equal, Greater, refl, ap, sym, ◌∙◌}
 use Rattle.std.specs.Ordering.{nat_cmp, match_ordering}
 use Rattle.std.specs.Cmp.Lexicographic.{slice_cmp}
@@ -12,7 +12,7 @@ use Rattle.vms_spec.specs.Streams.{is_one_of}
 use Rattle.vms_json.specs.Keys.{has, has_no_others, has_all, fits}
 use Rattle.vms_descwrite.specs.Written.{list_file, given_as, unless, list_as}
 
--- the members of a table, the last of which is put first
+-- the members of a table, of which the last is put first
 abbrev pub Table : Type 0
 Table = List (List ℕ × Option Data)
 
@@ -27,7 +27,7 @@ members_in (e ∷ table) = put_if e.0 e.1 (members_in table)
 abbrev pub object_of : Table → Data
 object_of table = object (members_in table)
 
--- ---- what stands under a key
+-- ---- the value under a key
 
 abbrev pub or : Option Data → Option Data → Option Data
 or None other = other

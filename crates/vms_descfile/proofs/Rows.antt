@@ -27,7 +27,7 @@ says_tests_and_validations :
 unfolding said
 says_tests_and_validations = refl
 
--- No value of JSON.
+-- Texts that are no JSON value.
 
 says_no_json :
     said (codes "{")
@@ -35,7 +35,7 @@ says_no_json :
 unfolding said
 says_no_json = refl
 
--- Shapes, at the whole first, then by key and by position.
+-- Shapes: first at the whole, then by key and by position.
 
 says_a_key_too_many :
     said (codes "{\"devices\":[],\"machines\":[],\"more\":0,\"structs\":[]}")
@@ -63,7 +63,7 @@ says_float_as_version :
 unfolding said
 says_float_as_version = refl
 
--- Keys that exclude each other, or go by the kind.
+-- Keys that exclude each other, or depend on the kind.
 
 says_equal_with_default :
     said (codes "{\"devices\":[{\"desc\":{\"fields\":[{\"kind\":\"u8\",\"name\":\"f\"},{\"default\":1,\"equal\":1,\"kind\":\"u8\",\"name\":\"g\"}],\"name\":\"box\",\"version\":1},\"instance\":0}],\"machines\":[],\"structs\":[]}")
@@ -77,7 +77,7 @@ says_unknown_kind :
 unfolding said
 says_unknown_kind = refl
 
--- Names are looked up when nothing else is at fault, and among names alone.
+-- Names are looked up if nothing else is invalid, and only in the right lists.
 
 says_name_that_is_not_there :
     said (codes "{\"devices\":[{\"desc\":{\"fields\":[],\"name\":\"box\",\"validate\":[{\"not\":{\"field\":\"f\",\"is\":\"eq\",\"mask\":1,\"value\":0}}],\"version\":1},\"instance\":0}],\"machines\":[],\"structs\":[]}")

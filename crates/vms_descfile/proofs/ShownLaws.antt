@@ -1,4 +1,5 @@
--- What a walk over a file finds: the parts that were written, but that a number of a field is 0 where no names are asked.
+-- What a walk over a file finds: the parts that were written, but with 0 for the number of each
+-- field if no names are looked up.
 use Rattle.std.proofs.Common.{◌≡◌, ℕ, List, [], ◌∷◌, map, Bool, true, false, Option, Some, None, option_map, refl, ap, ◌∙◌}
 use Rattle.vms_spec.specs.declared.Count.{Count}
 use Rattle.vms_spec.specs.declared.Count.TheVariants.{One, Fixed, Counted}
@@ -60,7 +61,7 @@ set_shown asks set = record {
   devices = map (device_shown asks) set.devices;
 }
 
--- ---- where names are asked, all is as it was written
+-- ---- if names are looked up, all is as it was written
 
 pub map_same : {A : Type 0} (f : A → A) (xs : List A) → ((x : A) → f x ≡ x) → map f xs ≡ xs
 map_same f [] same = refl

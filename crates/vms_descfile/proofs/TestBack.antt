@@ -1,4 +1,4 @@
--- A test's file says the test again.
+-- A test can be read back from its file.
 use Rattle.std.proofs.Common.{◌≡◌, ℕ, zero, suc, ◌≤◌, List, [], get_or, Bool, true, Option, Some, None, refl, ap, codes, arith}
 use Rattle.std.proofs.lemmas.Bool.{and_parts}
 use Rattle.serde_json.specs.Data.{string, object, put}
@@ -16,7 +16,7 @@ use Rattle.vms_descwrite.specs.Fitting.{FitsTest}
 use Rattle.vms_descfile.proofs.AnswerLaws.{next_good, at_good, natural_good}
 use Rattle.vms_descfile.proofs.ShownLaws.{number_shown, test_shown}
 
--- the names that a test may give are found
+-- the names in a test are found
 pub record Scoped (asks : Bool) (own parent : List (List ℕ)) (may may_parent : ℕ → Bool) (scope : Scope) : Type 0 where
   pub found : (k : ℕ) → may k ≡ true → number_in scope.own (get_or own k []) ≡ good (number_shown asks k)
   pub found_above : (k : ℕ) → may_parent k ≡ true

@@ -1,4 +1,4 @@
--- What reading a file answers.
+-- What the reading of a file returns.
 use Rattle.std.specs.Prelude.{◌≡◌, ℕ, List, Option, Some, None, Result, Ok, Err}
 use Rattle.serde_json.specs.Data.{Data}
 use Rattle.vms_json.specs.Nodes.{tree_view}
@@ -14,7 +14,7 @@ use Rattle.vms_descfile.specs.declared.file_fault.FileFault.{FileFault}
 use Rattle.vms_descfile.specs.declared.file_fault.FileFault.TheVariants as file_faults
 use Rattle.vms_descfile.specs.Files.{Said, Parts, Syntax, Shape, IllFormed, path_said, judged_said, file_said}
 
--- the set of what is said, or the fault that is said; memory may be wanting in any case
+-- the set that the file says, or its fault; NoMemory may come in any case
 abbrev pub Gives : Said → Result DescSet FileFault → Type 0
 Gives said (Ok set) = said ≡ Parts (described set)
 Gives said (Err file_faults.Syntax) = said ≡ Syntax
@@ -22,19 +22,19 @@ Gives said (Err (file_faults.Shape path)) = said ≡ Shape path
 Gives said (Err (file_faults.IllFormed rule place)) = said ≡ IllFormed (record { rule = rule; place = place })
 Gives said (Err file_faults.NoMemory) = Unit {0}
 
--- the value, if the text has one
+-- the JSON value, if the text has one; NoMemory may come in any case
 abbrev pub GivesValue : Option Data → Result Tree FileFault → Type 0
 GivesValue found (Ok value) = found ≡ Some (tree_view value)
 GivesValue found (Err file_faults.Syntax) = found ≡ None
 GivesValue found (Err file_faults.NoMemory) = Unit {0}
 GivesValue found (Err fault) = ⊥
 
--- the parts that a text says, whether well formed or not, or the fault that is said
+-- the parts that the file says, well formed or not, or its fault
 abbrev pub SaysParts : List ℕ → Result FileParts FileFault → Type 0
 SaysParts text (Ok parts) = file_said text ≡ judged_said (set_of parts) (first_fault (set_of parts))
 SaysParts text (Err fault) = Gives (file_said text) (Err fault)
 
--- the fault of a whole file
+-- the fault of a part as a fault of the whole file
 abbrev pub IsFileFault : Fault → FileFault → Type 0
 IsFileFault (faults.Shape path) (file_faults.Shape whole) = whole ≡ path_said path
 IsFileFault fault file_faults.NoMemory = Unit {0}

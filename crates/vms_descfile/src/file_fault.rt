@@ -1,21 +1,21 @@
-// Why a file gives no set.
+// Reasons why a file gives no set.
 ghost use Rattle.vms_descfile.specs.Given.{IsFileFault};
 
 use std::alloc::Global;
 use vms_desc::{Place, Text};
 use vms_json::Fault;
 
-/// Why a description file gives no set.
+/// A reason why a description file gives no set.
 #[derive(Drop)]
 pub enum FileFault {
     /// The bytes are no JSON value.
     Syntax,
-    /// The value isn't of a file's shape, first at this path of keys and positions, as
-    /// `devices.0.instance`; `file` is the whole.
+    /// The value hasn't the shape of a description file. The first fault is at this path of keys
+    /// and positions, for example `devices.0.instance`; `file` is the whole.
     Shape(Text),
-    /// A rule of sets, 1 to 8, fails first at this place; no lower one fails there.
+    /// A rule of well-formed sets, 1 to 8, fails first at this place. No lower rule fails there.
     IllFormed { rule: u8, place: Place },
-    /// Memory is wanting.
+    /// Out of memory.
     NoMemory,
 }
 

@@ -1,4 +1,4 @@
-//! Description files: sets of descriptions as JSON.
+//! Description files, which are description sets as JSON.
 #![tactic(auto)]
 
 mod file_fault;

@@ -11,9 +11,14 @@ use vms_desc::{DescFault, DescSet, Parts};
 use vms_descread::read_parts;
 use vms_json::{NoNode, Tree, read_bytes};
 
-/// The set that a description file says. Else the fault is `Syntax` where the bytes are no JSON
-/// value, the first path at which the value isn't of the shape of a file, or the first place at
-/// which the parts break a rule of sets, unless memory is wanting.
+/// Reads the description set in the file `text`.
+///
+/// # Errors
+///
+/// - [`FileFault::Syntax`]: `text` is no JSON value.
+/// - [`FileFault::Shape`]: the value hasn't the shape of a description file, first at this path.
+/// - [`FileFault::IllFormed`]: the parts break a rule of well-formed sets, first at this place.
+/// - [`FileFault::NoMemory`]: out of memory.
 pub fn read_set(alloc: Global, text: &[u8]) -> Result<DescSet, FileFault>
     ensures { Gives (file_said text.now) result }
 {
@@ -23,8 +28,8 @@ pub fn read_set(alloc: Global, text: &[u8]) -> Result<DescSet, FileFault>
     }
 }
 
-// The parts that a description file says, well formed or not. The tree of its values is given back
-// before the set is made.
+// Reads the parts in a description file, well formed or not. The tree of its values is freed before
+// the set is made.
 fn read_file(alloc: Global, text: &[u8]) -> Result<Parts, FileFault>
     ensures { SaysParts text.now result }
 {
@@ -39,7 +44,7 @@ fn read_file(alloc: Global, text: &[u8]) -> Result<Parts, FileFault>
     }
 }
 
-// The set of these parts, where they are well formed.
+// Returns the set of these parts, if they are well formed.
 fn make_set(alloc: Global, parts: Parts) -> Result<DescSet, FileFault>
     ensures { Gives (judged_said (set_seen parts) (first_fault (set_seen parts))) result }
 {
@@ -50,7 +55,7 @@ fn make_set(alloc: Global, parts: Parts) -> Result<DescSet, FileFault>
     }
 }
 
-// The value of a text.
+// Reads the JSON value of a text.
 fn read_value<'a>(
     alloc: Global,
     text: &'a [u8],

@@ -10,9 +10,15 @@ use vms_desc::DescSet;
 use vms_descwrite::set_value;
 use vms_io::NoMemory;
 
-/// The description file of a set: JSON without blanks, each object's keys in byte order, and no
-/// key that is at its default. `read_set` reads it as the same set. Fails only where memory is
-/// wanting.
+/// Returns the description file of `set`, which [`read_set`](crate::read_set) reads as the same
+/// set.
+///
+/// The text is JSON without spaces. The keys of each object are in byte order, and keys at their
+/// defaults are left out.
+///
+/// # Errors
+///
+/// - [`NoMemory`]: out of memory.
 pub fn write_set(alloc: Global, set: &DescSet) -> Result<String, NoMemory>
     ensures text { IfOk result (λ s. string_bytes s ≡ compact_text (set_file (described set.now))) }
     ensures reads_back { IfOk result (λ s. file_said (string_bytes s) ≡ Parts (described set.now)) }

@@ -1,4 +1,4 @@
--- What a description says where it asks no name.
+-- What a description says if it names no field.
 use Rattle.std.proofs.Common.{◌≡◌, ℕ, ◌+◌, Bool, true, false, ◌&&◌, ◌||◌, List, [], ◌∷◌, Option, Some, None, is_some, option_and_then, refl, ap, sym, ◌∙◌, codes, decimal}
 use Rattle.std.proofs.lemmas.Bool.{false≢true, or_parts}
 use Rattle.serde_json.specs.Data.{Data, Items, no_items, item}
@@ -11,7 +11,7 @@ use Rattle.vms_descread.specs.Fields.{Front, sort_of, count_as, count_of, front_
 use Rattle.vms_descread.specs.Descs.{Head, head_of, rest_of, struct_in, sub_of, whole_in}
 use Rattle.vms_json.specs.Asked.{asks_a_name, some_ask, asks_in, asks_names}
 
--- ---- a member that isn't there
+-- ---- a member that doesn't exist
 
 missing : {A : Type 0} (o : Option A) → is_some o ≡ false → o ≡ None
 missing None e = refl
@@ -93,7 +93,7 @@ module _ (names : Names) where
       ∙ next_same (head_of None d) _ _ (λ head. first_same _ _ _ (or_default (codes "subsections") d more.0 [] _ _)
       ∙ next_same (at_or [] (list_of (sub_of asks None)) (codes "subsections") d) _ _ (λ subs. ap (changed _) (rest_same head d parts.0))))
 
--- ---- a walk that asks none
+-- ---- a walk that looks up no names
 
 pub struct_unasked : (asks : Bool) (d : Data) → (asks && asks_names d) ≡ false → struct_in None d ≡ struct_in (names_if asks d) d
 struct_unasked false d none = refl

@@ -1,4 +1,4 @@
--- A test says the same within each bound that is no less than how deep its value nests.
+-- A test says the same within each bound that is at least its value's number of levels.
 use Rattle.std.proofs.Common.{◌≡◌, ℕ, zero, suc, ◌≤◌, max, List, Option, Some, None, Ordering, Less, Equal, Greater, refl, sym, ap, ap₂, subst, arith, codes}
 use Rattle.std.proofs.lemmas.Option.{same_Some}
 use Rattle.std.specs.Ordering.{nat_cmp, match_ordering}
@@ -15,7 +15,7 @@ use Rattle.vms_json.specs.Names.{Scope}
 use Rattle.vms_descread.specs.Tests.{Pair, key_of, joined, two_of, both, form_of, test_as, test_within}
 use Rattle.vms_descread.specs.Depths.{DepthLaw}
 
--- ---- what stands in a value nests less
+-- ---- the parts of a value have fewer levels
 
 member_nests : (k : List ℕ) (ms : Members) (e : Data) → get_member k ms ≡ Some e → depth e ≤ members_depth ms
 member_nests k no_members e is = absurd (cc)
@@ -55,7 +55,7 @@ pair_nests (array (item a (item b no_items))) p is =
     (subst (λ (q : Pair). depth q.first ≤ whole) same one, subst (λ (q : Pair). depth q.second ≤ whole) same other)
 pair_nests (array (item a (item b (item c ds)))) p is = absurd (cc)
 
--- ---- what is said of a value goes by what is said of what stands in it
+-- ---- what a value says depends on what its parts say
 
 of_same : (inner other : Data → Answer Formula) (key : List ℕ) (o : Option Data) → ((e : Data) → o ≡ Some e → inner e ≡ other e) → member_of inner key o ≡ member_of other key o
 of_same inner other key None same = refl
@@ -84,7 +84,7 @@ as_same (forms.Two join) inner other scope d same =
     pair_same inner other (key_of join) (joined join) (get (key_of join) d) (λ e is f nests. same f (omega (arith, nests, get_nests (key_of join) d e is)))
 as_same (forms.Leaf leaf) inner other scope d same = refl
 
--- a value in which nothing stands is no test
+-- a value without parts is no test
 flat_test : (n : ℕ) (scope : Scope) (d : Data) → depth d ≤ 0 → test_within (suc n) scope d ≡ test_within 0 scope d
 flat_test n scope null flat = refl
 flat_test n scope (boolean b) flat = refl

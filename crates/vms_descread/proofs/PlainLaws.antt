@@ -1,4 +1,4 @@
--- Objects that have a kind and a name, and nothing else.
+-- Objects with a kind and a name, and nothing else.
 use Rattle.std.proofs.Common.{◌≡◌, ℕ, Bool, true, false, List, Option, Some, None, is_some, refl, sym, ap, ap₂, ◌∙◌, codes}
 use Rattle.std.specs.Prelude.{MatchOption}
 use Rattle.std.proofs.lemmas.Bool.{false≢true}

@@ -11,7 +11,7 @@ use Rattle.vms_json.specs.Answers.{Answer, good, bad, under, next, changed, Refu
 use Rattle.vms_json.specs.Names.{Scope}
 use Rattle.vms_descread.specs.Tests.{test_within, test_as, form_of}
 
--- a test that may nest goes by its form
+-- a test that may have parts is read by its form
 pub by_form : (n : ℕ) (scope : Scope) (d : Data) (form : Form) (r : Result Test Fault) → 0 < n → form ≡ form_of d
     → Answers formula (test_as form (test_within (n - 1) scope) scope d) r → Answers formula (test_within n scope d) r
 by_form zero scope d form r more is said = absurd (omega arith)

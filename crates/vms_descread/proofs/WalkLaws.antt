@@ -1,4 +1,4 @@
--- Where the walk that looks names up finds no fault, the one that looks none up finds none.
+-- If the walk that looks up names finds no fault, the other finds none.
 use Rattle.std.proofs.Common.{◌≡◌, ℕ, zero, suc, ◌+◌, Bool, true, false, List, [], Option, Some, None, refl, sym, ap, ◌∙◌, subst, codes, decimal, pos}
 use Rattle.std.specs.Option.{option_map}
 use Rattle.serde_json.specs.Data.{Data, Items, no_items, item}
@@ -18,13 +18,13 @@ use Rattle.vms_descread.specs.Tests.{key_of, rel_of, two_of, own_cell, parent_ce
 use Rattle.vms_descread.specs.Fields.{Front, sort_of, count_of, front_of, field_after, field_of}
 use Rattle.vms_descread.specs.Descs.{Head, head_of, rest_of, struct_of, sub_of, whole_of, device_of, set_of, parts_of}
 
--- ---- one answer after another
+-- ---- answers in order
 
 abbrev IsGood : {A : Type 0} → Answer A → Type 0
 IsGood (good a) = Unit {0}
 IsGood (bad path) = ⊥
 
--- where the first is good, the second is
+-- if the first is good, so is the second
 record Then {A B : Type 0} (x : Answer A) (y : Answer B) : Type 0 where
   holds : IsGood x → IsGood y
 
@@ -62,7 +62,7 @@ judged_then false x y t = never [] _
 
 -- ---- members and items
 
--- where it is good of a value, the other is
+-- the same for the answers of each value
 abbrev Thens : {A B : Type 0} → (Data → Answer A) → (Data → Answer B) → Type 0
 Thens says others = (d : Data) → Then (says d) (others d)
 
@@ -102,7 +102,7 @@ list_then says others t = λ d. all_then says others (as_array d) t
 name_then : (names : Names) → Thens (name_in names) (name_in None)
 name_then names = λ d. next_same (text_of d) _ _ (λ name. always _ _)
 
--- no name is looked up
+-- no names are looked up
 abbrev blind : Scope → Scope
 blind scope = record { own = None; parent = option_map (λ names. None) scope.parent }
 
@@ -204,7 +204,7 @@ set_then = λ d.
     judged_then _ _ _ (next_then _ _ _ _ (at_then _ _ (codes "devices") (list_then _ _ device_then) d) (λ a b.
     next_same (at (list_of text_of) (codes "machines") d) _ _ (λ machines. next_then _ _ _ _ (at_then _ _ (codes "structs") (list_then _ _ struct_then) d) (λ s r. always _ _))))
 
--- ---- what a value says, by the walk that looks names up
+-- ---- what a value says, by the walk that looks up names
 
 passes : {A B : Type 0} (x : Answer A) (y : Answer B) → IsGood x → next x (λ a. y) ≡ y
 passes (good a) y h = refl

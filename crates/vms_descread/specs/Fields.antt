@@ -1,4 +1,4 @@
--- What the fields of a file say.
+-- What the fields of a file say (docs/sets.md).
 use Rattle.std.specs.Prelude.{◌≡◌, ℕ, Bool, true, ◌&&◌, not, if◌then◌else◌, List, [], ◌∷◌, Option, Some, None, option_map, option_and_then, ℤ, pos, codes}
 use Rattle.std.specs.Str.{bytes_eq}
 use Rattle.serde_json.specs.Data.{Data, object, member, no_members}
@@ -21,18 +21,20 @@ use Rattle.vms_descread.specs.declared.sort.Sort.TheVariants as sorts
 
 -- ---- kinds
 
+-- the kind of a word, if there is one
 abbrev pub sort_named : List ℕ → Option Sort
 sort_named word =
     if bytes_eq word (codes "unused") then Some sorts.Unused
     else if bytes_eq word (codes "struct") then Some sorts.Struct
     else option_map sorts.Number (kind_named word)
 
+-- the kind that a value names
 abbrev pub sort_of : Data → Answer Sort
 sort_of d = next (text_of d) (λ word. given (sort_named word))
 
 -- ---- keys
 
--- an array has either a fixed length, or a number that counts it and a capacity
+-- an array has either a fixed length, or a field that counts it and a capacity
 abbrev pub counts_fit : Data → Bool
 counts_fit d = if has (codes "counted") d then has (codes "capacity") d && not (has (codes "count") d) else not (has (codes "capacity") d)
 
@@ -40,21 +42,24 @@ counts_fit d = if has (codes "counted") d then has (codes "capacity") d && not (
 abbrev pub values_fit : Data → Bool
 values_fit d = not (has (codes "equal") d && has (codes "default") d)
 
--- the keys that go by the kind, which aren't judged where that is none of the words
+-- the keys that depend on the kind; they aren't checked if the kind is none of the words
 abbrev pub sort_fits : Option Sort → Data → Bool
 sort_fits None d = true
 sort_fits (Some (sorts.Number kind)) d = not (has (codes "size") d) && not (has (codes "struct") d)
 sort_fits (Some sorts.Unused) d = has (codes "size") d && not (has (codes "struct") d) && not (has (codes "equal") d) && not (has (codes "default") d)
 sort_fits (Some sorts.Struct) d = has (codes "struct") d && not (has (codes "size") d) && not (has (codes "equal") d) && not (has (codes "default") d)
 
+-- the keys that every field has
 abbrev pub field_needs : List (List ℕ)
 field_needs = codes "kind" ∷ codes "name" ∷ []
 
+-- the keys that a field may have
 abbrev pub field_allows : List (List ℕ)
 field_allows =
     codes "capacity" ∷ codes "count" ∷ codes "counted" ∷ codes "default" ∷ codes "equal" ∷ codes "former"
     ∷ codes "since" ∷ codes "size" ∷ codes "struct" ∷ codes "test" ∷ []
 
+-- the value has the keys of a field
 abbrev pub field_fits : Data → Bool
 field_fits d =
     fits field_needs field_allows d && counts_fit d && values_fit d
@@ -62,16 +67,18 @@ field_fits d =
 
 -- ---- members
 
+-- a number, or 0 if there is none
 abbrev pub or_zero : Option ℕ → ℕ
 or_zero None = 0
 or_zero (Some n) = n
 
--- a number that counts and a capacity, or a length, or neither
+-- a field that counts and a capacity, or a length, or neither
 abbrev pub count_as : Option ℕ → Option ℕ → Option ℕ → Count
 count_as capacity count (Some by) = Counted by (or_zero capacity)
 count_as capacity (Some length) None = Fixed length
 count_as capacity None None = One
 
+-- the count of a field
 abbrev pub count_of : Names → Data → Answer Count
 count_of names d =
     next (maybe_at u32_of (codes "capacity") d) (λ capacity.
@@ -79,11 +86,12 @@ count_of names d =
     next (maybe_at (name_in names) (codes "counted") d) (λ counted.
     good (count_as capacity count counted))))
 
+-- a number or a constant of a kind
 abbrev pub number_item : Kind → Option ℤ → Item
 number_item kind None = items.Num kind
 number_item kind (Some value) = items.Equal kind value
 
--- the item of a kind, with what stands under `equal`, `size` and `struct`
+-- the item of a kind, with the values under `equal`, `size` and `struct`
 abbrev pub item_as : Sort → Option ℤ → Option ℕ → Option ℕ → Item
 item_as (sorts.Number kind) equal size struct = number_item kind equal
 item_as sorts.Unused equal size struct = items.Unused (or_zero size)
@@ -96,10 +104,11 @@ pub record Front : Type 0 where
   pub equal : Option ℤ
   pub former : List (List ℕ)
 
--- as the code has it
+-- the front of the code
 abbrev pub front_seen : declared.Front → Front
 front_seen f = record { count = f.count; default = f.default; equal = f.equal; former = f.former }
 
+-- the members before the kind
 abbrev pub front_of : Names → Data → Answer Front
 front_of names d =
     next (count_of names d) (λ count.
@@ -108,11 +117,11 @@ front_of names d =
     next (at_or [] (list_of text_of) (codes "former") d) (λ former.
     good (record { count = count; default = default; equal = equal; former = former })))))
 
--- where a field is there
+-- the test by which a field is present, if there is one
 abbrev pub presence_of : Names → Data → Answer (Option Formula)
 presence_of names d = maybe_at (test_of (record { own = names; parent = None })) (codes "test") d
 
--- the kind and what comes after it
+-- the kind and the members after it
 abbrev pub field_after : Names → Front → Data → Answer Field
 field_after names front d =
     next (at sort_of (codes "kind") d) (λ sort.
@@ -131,14 +140,17 @@ field_after names front d =
       default = front.default;
     })))))))
 
+-- the members of a field
 abbrev pub field_in : Names → Data → Answer Field
 field_in names d = next (front_of names d) (λ front. field_after names front d)
 
+-- a field
 abbrev pub field_of : Names → Data → Answer Field
 field_of names d = judged (field_fits d) (field_in names d)
 
--- ---- fields that have a kind of number, a name and nothing else
+-- ---- fields with a kind of number, a name and nothing else
 
+-- the field of a kind and a name
 abbrev pub plain_field : Kind → List ℕ → Field
 plain_field kind name = record {
   name = name;
@@ -150,7 +162,7 @@ plain_field kind name = record {
   default = pos 0;
 }
 
--- a value says such a field, whatever the names of its description
+-- the value says such a field, whatever the names of its description are
 abbrev pub IsPlain : Kind → List ℕ → Data → Type 0
 IsPlain kind name d = (names : Names) → field_of names d ≡ good (plain_field kind name)
 

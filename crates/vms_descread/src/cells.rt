@@ -14,7 +14,7 @@ use std::alloc::Global;
 use vms_json::{Fault, Members, NameIn, Names, Node, Reads, Scope, U64, at, fits, said};
 use vms_parts::{Rel, Test, Whose};
 
-// The forms of tests, by their keys.
+// The form of a test, by its keys.
 #[derive(Clone, Copy)]
 pub(crate) enum Form {
     Leaf(Leaf),
@@ -22,7 +22,7 @@ pub(crate) enum Form {
     Two(Join),
 }
 
-// A test without tests in it, or no test.
+// A test that contains no other, or no test.
 #[derive(Clone, Copy)]
 pub(crate) enum Leaf {
     AtLeast,
@@ -32,7 +32,7 @@ pub(crate) enum Leaf {
     None,
 }
 
-// A test of two tests.
+// A test that contains two others.
 #[derive(Clone, Copy)]
 pub(crate) enum Join {
     And,
@@ -88,7 +88,7 @@ fn rel_named(word: &str) -> Option<Rel>
     }
 }
 
-// How a number is compared.
+// A reader of a relation.
 #[derive(Clone, Copy)]
 struct RelOf;
 
@@ -118,7 +118,7 @@ pub(crate) struct OwnCell<'t, 'a> {
     value: Node<'t, 'a>,
 }
 
-// Where each of its keys stands once and in their order, as a file is written.
+// Returns the members if each key is there once and in the order in which files are written.
 pub(crate) fn own_in<'t, 'a>(value: &Node<'t, 'a>) -> Option<OwnCell<'t, 'a>>
     ensures { IfSome result (λ own. view value.now ≡ own_seen own) }
 {
@@ -138,7 +138,7 @@ pub(crate) fn own_in<'t, 'a>(value: &Node<'t, 'a>) -> Option<OwnCell<'t, 'a>>
     })
 }
 
-// The next member, where it is of this key.
+// Returns the next member, if it has this key.
 #[inline(always)]
 fn next_of<'t, 'a>(members: &mut Members<'t, 'a>, key: &str) -> Option<Node<'t, 'a>>
     ensures { IfSome result (λ v. (found : Data.Members)
@@ -161,7 +161,7 @@ fn test_on(whose: Whose, field: u32, rel: Rel, mask: u64, value: u64) -> Test
     }
 }
 
-// A number of the description, by its members.
+// Reads a test of a number of the description from its members.
 pub(crate) fn read_own_cell(alloc: Global, scope: Scope, own: OwnCell) -> Result<Test, Fault>
     ensures { Answers formula (own_said (scope_seen scope.entry) own.entry) result }
 {
@@ -172,7 +172,7 @@ pub(crate) fn read_own_cell(alloc: Global, scope: Scope, own: OwnCell) -> Result
     Ok(test_on(Whose::Own, field, rel, mask, number))
 }
 
-// The same by its keys, in any order.
+// Reads the same by its keys, in any order.
 pub(crate) fn read_own(alloc: Global, scope: Scope, value: &Node) -> Result<Test, Fault>
     ensures { Answers formula (own_cell (scope_seen scope.entry) (view value.now)) result }
 {
@@ -183,7 +183,7 @@ pub(crate) fn read_own(alloc: Global, scope: Scope, value: &Node) -> Result<Test
     Ok(test_on(Whose::Own, field, rel, mask, number))
 }
 
-// A number of the device.
+// Reads a test of a number of the device.
 pub(crate) fn read_parent(alloc: Global, names: Names, value: &Node) -> Result<Test, Fault>
     ensures { Answers formula (parent_cell (names_seen names.entry) (view value.now)) result }
 {

@@ -1,4 +1,4 @@
-// Descriptions, and structures.
+// Descriptions and structures.
 ghost use Rattle.std.specs.Prelude.{◌≡◌, map};
 ghost use Rattle.vms_json.specs.Nodes.{view};
 ghost use Rattle.vms_spec.specs.Sets as sets;
@@ -37,7 +37,7 @@ pub(crate) fn read_head(alloc: Global, names: Names, value: &Node) -> Result<Hea
     })
 }
 
-// The members after the name.
+// Reads the members after the name.
 pub(crate) fn read_rest(
     alloc: Global,
     names: Names,
@@ -69,7 +69,7 @@ fn desc_as(head: Head, validate: Listed<Test>, version: u32) -> Desc
     }
 }
 
-// A structure, whose names are looked up or not.
+// A reader of a structure. `asks` says whether names are looked up.
 #[derive(Clone, Copy)]
 pub(crate) struct StructOf {
     pub(crate) asks: bool,

@@ -15,7 +15,7 @@ use vms_json::{
 };
 use vms_parts::{Desc, Device, Listed, Sub};
 
-// A subsection, whose needed test may name fields of the device.
+// A reader of a subsection, whose needed test may name fields of the device.
 #[derive(Clone, Copy)]
 struct SubOf<'a> {
     asks: bool,
@@ -132,7 +132,7 @@ fn read_whole(alloc: Global, asks: bool, names: Names, value: &Node) -> Result<W
     Ok(Whole { desc, subs })
 }
 
-// A device, whose names are looked up or not.
+// A reader of a device. `asks` says whether names are looked up.
 #[derive(Clone, Copy)]
 pub(crate) struct DeviceOf {
     pub(crate) asks: bool,

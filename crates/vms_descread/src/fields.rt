@@ -40,7 +40,7 @@ fn sort_named(word: &str) -> Option<Sort>
     }
 }
 
-// What `kind` says.
+// A reader of a field's kind.
 #[derive(Clone, Copy)]
 struct SortOf;
 
@@ -61,7 +61,7 @@ impl Reads for SortOf {
     }
 }
 
-// An array has either a fixed length, or a number that counts it and a capacity.
+// An array has either a fixed length, or a field that counts it and a capacity.
 fn counts_fit(value: &Node) -> bool
     ensures { result ≡ counts_fit (view value.now) }
 {
@@ -79,7 +79,7 @@ fn values_fit(value: &Node) -> bool
     !(has(value, "equal") && has(value, "default"))
 }
 
-// The keys that go by the kind.
+// The keys that depend on the kind.
 fn sort_fits(sort: Option<Sort>, value: &Node) -> bool
     ensures { result ≡ sort_fits sort (view value.now) }
 {
@@ -145,7 +145,7 @@ fn read_count(alloc: Global, names: Names, value: &Node) -> Result<Count, Fault>
     Ok(count_as(capacity, count, counted))
 }
 
-// The item of a kind, with what stands under `equal`, `size` and `struct`.
+// Returns the item of a kind, with the values under `equal`, `size` and `struct`.
 fn item_as(sort: Sort, equal: Option<i128>, size: Option<u16>, number: Option<u32>) -> Item
     ensures { result ≡ item_as sort equal size number }
 {
@@ -186,7 +186,7 @@ fn read_front(alloc: Global, names: Names, value: &Node) -> Result<Front, Fault>
     })
 }
 
-// Where a field is there.
+// Reads the test by which a field is present.
 #[inline(always)]
 fn read_presence(alloc: Global, names: Names, value: &Node) -> Result<Option<Box<Test>>, Fault>
     ensures { Answers (option_map formula_in)
@@ -199,7 +199,7 @@ fn read_presence(alloc: Global, names: Names, value: &Node) -> Result<Option<Box
     maybe_at(alloc, &BoxedTestIn(scope), "test", value)
 }
 
-// The kind and what comes after it.
+// Reads the kind and the members after it.
 fn read_after(alloc: Global, names: Names, front: Front, value: &Node) -> Result<Field, Fault>
     ensures { Answers field_seen (field_after (names_seen names.entry) (front_seen front)
         (view value.now)) result }
@@ -228,7 +228,7 @@ fn read_field(alloc: Global, names: Names, value: &Node) -> Result<Field, Fault>
     read_after(alloc, names, front, value)
 }
 
-// A field that has a kind of number, a name and nothing else, as most have.
+// A field with a kind of number, a name and nothing else, as most have.
 #[derive(Clone, Copy)]
 struct Plain<'a> {
     kind: Kind,
@@ -255,7 +255,7 @@ fn plain_in<'a>(value: &Node<'_, 'a>) -> Option<Plain<'a>>
     }
 }
 
-// By what stands under its two keys.
+// Returns such a field by the values under its two keys.
 fn plain_by<'a>(kind: &Node, name: &Node<'_, 'a>) -> Option<Plain<'a>>
     ensures { IfSome result
         (λ p. IsPlain p.kind p.name.now (kind_and_name (view kind.now) (view name.now))) }
@@ -290,7 +290,7 @@ fn plain_field(alloc: Global, plain: Plain) -> Result<Field, Fault>
     })
 }
 
-// A field, whose tests and count name fields.
+// A reader of a field, whose test and count may name fields.
 #[derive(Clone, Copy)]
 pub(crate) struct FieldIn<'a>(pub(crate) Names<'a>);
 

@@ -1,7 +1,10 @@
-//! What follows of all values, as contracts of functions without a body. The statements stand in `specs/Depths.antt`.
+//! Laws of all values that are read. A law is the contract of a function without a body;
+//! `specs/Depths.antt` has the statements.
 ghost use Rattle.vms_descread.specs.Depths.{DepthLaw};
 
-/// No test of a value that was read is refused for how deep it nests: what it says is what it says within any greater bound.
+/// States that no test of a value that was read is refused for its number of levels.
+///
+/// The test says the same within every greater bound.
 pub fn depth_law()
     ensures { DepthLaw }
 {}

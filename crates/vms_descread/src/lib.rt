@@ -1,4 +1,4 @@
-//! The parts of sets, read from JSON values: tests, fields, descriptions and devices.
+//! The parts of description sets, read from JSON values: tests, fields, descriptions and devices.
 #![tactic(auto)]
 
 mod cells;

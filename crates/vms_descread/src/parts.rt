@@ -10,8 +10,15 @@ use std::alloc::Global;
 use vms_json::{Fault, ListOf, Node, TextOf, at, fits};
 use vms_parts::Parts;
 
-/// The parts that a value says. One walk that looks names up is enough where it finds no fault;
-/// else a fault that a walk without names finds comes first.
+/// Reads the parts of a set from `value`.
+///
+/// One walk that looks up names is enough if it finds no fault. Otherwise a fault that a walk
+/// without names finds comes first.
+///
+/// # Errors
+///
+/// - [`Fault::Shape`]: the value hasn't the shape of a description file, first at this path.
+/// - [`Fault::NoMemory`]: out of memory.
 pub fn read_parts(alloc: Global, value: &Node) -> Result<Parts, Fault>
     ensures { Answers set_seen (parts_of (view value.now)) result }
 {

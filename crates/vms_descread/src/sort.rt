@@ -1,12 +1,12 @@
-// What the kind of a field may be.
+// The kinds that a field may have in a file.
 use vms_kinds::Kind;
 
-/// What the word under `kind` names.
+/// The kind of a field, as the word under `kind` names it.
 #[derive(Clone, Copy)]
 pub enum Sort {
     /// A number of this kind.
     Number(Kind),
-    /// Bytes that aren't used.
+    /// Unused bytes.
     Unused,
     /// A structure.
     Struct,

@@ -15,7 +15,7 @@ use std::alloc::Global;
 use vms_json::{DEEPEST, Fault, Items, Node, Reads, Scope, U32, at};
 use vms_parts::Test;
 
-// A test of the description, or a needed test.
+// A reader of a test of the description, or of a needed test.
 #[derive(Clone, Copy)]
 pub(crate) struct TestIn<'a>(pub(crate) Scope<'a>);
 
@@ -33,7 +33,7 @@ impl<'a> Reads for TestIn<'a> {
     }
 }
 
-// The same in a box, as fields keep theirs: most have none.
+// The same in a box, as fields have it: most have no test.
 #[derive(Clone, Copy)]
 pub(crate) struct BoxedTestIn<'a>(pub(crate) Scope<'a>);
 
@@ -52,7 +52,7 @@ impl<'a> Reads for BoxedTestIn<'a> {
     }
 }
 
-// A test that nests at most so deep.
+// Reads a test of at most `depth` levels.
 fn read_test(alloc: Global, depth: usize, scope: Scope, value: &Node) -> Result<Test, Fault>
     ensures { Answers formula (test_within depth (scope_seen scope.entry) (view value.now)) result }
 {
@@ -79,7 +79,7 @@ fn read_test(alloc: Global, depth: usize, scope: Scope, value: &Node) -> Result<
     }
 }
 
-// A test without tests in it.
+// Reads a test that contains no other.
 fn read_leaf(alloc: Global, leaf: Leaf, scope: Scope, value: &Node) -> Result<Test, Fault>
     ensures { Answers formula (leaf_as leaf (scope_seen scope.entry) (view value.now)) result }
 {
@@ -105,7 +105,7 @@ fn negated(alloc: Global, inner: Result<Test, Fault>) -> Result<Test, Fault>
     }
 }
 
-// The items of a list of two under a key.
+// Returns the two items of a list under a key.
 fn two_items<'t, 'a>(
     alloc: Global,
     value: &Node<'t, 'a>,
@@ -149,7 +149,7 @@ fn two_in<'t, 'a>(
     Ok((first, second))
 }
 
-// Both tests of a list of two.
+// Returns the test of both tests of a list of two.
 fn both(
     alloc: Global,
     join: Join,

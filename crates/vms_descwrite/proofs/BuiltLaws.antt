@@ -22,7 +22,7 @@ name_at [] k f lt is = absurd (omega arith)
 name_at (g ∷ fields) zero f lt is = ap (λ (h : Field). h.name) (sym is)
 name_at (g ∷ fields) (suc k) f lt is = name_at fields k f (omega arith) is
 
--- ---- lists of parts, written item by item from what is in memory
+-- ---- lists of parts, written item by item
 
 map_seen : {A B : Type 0} (g : B → Data) (h : A → B) (xs : List A) → map (λ x. g (h x)) xs ≡ map g (map h xs)
 map_seen g h [] = refl

@@ -1,4 +1,4 @@
--- The file of a well-formed set nests less than what is read back.
+-- The file of a well-formed set has fewer levels than what can be read back.
 use Rattle.std.proofs.Common.{◌≡◌, ℕ, suc, ◌+◌, ◌≤◌, List, [], ◌∷◌, map, Bool, true, false, nat_le, Option, Some, None, ℤ, pos, negsuc, codes, get_or, Ordering, Less, Equal, Greater, int_le, int_lt, ◌&&◌, ◌==◌, if◌then◌else◌, arith, length, subst, refl}
 use Rattle.std.specs.List.{slice_get}
 use Rattle.std.specs.Ordering.{nat_cmp, match_ordering}

@@ -1,4 +1,4 @@
--- Lists of a set's parts, written from what is in memory.
+-- Lists of a set's parts, as they are written.
 use Rattle.std.proofs.Common.{◌≡◌, ℕ, List, [], map, ap, codes, ◌==◌, ◌∙◌}
 use Rattle.serde_json.specs.Data.{Data, Members, no_members, string, object, put}
 use Rattle.vms_parts.specs.Views.{formula, field_of, desc_of, sub_of, device_of, set_of}

@@ -1,4 +1,4 @@
-// Values of JSON, and the members of objects.
+// JSON values, and the members of objects.
 ghost use Rattle.std.specs.List.{slice_get};
 ghost use Rattle.std.specs.Prelude.{◌≡◌, ◌++◌, ◌∷◌, [], ℕ, Some, map, IfOk, OnOk};
 ghost use Rattle.serde_json.specs.Data.{Data, string, put};
@@ -9,12 +9,12 @@ use serde_json::{Map, Number, Value};
 use std::alloc::{AllocError, Global};
 use vms_parts::Text;
 
-// What writes one value.
+// A writer of one value.
 pub(crate) trait Writes<T> {
-    // The value's file.
+    // The JSON value that is written.
     ghost file: { Self → T → Data };
 
-    // That its numbers fit the types that hold them.
+    // The numbers of the value fit their types.
     ghost fits: { Self → T → Type 0 };
 
     fn write(&self, alloc: Global, item: &T) -> Result<Value, AllocError>
@@ -28,7 +28,7 @@ pub(crate) fn text_value(alloc: Global, text: &str) -> Result<Value, AllocError>
     Value::try_from_str(alloc, text)
 }
 
-// A text.
+// A writer of a text.
 #[derive(Clone, Copy)]
 pub(crate) struct TextFile;
 
@@ -132,7 +132,7 @@ pub(crate) fn put_items<T, W: Writes<T>>(
     put(alloc, members, key, list_value(alloc, writer, items)?)
 }
 
-// A number that may be left out.
+// Puts a number, if there is one.
 pub(crate) fn put_natural(
     alloc: Global,
     members: &mut Members,
@@ -148,7 +148,7 @@ pub(crate) fn put_natural(
     }
 }
 
-// A number that is left out at its default.
+// Puts a value, unless it is left out at its default.
 pub(crate) fn put_unless(
     alloc: Global,
     members: &mut Members,
@@ -165,7 +165,7 @@ pub(crate) fn put_unless(
     put(alloc, members, key, value)
 }
 
-// A list that is left out where it is empty.
+// Puts a list, unless it is empty.
 pub(crate) fn put_list<T, W: Writes<T>>(
     alloc: Global,
     members: &mut Members,

@@ -17,7 +17,7 @@ use vms_kinds::Item;
 use vms_parts::{Count, Field, Test};
 use vms_words::kind_word;
 
-// A field of a description with these fields.
+// A writer of a field of a description with these fields.
 #[derive(Clone, Copy)]
 pub(crate) struct FieldFile<'a>(pub(crate) &'a [Field]);
 
@@ -135,7 +135,7 @@ fn put_test(
     }
 }
 
-// The members before the kind.
+// Puts the members before the kind.
 fn put_front(
     alloc: Global,
     members: &mut Members,

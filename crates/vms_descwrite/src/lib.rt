@@ -1,4 +1,4 @@
-//! The parts of sets, written as JSON values.
+//! The parts of description sets, written as JSON values.
 #![tactic(auto)]
 
 mod built;

@@ -61,7 +61,7 @@ impl Writes<Desc> for StructFile {
     }
 }
 
-// A subsection of a device with these fields.
+// A writer of a subsection of a device with these fields.
 #[derive(Clone, Copy)]
 struct SubFile<'a>(&'a [Field]);
 
@@ -131,7 +131,11 @@ impl Writes<Device> for DeviceFile {
     }
 }
 
-/// The file of a set of these parts.
+/// Returns the JSON value of the description file of a set of these `parts`.
+///
+/// # Errors
+///
+/// - [`AllocError`]: out of memory.
 pub fn set_value(alloc: Global, parts: &Parts) -> Result<Value, AllocError>
     ensures file { IfOk result (λ v. view v ≡ set_file (set_of parts.now)) }
     ensures fits { OnOk result (FitsSet (set_of parts.now)) }

@@ -11,7 +11,7 @@ use serde_json::{Map, Value};
 use std::alloc::{AllocError, Global};
 use vms_parts::{Field, Rel, Test, Whose};
 
-// The fields of a description, and those of its device where the test is a needed one.
+// A writer of a test: the fields of its description, and for a needed test those of the device.
 #[derive(Clone, Copy)]
 pub(crate) struct TestFile<'a> {
     pub(crate) own: &'a [Field],
@@ -70,7 +70,7 @@ fn test_value(
     }
 }
 
-// The members with the name of a field.
+// Returns the members with the name of a field.
 fn named(
     alloc: Global,
     mut members: Members,
@@ -86,7 +86,7 @@ fn named(
     Ok(Value::Object(members))
 }
 
-// An object of one member.
+// Returns an object with one member.
 fn only(alloc: Global, key: &str, value: Value) -> Result<Value, AllocError>
     ensures { IfOk result (λ v. view v ≡ only key.now (view value)) }
 {
@@ -95,14 +95,14 @@ fn only(alloc: Global, key: &str, value: Value) -> Result<Value, AllocError>
     Ok(Value::Object(members))
 }
 
-// An object of one member, which has two values.
+// Returns an object with one member, whose value is a list of two.
 fn both(alloc: Global, key: &str, first: Value, second: Value) -> Result<Value, AllocError>
     ensures { IfOk result (λ v. view v ≡ only key.now (pair_file (view first) (view second))) }
 {
     only(alloc, key, Value::Array(vec![in alloc; first, second]?))
 }
 
-// The members of a test on a number but for the field's name.
+// Returns the members of a test of a number, without the field's name.
 fn compared(alloc: Global, mask: u64, rel: Rel, value: u64) -> Result<Members, AllocError>
     ensures { IfOk result (λ m. members_view m.entries ≡ compared_file mask rel value) }
 {
@@ -124,7 +124,7 @@ fn rel_value(alloc: Global, rel: Rel) -> Result<Value, AllocError>
     }
 }
 
-// The name of a field, which its number stands for.
+// Returns the name of a field by its number.
 #[tactic(auto, using(crate::proofs::BuiltLaws::name_at))]
 pub(crate) fn name_value(alloc: Global, fields: &[Field], number: u32) -> Result<Value, AllocError>
     ensures { IfOk result (λ v. view v

@@ -1,4 +1,4 @@
--- A list that was written from the front to its end.
+-- A list that is filled from its front to its end.
 use Rattle.std.proofs.Common.{◌≡◌, ℕ, ◌<◌, ◌≤◌, List, Option, None, length, get_or, replicate, arith, sym, ◌∙◌}
 use Rattle.std.proofs.lemmas.List.{ext_get_or, length-replicate, get_or-replicate}
 

@@ -10,7 +10,7 @@ use Rattle.vms_parts.specs.declared.types.Device.{Device}
 use Rattle.vms_desc.specs.Spots.{kinds_at}
 use Rattle.vms_image.specs.Typed.{Typed, default_at}
 
--- the same in each place
+-- the same value at each place
 pub map-same : {X Y : Type 0} (y : Y) (xs : List X) → map (λ x. y) xs ≡ replicate (length xs) y
 map-same y [] = refl
 map-same y (x ∷ xs) = ap (λ ys. y ∷ ys) (map-same y xs)

@@ -1,4 +1,4 @@
--- The states of images, one after the other.
+-- The states of a list of images.
 use Rattle.std.proofs.Common.{◌≡◌, ℕ, zero, suc, ◌<◌, List, [], ◌∷◌, Some, length, get_or, map, sym, ap, ◌∙◌, arith}
 use Rattle.std.specs.List.{slice_get}
 use Rattle.std.proofs.lemmas.List.{length-map, get_or-map}
@@ -7,7 +7,7 @@ use Rattle.vms_image.specs.Typed.{Typed, state_of}
 pub states_long : (images : List Typed) → length (map state_of images) ≡ length images
 states_long images = length-map images state_of
 
--- the state of one of them
+-- the state of one of the images
 pub state_at : (images : List Typed) (k : ℕ) (image : Typed) → k < length images → image ≡ get_or images k image → state_of image ≡ get_or (map state_of images) k (state_of image)
 state_at images k image lt is = ap state_of is ∙ sym (get_or-map state_of images k image (state_of image) lt)
 
@@ -16,7 +16,7 @@ at_state [] k image e = cc
 at_state (x ∷ xs) zero image e = cc
 at_state (x ∷ xs) (suc k) image e = at_state xs k image e
 
--- what stands at a number
+-- the image at a number
 pub image_at : (images : List Typed) (k : ℕ) (image : Typed) → k < length images → image ≡ get_or images k image → slice_get images k ≡ Some image
 image_at [] k image lt is = absurd (omega arith)
 image_at (x ∷ xs) zero image lt is = ap (λ (y : Typed). Some y) (sym is)

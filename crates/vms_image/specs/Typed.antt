@@ -1,4 +1,4 @@
--- An image as it is held: the state that a section carries, and the kind of each cell.
+-- An image in memory: the state that a section carries, and the kind of each cell.
 use Rattle.std.specs.Prelude.{◌≡◌, ℕ, ◌<◌, ◌≤◌, List, length, Option, Some, ℤ}
 use Rattle.std.specs.List.{slice_get}
 use Rattle.vms_kinds.specs.declared.Kind.{Kind}
@@ -9,13 +9,14 @@ use Rattle.vms_spec.specs.Images.{Image, default_image}
 use Rattle.vms_parts.specs.Devices.{device_at}
 use Rattle.vms_desc.specs.Spots.{kinds_at}
 
+-- a state, with the kinds of its cells
 pub record Typed : Type 0 where
   pub version : ℕ
   pub came : List (Option ℕ)
   pub numbers : List ℤ
   pub kinds : List Kind
 
--- the state
+-- the state alone
 abbrev pub state_of : Typed → Image
 state_of image = record { version = image.version; came = image.came; numbers = image.numbers }
 
@@ -23,18 +24,18 @@ state_of image = record { version = image.version; came = image.came; numbers = 
 abbrev pub typed : List Kind → Image → Typed
 typed kinds image = record { version = image.version; came = image.came; numbers = image.numbers; kinds = kinds }
 
--- the image of the device of a number at the set's version, with no subsection and all defaults
+-- the default image of device k: at the set's version, with no subsection, and with all defaults
 abbrev pub default_at : Set → ℕ → Typed
 default_at set device = typed (kinds_at set device) (default_image set (device_at set device))
 
--- a state of the device of a number
+-- a state of device i
 pub record IsOfDevice (set : Set) (i : ℕ) (image : Image) : Type 0 where
   pub is_device : i < length set.devices
   pub cells : length image.numbers ≡ length (device_cells set (device_at set i))
   pub subs : length image.came ≡ length (device_at set i).subs
   pub few : length image.numbers ≤ MOST_ITEMS
 
--- an image of the device of a number: something for each subsection, and its cells with their kinds
+-- an image of a device: an entry for each subsection, and cells of the device's kinds
 pub record IsImageOf (set : Set) (device : ℕ) (image : Typed) : Type 0 where
   pub subs : length image.came ≡ length (device_at set device).subs
   pub cells : length image.numbers ≡ length (device_cells set (device_at set device))

@@ -15,8 +15,10 @@ use vms_io::NoMemory;
 use vms_kinds::Kind;
 use vms_spots::{Buffer, Spot};
 
-/// The state of one device: the version of its section, the version of each subsection that came, and the
-/// numbers of its cells, each with its kind. The numbers stand in one buffer of bytes.
+/// The state of one device: the version of its section, the version of each subsection that came,
+/// and the numbers of its cells with their kinds.
+///
+/// The numbers are in one buffer of bytes.
 #[derive(Drop)]
 pub struct Image {
     version: u32,
@@ -39,7 +41,16 @@ impl Model for Image {
 }
 
 impl Image {
-    /// The device of this number at the set's version, with no subsection and each cell at its default.
+    /// Returns the default image of device `device` of `set`: at the set's version, with no
+    /// subsection, and with each cell at its default.
+    ///
+    /// # Errors
+    ///
+    /// - [`NoMemory`]: out of memory.
+    ///
+    /// # Requires
+    ///
+    /// The set has the device.
     pub fn new(alloc: Global, set: &DescSet, device: u32) -> Result<Image, NoMemory>
         requires { device < length (described set.now).devices }
         ensures { IfOk result (λ image. image ≡ default_at (described set.now) device) }
@@ -52,7 +63,11 @@ impl Image {
         })
     }
 
-    /// Makes the image what `new` gives for this set and device.
+    /// Makes this the default image of device `device` of `set`, as [`new`](Self::new) returns it.
+    ///
+    /// # Requires
+    ///
+    /// The set has the device, and this is an image of it.
     pub fn reset(&mut self, set: &DescSet, device: u32)
         requires is_device { device < length (described set.now).devices }
         requires subs { length self.old.came ≡ length (device_at (described set.now) device).subs }
@@ -66,8 +81,12 @@ impl Image {
         self.cells.copy_from(set.defaults(device));
     }
 
-    /// Whether the image is one of this device: it has cells of its kinds, and something for each of its
-    /// subsections.
+    /// Returns whether this is an image of device `device` of `set`: it has cells of the device's
+    /// kinds, and an entry for each of its subsections.
+    ///
+    /// # Requires
+    ///
+    /// The set has the device.
     pub fn is_of(&self, set: &DescSet, device: u32) -> bool
         requires { device < length (described set.now).devices }
         ensures { IsTrue result ↔ IsImageOf (described set.now) device self.now }
@@ -76,14 +95,18 @@ impl Image {
             && self.cells.spots() == set.spots(device)
     }
 
-    /// How many cells it has.
+    /// Returns the number of cells.
     pub fn len(&self) -> u32
         ensures { result ≡ length self.now.numbers }
     {
         self.cells.len()
     }
 
-    /// The number of a cell.
+    /// Returns the number of cell `cell`, which is in the range of the cell's kind.
+    ///
+    /// # Requires
+    ///
+    /// There is such a cell.
     pub fn get(&self, cell: u32) -> i128
         requires { cell < length self.now.numbers }
         ensures number { result ≡ get_or self.now.numbers cell (pos 0) }
@@ -92,7 +115,11 @@ impl Image {
         self.cells.get(cell)
     }
 
-    /// The code of a cell's number, which are its bytes in `raw`.
+    /// Returns the code of the number of cell `cell`: its bytes in [`raw`](Self::raw), big-endian.
+    ///
+    /// # Requires
+    ///
+    /// There is such a cell.
     pub fn code(&self, cell: u32) -> &[u8]
         requires { cell < length self.now.numbers }
         ensures { result.now ≡ code (get_or self.now.kinds cell U8)
@@ -101,8 +128,12 @@ impl Image {
         self.cells.code(cell)
     }
 
-    /// The codes of so many numbers of one kind, one after the other: their cells follow one another from
-    /// `first` on.
+    /// Returns the codes of the numbers of `count` consecutive cells from `first` on, one after the
+    /// other.
+    ///
+    /// # Requires
+    ///
+    /// There are these cells, and all are of kind `kind`.
     pub fn codes(&self, first: u32, count: u32, kind: Kind) -> &[u8]
         requires room { first + count ≤ length self.now.numbers }
         requires one { AreOne self.now.kinds first count kind }
@@ -111,8 +142,13 @@ impl Image {
         self.cells.codes(first, count, kind)
     }
 
-    /// Puts so many numbers of one kind, by their codes one after the other, into the cells from `first` on; all
-    /// else stays. The kind isn't `Bool`, so that each code stands for a number.
+    /// Stores the numbers with these `codes` in `count` consecutive cells from `first` on.
+    /// Everything else is unchanged.
+    ///
+    /// # Requires
+    ///
+    /// There are these cells, and all are of kind `kind`, which isn't `Bool`: so each code is a
+    /// number's. `codes` has the bytes of `count` codes.
     pub fn put_codes(&mut self, first: u32, count: u32, kind: Kind, codes: &[u8])
         requires room { first + count ≤ length self.old.numbers }
         requires one { AreOne self.old.kinds first count kind }
@@ -125,7 +161,11 @@ impl Image {
         self.cells.put_codes(first, count, kind, codes);
     }
 
-    /// Tells whether a number is in the range of a cell's kind.
+    /// Returns whether `value` is in the range of the kind of cell `cell`.
+    ///
+    /// # Requires
+    ///
+    /// There is such a cell.
     pub fn fits(&self, cell: u32, value: i128) -> bool
         requires { cell < length self.now.numbers }
         ensures { IsTrue result ↔ InRange (get_or self.now.kinds cell U8) value }
@@ -133,7 +173,11 @@ impl Image {
         kind_at(self.cells.spots(), cell).in_range(value)
     }
 
-    /// Puts a number of its kind into a cell; all else stays.
+    /// Sets the number of cell `cell` to `value`. Everything else is unchanged.
+    ///
+    /// # Requires
+    ///
+    /// There is such a cell, and `value` is in the range of its kind.
     pub fn set(&mut self, cell: u32, value: i128)
         requires cell { cell < length self.old.numbers }
         requires range { InRange (get_or self.old.kinds cell U8) value }
@@ -142,28 +186,33 @@ impl Image {
         self.cells.set(cell, value);
     }
 
-    /// The bytes of all cells: the code of each number at its spot (`DescSet::spot`), and 0 between the spots.
+    /// Returns the bytes of all cells: the code of each number at its spot (`DescSet::spot`), and 0
+    /// between the spots.
     pub fn raw(&self) -> &[u8]
         ensures { result.now ≡ raw_of self.now.kinds self.now.numbers }
     {
         self.cells.raw()
     }
 
-    /// The version of the section.
+    /// Returns the version of the section.
     pub fn version(&self) -> u32
         ensures { result ≡ self.now.version }
     {
         self.version
     }
 
-    /// Changes the version of the section; all else stays.
+    /// Sets the version of the section to `version`. Everything else is unchanged.
     pub fn set_version(&mut self, version: u32)
         ensures { self.new ≡ record self.old { version = version } }
     {
         self.version = version;
     }
 
-    /// The version of a subsection, or `None` exactly where it hasn't come.
+    /// Returns the version of subsection `sub`, or `None` exactly if it hasn't come.
+    ///
+    /// # Requires
+    ///
+    /// There is such a subsection.
     pub fn came(&self, sub: u32) -> Option<u32>
         requires { sub < length self.now.came }
         ensures { result ≡ get_or self.now.came sub None }
@@ -171,7 +220,11 @@ impl Image {
         self.came[sub as usize]
     }
 
-    /// Makes a subsection come with this version, or not at all; all else stays.
+    /// Marks subsection `sub` as come at `version`, or as not come. Everything else is unchanged.
+    ///
+    /// # Requires
+    ///
+    /// There is such a subsection.
     pub fn mark(&mut self, sub: u32, version: Option<u32>)
         requires { sub < length self.old.came }
         ensures { self.new ≡ record self.old { came = slice_set self.old.came sub version } }
@@ -195,7 +248,7 @@ fn kind_at(spots: &[Spot], cell: u32) -> Kind
     spots[cell as usize].kind
 }
 
-// No subsection of so many has come.
+// Returns the entries of `subs` subsections, of which none has come.
 fn none_came(alloc: Global, subs: usize) -> Result<Vec<Option<u32>>, AllocError>
     ensures { IfOk result (λ came. came.items ≡ replicate subs None) }
 {
@@ -206,7 +259,7 @@ fn none_came(alloc: Global, subs: usize) -> Result<Vec<Option<u32>>, AllocError>
     Ok(came)
 }
 
-// No subsection has come.
+// Marks each subsection as not come.
 fn clear(came: &mut Vec<Option<u32>>)
     ensures { came.new.items ≡ replicate (length came.old.items) None }
 {

@@ -1,4 +1,4 @@
-//! Images: the state of one device as a stream carries it.
+//! Images. An image is the state of one device, as a stream carries it.
 #![tactic(auto)]
 
 mod image;

@@ -1,4 +1,4 @@
--- What is still to come of a reader, as it is staged and given.
+-- The bytes that a buffered reader still gives, as they are read and given.
 use Rattle.std.proofs.Common.{◌≡◌, ℕ, ◌+◌, ◌-◌, ◌≤◌, Bool, true, false, ◌&&◌, List, ◌++◌, length, take, drop, Option, Some, None, if◌then◌else◌, refl, sym, ap, ◌∙◌, arith, append_assoc, length-take-le}
 use Rattle.std.proofs.lemmas.List.{take-take}
 use Rattle.std.proofs.lemmas.List.Folds.{list_all-append}
@@ -8,7 +8,7 @@ use Rattle.vms_io.specs.Gathered.{between}
 use Rattle.vms_io.proofs.Filling.{left_split}
 use Rattle.vms_io.proofs.Gathering.{part_is}
 
--- behind the front of a list of bytes there are bytes
+-- after the front of a list of bytes there are bytes
 only_after : (xs bs ys : List ℕ) → xs ≡ bs ++ ys → Consumes (bytes_only xs) (bytes_only ys) bs
 only_after xs bs ys e = by (are_bytes xs) (are_bytes bs) (are_bytes ys) (ap are_bytes e ∙ list_all-append _ bs ys)
   where
@@ -18,12 +18,12 @@ only_after xs bs ys e = by (are_bytes xs) (are_bytes bs) (are_bytes ys) (ap are_
     by true true false same = cc
     by true false back same = cc
 
--- the front of what waited is given
+-- the front of the waiting bytes is given
 gives : (x : Option (List ℕ)) (waiting bs rest : List ℕ) → waiting ≡ bs ++ rest → Consumes (ahead x waiting) (ahead x rest) bs
 gives None waiting bs rest e = tt
 gives (Some xs) waiting bs rest e = only_after (waiting ++ xs) bs (rest ++ xs) (ap (λ (l : List ℕ). l ++ xs) e ∙ append_assoc bs rest xs)
 
--- the n bytes from the first that waits, copied into the front of a buffer
+-- the first n waiting bytes, copied into the front of a buffer
 pub given_on : (x : Option (List ℕ)) (room copied buf : List ℕ) (b e n : ℕ) → copied ≡ take ((b + n) - b) (drop b room) → b + n ≤ e → e ≤ length room
     → Consumes (ahead x (between room b e)) (ahead x (between room (b + n) e)) (take n (copied ++ buf))
 given_on x room copied buf b e n is fits within =
@@ -33,7 +33,7 @@ given_on x room copied buf b e n is fits within =
     gives x (between room b e) (take n (copied ++ buf)) (between room (b + n) e)
     (left_split (take e room) (take e room) copied buf b n refl front (omega (arith, length-take-le e room within)))
 
--- first asked for, then given
+-- first read, then given
 pub kept_gives : (x y z : Option (List ℕ)) (bs : List ℕ) → Keeps x y → Consumes y z bs → Consumes x z bs
 kept_gives None y z bs k h = tt
 kept_gives (Some xs) None z bs k h = absurd k

@@ -1,11 +1,11 @@
--- What is gathered for a writer, and handed on.
+-- Bytes that are buffered for a writer, and flushed.
 use Rattle.std.proofs.Common.{◌≡◌, refl, append-nil, ℕ, ◌+◌, ◌-◌, ◌≤◌, List, [], ◌++◌, length, take, drop, Option, Some, None, Result, Ok, Err, sym, ap, ◌∙◌, subst, arith, append_assoc, take-append-drop, drop-drop, length-take}
 use Rattle.std.proofs.lemmas.List.{drop-take, drop_all, drop-append-le}
 use Rattle.std.specs.Io.KnownBytes.{Keeps, Appends}
 use Rattle.vms_io.specs.Causes.{HasCause}
 use Rattle.vms_io.specs.Gathered.{told, between, KeepsFront}
 
--- a part of the room, taken from its first place
+-- a part of the buffer, taken from its first byte
 pub part_is : (room : List ℕ) (b e : ℕ) → b ≤ e → take (e - b) (drop b room) ≡ between room b e
 part_is room b e le =
     let sum : b + (e - b) ≡ e = omega arith in
@@ -26,19 +26,19 @@ handed (Some zs) (Some xs) (Some ys) room part b e n le is p k =
     ∙ ap (λ (l : List ℕ). xs ++ l) (take-append-drop n part ∙ whole)
     ∙ k
 
--- all are handed on
+-- all are flushed
 pub emptied : (a x : Option (List ℕ)) (room : List ℕ) (b e : ℕ) → b ≡ e → Keeps a (told x (between room b e)) → Keeps a (told x (between room 0 0))
 emptied a x room b e same k =
     let none : between room b e ≡ [] = drop_all b (take e room) (omega (arith, same, length-take e room)) in
     subst (λ (l : List ℕ). Keeps a (told x l)) none k
 
--- where nothing is gathered, what is told is what the writer tells
+-- if nothing is buffered, the known bytes are the writer's
 pub told_empty : (x : Option (List ℕ)) (room : List ℕ) (b e : ℕ) → e ≡ 0 → told x (between room b e) ≡ x
 told_empty None room b e none = refl
 told_empty (Some xs) room b e none =
     ap (λ (l : List ℕ). Some (xs ++ l)) (drop_all b (take e room) (omega (arith, none, length-take e room))) ∙ ap Some (append-nil xs)
 
--- more are gathered
+-- more bytes are buffered
 pub gathers : (x : Option (List ℕ)) (room new more : List ℕ) (b e f : ℕ) → b ≤ e → e ≤ length room
     → take f new ≡ take e room ++ more → Appends (told x (between room b e)) (told x (between new b f)) more
 gathers None room new more b e f le fits is = tt
@@ -47,7 +47,7 @@ gathers (Some xs) room new more b e f le fits is =
     ∙ ap (λ (l : List ℕ). xs ++ l) (drop-append-le b (take e room) more (omega (arith, length-take e room)))
     ∙ sym (append_assoc xs (drop b (take e room)) more)
 
--- first handed on, then gathered
+-- first flushed, then buffered
 pub kept_then : (a b c : Option (List ℕ)) (more : List ℕ) → Keeps a b → Appends b c more → Appends a c more
 kept_then None b c more p q = tt
 kept_then (Some x) None c more p q = absurd p
@@ -65,13 +65,13 @@ pub later_cause : {T E : Type 0} (a b c : ℕ) (result : Result T E) → a ≤ b
 later_cause a b c (Ok x) le h = record { later = omega (arith, le, h.later); failed = tt }
 later_cause a b c (Err x) le h = record { later = omega (arith, le, h.later); failed = omega (arith, le, h.failed) }
 
--- the writer has the front of what is told
+-- the writer has a front of the known bytes
 pub kept_front : (a x : Option (List ℕ)) (waiting : List ℕ) → Keeps a (told x waiting) → KeepsFront a x
 kept_front None x waiting k = tt
 kept_front (Some zs) None waiting k = absurd k
 kept_front (Some zs) (Some xs) waiting k = (waiting, sym k)
 
--- and that stays where what is gathered is dropped
+-- and it stays a front if the buffered bytes are dropped
 pub dropped : (x : Option (List ℕ)) (room waiting : List ℕ) → KeepsFront (told x waiting) (told x (between room 0 0))
 dropped None room waiting = tt
 dropped (Some xs) room waiting = (waiting, ap (λ (l : List ℕ). l ++ waiting) (sym (append-nil xs)))

@@ -11,7 +11,7 @@ differ : (b : Bool) {X : Type 0} (x y : X) → (b ≡ true → ⊥) → cond b x
 differ true x y never = absurd (never refl)
 differ false x y never = refl
 
--- an update at a name puts the bytes there, and leaves the rest
+-- an update at a name stores the bytes there and leaves the others
 pub update_puts : {X : Type 0} (f g : List ℕ → Option X) (v : X) (bytes_of : X → List ℕ) (name : List ℕ)
     → ((cs : List ℕ) → g cs ≡ update bytes_eq f name (Some v) cs)
     → PutsUnder (λ cs. option_map bytes_of (f cs)) (λ cs. option_map bytes_of (g cs)) name (bytes_of v)
@@ -20,12 +20,12 @@ update_puts f g v bytes_of name h = record {
   others = λ other differs. ap (option_map bytes_of) (h other ∙ differ (bytes_eq name other) (Some v) (f other) (λ same. differs (sym ((bytes_eq-Decides name other).0 same))));
 }
 
--- where all is held as before, so are all other names
+-- if all contents are unchanged, so are those of other names
 pub unchanged_others : {T E : Type 0} (result : Result T E) (old new : Held) (name : List ℕ) → OnErr result (new ≡ old) → OnErr result (KeepsOthers old new name)
 unchanged_others (Ok x) old new name same = tt
 unchanged_others (Err e) old new name same = λ other differs. ap (λ (held : Held). held other) same
 
--- where bytes are put, all that is held stays bytes
+-- if bytes are stored, all contents stay bytes
 pub puts_bytes : (old new : Held) (name bytes : List ℕ) → PutsUnder old new name bytes → IsBytes bytes → HoldsAll old → HoldsAll new
 puts_bytes old new name bytes p ok holds = λ other. by other (bytes_eq other name) refl
   where

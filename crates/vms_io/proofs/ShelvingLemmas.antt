@@ -1,4 +1,4 @@
--- Calls over a shelf, one after the other, and where what it holds is told.
+-- Calls over a shelf, one after the other, and shelves whose contents are known.
 use Rattle.std.proofs.Common.{◌≡◌, List, ℕ, Option, Some, None, refl, ◌∙◌, subst, arith}
 use Rattle.vms_io.specs.Shelves.{Held, IfToldBoth, PutsUnder}
 use Rattle.vms_io.specs.Shelving.{Looks, Reaches, Stores}
@@ -13,7 +13,7 @@ reaches_both {a} {b} {c} p q = record { later = omega (arith, p.later, q.later);
 pub looks_reaches : {a b : Stock} → Looks a b → Reaches a b
 looks_reaches p = record { later = p.later; promise = p.promise }
 
--- what is told after a store that is told before
+-- the contents after a store, if those before it are known
 pub record IsStored (was : Held) (now : Option Held) (name bytes : List ℕ) : Type 0 where
   pub after : Held
   pub told : now ≡ Some after

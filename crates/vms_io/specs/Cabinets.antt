@@ -12,19 +12,21 @@ use Rattle.vms_io.specs.Shelves.{Held, HoldsAll, HoldsBytes}
 use Rattle.vms_io.specs.declared.memory.shelf.Content.{Content}
 use Rattle.vms_io.specs.declared.memory.shelf.MemShelf.{MemShelf}
 
--- a shelf in memory: what is held under each name, the numbers of the calls that fail, the calls so far and the faults
+-- A shelf in memory: the bytes under each name, and the numbers of the calls that fail. It counts the
+-- calls and the faults.
 pub record Cabinet : Type 0 where
   pub held : Held
   pub failing : List ℕ
   pub calls : ℕ
   pub faults : ℕ
 
--- what the entries of a map hold under a name
+-- the bytes that the entries of a map have under a name
 abbrev pub held_in : List (String Global × Content) → Held
 held_in entries name =
     option_map (λ content. content.bytes.items)
     (lookup (is_at (λ k. slice_cmp nat_cmp name (string_bytes k))) entries)
 
+-- the cabinet of a shelf
 abbrev pub cabinet : MemShelf → Cabinet
 cabinet s = record {
   held = held_in s.entries.entries;
@@ -33,7 +35,7 @@ cabinet s = record {
   faults = s.faults;
 }
 
--- they are bytes, since each content is
+-- each entry consists of bytes
 pub contents_hold : (entries : List (String Global × Content)) → HoldsAll (held_in entries)
 contents_hold entries name = by (lookup (is_at (λ k. slice_cmp nat_cmp name (string_bytes k))) entries)
   where

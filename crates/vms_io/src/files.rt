@@ -9,7 +9,8 @@ use std::io::{ErrorKind, Read, Write};
 use std::rt::Files;
 use std::{fs, io};
 
-/// The files of one folder, by their names in it. It tells nothing of what they hold.
+/// A shelf over the files of one folder, by their names in it. Its contents are unknown: no
+/// contract says what the files hold.
 #[derive(Drop)]
 pub struct FileShelf<R: Files + Drop> {
     rt: R,
@@ -18,7 +19,7 @@ pub struct FileShelf<R: Files + Drop> {
 }
 
 impl<R: Files + Drop> FileShelf<R> {
-    /// The shelf over this folder, without a fault so far.
+    /// Returns the shelf over folder `folder`, with no faults counted.
     pub fn new(rt: R, folder: String) -> Self
         ensures { ⟦<FileShelf<R> as Shelf>⟧.faults result ≡ 0 }
     {
@@ -29,15 +30,15 @@ impl<R: Files + Drop> FileShelf<R> {
         }
     }
 
-    // The bytes of a file, up to the limit and one more.
+    // Reads a file, up to `limit` bytes and one more.
     fn read(&self, alloc: Global, name: &str, limit: u32) -> io::Result<Vec<u8>> {
         let path = format!(in alloc; "{}/{name}", self.folder)?;
         let file = fs::open(&self.rt, path.as_str())?;
         read_front(alloc, file, u64::from(limit) + 1)
     }
 
-    // Puts the bytes into a new file that takes the place of the old one. What is no file of its own (a link, a pipe,
-    // a device) stays, and the bytes are written into it.
+    // Writes the bytes into a new file, which replaces the old one. If the name is no regular file
+    // (a link, a pipe, a device), it stays and the bytes are written into it.
     fn write(&self, name: &str, piece: &[u8]) -> io::Result<()> {
         let alloc = *self.folder.allocator();
         let path = format!(in alloc; "{}/{name}", self.folder)?;
@@ -58,7 +59,8 @@ impl<R: Files + Drop> FileShelf<R> {
         }
     }
 
-    // Writes a new file beside the old one and renames it. After an error the new file is gone and the old one stays.
+    // Writes a new file beside the old one and renames it. After an error the new file is removed
+    // and the old one is unchanged.
     fn replace(
         &self,
         path: &str,
@@ -66,7 +68,7 @@ impl<R: Files + Drop> FileShelf<R> {
         piece: &[u8],
         mode: Option<Permissions>,
     ) -> io::Result<()> {
-        // what a call that was cut off left there
+        // removes what an interrupted call left there
         let _earlier = fs::remove_file(&self.rt, beside);
         let mut file = File::create_new(&self.rt, beside)?;
         let replaced = fill(&mut file, piece, mode).and_then(|()| fs::rename(
@@ -78,7 +80,8 @@ impl<R: Files + Drop> FileShelf<R> {
         replaced
     }
 
-    // Writes into what there is. Any error after it was opened is a fault, since bytes may have gone.
+    // Writes into the existing file. Every error after it is opened is a fault, because bytes may
+    // be lost.
     fn overwrite(&self, path: &str, piece: &[u8]) -> io::Result<()> {
         let mut file = fs::create(&self.rt, path)?;
         file.write_all(piece)
@@ -86,7 +89,7 @@ impl<R: Files + Drop> FileShelf<R> {
     }
 }
 
-// The first bytes of a file.
+// Reads the first `most` bytes of a file.
 fn read_front<F: Read + Drop>(alloc: Global, file: F, most: u64) -> io::Result<Vec<u8>>
     ensures { IfOk result (λ bytes.
         IfSome (F.remaining file) (λ held. bytes.items ≡ take most held)) }
@@ -96,7 +99,7 @@ fn read_front<F: Read + Drop>(alloc: Global, file: F, most: u64) -> io::Result<V
     Ok(bytes)
 }
 
-// Writes the bytes into a new file, down to the disk.
+// Writes `piece` into a new file and syncs it to the disk.
 fn fill<F: Write + OpenFile>(
     file: &mut F,
     piece: &[u8],
@@ -122,7 +125,15 @@ impl<R: Files + Drop> Shelf for FileShelf<R> {
 
     ghost octets = { λ s. tt };
 
-    /// A name without a file is `NotThere`; a folder by that name or a file that can't be read is a fault.
+    /// Reads the file `name` of the folder.
+    ///
+    /// # Errors
+    ///
+    /// - [`FetchFault::NotThere`]: the folder has no such file.
+    /// - [`FetchFault::TooLarge`]: the file has more than `limit` bytes.
+    /// - [`FetchFault::NoMemory`]: out of memory.
+    /// - [`FetchFault::Failed`]: any other error, for example if `name` is a folder or can't be
+    ///   read.
     fn fetch(&mut self, alloc: Global, name: &str, limit: u32) -> Result<Vec<u8>, FetchFault> {
         match self.read(alloc, name, limit) {
             Ok(bytes) if bytes.len() <= limit as usize => Ok(bytes),
@@ -138,6 +149,12 @@ impl<R: Files + Drop> Shelf for FileShelf<R> {
         }
     }
 
+    /// Writes `piece` to the file `name` of the folder, in place of what it held.
+    ///
+    /// # Errors
+    ///
+    /// - [`StoreFault::NoMemory`]: out of memory.
+    /// - [`StoreFault::Failed`]: any other error.
     fn store(&mut self, name: &str, piece: &[u8]) -> Result<(), StoreFault> {
         match self.write(name, piece) {
             Ok(()) => Ok(()),

@@ -5,7 +5,7 @@ pub mod shelf;
 pub mod sink;
 pub mod source;
 
-// Tells whether the call of this number is to fail.
+// Returns whether the call of this number must fail.
 fn is_listed(numbers: &[u32], number: u64) -> bool
     ensures { IsTrue result ↔ Contains numbers.now number }
 {

@@ -4,40 +4,49 @@ ghost use Rattle.vms_io.specs.Shelves.{FetchRefuses, HoldsAll, PutsUnder, KeepsO
 
 use std::alloc::Global;
 
-/// Why a fetch gave no bytes.
+/// A reason why `fetch` returned no bytes.
 #[derive(Clone, Copy, Debug, PartialEq, Eq)]
 pub enum FetchFault {
-    /// Nothing is held under the name.
+    /// Nothing is stored under the name.
     NotThere = 1,
-    /// More bytes are held under the name than the limit.
+    /// The bytes under the name are more than the limit.
     TooLarge,
     /// The shelf failed.
     Failed,
-    /// Memory is wanting.
+    /// Out of memory.
     NoMemory,
 }
 
-/// Why nothing was stored.
+/// A reason why `store` failed.
 #[derive(Clone, Copy, Debug, PartialEq, Eq)]
 pub enum StoreFault {
     /// The shelf failed.
     Failed = 1,
-    /// Memory is wanting.
+    /// Out of memory.
     NoMemory,
 }
 
-/// Holds bytes under names.
+/// A store of bytes under names, such as a folder of files.
 pub trait Shelf {
-    /// What is held under each name, where it is told.
+    /// The bytes under each name, or `None` if they are unknown to contracts.
     ghost held: { Self → Option (List ℕ → Option (List ℕ)) };
 
-    /// How often a call has failed.
+    /// The number of calls that have failed.
     ghost faults: { Self → ℕ };
 
-    /// No call fails.
+    /// True if no call fails.
     ghost promise: { Self → Bool };
 
-    /// Gives the bytes that are held under the name, at most `limit` of them.
+    /// Returns the bytes that are stored under `name`, at most `limit` of them.
+    ///
+    /// What the shelf holds doesn't change.
+    ///
+    /// # Errors
+    ///
+    /// - [`FetchFault::NotThere`]: nothing is stored under `name`.
+    /// - [`FetchFault::TooLarge`]: more than `limit` bytes are stored under `name`.
+    /// - [`FetchFault::Failed`]: the shelf failed, and its count of faults has risen.
+    /// - [`FetchFault::NoMemory`]: out of memory.
     fn fetch(&mut self, alloc: Global, name: &str, limit: u32) -> Result<Vec<u8>, FetchFault>
         ensures fits { IfOk result (λ bytes. length bytes.items ≤ limit) }
         ensures bytes { IfOk result (λ bytes.
@@ -48,9 +57,14 @@ pub trait Shelf {
         ensures cause { HasFetchCause (faults self.old) (faults self.new) result }
         ensures promise { promise self.new ≡ promise self.old };
 
-    /// Puts the bytes under the name, in place of what was held there.
+    /// Stores `piece` under `name`, in place of what was there. What is stored under other names
+    /// doesn't change.
     ///
-    /// After `Failed` what is held under this name is not told.
+    /// # Errors
+    ///
+    /// - [`StoreFault::Failed`]: the shelf failed, and its count of faults has risen. What is
+    ///   stored under `name` is unknown.
+    /// - [`StoreFault::NoMemory`]: out of memory. What the shelf holds hasn't changed.
     fn store(&mut self, name: &str, piece: &[u8]) -> Result<(), StoreFault>
         ensures stored { OnOk result (IfToldBoth (held self.old) (held self.new) (λ old new.
             PutsUnder old new name.now piece.now)) }
@@ -61,7 +75,9 @@ pub trait Shelf {
         ensures cause { HasStoreCause (faults self.old) (faults self.new) result }
         ensures promise { promise self.new ≡ promise self.old };
 
+    /// If no call fails, none has failed.
     ghost promised: { (shelf : Self) → IsTrue (promise shelf) → faults shelf ≡ 0 };
 
+    /// What is stored consists of bytes, if it is known.
     ghost octets: { (shelf : Self) → IfSome (held shelf) HoldsAll };
 }

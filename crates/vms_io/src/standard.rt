@@ -8,20 +8,20 @@ ghost use Rattle.vms_io.specs.declared.standard.TheConstants.{STAGE, GATHER};
 use crate::{Failed, Sink, Source};
 use std::io::{ErrorKind, Read, Write};
 
-/// So many bytes are asked of a reader at once.
+/// The number of bytes that are requested from a reader at once.
 const STAGE: usize = 8192;
 
-/// So many bytes are gathered for a writer.
+/// The number of bytes that are buffered for a writer.
 const GATHER: usize = 8192;
 
-/// A source over the reader `R`, which is asked for blocks of bytes.
+/// A source over the reader `R`, which is read in blocks of 8,192 bytes.
 ///
-/// It tells the bytes that wait in its block and those that the reader says it has left, as a slice does. A file or a
-/// terminal doesn't say what it has left, so nothing is told of it.
+/// If the rest of the reader's bytes is known, as a slice's is, the rest of the source's is known
+/// too. The rest of a file or a terminal is unknown to contracts.
 #[derive(Drop)]
 pub struct StdSource<R: Read + Drop> {
     reader: R,
-    // What the reader gave and a caller didn't get yet stands here, between two places.
+    // The bytes that were read but not yet given are those from `begin` to `end`.
     staged: [u8; STAGE],
     begin: usize,
     end: usize,
@@ -35,7 +35,7 @@ impl<R: Read + Drop> StdSource<R> {
     ghost use Rattle.vms_io.specs.Ahead.{ahead};
     ghost use Rattle.vms_io.specs.Gathered.{between};
 
-    /// Makes the source over `reader`, without a fault so far.
+    /// Returns the source over `reader`, with no faults counted.
     pub fn new(reader: R) -> Self
         ensures left { ⟦<StdSource<R> as Source>⟧.left result ≡ ahead (R.remaining reader) [] }
         ensures faults { ⟦<StdSource<R> as Source>⟧.faults result ≡ 0 }
@@ -51,7 +51,7 @@ impl<R: Read + Drop> StdSource<R> {
         }
     }
 
-    // Asks the reader for more, once all that was staged is given. Nothing comes only at the end.
+    // Reads the next block, once all of the last one has been given. It is empty only at the end.
     fn stage(&mut self) -> Result<(), Failed>
         requires { self.old.begin ≡ self.old.end }
         ensures left { Keeps (ahead (R.remaining self.old.reader)
@@ -74,7 +74,7 @@ impl<R: Read + Drop> StdSource<R> {
         }
     }
 
-    // Gives as many of the staged bytes as there are and as there is room for.
+    // Gives the staged bytes, as many as `buf` has room for.
     #[inline(always)]
     fn give(&mut self, buf: &mut [u8]) -> usize
         ensures count { result ≡ min (length buf.old) (self.old.end - self.old.begin) }
@@ -117,6 +117,11 @@ impl<R: Read + Drop> Source for StdSource<R> {
 
     ghost octets = { λ s. ahead_bytes (R.remaining s.reader) (between s.staged s.begin s.end) };
 
+    /// Copies the next bytes into the front of `buf` and returns their number.
+    ///
+    /// # Errors
+    ///
+    /// - [`Failed`]: the reader returned an error. Nothing has been read.
     fn read(&mut self, buf: &mut [u8]) -> Result<usize, Failed> {
         if self.begin == self.end {
             self.stage()?;
@@ -125,12 +130,14 @@ impl<R: Read + Drop> Source for StdSource<R> {
     }
 }
 
-/// A writer, as a file or a terminal, which gets bytes as so many are gathered, and at a flush. It tells what the
-/// writer tells and what is gathered.
+/// A sink over the writer `W`, such as a file or a terminal, with a buffer of 8,192 bytes.
+///
+/// The writer gets the bytes when the buffer is full, and at a flush. If what the writer has is
+/// known to contracts, so is what the sink has: the writer's bytes and then the buffered ones.
 #[derive(Drop)]
 pub struct StdSink<W: Write + Drop> {
     writer: W,
-    // What the writer is still to get stands here, between two places.
+    // The bytes that the writer hasn't got yet are those from `begin` to `end`.
     gathered: [u8; GATHER],
     begin: usize,
     end: usize,
@@ -143,7 +150,7 @@ impl<W: Write + Drop> StdSink<W> {
     ghost use Rattle.vms_io.specs.Gathered.{told, between, KeepsFront};
     ghost use Rattle.vms_io.specs.Writers.{writer_of};
 
-    /// The sink over this writer, without a fault so far.
+    /// Returns the sink over `writer`, with no faults counted and nothing buffered.
     pub fn new(writer: W) -> Self
         ensures faults { ⟦<StdSink<W> as Sink>⟧.faults result ≡ 0 }
         ensures written { ⟦<StdSink<W> as Sink>⟧.written result ≡ W.contents writer }
@@ -158,15 +165,19 @@ impl<W: Write + Drop> StdSink<W> {
         }
     }
 
-    /// The writer, which has what was handed on.
+    /// Returns the writer. It hasn't got the bytes that are still buffered.
     pub fn get_ref(&self) -> &W
         ensures { result.now ≡ writer_of self.now }
     {
         &self.writer
     }
 
-    /// Hands on what is gathered, so that the writer has all that was written, and what it holds back itself. After a
-    /// failure what it didn't take is still gathered.
+    /// Passes the buffered bytes to the writer, and flushes it.
+    ///
+    /// # Errors
+    ///
+    /// - [`Failed`]: the writer returned an error. The bytes that it didn't take are still
+    ///   buffered.
     pub fn flush(&mut self) -> Result<(), Failed>
         ensures bytes { Keeps (⟦<StdSink<W> as Sink>⟧.written self.old)
             (⟦<StdSink<W> as Sink>⟧.written self.new) }
@@ -184,7 +195,7 @@ impl<W: Write + Drop> StdSink<W> {
         }
     }
 
-    /// Drops what is gathered, so that only what the writer has is written.
+    /// Drops the buffered bytes, so that only what the writer has counts as written.
     pub fn discard(&mut self)
         ensures written { ⟦<StdSink<W> as Sink>⟧.written self.new ≡ W.contents (writer_of self.new) }
         ensures writer { writer_of self.new ≡ writer_of self.old }
@@ -197,14 +208,14 @@ impl<W: Write + Drop> StdSink<W> {
         self.end = 0;
     }
 
-    /// Returns the writer, which has what was handed on. What is still gathered is dropped.
+    /// Returns the writer. The bytes that are still buffered are dropped.
     pub fn into_inner(self) -> W
         ensures { result ≡ writer_of self }
     {
         self.writer
     }
 
-    // Gathers bytes, for which there is room.
+    // Buffers bytes, for which there is room.
     #[inline(always)]
     fn gather(&mut self, piece: &[u8])
         requires { self.old.end + length piece.now ≤ 8192 }
@@ -220,7 +231,7 @@ impl<W: Write + Drop> StdSink<W> {
         self.end = end;
     }
 
-    // Hands on all that is gathered. What a failure leaves stays.
+    // Passes all buffered bytes to the writer. After a failure the rest stays buffered.
     fn hand_on(&mut self) -> Result<(), Failed>
         ensures bytes { Keeps (told (W.contents self.old.writer)
             (between self.old.gathered self.old.begin self.old.end))
@@ -257,6 +268,12 @@ impl<W: Write + Drop> Sink for StdSink<W> {
 
     ghost promised = { λ s. tt };
 
+    /// Buffers the first bytes of `piece`, after a flush of the buffer if it is full. Returns their
+    /// number.
+    ///
+    /// # Errors
+    ///
+    /// - [`Failed`]: the writer returned an error. Nothing of `piece` has been taken.
     fn write(&mut self, piece: &[u8]) -> Result<usize, Failed> {
         if self.end == GATHER {
             self.hand_on()?;
@@ -272,7 +289,7 @@ impl<W: Write + Drop> Sink for StdSink<W> {
     }
 }
 
-// Counts a failure.
+// Counts a failure, and returns it.
 fn failed(faults: &mut u64) -> Result<(), Failed>
     ensures cause { HasCause faults.old faults.new result }
     ensures error { IsErr result }

@@ -1,4 +1,4 @@
--- What is due while a text is read, a token on: with the rows that are laid.
+-- What is due while a text is read, one token later, with the rows that are laid.
 use Rattle.std.proofs.Common.{◌≡◌, ℕ, suc, ◌-◌, ◌<◌, ◌≤◌, List, [], ◌∷◌, ◌++◌, length, true, false, Option, Some, None, refl, sym, ap, subst, ◌∙◌, arith}
 use Rattle.std.proofs.lemmas.List.{length-append}
 use Rattle.std.specs.Borrow.{Bor}
@@ -42,7 +42,7 @@ ended_below said laid ts is =
     below_more laid.begun.items (length has.below) (length laid.rows.items) (omega (arith, ap length has.are, length-append has.below has.run))
     (starts_below is.frames has.below laid.begun.items has.laid)
 
--- ---- a value that begins: in a list one of its items less is left
+-- ---- a value begins: in a list, one of its items fewer remains
 
 abbrev lowered : List Frame → List Frame
 lowered [] = []
@@ -85,7 +85,7 @@ begins said laid t ts going is = record {
   enough = enough_lowered is.frames (length ts) is.enough;
 }
 
--- ---- no token is left, or none of a value
+-- ---- no token remains, or none of a value
 
 pub none_left : (said : Option (Data × List Token)) (laid : Laid) → IsUnder said laid [] → said ≡ None
 none_left said laid is = is.says ∙ at is.frames is.enough
@@ -131,7 +131,7 @@ no_end (reads.Bool b) not ts = refl
 no_end reads.Null not ts = refl
 no_end reads.Bad not ts = refl
 
--- how deep a value may nest plays no part where none begins
+-- the number of levels doesn't matter for a value that opens none
 pub at_any_depth : (k : TokenRead) → (k ≡ reads.BeginObject → ⊥) → (k ≡ reads.BeginArray → ⊥) → (ts : List Token) (n : ℕ) → value n (token_of k ∷ ts) ≡ value 0 (token_of k ∷ ts)
 at_any_depth reads.BeginObject o a ts n = absurd (o refl)
 at_any_depth reads.EndObject o a ts n = value_is n (token_of reads.EndObject ∷ ts) ∙ sym (value_is 0 (token_of reads.EndObject ∷ ts))

@@ -1,4 +1,5 @@
--- A list or an object that ends: the count is put in its row, and the innermost is the one around it.
+-- The end of a list or an object: the count is put into its row, and the innermost is the one
+-- around it.
 use Rattle.std.proofs.Common.{◌≡◌, ℕ, zero, suc, ◌+◌, ◌-◌, ◌<◌, List, [], ◌∷◌, ◌++◌, length, get_or, Bool, false, Option, Some, None, refl, sym, ap, subst, ◌∙◌, arith, append_assoc}
 use Rattle.std.proofs.lemmas.List.{length-append, get_or_at, same_from_push}
 use Rattle.std.proofs.Math.ListN.{set}
@@ -11,7 +12,7 @@ use Rattle.vms_json.specs.Frames.{Frame, in_list, in_object, before}
 use Rattle.vms_json.specs.Laying.{AreBelow, InList, InObject, IsLaid, HasValue, is_in_list}
 use Rattle.vms_json.proofs.LaidLaws.{list_closed, object_closed, ended}
 
--- ---- the places of those that are open
+-- ---- the places of the open ones
 
 at_end : (ss : List ℕ) (s : ℕ) → slice_get (ss ++ s ∷ []) (length ss) ≡ Some s
 at_end [] s = refl
@@ -52,7 +53,7 @@ put_back f below own old new r at count are here counted put =
 row_at : (b o more : List Row) (r d : Row) → get_or ((b ++ r ∷ o) ++ more) (length b) d ≡ r
 row_at b o more r d = ap (λ l. get_or l (length b) d) (append_assoc b (r ∷ o) more) ∙ get_or_at b r (o ++ more) d (length b) refl
 
--- whether the innermost is a list is told by the row where it began
+-- whether the innermost is a list can be read from the row where it began
 pub record IsTold (rs : List Row) (places : List ℕ) (inner : Bool) : Type 0 where
   pub none : places ≡ [] → inner ≡ false
   pub some : (ps : List ℕ) (at : ℕ) (d : Row) → places ≡ ps ++ at ∷ [] → inner ≡ is_list (get_or rs at d)

@@ -1,4 +1,4 @@
--- What the whole text says, a token on.
+-- What the whole text says, one token later.
 use Rattle.std.proofs.Common.{◌≡◌, ℕ, suc, ◌-◌, ◌<◌, ◌≤◌, List, [], ◌∷◌, ◌++◌, length, Option, Some, None, option_and_then, refl, sym, ap, ◌∙◌, arith}
 use Rattle.json.specs.Token.{Token}
 use Rattle.json.specs.Json.{parse_map, after_end_array, read_key, items, members, value}
@@ -52,7 +52,7 @@ some_tokens n m [] r d enough e = absurd (no_value (sym (no_tokens m) ∙ e))
     no_value e = absurd (cc)
 some_tokens n m (t ∷ ts) r d enough e = omega arith
 
--- what nests in a list or an object has a level less
+-- a value in a list or an object has one level less
 a_level : (fs : List Frame) → max_depth - length fs - 1 ≡ max_depth - suc (length fs)
 a_level fs = omega arith
 

@@ -1,4 +1,4 @@
--- What is due after a value that no list holds.
+-- What is due after a value that isn't in a list.
 use Rattle.std.proofs.Common.{◌≡◌, ℕ, ◌-◌, ◌<◌, ◌≤◌, List, [], ◌∷◌, ◌++◌, length, false, Option, Some, None, sym, ap, subst, ◌∙◌, arith}
 use Rattle.std.proofs.lemmas.List.{length-append}
 use Rattle.std.specs.Borrow.{Bor}
@@ -75,7 +75,7 @@ member_goes_on said laid now ts rest k m named rows_are open_are flag_is =
       enough = (omega (arith, fewer, m.enough), enough_fewer m.around (length ts) (length rest) (omega (arith, fewer)) m.more);
     }
 
--- the object ends, and is a value itself
+-- the object ends, and is itself a value
 pub member_was_last : (said : Option (Data × List Token)) (laid now : Laid) (ts rest : List Token) → Member said laid ts → read_key ts ≡ Some (None, rest) → laid.in_list ≡ false
     → ((fs : List Frame) (found : Members) → InObject (IsLaid fs) found laid.rows.items laid.begun.items → laid.in_list ≡ false
     → HasValue fs now.rows.items now.begun.items (object found) × (now.in_list ≡ is_in_list fs)) → HasEnded said now rest

@@ -24,7 +24,7 @@ pub any_is : (key : List ℕ) (ks : List (Bor (List ℕ))) → list_any (λ k. b
 any_is key [] = refl
 any_is key (k ∷ ks) = ap (λ (r : Bool). bytes_eq k.now key || r) (any_is key ks)
 
--- ---- the keys of members that are put one after another
+-- ---- the keys of members that are added in order
 
 turned : (a b c : Bool) → (a && (b && c)) ≡ ((b && a) && c)
 turned a b c = sym (and_assoc a b c) ∙ ap (λ (t : Bool). t && c) (and_comm a b)
@@ -42,7 +42,7 @@ put_one keys k d (member l e ms) = by_order (put_one keys k d ms) (slice_cmp nat
         sym (and_self_left (is_one_of keys l) (has_no_others keys ms)) ∙ ap (λ n. is_one_of keys n && (is_one_of keys l && has_no_others keys ms)) (sym same)
     by_order h Greater is = ap (λ (r : Bool). is_one_of keys l && r) h ∙ turned (is_one_of keys l) (is_one_of keys k) (has_no_others keys ms) ∙ and_assoc (is_one_of keys k) (is_one_of keys l) (has_no_others keys ms)
 
--- a key that isn't among them stays
+-- a key that isn't among them remains
 pub others_stay : (keys : List (List ℕ)) (n : ℕ) (rs : List Row) (found : Members) → has_no_others keys found ≡ false → has_no_others keys (members_in n rs found) ≡ false
 unfolding members_in
 others_stay keys zero rs found e = e

@@ -1,4 +1,4 @@
--- Rows that are laid one after the other: of a value, of the items of a list, of the members of an object.
+-- Rows that are laid in order: of a value, of the items of a list, of the members of an object.
 use Rattle.std.proofs.Common.{◌≡◌, ℕ, suc, ◌+◌, ◌*◌, ◌<◌, ◌≤◌, List, [], ◌∷◌, ◌++◌, length, take, drop, Bool, Some, None, option_map, refl, sym, ap, subst, ◌∙◌, arith, append_assoc}
 use Rattle.std.proofs.lemmas.List.{append-nil, length-append}
 use Rattle.std.proofs.Math.ListN.{set}
@@ -52,12 +52,12 @@ one_member_laid rs run k found d are is = record {
       ∙ ap (λ e. members_of more (put k.now e found)) is.says;
 }
 
--- ---- a list and an object that are ended
+-- ---- a list and an object that end
 
 all_of : (r : Row) (rs : List Row) → count_at r ≡ length (r ∷ rs) → (more : List Row) → front (r ∷ rs ++ more) ≡ length (r ∷ rs)
 all_of r rs count more = omega (arith, count, length-append rs more)
 
--- a row that has the count of them all, before the rows of what is in it
+-- a row with the number of all, before the rows of its contents
 counted_run : (r : Row) (rs : List Row) (d : Data) → count_at r ≡ length rs + 1 → data_in (suc (2 * length rs + 1)) (r ∷ rs) ≡ d → IsRun (r ∷ rs) d
 counted_run r rs d count says =
     let double : 2 * length (r ∷ rs) ≡ suc (2 * length rs + 1) = omega arith in
@@ -75,7 +75,7 @@ object_laid rs found are =
     counted_run (rows.Object (length rs + 1)) rs (object found) refl
     (ap object (ap (λ l. members_of l no_members) (sym (append-nil rs)) ∙ are.first [] ∙ no_member_left [] found refl))
 
--- ---- a value that was laid within open ones
+-- ---- a value within open ones
 
 pub value_in_list : (n : ℕ) (done : List Data) (fs : List Frame) (rs : List Row) (starts : List ℕ) (d : Data) → HasValue (in_list n done ∷ fs) rs starts d
     → InList (IsLaid fs) (done ++ d ∷ []) rs starts
@@ -174,11 +174,11 @@ pub object_closed : (fs : List Frame) (found : Members) (rs : List Row) (starts 
     → HasValue fs (l.below ++ rows.Object (length l.own + 1) ∷ l.own) l.places (object found)
 object_closed fs found rs starts l = run_laid fs l.below (rows.Object (length l.own + 1) ∷ l.own) l.places (object found) l.laid (object_laid l.own found l.inside)
 
--- the count is put where a list or an object began
+-- the count is put where the list or object began
 pub ended : (below own : List Row) (r s : Row) → set (below ++ r ∷ own) (length below) s ≡ below ++ s ∷ own
 ended below own r s = set-append_seam below r own s
 
--- any other token is no value where nothing may nest
+-- any other token is no value where no more levels are allowed
 pub no_row : (k : TokenRead) → ((s : Bor (List ℕ)) → k ≡ reads.String s → ⊥) → ((s : Bor (List ℕ)) → k ≡ reads.Number s → ⊥) → ((b : Bool) → k ≡ reads.Bool b → ⊥) → (k ≡ reads.Null → ⊥)
     → (ts : List Token) → converted of_json (value 0 (token_of k ∷ ts)) ≡ None
 no_row reads.BeginObject s n b u ts = ap (converted of_json) (value_is 0 (token_of reads.BeginObject ∷ ts))
@@ -192,7 +192,7 @@ no_row (reads.Bool k) s n b u ts = absurd (b k refl)
 no_row reads.Null s n b u ts = absurd (u refl)
 no_row reads.Bad s n b u ts = ap (converted of_json) (value_is 0 (token_of reads.Bad ∷ ts))
 
--- ---- what is open began at a row that is there
+-- ---- the open ones began at existing rows
 
 pub below_more : (ss : List ℕ) (m n : ℕ) → m ≤ n → AreBelow ss m → AreBelow ss n
 below_more [] m n le are = tt

@@ -1,4 +1,4 @@
--- Lists of what items say.
+-- Lists of answers of items.
 use Rattle.std.proofs.Common.{◌≡◌, ℕ, ◌+◌, List, [], ◌∷◌, ◌++◌, map, refl, ap, sym, subst, ◌∙◌, decimal, append_assoc}
 use Rattle.std.proofs.lemmas.List.{append-nil, map-append}
 use Rattle.serde_json.specs.Data.{Data, Items, no_items, item}
@@ -6,7 +6,7 @@ use Rattle.vms_json.specs.declared.fault.Fault.{Fault}
 use Rattle.vms_json.specs.declared.fault.Fault.TheVariants as faults
 use Rattle.vms_json.specs.Answers.{Answer, good, bad, under, next, changed, each_from, Refuses, IsUnder}
 
--- what items before said, put before what the others say
+-- the answers of earlier items before those of the others
 abbrev pub before : {A : Type 0} → List A → Answer (List A) → Answer (List A)
 before done answer = changed (λ rest. done ++ rest) answer
 

@@ -14,7 +14,7 @@ use Rattle.vms_json.specs.Index.{at_name, text_or_none, names_of, first_of}
 
 -- ---- one more at the end
 
--- the first of so many, or one more, where the first q fail
+-- the first number below n, or one more, if the first q fail
 one_more : (n q : ℕ) (b : Bool) → q ≤ n
     → cond (ltb (cond (eqb q n) (n + cond b 0 1) q) (n + 1)) (Some (cond (eqb q n) (n + cond b 0 1) q)) None
     ≡ or_else (cond (ltb q n) (Some q) None) (if b then Some n else None)
@@ -49,7 +49,7 @@ position_push p xs y =
 
 -- ---- the names of fields
 
--- one name more
+-- one more name
 pub one_named : (before : List (List ℕ)) (name q : List ℕ) (i : ℕ) → length before ≡ i → first_of (before ++ name ∷ []) q ≡ or_else (first_of before q) (at_name name i q)
 one_named before name q i long = position_push (λ n. bytes_eq n q) before name ∙ ap (λ (k : ℕ). or_else (first_of before q) (at_name name k q)) long
 
@@ -71,7 +71,7 @@ by_name : (same : Bool) (number : ℕ) (old : Option ℕ) → (same ≡ true →
 by_name true number old none = ap (λ o. or_else o (Some number)) (sym (none refl))
 by_name false number old none = sym (or_else_none old)
 
--- a name that wasn't there
+-- a name that wasn't in the index
 pub put_one : (name q : List ℕ) (number : ℕ) (old : List ℕ → Option ℕ) (new : Option ℕ) → old name ≡ None → new ≡ cond (bytes_eq name q) (Some number) (old q)
     → new ≡ or_else (old q) (if bytes_eq name q then Some number else None)
 put_one name q number old new none is =

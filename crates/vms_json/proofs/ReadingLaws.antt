@@ -1,4 +1,5 @@
--- The grammar's loops, a turn at a time, under the conversion to data: as the port of serde_json has them for its own reader.
+-- The grammar's loops, one turn at a time, under the conversion to data, as the port of serde_json
+-- has them for its own reader.
 use Rattle.std.proofs.Common.{◌≡◌, ℕ, zero, suc, ◌-◌, ◌<◌, ◌≤◌, List, [], ◌∷◌, length, Option, Some, None, option_map, option_and_then, refl, ap, ◌∙◌}
 use Rattle.json.specs.Token.{Token}
 use Rattle.json.specs.Json as json

@@ -1,4 +1,4 @@
--- Rows, looked at as far as is enough.
+-- The value of rows, with a bound that is large enough.
 use Rattle.std.proofs.Common.{◌≡◌, Bool, true, false, cond, if◌then◌else◌, Option, Some, None, ℕ, zero, suc, ◌+◌, ◌*◌, ◌<◌, ◌≤◌, List, [], ◌∷◌, length, take, drop, refl, sym, ap, ap₂, subst, ◌∙◌, arith, length-take, length-drop}
 use Rattle.std.specs.Borrow.{Bor}
 use Rattle.serde_json.specs.Data.{Data, null, array, object, Members, no_members, put, no_items, item}
@@ -92,7 +92,7 @@ a_member_left rs inside first rest k found is a b =
     ∙ members_enough n (2 * length rest + 1) (drop (front inside) inside) _ (omega (arith, dropped_few inside)) (omega (arith, ap length b))
     ∙ ap (λ l. members_in (2 * length rest + 1) l (put k.now (rows_view first) found)) (sym b)
 
--- what isn't a member ends them
+-- a row that isn't a key ends the members
 pub no_member_at : (rs inside : List Row) (r : Row) (found : Members) → rs ≡ r ∷ inside → key_at r ≡ None → members_in (2 * length rs + 1) rs found ≡ found
 unfolding members_in
 no_member_at rs inside r found is none =
@@ -134,7 +134,7 @@ unfolding data_in
 none_in f [] none is = is
 none_in f (r ∷ rs) none is = let never : ⊥ = omega arith in absurd never
 
--- what a value says, by its first row and those after it
+-- the value by its first row and those after it
 pub record SaysAt (r : Row) (rs : List Row) (d : Data) : Type 0 where
   pub number : as_number d ≡ number_at r
   pub text : as_str d ≡ text_at r
@@ -158,7 +158,7 @@ says_at r rs = subst (λ n. SaysAt r rs (data_in n (r ∷ rs))) (sym (two_more r
 pub says : (rs inside : List Row) (r : Row) → rs ≡ r ∷ inside → SaysAt r inside (rows_view rs)
 says rs inside r is = subst (λ l. SaysAt r inside (rows_view l)) (sym is) (says_at r inside)
 
--- ---- what stands under a key
+-- ---- the value under a key
 
 pub put_found : (b : Bool) (q k : List ℕ) (d : Data) (ms : Members) → bytes_eq k q ≡ b → get_member q (put k d ms) ≡ cond b (Some d) (get_member q ms)
 put_found true q k d ms e =

@@ -1,4 +1,4 @@
--- The value of bytes that are a text or aren't.
+-- The value of bytes, whether or not they are UTF-8.
 use Rattle.std.proofs.Common.{◌≡◌, ℕ, List, Bool, true, false, if◌then◌else◌, Some, None, Result, Ok, Err, IfOk, IsUtf8, refl, sym, ap, ◌∙◌}
 use Rattle.std.specs.Str.{is_utf8}
 use Rattle.std.proofs.lemmas.Str.{IsUtf8-from_is_utf8, is_utf8-from_IsUtf8}
@@ -19,7 +19,7 @@ no_value_if text false e no_read = refl
 pub has_none : (text : List ℕ) → (IsUtf8 text → read text ≡ None) → value_in text ≡ None
 has_none text no_read = no_value_if text (is_utf8 text) refl no_read
 
--- ---- what is read of a text
+-- ---- the result of reading a text
 
 pub if_read : (bytes text : List ℕ) → text ≡ bytes → IsUtf8 bytes → (r : Result Tree NoNode) → IfOk r (λ v. read text ≡ Some (tree_view v)) → IfOk r (λ v. value_in bytes ≡ Some (tree_view v))
 if_read bytes text same utf8 (Ok v) e = has_value bytes (tree_view v) utf8 (ap read (sym same) ∙ e)

@@ -1,4 +1,4 @@
--- What a whole text says, before its first token and where it says nothing.
+-- What a whole text says: before its first token, and if it says nothing.
 use Rattle.std.proofs.Common.{◌≡◌, List, [], ℕ, false, Option, Some, None, option_and_then, refl, sym, ap, ◌∙◌}
 use Rattle.json.specs.Token.{Token}
 use Rattle.json.specs.Json.{value}
@@ -17,7 +17,7 @@ same_after : (o : Option (Data × List Token)) → o ≡ option_and_then (λ p. 
 same_after None = refl
 same_after (Some p) = refl
 
--- before the first token nothing is laid
+-- before the first token no row is laid
 pub whole_due : (text : List ℕ) (laid : Laid) (ts : List Token) → ts ≡ tokens text → laid.rows.items ≡ [] → laid.begun.items ≡ [] → laid.in_list ≡ false → IsUnder (said_by text) laid ts
 whole_due text laid ts all no_rows none_open outside = record {
   frames = [];

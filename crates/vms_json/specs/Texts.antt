@@ -4,6 +4,6 @@ use Rattle.std.specs.Str.{is_utf8}
 use Rattle.serde_json.specs.Data.{Data}
 use Rattle.serde_json.specs.Read.{read}
 
--- the value of a text, which is none where its bytes are no text
+-- the JSON value of bytes, or none if they aren't UTF-8
 abbrev pub value_in : List ℕ → Option Data
 value_in text = if is_utf8 text then read text else None

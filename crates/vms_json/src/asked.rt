@@ -1,4 +1,4 @@
-// Whether names of fields are asked.
+// Whether a walk looks up names of fields.
 ghost use Rattle.std.specs.Prelude.{◌≡◌, ◌&&◌, ◌||◌, codes, option_and_then};
 ghost use Rattle.std.specs.List.{list_any};
 ghost use Rattle.serde_json.specs.Find.{get, as_array};
@@ -9,8 +9,10 @@ ghost use Rattle.vms_json.specs.Asked.{asks_a_name, some_ask, asks_in, asks_name
 use crate::keys::has;
 use crate::node::{Items, Node};
 
-/// Whether a walk that looks names up may ask one of a description: in a validation, in a
-/// subsection, or in a test or a count of a field. Where `asks` is false it asks nothing.
+/// Returns whether a walk that looks up names finds one in the description `value`: in a
+/// validation, a subsection, or a test or a count of a field.
+///
+/// If `asks` is false, the walk looks up no names and the answer is false.
 pub fn is_asked(asks: bool, value: &Node) -> bool
     ensures { result ≡ (asks && asks_names (view value.now)) }
 {

@@ -9,7 +9,12 @@ use json::Scratch;
 use std::alloc::Global;
 use std::str;
 
-/// The value of bytes. Where they are no text, they have none. Texts with escapes are put into `scratch`.
+/// Reads the JSON value of `bytes`. Texts with escapes are stored in `scratch`.
+///
+/// # Errors
+///
+/// - [`NoNode::Syntax`]: `bytes` isn't UTF-8 or no JSON value.
+/// - [`NoNode::NoMemory`]: out of memory.
 pub fn read_bytes<'a>(
     alloc: Global,
     bytes: &'a [u8],

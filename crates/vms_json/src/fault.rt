@@ -1,4 +1,4 @@
-// Faults, and where they are.
+// Faults, and their paths.
 ghost use Rattle.std.specs.Prelude.{◌≡◌, [], IfOk, decimal};
 ghost use Rattle.vms_json.specs.Answers.{joined, IsUnder};
 ghost use Rattle.vms_json.specs.declared.fault.Fault.TheVariants as faults;
@@ -6,12 +6,13 @@ ghost use Rattle.vms_json.specs.declared.fault.Fault.TheVariants as faults;
 use std::alloc::{AllocError, AllocFailed, Global};
 use vms_parts::Text;
 
-/// Why a part of a file isn't read.
+/// A reason why a part of a file can't be read.
 #[derive(Drop)]
 pub enum Fault {
-    /// The first fault is at this path, which goes from the part on.
+    /// The first fault is at this path, which begins at the part. It is empty if the part itself is
+    /// invalid.
     Shape(Text),
-    /// Memory is wanting.
+    /// Out of memory.
     NoMemory,
 }
 
@@ -32,14 +33,20 @@ impl<T: Drop> From<AllocFailed<T>> for Fault {
 }
 
 impl Fault {
-    /// At the part itself.
+    /// Returns the fault of a part that is invalid itself.
+    ///
+    /// Its path is empty.
     pub fn here(alloc: Global) -> Fault
         ensures { result ≡ faults.Shape [] }
     {
         Fault::Shape(Text::new(String::new(alloc)))
     }
 
-    /// The fault of a member or an item, as one of the whole.
+    /// Returns the fault of the member `key` as a fault of the whole.
+    ///
+    /// Its path is `key`, followed by a dot and the path if that isn't empty.
+    ///
+    /// If memory runs out, it is [`NoMemory`](Fault::NoMemory).
     pub fn under(self, alloc: Global, key: &str) -> Fault
         ensures { IsUnder key.now self result }
     {
@@ -52,7 +59,7 @@ impl Fault {
         }
     }
 
-    // The fault of the item of a position.
+    // Returns the fault of the item at `position` as a fault of the list.
     pub(crate) fn under_item(self, alloc: Global, position: usize) -> Fault
         ensures { IsUnder (decimal position) self result }
     {

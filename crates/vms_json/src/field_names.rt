@@ -1,4 +1,4 @@
-// The names of a description's fields, which tests and counts give.
+// The names of a description's fields, which tests and counts refer to.
 ghost use Rattle.std.specs.Prelude.{◌≡◌, List, ℕ, Some, Option, IfOk, OnOk, codes, option_and_then};
 ghost use Rattle.vms_spec.specs.Lists.{or_else};
 ghost use Rattle.serde_json.specs.Find.{get, as_str};
@@ -9,14 +9,18 @@ use crate::node::{Items, Node};
 use std::alloc::{AllocError, Global};
 use std::collections::BTreeMap;
 
-/// The number of the first field of each name.
+/// An index of a description's fields: for each name the number of the first field that has it.
 #[derive(Drop)]
 pub struct FieldNames {
     first: BTreeMap<String, usize>,
 }
 
 impl FieldNames {
-    /// Of the fields of a description.
+    /// Returns the index of the fields of the description `value`.
+    ///
+    /// # Errors
+    ///
+    /// - [`AllocError`]: out of memory.
     pub fn of(alloc: Global, value: &Node) -> Result<FieldNames, AllocError>
         ensures { IfOk result (λ names. numbers names ≡ first_of (names_in (view value.now))) }
     {
@@ -24,7 +28,7 @@ impl FieldNames {
         Ok(FieldNames { first })
     }
 
-    /// The number of the first field of this name.
+    /// Returns the number of the first field with this `name`, or `None` if there is none.
     pub fn find(&self, name: &str) -> Option<usize>
         ensures { result ≡ numbers self.now name.now }
     {
@@ -53,7 +57,7 @@ fn index_of(alloc: Global, mut fields: Items) -> Result<BTreeMap<String, usize>,
     Ok(first)
 }
 
-// A name that stands at this number, if it doesn't stand before.
+// Adds a name with its number, unless the name is there.
 fn put_first(
     alloc: Global,
     first: &mut BTreeMap<String, usize>,

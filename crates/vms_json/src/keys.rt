@@ -8,8 +8,8 @@ ghost use Rattle.vms_json.specs.Keys.{has, has_all, fits, has_no_others};
 
 use crate::node::{Members, Node, is_key};
 
-/// Whether a value is an object with each of the first keys, and no others than those and the
-/// second.
+/// Returns whether `value` is an object that has each of the keys `needed`, and no others but those
+/// and the keys `allowed`.
 pub fn fits(value: &Node, needed: &[&str], allowed: &[&str]) -> bool
     ensures { result
         ≡ fits (map (λ k. k.now) needed.now) (map (λ k. k.now) allowed.now) (view value.now) }
@@ -20,7 +20,7 @@ pub fn fits(value: &Node, needed: &[&str], allowed: &[&str]) -> bool
     }
 }
 
-/// Whether a member has this key.
+/// Returns whether `value` is an object with a member `key`.
 pub fn has(value: &Node, key: &str) -> bool
     ensures { result ≡ has key.now (view value.now) }
 {
@@ -52,7 +52,7 @@ fn is_one_of(keys: &[&str], key: &str) -> bool
     is_among(keys, key)
 }
 
-// Whether the members have no other keys than these.
+// Returns whether the members have no other keys than these.
 fn has_no_others(mut members: Members, needed: &[&str], allowed: &[&str]) -> bool
     ensures { result
         ≡ has_no_others (map (λ k. k.now) needed.now ++ map (λ k. k.now) allowed.now)

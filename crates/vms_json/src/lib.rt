@@ -1,6 +1,8 @@
-//! JSON texts, read as trees over their text; what is looked up in them: the keys of objects, what stands
-//! under one, the fields of descriptions by their names; and what values say: numbers, texts, names of
-//! fields, lists and the members of objects, or the path of the first fault.
+//! JSON texts, read as trees over their text.
+//!
+//! The crate looks up members by their keys and fields by their names. It reads what values say:
+//! numbers, texts, names of fields, lists and the members of objects, or the path of the first
+//! fault.
 #![tactic(auto)]
 
 mod asked;

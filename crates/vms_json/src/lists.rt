@@ -14,7 +14,7 @@ use vms_parts::Listed;
 // No list of a well-formed set is longer.
 const LONGEST: usize = 256;
 
-/// A list whose items are read so.
+/// A reader of lists, whose items the inner reader reads.
 #[derive(Clone, Copy)]
 pub struct ListOf<R>(pub R);
 
@@ -38,7 +38,7 @@ where
     }
 }
 
-// What all items say.
+// Reads all items.
 fn read_each<R: Reads>(alloc: Global, reader: &R, mut items: Items) -> Result<Vec<R::Out>, Fault>
 where
     R::Out: Drop,
@@ -57,7 +57,7 @@ where
     Ok(list)
 }
 
-// How many items there are, where they are no more than the longest list has.
+// Returns the number of items, or 256 if there are more.
 fn room_for(mut items: Items) -> usize
     ensures { result ≡ min (items_len (items_left items.entry)) 256 }
 {

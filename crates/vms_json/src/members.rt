@@ -9,7 +9,12 @@ use crate::fault::Fault;
 use crate::words::Reads;
 use std::alloc::Global;
 
-/// What a member of this key says.
+/// Reads `member`, which is the member `key` of an object.
+///
+/// # Errors
+///
+/// - [`Fault::Shape`]: the member is invalid. The path begins with `key`.
+/// - [`Fault::NoMemory`]: out of memory.
 #[inline(always)]
 pub fn said<R: Reads>(alloc: Global, reader: &R, key: &str, member: &Node) -> Result<R::Out, Fault>
     ensures { Answers R.means (under key.now (R.says reader.now (view member.now))) result }
@@ -20,7 +25,13 @@ pub fn said<R: Reads>(alloc: Global, reader: &R, key: &str, member: &Node) -> Re
     }
 }
 
-/// What the member of a key says.
+/// Reads the member `key` of `value`.
+///
+/// # Errors
+///
+/// - [`Fault::Shape`]: there is no such member, and the path is empty; or the member is invalid,
+///   and the path begins with `key`.
+/// - [`Fault::NoMemory`]: out of memory.
 #[inline(always)]
 pub fn at<R: Reads>(alloc: Global, reader: &R, key: &str, value: &Node) -> Result<R::Out, Fault>
     ensures { Answers R.means (at (R.says reader.now) key.now (view value.now)) result }
@@ -31,7 +42,12 @@ pub fn at<R: Reads>(alloc: Global, reader: &R, key: &str, value: &Node) -> Resul
     }
 }
 
-/// What the member of a key says, or the default where there is none.
+/// Reads the member `key` of `value`, or returns `default` if there is none.
+///
+/// # Errors
+///
+/// - [`Fault::Shape`]: the member is invalid. The path begins with `key`.
+/// - [`Fault::NoMemory`]: out of memory.
 pub fn at_or<R: Reads>(
     alloc: Global,
     reader: &R,
@@ -50,7 +66,12 @@ where
     }
 }
 
-/// What the member of a key says, where there is one.
+/// Reads the member `key` of `value`, or returns `None` if there is none.
+///
+/// # Errors
+///
+/// - [`Fault::Shape`]: the member is invalid. The path begins with `key`.
+/// - [`Fault::NoMemory`]: out of memory.
 #[inline(always)]
 pub fn maybe_at<R: Reads>(
     alloc: Global,

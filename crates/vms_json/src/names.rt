@@ -8,19 +8,21 @@ use crate::words::Reads;
 use crate::{FieldNames, Node};
 use std::alloc::Global;
 
-/// Where names are looked up: nowhere in the first walk, in which each name stands for the field 0.
+/// The index in which names are looked up, or `None` in a first walk, in which each name has the
+/// number 0.
 pub type Names<'a> = Option<&'a FieldNames>;
 
-/// The fields that a test may name: the description's own, and in a needed test the device's.
+/// The fields that a test may name: those of its own description, and in a needed test also the
+/// device's.
 #[derive(Clone, Copy)]
 pub struct Scope<'a> {
-    /// Of the description.
+    /// The fields of the test's own description.
     pub own: Names<'a>,
-    /// Of the device, where the test is a needed one.
+    /// The fields of the device, if the test is a needed test.
     pub parent: Option<Names<'a>>,
 }
 
-// The number that a name stands for.
+// Returns the number of a field by its name.
 fn number_in(alloc: Global, names: Names, name: &str) -> Result<u32, Fault>
     ensures { Answers (λ n. n) (number_in (names_seen names.entry) name.now) result }
 {
@@ -33,7 +35,7 @@ fn number_in(alloc: Global, names: Names, name: &str) -> Result<u32, Fault>
     }
 }
 
-/// The name of a field, which stands for its number.
+/// A reader of a field's name, which gives the field's number.
 #[derive(Clone, Copy)]
 pub struct NameIn<'a>(pub Names<'a>);
 

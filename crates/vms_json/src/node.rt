@@ -10,21 +10,30 @@ ghost use Rattle.vms_json.specs.Nodes.{count_at, flag_at, is_list, is_object, ke
 
 use serde_json::Number;
 
-/// A row of a tree. A list and an object stand before the rows of what is in them, and have the count of all these
-/// with their own; a member's key stands before the rows of its value.
+/// A row of a tree.
+///
+/// The rows of a list's items follow the list's row, and so do those of an object's members. A
+/// member's key comes before the rows of its value.
 #[derive(Clone, Copy, Drop)]
 pub enum Row<'a> {
+    /// The value `null`.
     Null,
+    /// A bool.
     Bool(bool),
+    /// A number.
     Number(Number),
+    /// A text.
     Text(&'a str),
+    /// The key of a member.
     Key(&'a str),
+    /// A list, with the number of its rows, its own included.
     List(usize),
+    /// An object, with the number of its rows, its own included.
     Object(usize),
 }
 
 impl<'a> Row<'a> {
-    // How many rows begin with it.
+    // Returns the number of rows of the value that begins with this row.
     #[inline(always)]
     fn count(&self) -> usize
         ensures { result ≡ count_at self.now }
@@ -76,7 +85,7 @@ impl<'a> Row<'a> {
         matches!(self, Row::Object(_))
     }
 
-    // The key that it is.
+    // Returns the key, if the row is one.
     #[inline(always)]
     fn key(&self) -> Option<&'a str>
         ensures { result ≡ key_at self.now }
@@ -88,14 +97,14 @@ impl<'a> Row<'a> {
     }
 }
 
-/// The value of a JSON text, whose texts stand in the text that was read.
+/// The value of a JSON text. Its texts borrow from the text that was read, or from the scratch.
 #[derive(Drop)]
 pub struct Tree<'a> {
     pub(crate) rows: Vec<Row<'a>>,
 }
 
 impl<'a> Tree<'a> {
-    /// The whole value.
+    /// Returns the whole value.
     pub fn root(&self) -> Node<'_, 'a>
         ensures { view result ≡ tree_view self.now }
     {
@@ -105,15 +114,17 @@ impl<'a> Tree<'a> {
     }
 }
 
-/// A value of a tree. The members of an object are in the order of the text; of a key that comes twice
-/// the last counts.
+/// A value of a tree.
+///
+/// The members of an object are in the order of the text. If a key comes twice, the last one
+/// counts.
 #[derive(Clone, Copy, Drop)]
 pub struct Node<'t, 'a> {
     pub(crate) rows: &'t [Row<'a>],
 }
 
 impl<'t, 'a> Node<'t, 'a> {
-    /// Its number.
+    /// Returns the number, or `None` if the value is no number.
     pub fn as_number(self) -> Option<&'t Number>
         ensures { option_map (λ n. number_view n.now) result ≡ as_number (view self.entry) }
     {
@@ -123,7 +134,7 @@ impl<'t, 'a> Node<'t, 'a> {
         }
     }
 
-    /// Its number, where that is a whole one from 0 on, of 64 bits.
+    /// Returns the number as a `u64`, or `None` if the value is no whole number in that range.
     pub fn as_u64(self) -> Option<u64>
         ensures { result ≡ option_and_then as_u64 (as_number (view self.entry)) }
     {
@@ -133,7 +144,7 @@ impl<'t, 'a> Node<'t, 'a> {
         }
     }
 
-    /// Its text.
+    /// Returns the text, or `None` if the value is no text.
     pub fn as_str(self) -> Option<&'a str>
         ensures { option_map (λ s. s.now) result ≡ as_str (view self.entry) }
     {
@@ -143,7 +154,7 @@ impl<'t, 'a> Node<'t, 'a> {
         }
     }
 
-    /// Its flag.
+    /// Returns the bool, or `None` if the value is no bool.
     pub fn as_bool(self) -> Option<bool>
         ensures { result ≡ as_bool (view self.entry) }
     {
@@ -153,7 +164,7 @@ impl<'t, 'a> Node<'t, 'a> {
         }
     }
 
-    /// Its items.
+    /// Returns the items, or `None` if the value is no list.
     pub fn as_list(self) -> Option<Items<'t, 'a>>
         ensures { option_map items_left result ≡ as_array (view self.entry) }
     {
@@ -163,7 +174,7 @@ impl<'t, 'a> Node<'t, 'a> {
         }
     }
 
-    /// Its members, in the order of the text.
+    /// Returns the members in the order of the text, or `None` if the value is no object.
     pub fn as_members(self) -> Option<Members<'t, 'a>>
         ensures { option_map members_left result ≡ as_object (view self.entry) }
     {
@@ -173,7 +184,8 @@ impl<'t, 'a> Node<'t, 'a> {
         }
     }
 
-    /// The member of this key, where this is an object that has one.
+    /// Returns the member `key`, or `None` if the value is no object that has one. If the key comes
+    /// twice, it is the last.
     #[inline(always)]
     pub fn get(self, key: &str) -> Option<Node<'t, 'a>>
         ensures { option_map view result ≡ get key.now (view self.entry) }
@@ -185,14 +197,14 @@ impl<'t, 'a> Node<'t, 'a> {
     }
 }
 
-/// The items of a list that are left.
+/// The rest of a list's items.
 #[derive(Clone, Copy, Drop)]
 pub struct Items<'t, 'a> {
     rows: &'t [Row<'a>],
 }
 
 impl<'t, 'a> Items<'t, 'a> {
-    /// How many there are.
+    /// Returns the number of items.
     pub fn count(self) -> usize
         ensures { result ≡ items_len (items_left self.entry) }
     {
@@ -204,7 +216,7 @@ impl<'t, 'a> Items<'t, 'a> {
         count
     }
 
-    /// The next.
+    /// Returns the next item, or `None` if there is none.
     #[inline(always)]
     pub fn next(&mut self) -> Option<Node<'t, 'a>>
         ensures value { MatchOption result (items_left self.old ≡ no_items)
@@ -221,14 +233,14 @@ impl<'t, 'a> Items<'t, 'a> {
     }
 }
 
-/// The members of an object that are left.
+/// The rest of an object's members.
 #[derive(Clone, Copy, Drop)]
 pub struct Members<'t, 'a> {
     rows: &'t [Row<'a>],
 }
 
 impl<'t, 'a> Members<'t, 'a> {
-    /// The next, with its key.
+    /// Returns the next member with its key, or `None` if there is none.
     #[inline(always)]
     pub fn next(&mut self) -> Option<(&'a str, Node<'t, 'a>)>
         ensures value { (found : Data.Members)
@@ -267,7 +279,7 @@ fn cut<'t, 'a>(rows: &'t [Row<'a>]) -> Parted<'t, 'a>
     Parted { first, rest }
 }
 
-// How many rows the first value has.
+// Returns the number of rows of the first value.
 #[inline(always)]
 fn front(rows: &[Row]) -> usize
     ensures value { result ≡ front rows.now }
@@ -292,7 +304,7 @@ fn find<'t, 'a>(mut members: Members<'t, 'a>, key: &str) -> Option<Node<'t, 'a>>
     found
 }
 
-// Whether two keys are the same. Most differ in length.
+// Returns whether two keys are equal. Most differ in length.
 pub(crate) fn is_key(key: &str, other: &str) -> bool
     ensures { result ≡ bytes_eq key.now other.now }
 {

@@ -15,15 +15,15 @@ use crate::number::number_of;
 use json::{Invalid, Reader, Scratch, Token};
 use std::alloc::{AllocError, AllocFailed, Global};
 
-/// No value that is read nests deeper, as `serde_json` reads none that does.
+/// The greatest number of levels of lists and objects in a value. `serde_json` has the same limit.
 pub const DEEPEST: usize = 127;
 
-/// Why a text gives no tree.
+/// A reason why a text gives no tree.
 #[derive(Clone, Copy, Drop)]
 pub enum NoNode {
-    /// It is no JSON value.
+    /// The text is no JSON value.
     Syntax,
-    /// Memory is wanting.
+    /// Out of memory.
     NoMemory,
 }
 
@@ -57,7 +57,12 @@ impl<T: Drop> From<AllocFailed<T>> for NoNode {
     }
 }
 
-/// The value of a text. Texts with escapes are put into `scratch`.
+/// Reads the JSON value of `text`. Texts with escapes are stored in `scratch`.
+///
+/// # Errors
+///
+/// - [`NoNode::Syntax`]: `text` is no JSON value, or it has more than [`DEEPEST`] levels.
+/// - [`NoNode::NoMemory`]: out of memory.
 pub fn read_node<'a>(
     alloc: Global,
     text: &'a str,
@@ -66,7 +71,7 @@ pub fn read_node<'a>(
     ensures ok { IfOk result (λ v. read text.now ≡ Some (tree_view v)) }
     ensures err { result ≡ Err NoNode.Syntax → read text.now ≡ None }
 {
-    // The reader is a value of this one function, and is lent to none that isn't laid into it.
+    // The reader is a local of this function, which passes it only to inlined functions.
     let mut reader = Reader::new(text, scratch)?;
     let mut laid = Laid {
         rows: Vec::new(alloc),
@@ -87,7 +92,7 @@ pub fn read_node<'a>(
     Ok(Tree { rows: laid.rows })
 }
 
-// Lays what a token is where the next is due. Whether a value ends with it.
+// Lays the rows of a token where the next value is due. Returns whether a value ends with it.
 #[inline(always)]
 fn lay<'a>(token: Token<'a>, reader: &mut Reader<'a>, laid: &mut Laid<'a>) -> Result<bool, NoNode>
     requires { AreBelow laid.old.begun.items (length laid.old.rows.items) }
@@ -124,7 +129,8 @@ fn lay<'a>(token: Token<'a>, reader: &mut Reader<'a>, laid: &mut Laid<'a>) -> Re
     }
 }
 
-// After the brace that opens an object: its first key, or its end. Whether it ends.
+// Reads what follows an opening brace: the first key, or the end of the object. Returns whether it
+// ends.
 #[inline(always)]
 fn begin_object<'a>(reader: &mut Reader<'a>, laid: &mut Laid<'a>) -> Result<bool, NoNode>
     ensures ok { (said : Option (Data × List TokenRead))
@@ -153,7 +159,8 @@ fn begin_object<'a>(reader: &mut Reader<'a>, laid: &mut Laid<'a>) -> Result<bool
     }
 }
 
-// After a value: the next key of an object, or the ends of objects. Whether the value is the whole.
+// Reads what follows a value: the next key of an object, or the ends of objects. Returns whether
+// the value is the whole.
 #[inline(always)]
 fn go_on<'a>(reader: &mut Reader<'a>, laid: &mut Laid<'a>) -> Result<bool, NoNode>
     requires { AreBelow laid.old.begun.items (length laid.old.rows.items) }
@@ -179,7 +186,7 @@ fn go_on<'a>(reader: &mut Reader<'a>, laid: &mut Laid<'a>) -> Result<bool, NoNod
     Ok(false)
 }
 
-// The row of a token that is a value.
+// Returns the row of a token that is a value.
 #[inline(always)]
 fn row_of<'a>(token: Token<'a>) -> Result<Row<'a>, NoNode>
     ensures ok { IfOk result (λ r. IsRowOf (token_of token.entry) r) }
@@ -198,7 +205,8 @@ fn row_of<'a>(token: Token<'a>) -> Result<Row<'a>, NoNode>
     }
 }
 
-// The rows so far, where lists and objects that are open begin, and whether the innermost is a list.
+// The rows so far, the places where open lists and objects begin, and whether the innermost is a
+// list.
 #[derive(Drop)]
 struct Laid<'a> {
     rows: Vec<Row<'a>>,
@@ -220,7 +228,7 @@ impl<'a> Laid<'a> {
         Ok(())
     }
 
-    // Ends the innermost.
+    // Ends the innermost list or object.
     #[inline(always)]
     fn end(&mut self)
         requires { AreBelow self.old.begun.items (length self.old.rows.items) }
@@ -249,7 +257,7 @@ impl<'a> Laid<'a> {
         self.in_list = self.is_in_list();
     }
 
-    // Whether the innermost is a list, by its row.
+    // Returns whether the innermost is a list, by its row.
     #[inline(always)]
     fn is_in_list(&self) -> bool
         requires { AreBelow self.now.begun.items (length self.now.rows.items) }

@@ -1,4 +1,4 @@
-// What stands for one value: numbers, texts, kinds.
+// The readers of single values: numbers and texts.
 ghost use Rattle.std.specs.Prelude.{List, ℕ, ℤ};
 ghost use Rattle.serde_json.specs.Data.{Data};
 ghost use Rattle.vms_json.specs.Nodes.{view};
@@ -11,25 +11,30 @@ use serde_json::Number;
 use std::alloc::Global;
 use vms_parts::Text;
 
-/// What reads one value.
+/// A reader of one value.
 pub trait Reads {
-    /// What is read.
+    /// The type of what is read.
     type Out;
 
-    // As plain data.
+    // The same as plain data.
     ghost Meaning: { Type 0 };
 
     ghost means: { Self.Out → Meaning };
 
-    // What a value says.
+    // What a value says to this reader.
     ghost says: { Self → Data → Answer Meaning };
 
-    /// What a value says, or the first fault in it.
+    /// Reads `value`.
+    ///
+    /// # Errors
+    ///
+    /// - [`Fault::Shape`]: the value is invalid. The path leads to the first fault in it.
+    /// - [`Fault::NoMemory`]: out of memory.
     fn read(&self, alloc: Global, value: &Node) -> Result<Self::Out, Fault>
         ensures { Answers means (says self.now (view value.now)) result };
 }
 
-// A whole number from 0 on, up to the greatest that may be.
+// Reads a whole number from 0 to `most`.
 fn read_natural(alloc: Global, most: u64, value: &Node) -> Result<u64, Fault>
     ensures { Answers (λ n. n) (natural most (view value.now)) result }
 {
@@ -39,7 +44,7 @@ fn read_natural(alloc: Global, most: u64, value: &Node) -> Result<u64, Fault>
     }
 }
 
-/// A whole number from 0 on, of 32 bits.
+/// A reader of a whole number from 0 to 2^32 - 1.
 #[derive(Clone, Copy)]
 pub struct U32;
 
@@ -57,7 +62,7 @@ impl Reads for U32 {
     }
 }
 
-/// A text.
+/// A reader of a text.
 #[derive(Clone, Copy)]
 pub struct TextOf;
 
@@ -78,7 +83,7 @@ impl Reads for TextOf {
     }
 }
 
-/// A whole number from 0 on, of 16 bits.
+/// A reader of a whole number from 0 to 2^16 - 1.
 #[derive(Clone, Copy)]
 pub struct U16;
 
@@ -96,7 +101,7 @@ impl Reads for U16 {
     }
 }
 
-/// A whole number from 0 on, of 64 bits.
+/// A reader of a whole number from 0 to 2^64 - 1.
 #[derive(Clone, Copy)]
 pub struct U64;
 
@@ -114,7 +119,7 @@ impl Reads for U64 {
     }
 }
 
-/// A whole number of 64 bits, with a sign or without.
+/// A reader of a whole number of 64 bits, signed or unsigned.
 #[derive(Clone, Copy)]
 pub struct Integer;
 

@@ -1,4 +1,4 @@
--- The bytes of a head, of a configuration and of a footer say it again.
+-- Heads, a configuration and a footer can be read back from their bytes.
 use Rattle.std.proofs.Common.{◌≡◌, ℕ, ◌+◌, ◌<◌, ◌≤◌, ◌^◌, List, ◌∷◌, ◌++◌, length, take, drop, refl, sym, ap, ◌∙◌, arith, append_assoc, []}
 use Rattle.std.proofs.lemmas.List.{drop-drop}
 use Rattle.std.proofs.Math.Seq.{drop-append_seam}
@@ -22,7 +22,7 @@ take_front (x ∷ front) rest = ap (λ (l : List ℕ). x ∷ l) (take_front fron
 abbrev tail : Head → List ℕ → List ℕ
 tail head rest = be32 head.instance ++ (be32 head.version ++ rest)
 
--- the bytes of a head, one part after the other
+-- the bytes of a head, part by part
 parts : (head : Head) (rest : List ℕ) → head_bytes head ++ rest ≡ 0x04 ∷ (be32 head.id ++ (length head.name.items ∷ (head.name.items ++ tail head rest)))
 parts head rest =
     ap (λ (l : List ℕ). 0x04 ∷ (be32 head.id ++ (length head.name.items ∷ l)))
@@ -31,7 +31,7 @@ parts head rest =
 abbrev make : ℕ → List ℕ → ℕ → ℕ → Head
 make id name instance version = record { id = id; name = record { items = name }; instance = instance; version = version }
 
--- the head that is said by an id, a name with its length, and what follows
+-- the head with this id, this name, and the numbers after it
 said : (id : ℕ) (name more : List ℕ) (instance version : ℕ) (rest : List ℕ) → id < 2 ^ 32 → instance < 2 ^ 32 → version < 2 ^ 32
     → more ≡ be32 instance ++ (be32 version ++ rest)
     → head_in (0x04 ∷ (be32 id ++ (length name ∷ (name ++ more)))) ≡ make id name instance version

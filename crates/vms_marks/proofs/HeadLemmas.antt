@@ -1,4 +1,4 @@
--- The head that bytes say has these bytes.
+-- The bytes of the head that is read are those that were read.
 use Rattle.std.proofs.Common.{◌≡◌, ℕ, zero, suc, ◌+◌, ◌<◌, List, ◌∷◌, ◌++◌, length, get_or, take, drop, refl, sym, ap, subst, ◌∙◌, arith, length-drop, take-append-drop, append_assoc, []}
 use Rattle.std.proofs.lemmas.List.{drop-drop, length-take-le, get_or-drop}
 use Rattle.byteorder.specs.Endian.{big_number}
@@ -9,7 +9,7 @@ use Rattle.vms_kinds.specs.Bytes.{IsBytes}
 use Rattle.vms_spec.specs.Lookup.{number_at}
 use Rattle.vms_marks.specs.Heads.{head_bytes, head_in}
 
--- four bytes are those of the number in them
+-- four bytes are those of their number
 four : (a b c d : ℕ) (bytes : List ℕ) → a < 256 → b < 256 → c < 256 → d < 256 → be32 (big_number 4 (a ∷ b ∷ c ∷ d ∷ bytes)) ≡ a ∷ b ∷ c ∷ d ∷ []
 four a b c d bytes ha hb hc hd = again U32 (a ∷ b ∷ c ∷ d ∷ []) refl below
   where
@@ -20,7 +20,7 @@ four a b c d bytes ha hb hc hd = again U32 (a ∷ b ∷ c ∷ d ∷ []) refl bel
     below (suc (suc (suc zero))) = hd
     below (suc (suc (suc (suc i)))) = omega arith
 
--- eight bytes are those of the two numbers in them
+-- eight bytes are those of their two numbers
 eight : (front bytes : List ℕ) → length bytes ≡ 8 → IsBytes bytes → (front ++ be32 (big_number 4 bytes)) ++ be32 (big_number 4 (drop 4 bytes)) ≡ front ++ bytes
 eight front (a ∷ b ∷ c ∷ d ∷ e ∷ f ∷ g ∷ h ∷ []) long ok =
     ap (λ (l : List ℕ). (front ++ l) ++ be32 (big_number 4 (e ∷ f ∷ g ∷ h ∷ []))) (four a b c d (e ∷ f ∷ g ∷ h ∷ []) (ok 0) (ok 1) (ok 2) (ok 3))
@@ -28,7 +28,7 @@ eight front (a ∷ b ∷ c ∷ d ∷ e ∷ f ∷ g ∷ h ∷ []) long ok =
     ∙ append_assoc front (a ∷ b ∷ c ∷ d ∷ []) (e ∷ f ∷ g ∷ h ∷ [])
 eight front _ long ok = absurd (omega arith)
 
--- bytes of the right mark and length are those of the head that they say
+-- bytes of the right mark and length are those of the head that is read from them
 pub spells : (bytes : List ℕ) → IsBytes bytes → get_or bytes 0 0 ≡ 4 → length bytes ≡ 14 + get_or bytes 5 0 → head_bytes (head_in bytes) ≡ bytes
 spells (m ∷ a ∷ b ∷ c ∷ d ∷ n ∷ more) ok mark long =
     let r = m ∷ a ∷ b ∷ c ∷ d ∷ n ∷ more in

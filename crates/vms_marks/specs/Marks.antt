@@ -1,8 +1,10 @@
--- The marks that begin a unit of a stream, each with its byte.
+-- The marks that begin a unit of a stream, and their bytes (docs/format.md, "Units, offsets and
+-- refusals").
 use Rattle.std.specs.Prelude.{ℕ, ◌==◌, if◌then◌else◌, Option, Some, None}
 use Rattle.vms_marks.specs.declared.mark.Mark.{Mark}
 use Rattle.vms_marks.specs.declared.mark.Mark.TheVariants.{End, Start, Part, SectionEnd, Full, Sub, Description, Configuration, Command, Footer}
 
+-- the byte of a mark
 abbrev pub byte_of : Mark → ℕ
 byte_of End = 0x00
 byte_of Start = 0x01
@@ -15,7 +17,7 @@ byte_of Configuration = 0x07
 byte_of Command = 0x08
 byte_of Footer = 0x7e
 
--- the mark that a byte is, if it is one
+-- the mark whose byte this is, if there is one
 abbrev pub mark_of : ℕ → Option Mark
 mark_of byte =
     if byte == 0x00 then Some End

@@ -8,10 +8,10 @@ use arrayvec::ArrayVec;
 use byteorder::{BigEndian, ByteOrder};
 use vms_spec::LONGEST_NAME;
 
-/// A configuration begins with so many bytes: its mark, and the length of its name.
+/// The number of bytes of a configuration before its name: the mark and the length of the name.
 pub const CONFIGURATION_FRONT: usize = 5;
 
-/// The most bytes of a configuration: its mark, and the longest name with its length.
+/// The greatest number of bytes of a configuration.
 pub const LONGEST_CONFIGURATION: usize = CONFIGURATION_FRONT + LONGEST_NAME;
 
 /// The configuration of a stream.
@@ -24,7 +24,7 @@ pub struct Configuration {
 impl Configuration {
     ghost use Rattle.vms_marks.specs.Heads.{configuration_in};
 
-    /// The bytes of the configuration, from its mark to its name.
+    /// Returns the bytes of the configuration, from its mark to the end of its name.
     pub fn bytes(&self) -> ArrayVec<u8, LONGEST_CONFIGURATION>
         ensures { result.items ≡ configuration self.now.machine.items }
     {
@@ -35,8 +35,12 @@ impl Configuration {
         bytes
     }
 
-    /// How long the name is in a configuration that begins with these bytes. More than 255 bytes are no name
-    /// of a machine.
+    /// Returns the length of the name in a configuration that begins with `front`. No machine has a
+    /// name of more than 255 bytes.
+    ///
+    /// # Requires
+    ///
+    /// `front` has at least [`CONFIGURATION_FRONT`] bytes.
     pub fn name_length(front: &[u8]) -> u32
         requires { CONFIGURATION_FRONT ≤ length front.now }
         ensures { result ≡ number_at 4 1 front.now }
@@ -44,7 +48,12 @@ impl Configuration {
         BigEndian::read_u32(&front[1..])
     }
 
-    /// The configuration that these bytes, of the right length, say.
+    /// Returns the configuration with these `bytes`. The mark isn't checked.
+    ///
+    /// # Requires
+    ///
+    /// `bytes` has the length that follows from the length of the name, and at most
+    /// [`LONGEST_CONFIGURATION`] bytes.
     pub fn of(bytes: &[u8]) -> Configuration
         requires long { length bytes.now ≡ CONFIGURATION_FRONT + number_at 4 1 bytes.now }
         requires most { length bytes.now ≤ LONGEST_CONFIGURATION }

@@ -1,9 +1,10 @@
-// The description section, which stands behind the end mark.
+// The description section, which follows the end mark.
 
 use vms_spec::LONGEST_TEXT;
 
-/// A description section begins with so many bytes: its mark, and the length of its text.
+/// The number of bytes of a description section before its text: the mark and the length of the
+/// text.
 pub const DESCRIPTION_FRONT: usize = 5;
 
-/// The most bytes of a description section: its mark, and the longest text with its length.
+/// The greatest number of bytes of a description section.
 pub const LONGEST_DESCRIPTION: u64 = DESCRIPTION_FRONT as u64 + LONGEST_TEXT as u64;

@@ -5,27 +5,28 @@ ghost use Rattle.vms_spec.specs.Streams.{foot};
 use crate::{Mark, marked};
 use byteorder::{BigEndian, ByteOrder};
 
-/// A footer has so many bytes: its mark, and the id of the section's head.
+/// The number of bytes of a footer: its mark and the section id.
 pub const FOOT_LENGTH: usize = 5;
 
 /// The footer of a section.
 #[derive(Clone, Copy, Debug, PartialEq, Eq)]
 pub struct Foot {
-    /// The id of the section's head.
+    /// The section id, which is that of the section's head.
     pub id: u32,
 }
 
 impl Foot {
     ghost use Rattle.vms_marks.specs.Heads.{foot_in};
 
-    /// The bytes of the footer: its mark and the id.
+    /// Returns the bytes of the footer: its mark and the id.
     pub fn bytes(&self) -> [u8; FOOT_LENGTH]
         ensures { result ≡ foot self.now.id }
     {
         marked(Mark::Footer, self.id)
     }
 
-    /// The footer whose bytes these are, or `None` exactly where the first byte is not the mark of a footer.
+    /// Returns the footer with these `bytes`, or `None` exactly if the first byte isn't the mark of
+    /// a footer.
     pub fn read(bytes: [u8; FOOT_LENGTH]) -> Option<Foot>
         ensures some { IfSome result (λ footer. foot footer.id ≡ bytes) }
         ensures none { IsNone result ↔ (slice_index bytes 0 ≢ 0x7e) }
@@ -36,7 +37,11 @@ impl Foot {
         Some(Foot::of(&bytes))
     }
 
-    /// The footer that these five bytes, of which the first is its mark, say.
+    /// Returns the footer with these `bytes`. The mark isn't checked.
+    ///
+    /// # Requires
+    ///
+    /// There are [`FOOT_LENGTH`] bytes.
     pub fn of(bytes: &[u8]) -> Foot
         requires { length bytes.now ≡ FOOT_LENGTH }
         ensures { result ≡ foot_in bytes.now }

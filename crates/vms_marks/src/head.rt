@@ -7,38 +7,39 @@ use arrayvec::ArrayVec;
 use byteorder::{BigEndian, ByteOrder};
 use vms_spec::LONGEST_NAME;
 
-/// A section's head begins with so many bytes: its mark, its id, and the length of its name.
+/// The number of bytes of a section head before its name: the mark, the section id, and the length
+/// of the name.
 pub const HEAD_FRONT: usize = 6;
 
-/// The most bytes of a head: its mark, three numbers, and the longest name with its length.
+/// The greatest number of bytes of a section head.
 pub const LONGEST_HEAD: usize = HEAD_FRONT + LONGEST_NAME + 8;
 
 /// The head of a section that is sent whole.
 #[derive(Clone, Debug, Drop, PartialEq, Eq)]
 pub struct Head {
-    /// The section's number in its stream; any number will do.
+    /// The section id, which is any number.
     pub id: u32,
     /// The name of the device's description.
     pub name: Name,
-    /// Which of the devices of this name.
+    /// The instance id, which distinguishes devices of one name.
     pub instance: u32,
     /// The version id of the fields that follow.
     pub version: u32,
 }
 
-/// Why bytes are no section head.
+/// A reason why bytes are no section head.
 #[derive(Clone, Copy, Debug, PartialEq, Eq)]
 pub enum HeadFault {
-    /// There is a first byte, and it is another mark than [`Mark::Full`].
+    /// There is a first byte, and it isn't [`Mark::Full`].
     WrongMark,
-    /// The bytes end early or go on behind the version.
+    /// The bytes end before the version, or go on after it.
     WrongLength,
 }
 
 impl Head {
     ghost use Rattle.vms_marks.specs.Heads.{head_bytes, head_in, HasWrongMark, HasWrongLength};
 
-    /// The bytes of the head, from its mark to its version.
+    /// Returns the bytes of the head, from its mark to its version.
     pub fn bytes(&self) -> ArrayVec<u8, LONGEST_HEAD>
         ensures { result.items ≡ section_head self.now.id self.now.name.items
             self.now.instance self.now.version }
@@ -53,7 +54,13 @@ impl Head {
         bytes
     }
 
-    /// The head whose bytes these are.
+    /// Returns the head with these `bytes`.
+    ///
+    /// # Errors
+    ///
+    /// - [`HeadFault::WrongMark`]: there is a first byte, and it isn't [`Mark::Full`].
+    /// - [`HeadFault::WrongLength`]: there are fewer bytes than [`HEAD_FRONT`], or not the number
+    ///   that the length of the name says.
     pub fn read(bytes: &[u8]) -> Result<Head, HeadFault>
         ensures spelled { IfOk result (λ head. head_bytes head ≡ bytes.now) }
         ensures value { IfOk result (λ head. head ≡ head_in bytes.now) }
@@ -72,7 +79,12 @@ impl Head {
         Ok(Head::of(bytes))
     }
 
-    /// How long the name is in a head that begins with these bytes; its instance id and version follow the name.
+    /// Returns the length of the name in a head that begins with `front`. The instance id and the
+    /// version follow the name.
+    ///
+    /// # Requires
+    ///
+    /// `front` has at least [`HEAD_FRONT`] bytes.
     pub fn name_length(front: &[u8]) -> usize
         requires { HEAD_FRONT ≤ length front.now }
         ensures { result ≡ slice_index front.now 5 }
@@ -80,7 +92,11 @@ impl Head {
         front[5] as usize
     }
 
-    /// The head that these bytes, of the right mark and length, say.
+    /// Returns the head with these `bytes`. The mark isn't checked.
+    ///
+    /// # Requires
+    ///
+    /// `bytes` has the length that follows from the length of the name.
     pub fn of(bytes: &[u8]) -> Head
         requires { length bytes.now ≡ 14 + slice_index bytes.now 5 }
         ensures { result ≡ head_in bytes.now }

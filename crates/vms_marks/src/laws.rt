@@ -1,32 +1,35 @@
-//! Each law is the contract of a function without a body. The statements stand in `specs/Laws.antt`.
+//! Laws of heads, configurations and footers. A law is the contract of a function without a body;
+//! `specs/Laws.antt` has the statements.
 ghost use Rattle.vms_marks.specs.Laws.{HeadLaw, SubHeadLaw, ConfigurationLaw, FootLaw, LengthsAre};
 
-/// The bytes of a head say that head again, whatever follows them.
+/// States that a section head can be read back from its bytes, whatever follows them.
 #[tactic(auto, using(crate::proofs::HeadBack::head_holds))]
 pub fn head_law()
     ensures { HeadLaw }
 {}
 
-/// The bytes of a subsection's head say that head again, whatever follows them.
+/// States that a subsection head can be read back from its bytes, whatever follows them.
 #[tactic(auto, using(crate::proofs::HeadBack::sub_head_holds))]
 pub fn sub_head_law()
     ensures { SubHeadLaw }
 {}
 
-/// The bytes of a configuration say that configuration again, whatever follows them.
+/// States that a configuration can be read back from its bytes, whatever follows them.
 #[tactic(auto, using(crate::proofs::HeadBack::configuration_holds))]
 pub fn configuration_law()
     ensures { ConfigurationLaw }
 {}
 
-/// The bytes of a footer say that footer again, whatever follows them.
+/// States that a footer can be read back from its bytes, whatever follows them.
 #[tactic(auto, using(crate::proofs::HeadBack::foot_holds))]
 pub fn foot_law()
     ensures { FootLaw }
 {}
 
-/// A configuration has at most 260 bytes, the head and the footer of a section together 274, the head of a subsection 261,
-/// and a description section 16,777,221.
+/// States the greatest lengths of the parts of a stream, in bytes.
+///
+/// A configuration has at most 260 bytes, a section's head and footer together 274, a subsection's
+/// head 261, and a description section 16,777,221.
 #[tactic(auto, using(crate::proofs::LengthLaws::lengths_are))]
 pub fn lengths_law()
     ensures { LengthsAre }

@@ -1,8 +1,8 @@
 //! The marks, heads and footers of a migration stream, each with its bytes.
 //!
-//! A stream begins with its head and may have a configuration behind it. A section begins with a head and ends
-//! with a footer that repeats its id; a subsection has a head of its own. All numbers stand in the stream with
-//! their highest byte first. The form is that of QEMU's `savevm`, version 3.
+//! A stream begins with its head, which a configuration may follow. A section begins with a head
+//! and ends with a footer that repeats its id. A subsection has a head of its own. All numbers in a
+//! stream are big-endian. The form is that of QEMU's `savevm`, version 3.
 #![tactic(auto)]
 
 mod configuration;

@@ -3,7 +3,7 @@ ghost use Rattle.std.specs.Prelude.{◌≡◌, ◌∷◌};
 ghost use Rattle.vms_spec.specs.Streams.{be32};
 ghost use Rattle.vms_marks.specs.Marks.{byte_of, mark_of};
 
-/// The byte that begins a unit of a stream, as QEMU's `QEMU_VM_..` constants.
+/// The first byte of a unit of a stream, as QEMU's constants `QEMU_VM_..` have it.
 #[derive(Clone, Copy, Debug, PartialEq, Eq)]
 pub enum Mark {
     /// The end of the sections.
@@ -14,11 +14,11 @@ pub enum Mark {
     Part = 0x02,
     /// The last part of such a section.
     SectionEnd = 0x03,
-    /// A section that is sent whole, as every device's.
+    /// A section that is sent whole, as every device's is.
     Full = 0x04,
     /// A subsection.
     Sub = 0x05,
-    /// The description of the stream, after its end.
+    /// The description of the stream, after its end mark.
     Description = 0x06,
     /// The configuration, which names the machine.
     Configuration = 0x07,
@@ -29,7 +29,7 @@ pub enum Mark {
 }
 
 impl Mark {
-    /// The mark that this byte is, or `None` exactly where it is none.
+    /// Returns the mark whose byte is `byte`, or `None` exactly if there is none.
     pub fn of(byte: u8) -> Option<Mark>
         ensures { result ≡ mark_of byte }
     {
@@ -48,7 +48,7 @@ impl Mark {
         })
     }
 
-    /// The byte of the mark.
+    /// Returns the byte of the mark.
     pub fn byte(self) -> u8
         ensures { result ≡ byte_of self }
     {
@@ -56,8 +56,10 @@ impl Mark {
     }
 }
 
-/// A mark and a number, as a footer has its id, a configuration the length of its name and a description
-/// section that of its text.
+/// Returns the bytes of `mark` followed by `number`, big-endian.
+///
+/// A footer has its id there, a configuration the length of its name, and a description section the
+/// length of its text.
 pub fn marked(mark: Mark, number: u32) -> [u8; 5]
     ensures { result ≡ byte_of mark ∷ be32 number }
 {

@@ -1,14 +1,19 @@
-// Names, which stand in a stream with their length.
+// Names, which follow their length in a stream.
 ghost use Rattle.std.specs.Prelude.{◌≡◌, ◌≤◌, length};
 ghost use Rattle.vms_spec.specs.declared.TheConstants.{LONGEST_NAME};
 
 use arrayvec::ArrayVec;
 use vms_spec::LONGEST_NAME;
 
-/// The name of a section, a subsection or a machine, of at most 255 bytes, since one byte holds its length.
+/// The name of a section, a subsection or a machine. It has at most 255 bytes, because one byte
+/// holds its length.
 pub type Name = ArrayVec<u8, LONGEST_NAME>;
 
-/// The name of these bytes.
+/// Returns the name with these `bytes`.
+///
+/// # Requires
+///
+/// There are at most 255 bytes.
 pub fn name_of(bytes: &[u8]) -> Name
     requires { length bytes.now ≤ LONGEST_NAME }
     ensures { result ≡ record { items = bytes.now } }

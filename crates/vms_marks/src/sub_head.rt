@@ -7,10 +7,10 @@ use arrayvec::ArrayVec;
 use byteorder::{BigEndian, ByteOrder};
 use vms_spec::LONGEST_NAME;
 
-/// A subsection's head begins with so many bytes: its mark, and the length of its name.
+/// The number of bytes of a subsection head before its name: the mark and the length of the name.
 pub const SUB_FRONT: usize = 2;
 
-/// The most bytes of a subsection's head: its mark, its version, and the longest name with its length.
+/// The greatest number of bytes of a subsection head.
 pub const LONGEST_SUB_HEAD: usize = SUB_FRONT + LONGEST_NAME + 4;
 
 /// The head of a subsection.
@@ -25,7 +25,7 @@ pub struct SubHead {
 impl SubHead {
     ghost use Rattle.vms_marks.specs.Heads.{sub_head_in};
 
-    /// The bytes of the head, from its mark to its version.
+    /// Returns the bytes of the head, from its mark to its version.
     pub fn bytes(&self) -> ArrayVec<u8, LONGEST_SUB_HEAD>
         ensures { result.items ≡ sub_head self.now.name.items self.now.version }
     {
@@ -37,7 +37,12 @@ impl SubHead {
         bytes
     }
 
-    /// How long the name is in a head that begins with these bytes; its version follows the name.
+    /// Returns the length of the name in a head that begins with `front`. The version follows the
+    /// name.
+    ///
+    /// # Requires
+    ///
+    /// `front` has at least [`SUB_FRONT`] bytes.
     pub fn name_length(front: &[u8]) -> usize
         requires { SUB_FRONT ≤ length front.now }
         ensures { result ≡ slice_index front.now 1 }
@@ -45,7 +50,11 @@ impl SubHead {
         front[1] as usize
     }
 
-    /// The head that these bytes, of the right length, say.
+    /// Returns the subsection head with these `bytes`. The mark isn't checked.
+    ///
+    /// # Requires
+    ///
+    /// `bytes` has the length that follows from the length of the name.
     pub fn of(bytes: &[u8]) -> SubHead
         requires { length bytes.now ≡ 6 + slice_index bytes.now 1 }
         ensures { result ≡ sub_head_in bytes.now }

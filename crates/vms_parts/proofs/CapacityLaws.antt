@@ -47,7 +47,7 @@ counted_long One table = refl
 counted_long (Fixed n) table = refl
 counted_long (Counted by most) table = length-set table by (lesser (get_or table by None) most)
 
--- a slice that is as long as the list is all of it
+-- a slice as long as the list is the whole list
 pub written_back : {X : Type 0} (items new : List X) (len : ℕ) → length new ≡ length items → len ≡ length items → take len (new ++ drop (length new) items) ≡ new
 written_back items new len long all =
     ap (λ (xs : List _). take len (new ++ xs)) (drop_all (length new) items (omega (arith, long))) ∙ ap (take len) (append_nil new) ∙ take_all len new (omega (arith, long, all)) where

@@ -1,4 +1,4 @@
--- How many items the fields of a description have, by its structures.
+-- The number of items of a description's fields, given those of the structures.
 use Rattle.std.proofs.Common.{◌≡◌, ℕ, zero, suc, ◌+◌, ◌*◌, List, ◌∷◌, ◌++◌, get_or, refl, ap, ◌∙◌, []}
 use Rattle.vms_kinds.specs.declared.Item.{Item}
 use Rattle.vms_kinds.specs.declared.Item.TheVariants.{Num, Equal, Unused, Struct}

@@ -1,4 +1,4 @@
--- Sums that end at 2 ^ 32 - 1.
+-- Sums that are cut at 2 ^ 32 - 1.
 use Rattle.std.proofs.Common.{◌≡◌, ℕ, zero, suc, ◌+◌, ◌*◌, ◌^◌, ◌<◌, ◌≤◌, List, [], ◌∷◌, ◌++◌, length, get_or, drop, map, refl, sym, ap, ◌∙◌, arith, add-one}
 use Rattle.std.proofs.lemmas.List.{drop_all, map-append}
 use Rattle.vms_kinds.specs.declared.Item.{Item}
@@ -11,7 +11,7 @@ use Rattle.vms_parts.specs.Sizes.{in_u32, size_of, fields_size, subs_size, sizes
 use Rattle.vms_parts.specs.Views.{field_of, desc_of}
 use Rattle.vms_parts.proofs.Items.{drop_is, get_map_at}
 
--- sums over lists that a loop goes through: `whole` is the sum of what each has, `one`
+-- sums over lists that a loop walks: `whole` is the sum of the sizes `one` of all elements
 module _ {T : Type 0} (whole : List T → ℕ) (one : T → ℕ) (nothing : whole [] ≡ 0) (adds : (x : T) (xs : List T) → whole (x ∷ xs) ≡ one x + whole xs) where
   pub sum_goes : (xs : List T) (i sum new all : ℕ) (x : T) → i < length xs → x ≡ get_or xs i x → new ≡ in_u32 (sum + one x)
       → in_u32 (sum + whole (drop i xs)) ≡ all → in_u32 (new + whole (drop (i + 1) xs)) ≡ all
@@ -24,7 +24,7 @@ module _ {T : Type 0} (whole : List T → ℕ) (one : T → ℕ) (nothing : whol
       let s : sum ≡ in_u32 (sum + 0) = omega arith in
       s ∙ ap (λ (n : ℕ). in_u32 (sum + n)) (sym nothing) ∙ ap (λ (l : List T). in_u32 (sum + whole l)) (sym (drop_all i xs over)) ∙ e
 
--- sizes of structures that end at 2 ^ 32 - 1 serve as well
+-- a size of a structure that is cut at 2 ^ 32 - 1 gives the same cut product
 pub capped_product : (c s : ℕ) → in_u32 (c * in_u32 s) ≡ in_u32 (c * s)
 capped_product zero s = omega arith
 capped_product (suc c) s =
@@ -55,7 +55,7 @@ pub capped_subs : (m : Measure) (sizes : List ℕ) (subs : List sets.Sub) → in
 capped_subs m sizes [] = refl
 capped_subs m sizes (s ∷ subs) = omega (arith, capped_fields m sizes s.desc.fields, capped_subs m sizes subs)
 
--- one structure more
+-- one more structure
 pub sizes_more : (m : Measure) (structs : List Desc) (sizes : List ℕ) (i : ℕ) (d : Desc) (size : ℕ) → d ≡ get_or structs i d → i < length structs
     → sizes ≡ map in_u32 (sizes_to m (map desc_of structs) i) → size ≡ in_u32 (fields_size m sizes (map field_of d.fields))
     → sizes ++ size ∷ [] ≡ map in_u32 (sizes_to m (map desc_of structs) (i + 1))

@@ -1,4 +1,4 @@
-// The capacities that the numbers of a description count.
+// The capacities of the arrays that a number counts.
 ghost use Rattle.std.specs.Prelude.{◌≡◌, map, IfOk};
 ghost use Rattle.vms_parts.specs.Views.{field_of};
 ghost use Rattle.vms_parts.specs.Capacities.{AreLeast, lesser, lowered_at, counted_in};
@@ -6,7 +6,12 @@ ghost use Rattle.vms_parts.specs.Capacities.{AreLeast, lesser, lowered_at, count
 use crate::{Count, Field};
 use std::alloc::{AllocError, Global};
 
-/// Of each field the least of the capacities of the arrays whose elements it counts, or none where it counts none.
+/// Returns for each of `fields` the least capacity of the arrays whose elements it counts, or
+/// `None` if it counts none.
+///
+/// # Errors
+///
+/// - [`AllocError`]: out of memory.
 pub fn least_capacities(alloc: Global, fields: &[Field]) -> Result<Vec<Option<u32>>, AllocError>
     ensures { IfOk result (λ table. AreLeast (map field_of fields.now) table.items) }
 {
@@ -17,7 +22,7 @@ pub fn least_capacities(alloc: Global, fields: &[Field]) -> Result<Vec<Option<u3
     Ok(table)
 }
 
-// Lowers the entry of the number by which an array is counted, if there is one.
+// Lowers the entry of the field that counts an array, if there is one.
 fn count_in(table: &mut [Option<u32>], count: Count)
     ensures { table.new ≡ counted_in table.old count }
 {
@@ -34,7 +39,7 @@ fn lower_at(table: &mut [Option<u32>], number: usize, capacity: u32)
     }
 }
 
-// The lesser of a capacity and those before.
+// Returns the lesser of a capacity and the earlier ones.
 fn lesser(least: Option<u32>, capacity: u32) -> Option<u32>
     ensures { result ≡ lesser least capacity }
 {

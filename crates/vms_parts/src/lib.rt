@@ -1,4 +1,5 @@
-//! The parts of description sets as plain data, whether well formed or not, and how much their descriptions hold.
+//! The parts of description sets as plain data, well formed or not, and the sizes of their
+//! descriptions.
 //!
 //! The types follow VMState's `VMStateDescription` and `VMStateField`.
 #![tactic(auto)]

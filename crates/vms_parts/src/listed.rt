@@ -1,4 +1,4 @@
-// Lists and texts as contracts see them.
+// Lists and texts, as contracts see them.
 ghost use Rattle.std.specs.Prelude.{◌≡◌, string_bytes};
 
 use std::marker::Model;
@@ -18,14 +18,14 @@ impl<T> Model for Listed<T> {
 }
 
 impl<T> Listed<T> {
-    /// The list of these items.
+    /// Returns the list of `items`.
     pub fn new(items: Vec<T>) -> Self
         ensures { result ≡ items.items }
     {
         Listed { items }
     }
 
-    /// The items.
+    /// Returns the items.
     pub fn as_slice(&self) -> &[T]
         ensures { result.now ≡ self.now }
     {
@@ -48,21 +48,21 @@ impl Model for Text {
 }
 
 impl Text {
-    /// This text.
+    /// Returns `text` as a [`Text`].
     pub fn new(text: String) -> Self
         ensures { result ≡ string_bytes text }
     {
         Text { text }
     }
 
-    /// The text's bytes.
+    /// Returns the bytes of the text.
     pub fn as_bytes(&self) -> &[u8]
         ensures { result.now ≡ self.now }
     {
         self.text.as_bytes()
     }
 
-    /// The text.
+    /// Returns the text.
     pub fn as_str(&self) -> &str
         ensures { result.now ≡ self.now }
     {

@@ -1,4 +1,4 @@
-// How many cells and items descriptions have.
+// The numbers of cells and of items of descriptions.
 ghost use Rattle.std.specs.Prelude.{◌≡◌, length, map, get_or, IfOk};
 ghost use Rattle.vms_spec.specs.Layout.{capacity_of};
 ghost use Rattle.vms_parts.specs.Sizes.{in_u32, constant_size, size_of, fields_size, subs_size, sizes_to};
@@ -8,14 +8,16 @@ use crate::{Count, Desc, Field, Sub};
 use std::alloc::{AllocError, Global};
 use vms_kinds::Item;
 
-/// What is counted. Constants and unused bytes are items and have no cell.
+/// What a size counts. Constants and unused bytes are items and have no cell.
 #[derive(Clone, Copy)]
 pub enum Measure {
+    /// Cells: the numbers of a state.
     Cells,
+    /// Items: numbers, constants and unused bytes.
     Items,
 }
 
-/// For how many elements a field has cells.
+/// Returns the number of elements for which a field with this `count` has cells.
 pub fn capacity(count: Count) -> u32
     ensures { result ≡ capacity_of count }
 {
@@ -26,7 +28,7 @@ pub fn capacity(count: Count) -> u32
     }
 }
 
-/// The size of one element.
+/// Returns the size of one element of `item`, where `sizes` are those of the structures.
 pub fn item_size(measure: Measure, sizes: &[u32], item: Item) -> u32
     ensures { result ≡ size_of measure sizes.now item }
 {
@@ -52,7 +54,7 @@ fn at_or_zero(sizes: &[u32], number: u32) -> u32
     sizes.get(number as usize).copied().unwrap_or(0)
 }
 
-/// The size of these fields, at most 2^32 - 1.
+/// Returns the size of `fields`, at most 2^32 - 1, where `sizes` are those of the structures.
 pub fn size_of_fields(measure: Measure, sizes: &[u32], fields: &[Field]) -> u32
     ensures { result ≡ in_u32 (fields_size measure sizes.now (map field_of fields.now)) }
 {
@@ -64,7 +66,8 @@ pub fn size_of_fields(measure: Measure, sizes: &[u32], fields: &[Field]) -> u32
     sum
 }
 
-/// The size of the fields of these subsections, at most 2^32 - 1.
+/// Returns the size of the fields of `subs`, at most 2^32 - 1, where `sizes` are those of the
+/// structures.
 pub fn size_of_subs(measure: Measure, sizes: &[u32], subs: &[Sub]) -> u32
     ensures { result ≡ in_u32 (subs_size measure sizes.now (map sub_of subs.now)) }
 {
@@ -76,7 +79,11 @@ pub fn size_of_subs(measure: Measure, sizes: &[u32], subs: &[Sub]) -> u32
     sum
 }
 
-/// The size of each structure, at most 2^32 - 1.
+/// Returns the size of each of `structs`, at most 2^32 - 1.
+///
+/// # Errors
+///
+/// - [`AllocError`]: out of memory.
 pub fn struct_sizes(
     alloc: Global,
     measure: Measure,

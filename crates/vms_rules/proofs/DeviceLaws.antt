@@ -53,7 +53,7 @@ module _ (set : sets.Set) (i : ℕ) (d : sets.Device) (good : failing 1 (device_
 
 -- ---- tests and names
 
--- where both know the same fields, the same tests name well
+-- if both may name the same fields, the same tests name well
 pub needed_names : (own known parent device : ℕ → Bool) (t : Formula) → ((i : ℕ) → own i ≡ known i) → ((i : ℕ) → parent i ≡ device i)
     → names_well own parent t ≡ names_well known device t
 needed_names own known parent device (AtLeast n) same alike = refl

@@ -24,7 +24,7 @@ use Rattle.vms_rules.proofs.FieldLaws.{names_of_both, new_is, names_new}
 abbrev pub same : ℕ → ℕ → Bool
 same = eq_by_cmp nat_cmp
 
--- ---- rising numbers are distinct, in whatever order they stood before
+-- ---- rising numbers are distinct, whatever their order was
 
 pub distinct_before : (before rising : List ℕ) → IsPermutation before rising → IsStrictlyIncreasing rising → IsDistinct same before
 distinct_before before rising moved up =
@@ -62,14 +62,14 @@ unfolding IsDistinct
 distinct_right [] ys h = h
 distinct_right (x ∷ xs) ys h = distinct_right xs ys h.1
 
--- no name of the list ends as this one
+-- no name of the list has the ending of this one
 abbrev pub EndsApart : List ℕ → List (List ℕ) → Type 0
 EndsApart n names = AllByRecursion (λ e. same (ending n) e ≡ false) (map ending names)
 
 is_same : (x n : List ℕ) → bytes_eq x n ≡ true → x ≡ n
 is_same x n e = (bytes_eq-Decides x n).0 e
 
--- those before the others
+-- the earlier names and the others
 apart_from : (earlier names : List (List ℕ)) → IsDistinct same (map ending (earlier ++ names)) → (n : List ℕ) → is_one_of earlier n ≡ true → EndsApart n names
 unfolding IsDistinct
 apart_from [] names h n e = cc
@@ -95,7 +95,7 @@ new_to had (y ∷ names) h d =
     (λ n e. either_of (bytes_eq y n) (had n) e (λ z. subst (λ m. EndsApart m names) (is_same y n z) d.0) (λ z. (h n z).1))
     d.1
 
--- those of a field, where the endings of all fields' names are distinct
+-- the names of a field are new if the endings of all fields' names are distinct
 pub new_names : (fields : List Field) (i : ℕ) (f : Field) → i < length fields → f ≡ get_or fields i f
     → IsDistinct same (map ending (all_names (map field_of fields))) → are_new (all_names (take i (map field_of fields))) (f.name ∷ f.former) ≡ true
 new_names fields i f lt is d =
@@ -114,7 +114,7 @@ new_names fields i f lt is d =
     ap (λ (l : List sets.Field). are_new (all_names l) names) (take-map field_of i fields) ∙ new_is before names
     ∙ new_to (is_one_of before) names (apart_from before names both) own
 
--- whether they are new, where the endings of all differ or they are looked up
+-- whether they are new: the endings of all differ, or they are looked up
 pub names_known : (fields : List Field) (i : ℕ) (f : Field) (had : List ℕ → Bool) (differ is_new : Bool) → i < length fields → f ≡ get_or fields i f
     → (differ ≡ true → IsDistinct same (map ending (all_names (map field_of fields))))
     → (differ ≡ false → (n : List ℕ) → had n ≡ is_one_of (all_names (map field_of (take i fields))) n) → is_new ≡ (differ || are_new_to had (f.name ∷ f.former))

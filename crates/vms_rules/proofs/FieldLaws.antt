@@ -1,4 +1,4 @@
--- Which earlier fields a field may name.
+-- The earlier fields that a field may name.
 use Rattle.std.proofs.Common.{◌≡◌, ℕ, zero, suc, ◌+◌, ◌<◌, List, ◌∷◌, ◌++◌, append_assoc, length, get_or, take, map, Bool, true, false, refl, sym, ap, ◌∙◌, arith, []}
 use Rattle.std.specs.Prelude.{◌&&◌, not, nat_lt, ◌||◌}
 use Rattle.std.specs.List.{slice_get}
@@ -68,7 +68,7 @@ names_more fields i f had have lt is before now n =
     ∙ sym (one_of_both (all_names fs) (all_names (field_of f ∷ [])) n) ∙ ap (λ (l : List (List ℕ)). is_one_of l n) (sym (names_of_both fs (field_of f ∷ [])))
     ∙ ap (λ (l : List sets.Field). is_one_of (all_names l) n) (sym more)
 
--- those of a field are new to the set of those before
+-- the names of a field are new to the set of the earlier ones
 pub names_new : (fields : List Field) (i : ℕ) (names : List (List ℕ)) (had : List ℕ → Bool) (is_new : Bool)
     → ((n : List ℕ) → had n ≡ is_one_of (all_names (map field_of (take i fields))) n) → is_new ≡ are_new_to had names
     → is_new ≡ are_new (all_names (take i (map field_of fields))) names

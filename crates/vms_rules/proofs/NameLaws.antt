@@ -67,7 +67,7 @@ same_new had have (n ∷ names) same =
     ap (λ (b : Bool). not b && are_new_to (with_name had n) names) (same n)
     ∙ ap (λ (b : Bool). not (have n) && b) (same_new (with_name had n) (with_name have n) names (λ m. ap (λ (b : Bool). bytes_eq n m || b) (same m)))
 
--- one more name of a list
+-- one more name in a list
 pub is_one_more : (names : List (List ℕ)) (x n : List ℕ) → is_one_of (names ++ x ∷ []) n ≡ (is_one_of names n || bytes_eq x n)
 is_one_more [] x n = or-false (bytes_eq x n)
 is_one_more (m ∷ names) x n = ap (λ (b : Bool). bytes_eq m n || b) (is_one_more names x n) ∙ sym (or_assoc (bytes_eq m n) (is_one_of names n) (bytes_eq x n))

@@ -1,4 +1,4 @@
--- The rules at a place, one after the other.
+-- The rules at a place, in order.
 use Rattle.std.proofs.Common.{◌≡◌, ℕ, ◌+◌, ◌<◌, ◌≤◌, List, ◌∷◌, length, get_or, drop, Bool, true, false, Some, None, sym, ap, ◌∙◌, add-one}
 use Rattle.std.proofs.lemmas.List.{drop_all, drop_more}
 use Rattle.vms_spec.specs.declared.Place.{Place}

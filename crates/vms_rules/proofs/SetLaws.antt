@@ -53,7 +53,7 @@ unfolding none
 none_of_none had [] empty = refl
 none_of_none had (n ∷ names) empty = ap (λ (b : Bool). not b && none had names) (empty n) ∙ none_of_none had names empty
 
--- what is new to the empty set is distinct
+-- names that are new to the empty set are distinct
 pub distinct_is : (had : List ℕ → Bool) (names : List (List ℕ)) → ((n : List ℕ) → had n ≡ false) → are_new_to had names ≡ are_distinct names
 distinct_is had names empty = new_and_distinct had names ∙ ap (λ (b : Bool). b && are_distinct names) (none_of_none had names empty)
 

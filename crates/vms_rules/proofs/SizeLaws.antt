@@ -1,4 +1,4 @@
--- How many items a set has, where sums end at 2 ^ 32 - 1.
+-- The number of items of a set, with sums that are cut at 2 ^ 32 - 1.
 use Rattle.std.proofs.Common.{◌≡◌, ℕ, ◌+◌, List, ◌∷◌, length, map, refl, sym, ap, ◌∙◌, arith, []}
 use Rattle.std.specs.Prelude.{nat_le}
 use Rattle.std.proofs.lemmas.Bool.Decides.{nat_tests}
@@ -16,7 +16,7 @@ pub subs_are : (sizes : List ℕ) (subs : List sets.Sub) → subs_items sizes su
 subs_are sizes [] = refl
 subs_are sizes (s ∷ subs) = ap (λ (n : ℕ). n + subs_items sizes subs) (items_are sizes s.desc.fields) ∙ ap (λ (n : ℕ). fields_size Items sizes s.desc.fields + n) (subs_are sizes subs)
 
--- ---- sizes that end serve as well
+-- ---- sizes that are cut give the same result
 
 capped_items : (sizes : List ℕ) (fs : List sets.Field) → in_u32 (items_in (map in_u32 sizes) fs) ≡ in_u32 (items_in sizes fs)
 capped_items sizes fs = ap in_u32 (items_are (map in_u32 sizes) fs) ∙ capped_fields Items sizes fs ∙ ap in_u32 (sym (items_are sizes fs))

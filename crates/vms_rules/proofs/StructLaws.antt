@@ -1,4 +1,4 @@
--- Structures: how deep they are, and their names.
+-- Structures: their depths and their names.
 use Rattle.std.proofs.Common.{◌≡◌, ℕ, zero, suc, ◌+◌, ◌<◌, ◌≤◌, max, List, [], ◌∷◌, ◌++◌, length, get_or, drop, take, map, Bool, ◌||◌, sym, ap, subst, ◌∙◌, arith, add-one}
 use Rattle.std.specs.Str.{bytes_eq}
 use Rattle.std.proofs.lemmas.List.{drop_all, take_more, map-append, length-map}
@@ -87,7 +87,7 @@ struct_names_more structs i d had have lt is before now n =
 pub none_small : (depths : List ℕ) (j : ℕ) → depths ≡ [] → get_or depths j 0 ≤ 0
 none_small depths j e = subst (λ (l : List ℕ). get_or l j 0 ≤ 0) (sym e) (omega arith)
 
--- as many as there are structures
+-- there are the same number of depths and structures
 pub depths_long : (structs : List Desc) (depths : List ℕ) → depths ≡ struct_depths (map desc_of structs) → length depths ≡ length structs
 depths_long structs depths e =
     ap length e ∙ first_long (λ depths d. 1 + deepest depths d.fields) (map desc_of structs) (length (map desc_of structs)) ∙ length-map structs desc_of

@@ -1,4 +1,4 @@
--- Walks over lists of places, of which each is good so far.
+-- Walks over lists of places that have no fault so far.
 use Rattle.std.proofs.Common.{◌≡◌, ℕ, ◌+◌, ◌<◌, ◌≤◌, List, length, get_or, drop, map, Option, None, Result, sym, ap, subst, ◌∙◌, add-one}
 use Rattle.std.specs.Result.{IsErrAnd}
 use Rattle.std.proofs.lemmas.Result.{err_from_is_err_and}
@@ -17,14 +17,14 @@ stops_by {X = X} x r e is_err h =
     let p = err_from_is_err_and r is_err in
     subst (λ (o : Result X DescFault). Judges x o) (sym p.1) (subst (λ (y : DescFault). IsFirst x y) (sym p.2) h)
 
--- ---- one after the other
+-- ---- one check after another
 
 -- a fault of the first is the fault of both
 pub first_stops : (x y : Option SetFault) (e : DescFault) → IsFirst x e → IsFirst (or_else x y) e
 first_stops x y (IllFormed rule place) h = ap (λ (o : Option SetFault). or_else o y) h
 first_stops x y NoMemory h = tt
 
--- where the first has none, the others decide
+-- if the first has none, the others decide
 pub first_good : (x y : Option SetFault) → x ≡ None → or_else x y ≡ y
 first_good x y h = ap (λ (o : Option SetFault). or_else o y) h
 
@@ -59,7 +59,7 @@ pub all_good : {X Y : Type 0} (f : ℕ → Y → Option SetFault) (g : X → Y) 
     → first_answer f i (map g (drop i xs)) ≡ whole → whole ≡ None
 all_good f g xs i whole all e = sym e ∙ ap (λ (l : List _). first_answer f i (map g l)) (drop_all i xs all)
 
--- ---- the same over a list as it is
+-- ---- the same over a list without a view
 
 spot_is : {Y : Type 0} (f : ℕ → Y → Option SetFault) (ys : List Y) (i : ℕ) (d : Y) → i < length ys
     → first_answer f i (drop i ys) ≡ or_else (f i (get_or ys i d)) (first_answer f (i + 1) (drop (i + 1) ys))

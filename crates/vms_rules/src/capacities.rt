@@ -2,7 +2,7 @@
 ghost use Rattle.std.specs.Prelude.{◌≡◌};
 ghost use Rattle.vms_rules.specs.Capacities.{fits};
 
-// Whether a number is at most the least capacity.
+// Returns whether a number is at most the least capacity, if there is one.
 pub(crate) fn fits(least: Option<u32>, number: i128) -> bool
     ensures { result ≡ fits least number }
 {

@@ -1,4 +1,4 @@
-// The rules inside a description, and those of its own that all kinds of description share.
+// The rules inside of a description, and the rules that all descriptions share.
 ghost use Rattle.std.specs.Prelude.{◌≡◌, ◌≤◌, ℕ, length};
 ghost use Rattle.vms_spec.specs.Lists.{or_else};
 ghost use Rattle.vms_spec.specs.Rules.{is_steady_in, validation_rules};
@@ -14,14 +14,14 @@ use crate::formulas::{Scope, is_small, names_well};
 use std::alloc::Global;
 use vms_parts::{Desc, Part, Place, Test};
 
-// The place of a part itself.
+// Returns the place of a part itself.
 pub(crate) fn here(part: Part) -> Place
     ensures { result ≡ here part }
 {
     Place { part, field: None }
 }
 
-// All fields of a description, which a validation and a needed test may name.
+// Returns all fields of a description, which a validation and a needed test may name.
 pub(crate) fn all_fields(desc: &Desc) -> Scope<'_>
     ensures { (i : ℕ) → may_name result i ≡ is_steady_in (desc_of desc.now) i }
 {
@@ -31,14 +31,15 @@ pub(crate) fn all_fields(desc: &Desc) -> Scope<'_>
     }
 }
 
-// Whether a description has at most 256 fields and 16 validations.
+// Returns whether a description has at most 256 fields and 16 validations.
 pub(crate) fn has_few(desc: &Desc) -> bool
     ensures { result ≡ has_few (desc_of desc.now) }
 {
     desc.fields.as_slice().len() <= 256 && desc.validate.as_slice().len() <= 16
 }
 
-// Judges the fields and the validations of a description that may use the structures of numbers below `usable`.
+// Checks the fields and the validations of a description that may use the structures of numbers
+// below `usable`.
 pub(crate) fn check_inside(
     alloc: Global,
     desc: &Desc,

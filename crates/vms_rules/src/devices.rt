@@ -20,7 +20,7 @@ use std::collections::BTreeSet;
 use vms_parts::{Device, Part, Parts, Sub};
 use vms_words::is_name;
 
-// Judges the devices of a set.
+// Checks the devices of a set.
 pub(crate) fn check_devices(alloc: Global, parts: &Parts) -> Result<(), DescFault>
     requires structs { length parts.now.structs ≤ 64 }
     requires devices { length parts.now.devices ≤ 64 }
@@ -32,7 +32,7 @@ pub(crate) fn check_devices(alloc: Global, parts: &Parts) -> Result<(), DescFaul
     Ok(())
 }
 
-// Judges the device of this number.
+// Checks device `number`.
 fn check_device(alloc: Global, parts: &Parts, number: usize) -> Result<(), DescFault>
     requires there { number < length parts.now.devices }
     requires structs { length parts.now.structs ≤ 64 }
@@ -53,7 +53,7 @@ fn check_device(alloc: Global, parts: &Parts, number: usize) -> Result<(), DescF
     check_subs(alloc, within)
 }
 
-// The rules at the device of this number itself.
+// Returns the rules at device `number` itself.
 fn device_rules(parts: &Parts, number: usize) -> [bool; 8]
     requires { number < length parts.now.devices }
     ensures { result ≡ device_rules (set_of parts.now) number
@@ -73,14 +73,14 @@ fn device_rules(parts: &Parts, number: usize) -> [bool; 8]
     ]
 }
 
-// Whether a device has at most 32 subsections, and few fields and validations.
+// Returns whether a device has at most 32 subsections, and few fields and validations.
 fn is_small_device(device: &Device) -> bool
     ensures { result ≡ (has_few (desc_of device.now.desc) && nat_le (length device.now.subs) 32) }
 {
     has_few(&device.desc) && device.subs.as_slice().len() <= 32
 }
 
-// Whether an earlier device has the name and the instance of this one. There are at most 63 of them.
+// Returns whether an earlier device has the same name and instance. There are at most 63.
 #[tactic(auto, using(crate::proofs::DeviceLaws::same_device))]
 fn is_taken(devices: &[Device], number: usize) -> bool
     requires { number < length devices.now }
@@ -92,7 +92,7 @@ fn is_taken(devices: &[Device], number: usize) -> bool
     is_among(&devices[..number], &devices[number])
 }
 
-// Whether one of these devices has the name and the instance of another.
+// Returns whether one of these devices has the same name and instance.
 fn is_among(devices: &[Device], device: &Device) -> bool
     ensures { result ≡ list_any
         (λ d. bytes_eq d.desc.name device.now.desc.name && d.instance == device.now.instance)
@@ -108,7 +108,7 @@ fn is_same(other: &Device, device: &Device) -> bool
     other.desc.name.as_bytes() == device.desc.name.as_bytes() && other.instance == device.instance
 }
 
-// A device, its number, and how many structures its set has.
+// A device, its number, and the number of structures of its set.
 #[derive(Clone, Copy)]
 struct Within<'a> {
     device: &'a Device,
@@ -116,7 +116,7 @@ struct Within<'a> {
     structs: u32,
 }
 
-// Judges the subsections of a device.
+// Checks the subsections of a device.
 fn check_subs(alloc: Global, within: Within) -> Result<(), DescFault>
     requires { length within.device.now.subs ≤ 32 }
     ensures { Judges
@@ -132,7 +132,7 @@ fn check_subs(alloc: Global, within: Within) -> Result<(), DescFault>
     Ok(())
 }
 
-// Judges the subsection of this number, whose name is new or not.
+// Checks subsection `number`, given whether its name is new.
 fn check_sub(alloc: Global, within: Within, number: usize, is_new: bool) -> Result<(), DescFault>
     requires there { number < length within.device.now.subs }
     requires few { length within.device.now.subs ≤ 32 }
@@ -150,7 +150,7 @@ fn check_sub(alloc: Global, within: Within, number: usize, is_new: bool) -> Resu
     check_inside(alloc, &sub.desc, within.structs, part)
 }
 
-// The rules at the subsection of this number itself, whose name is new or not.
+// Returns the rules at subsection `number` itself, given whether its name is new.
 #[tactic(auto, using(crate::proofs::DeviceLaws::needed_names))]
 fn sub_rules(device: &Device, number: usize, is_new: bool) -> [bool; 8]
     requires there { number < length device.now.subs }
@@ -179,7 +179,7 @@ fn sub_rules(device: &Device, number: usize, is_new: bool) -> [bool; 8]
     ]
 }
 
-// Whether a subsection has few fields and validations, and a small test.
+// Returns whether a subsection has few fields and validations, and a small test.
 fn is_small_sub(sub: &Sub) -> bool
     ensures { result ≡ (has_few (desc_of sub.now.desc)
         && is_small_test (formula sub.now.needed)) }

@@ -1,4 +1,4 @@
-// Names of fields that differ by their last bytes already.
+// Names of fields that already differ by their last bytes.
 ghost use Rattle.std.specs.List.{IsDistinct};
 ghost use Rattle.std.specs.List.Sorted.{IsStrictlyIncreasing};
 ghost use Rattle.std.specs.Ordering.{nat_cmp, eq_by_cmp};
@@ -20,7 +20,7 @@ fn put_endings(endings: &mut Vec<u32>, names: &[Text]) -> Result<(), AllocError>
     Ok(())
 }
 
-// The endings of all names of fields, former ones too.
+// Returns the endings of all names of fields, former names included.
 #[tactic(auto, using(crate::proofs::EndingLaws::endings_with))]
 fn endings(alloc: Global, fields: &[Field]) -> Result<Vec<u32>, AllocError>
     ensures { IfOk result (λ list.
@@ -34,7 +34,7 @@ fn endings(alloc: Global, fields: &[Field]) -> Result<Vec<u32>, AllocError>
     Ok(endings)
 }
 
-// Whether each is below the next.
+// Returns whether each number is less than the next.
 fn are_rising(numbers: &[u32]) -> bool
     ensures { result ≡ true → IsStrictlyIncreasing numbers.now }
 {
@@ -46,8 +46,8 @@ fn are_rising(numbers: &[u32]) -> bool
     true
 }
 
-// Whether all names of these fields differ by their last four bytes. Where they don't, the names may differ all the
-// same.
+// Returns whether all names of these fields differ by their last four bytes. If they don't, the
+// names may differ anyway.
 pub(crate) fn differ_at_ends(alloc: Global, fields: &[Field]) -> Result<bool, AllocError>
     ensures { IfOk result (λ differ. differ ≡ true
         → IsDistinct (eq_by_cmp nat_cmp) (map ending (all_names (map field_of fields.now)))) }

@@ -1,4 +1,4 @@
-// Faults of a set, and the lowest rule that fails at a place.
+// The faults of a set, and the lowest rule that fails at a place.
 ghost use Rattle.std.specs.Prelude.{◌≡◌};
 ghost use Rattle.vms_spec.specs.WellFormed.{failing};
 ghost use Rattle.vms_rules.specs.Judged.{Judges};
@@ -6,12 +6,12 @@ ghost use Rattle.vms_rules.specs.Judged.{Judges};
 use std::alloc::AllocError;
 use vms_parts::Place;
 
-/// Why parts are no description set.
+/// A reason why parts are no description set.
 #[derive(Clone, Copy, Debug, PartialEq, Eq)]
 pub enum DescFault {
-    /// A rule, 1 to 8, fails first at this place; no lower one fails there.
+    /// A rule of well-formed sets, 1 to 8, fails first at this place. No lower rule fails there.
     IllFormed { rule: u8, place: Place },
-    /// Memory is wanting.
+    /// Out of memory.
     NoMemory,
 }
 
@@ -25,7 +25,7 @@ impl From<AllocError> for DescFault {
     }
 }
 
-// The lowest of the rules at a place that fails.
+// Finds the lowest rule that fails at a place.
 #[tactic(auto, using(crate::proofs::RuleLaws::lowest_laws))]
 pub(crate) fn lowest(rules: [bool; 8], place: Place) -> Result<(), DescFault>
     ensures { Judges (failing 1 rules place) result }

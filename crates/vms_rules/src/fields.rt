@@ -28,7 +28,7 @@ use vms_parts::{Count, Desc, Field, Part, Place, Test, least_capacities};
 use vms_spec::MOST_UNUSED;
 use vms_words::is_name;
 
-// The fields before the one of this number, which its test and its count may name.
+// Returns the fields before field `number`, which its test and its count may name.
 #[tactic(auto, using(crate::proofs::FieldLaws::earlier_is))]
 fn earlier(desc: &Desc, number: usize) -> Scope<'_>
     requires { number ≤ length desc.now.fields }
@@ -40,7 +40,7 @@ fn earlier(desc: &Desc, number: usize) -> Scope<'_>
     }
 }
 
-// Whether the names of a field are names.
+// Returns whether the names of a field have the form of names.
 fn has_good_names(field: &Field) -> bool
     ensures { result ≡ (is_name 32 field.now.name && list_all (is_name 32) field.now.former) }
 {
@@ -70,7 +70,7 @@ fn count_names_well(desc: &Desc, number: usize, count: Count) -> bool
     }
 }
 
-// Whether the field of this number has a kind that counts.
+// Returns whether field `number` has a kind that may count: U8, U16 or U32.
 fn is_counting(fields: &[Field], number: u32) -> bool
     ensures { result ≡ is_counting (slice_get (map field_of fields.now) number) }
 {
@@ -80,7 +80,7 @@ fn is_counting(fields: &[Field], number: u32) -> bool
     }
 }
 
-// Whether a structure that is used has a smaller number.
+// Returns whether a structure that the item uses has a number below `usable`.
 fn uses_below(usable: u32, item: Item) -> bool
     ensures { result ≡ uses_below usable item }
 {
@@ -90,7 +90,8 @@ fn uses_below(usable: u32, item: Item) -> bool
     }
 }
 
-// Whether a number's default and a constant are in range, and what is no number has the default 0.
+// Returns whether a number's default and a constant are in range, and every other item has the
+// default 0.
 fn has_good_default(field: &Field) -> bool
     ensures { result ≡ defaults_well field.now.item field.now.default }
 {
@@ -116,7 +117,7 @@ fn is_small_item(item: Item) -> bool
     }
 }
 
-// Whether a field is within its limits.
+// Returns whether a field is within its limits.
 fn is_small(field: &Field) -> bool
     ensures { result ≡ (nat_le (length field.now.former) 8
         && is_small_optional (option_map formula_in field.now.test)
@@ -137,16 +138,16 @@ fn has_good_count(item: Item, count: Count) -> bool
     }
 }
 
-// A description whose fields are judged. It may use the structures of numbers below `usable`.
+// A description whose fields are checked. It may use the structures of numbers below `usable`.
 #[derive(Clone, Copy)]
 struct Judged<'a> {
     desc: &'a Desc,
     usable: u32,
-    // Of each field the least capacity of the arrays that it counts.
+    // The least capacity of the arrays that each field counts.
     capacities: &'a [Option<u32>],
 }
 
-// The rules at the field of this number, whose names are new or not.
+// Returns the rules at field `number`, given whether its names are new.
 fn field_rules(judged: Judged, number: usize, field: &Field, is_new: bool) -> [bool; 8]
     requires there { number < length judged.desc.now.fields }
     requires long { length judged.capacities.now ≡ length judged.desc.now.fields }
@@ -170,7 +171,7 @@ fn field_rules(judged: Judged, number: usize, field: &Field, is_new: bool) -> [b
     ]
 }
 
-// Whether the default of the field of this number is at most each capacity that it counts.
+// Returns whether the default of field `number` is at most each capacity that it counts.
 fn counts_well(judged: Judged, number: usize, field: &Field) -> bool
     requires there { number < length judged.desc.now.fields }
     requires long { length judged.capacities.now ≡ length judged.desc.now.fields }
@@ -187,7 +188,7 @@ fn default_fits(least: Option<u32>, field: &Field) -> bool
     fits(least, field.default)
 }
 
-// Adds the names of a field, and says whether all are new.
+// Adds the names of a field, and returns whether all are new.
 fn add_field_names<'a>(
     names: &mut BTreeSet<Ended<'a>>,
     field: &'a Field,
@@ -203,8 +204,8 @@ fn add_field_names<'a>(
     Ok(is_new && are_new)
 }
 
-// Whether the names of a field are new: they are where all names differ by their ends, and else they are looked up
-// and added.
+// Returns whether the names of a field are new. They are if all names differ by their endings;
+// otherwise they are looked up and added.
 fn are_new_names<'a>(
     differ: bool,
     names: &mut BTreeSet<Ended<'a>>,
@@ -222,7 +223,7 @@ fn are_new_names<'a>(
     add_field_names(names, field)
 }
 
-// Judges the fields of a description.
+// Checks the fields of a description.
 pub(crate) fn check_fields(
     alloc: Global,
     desc: &Desc,

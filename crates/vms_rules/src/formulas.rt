@@ -1,4 +1,4 @@
-// What the rules ask of tests.
+// The rules about tests.
 ghost use Rattle.std.specs.List.{slice_get};
 ghost use Rattle.std.specs.Prelude.{◌≡◌, Option, map};
 ghost use Rattle.std.specs.Option.{option_map};
@@ -10,14 +10,15 @@ ghost use Rattle.vms_rules.specs.Naming.{is_single, may_name, may_name_in};
 use vms_kinds::Item;
 use vms_parts::{Count, Field, Test, Whose};
 
-// The fields among which a test or a count may name one, in a description of this minimum version.
+// The fields that a test or a count may name, in a description of this minimum version.
 #[derive(Clone, Copy)]
 pub(crate) struct Scope<'a> {
     pub(crate) fields: &'a [Field],
     pub(crate) minimum: u32,
 }
 
-// Whether the field of this number is a single number that is there at every version from the minimum on.
+// Returns whether field `number` is a single number that is present at every version from the
+// minimum on.
 pub(crate) fn may_name(scope: Scope, number: u32) -> bool
     ensures { result ≡ may_name scope.entry number }
 {
@@ -27,7 +28,7 @@ pub(crate) fn may_name(scope: Scope, number: u32) -> bool
     }
 }
 
-// The field of this number.
+// Returns field `number`.
 pub(crate) fn field_at(fields: &[Field], number: u32) -> Option<&Field>
     ensures { option_map (λ f. field_of f.now) result ≡ slice_get (map field_of fields.now) number }
 {
@@ -49,7 +50,7 @@ fn may_name_in(scope: Option<Scope>, number: u32) -> bool
     }
 }
 
-// Whether each field that a test names is one that it may name.
+// Returns whether each field that a test names is among those that it may name.
 pub(crate) fn names_well(test: &Test, own: Scope, parent: Option<Scope>) -> bool
     ensures { result ≡ names_well (may_name own.entry) (may_name_in parent.entry)
         (formula test.now) }
@@ -73,7 +74,7 @@ pub(crate) fn names_well(test: &Test, own: Scope, parent: Option<Scope>) -> bool
     }
 }
 
-// How many nodes a test has, at most 2^32 - 1.
+// Returns the number of nodes of a test, at most 2^32 - 1.
 fn nodes(test: &Test) -> u32
     ensures { result ≡ in_u32 (nodes (formula test.now)) }
 {
@@ -86,7 +87,7 @@ fn nodes(test: &Test) -> u32
     }
 }
 
-// How deep a test is, at most 2^32 - 1.
+// Returns the number of levels of a test, at most 2^32 - 1.
 fn depth(test: &Test) -> u32
     ensures { result ≡ in_u32 (depth (formula test.now)) }
 {
@@ -99,7 +100,7 @@ fn depth(test: &Test) -> u32
     }
 }
 
-// Whether a test has at most 64 nodes and is at most 16 deep.
+// Returns whether a test has at most 64 nodes and 16 levels.
 pub(crate) fn is_small(test: &Test) -> bool
     ensures { result ≡ is_small_test (formula test.now) }
 {

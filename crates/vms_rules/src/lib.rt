@@ -1,7 +1,9 @@
-//! Judging description sets: whether one is well formed, or the first place at which one of the eight rules fails.
+//! The check of description sets: whether one is well formed, or the first place at which one of
+//! the eight rules fails.
 //!
-//! The set is walked as its streams are: the set, its structures, its devices, each with its fields, its validations and
-//! its subsections, and the set again for its number of items. Each place has a list of its rules, in their order.
+//! The walk goes through the set itself, its structures, its devices, each with its fields, its
+//! validations and its subsections, and the set again for its number of items. Each place has a
+//! list of its rules, in their order.
 #![tactic(auto)]
 
 mod capacities;

@@ -11,14 +11,14 @@ use std::collections::BTreeSet;
 use vms_parts::Text;
 use vms_words::is_name;
 
-// Whether these are names of 1 to so many bytes.
+// Returns whether each of these is a name of 1 to `most` bytes.
 pub(crate) fn are_names(most: usize, names: &[Text]) -> bool
     ensures { result ≡ list_all (is_name most) names.now }
 {
     names.iter().all(|name| is_name(most, name.as_bytes()))
 }
 
-// Whether a subsection's name is its device's, a slash and a tail.
+// Returns whether a subsection's name is its device's, a slash and a tail.
 #[tactic(auto, using(crate::proofs::NameLaws::sub_name_laws))]
 pub(crate) fn is_sub_name(device: &[u8], name: &[u8]) -> bool
     ensures { result ≡ is_sub_name device.now name.now }
@@ -29,7 +29,7 @@ pub(crate) fn is_sub_name(device: &[u8], name: &[u8]) -> bool
     has_front(device, name) && is_name(64, &name[device.len() + 1..])
 }
 
-// Whether a longer name begins with the device's and a slash.
+// Returns whether a longer name begins with the device's and a slash.
 fn has_front(device: &[u8], name: &[u8]) -> bool
     requires { length device.now < length name.now }
     ensures { result ≡ (bytes_eq (take (length device.now) name.now) device.now
@@ -38,7 +38,7 @@ fn has_front(device: &[u8], name: &[u8]) -> bool
     &name[..device.len()] == device && name[device.len()] == b'/'
 }
 
-// A name behind the number of its last bytes, by which most names of a description differ.
+// A name after the number of its last bytes, by which most names of a description differ.
 pub(crate) type Ended<'a> = (u32, &'a str);
 
 fn byte_from_end(name: &[u8], place: usize) -> u8
@@ -51,7 +51,7 @@ fn byte_from_end(name: &[u8], place: usize) -> u8
     }
 }
 
-// The last four bytes of a name as one number.
+// Returns the last four bytes of a name as one number.
 #[tactic(auto, unfolding(crate::specs::NameSets::ending))]
 pub(crate) fn ending(name: &[u8]) -> u32
     ensures { result ≡ ending name.now }
@@ -62,7 +62,7 @@ pub(crate) fn ending(name: &[u8]) -> u32
         + 0x1000000 * byte_from_end(name, 3) as u32
 }
 
-// Adds a name to a set of names, and says whether it is new.
+// Adds a name to a set of names, and returns whether it is new.
 pub(crate) fn add_name<'a>(
     names: &mut BTreeSet<Ended<'a>>,
     name: &'a str,
@@ -74,7 +74,7 @@ pub(crate) fn add_name<'a>(
     Ok(names.insert((ending(name.as_bytes()), name))?)
 }
 
-// Adds names to a set of names, and says whether all are new.
+// Adds names to a set of names, and returns whether all are new.
 pub(crate) fn add_names<'a>(
     names: &mut BTreeSet<Ended<'a>>,
     list: &'a [Text],

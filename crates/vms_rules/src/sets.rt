@@ -16,8 +16,13 @@ use std::collections::BTreeSet;
 use vms_parts::{Device, Measure, Part, Parts, size_of_fields, size_of_subs, struct_sizes};
 use vms_spec::MOST_ITEMS;
 
-/// Judges the parts of a description set: `Ok` exactly where they are well formed, and else the first place at which a
-/// rule fails with the lowest rule that fails there, unless memory is wanting.
+/// Checks that the `parts` of a description set are well formed.
+///
+/// # Errors
+///
+/// - [`DescFault::IllFormed`]: the first place at which a rule of well-formed sets fails, with the
+///   lowest rule that fails there.
+/// - [`DescFault::NoMemory`]: out of memory.
 pub fn check(alloc: Global, parts: &Parts) -> Result<(), DescFault>
     ensures { Judges (first_fault (set_of parts.now)) result }
 {
@@ -28,7 +33,7 @@ pub fn check(alloc: Global, parts: &Parts) -> Result<(), DescFault>
     lowest(size_rules(alloc, parts)?, place)
 }
 
-// The rules at the set itself, without its number of items.
+// Returns the rules at the set itself, without its number of items.
 fn set_rules(alloc: Global, parts: &Parts) -> Result<[bool; 8], AllocError>
     ensures { IfOk result (λ rules. rules ≡ set_rules (set_of parts.now)) }
 {
@@ -47,7 +52,7 @@ fn set_rules(alloc: Global, parts: &Parts) -> Result<[bool; 8], AllocError>
     ])
 }
 
-// Whether a set has at most 16 machines, 64 structures and 64 devices.
+// Returns whether a set has at most 16 machines, 64 structures and 64 devices.
 fn has_few_parts(parts: &Parts) -> bool
     ensures { result ≡ (nat_le (length (set_of parts.now).machines) 16
         && nat_le (length (set_of parts.now).structs) 64
@@ -58,7 +63,7 @@ fn has_few_parts(parts: &Parts) -> bool
         && parts.devices.as_slice().len() <= 64
 }
 
-// The rules at the set at last, for its number of items.
+// Returns the rules at the set again, for its number of items.
 fn size_rules(alloc: Global, parts: &Parts) -> Result<[bool; 8], AllocError>
     ensures { IfOk result (λ rules. rules ≡ size_rules (set_of parts.now)) }
 {
@@ -76,7 +81,7 @@ fn size_rules(alloc: Global, parts: &Parts) -> Result<[bool; 8], AllocError>
     ])
 }
 
-// How many items the devices have, at most 2^32 - 1.
+// Returns the number of items of the devices, at most 2^32 - 1.
 fn devices_items(sizes: &[u32], devices: &[Device]) -> u32
     ensures { result ≡ in_u32 (devices_items sizes.now (map device_of devices.now)) }
 {

@@ -16,7 +16,7 @@ use vms_kinds::Item;
 use vms_parts::{Desc, Field, Part};
 use vms_words::is_name;
 
-// Judges the structures of a set.
+// Checks the structures of a set.
 pub(crate) fn check_structs(alloc: Global, structs: &[Desc]) -> Result<(), DescFault>
     requires { length structs.now ≤ 64 }
     ensures { Judges (structs_from (map desc_of structs.now) 0 (map desc_of structs.now)) result }
@@ -31,7 +31,7 @@ pub(crate) fn check_structs(alloc: Global, structs: &[Desc]) -> Result<(), DescF
     Ok(())
 }
 
-// Judges the structure of this number, whose own rules are given.
+// Checks structure `number`, whose own rules are given.
 fn check_struct(
     alloc: Global,
     structs: &[Desc],
@@ -51,7 +51,7 @@ fn check_struct(
     check_inside(alloc, &structs[number], number as u32, part)
 }
 
-// The rules at the structure of this number itself, whose name is new or not.
+// Returns the rules at structure `number` itself, given whether its name is new.
 fn struct_rules(structs: &[Desc], number: usize, is_new: bool, depth: u32) -> [bool; 8]
     requires there { number < length structs.now }
     requires new { is_new ≡ not (is_one_of
@@ -74,7 +74,7 @@ fn struct_rules(structs: &[Desc], number: usize, is_new: bool, depth: u32) -> [b
     ]
 }
 
-// How deep each structure is in structures that it uses.
+// Returns the depth of each structure, by the structures that it uses.
 fn struct_depths(alloc: Global, structs: &[Desc]) -> Result<Vec<u32>, AllocError>
     requires { length structs.now ≤ 64 }
     ensures { IfOk result (λ depths. depths.items ≡ struct_depths (map desc_of structs.now)) }
@@ -86,7 +86,7 @@ fn struct_depths(alloc: Global, structs: &[Desc]) -> Result<Vec<u32>, AllocError
     Ok(depths)
 }
 
-// The depth of the deepest structure that these fields use.
+// Returns the depth of the deepest structure that these fields use.
 fn deepest(depths: &[u32], fields: &[Field]) -> u32
     ensures { result ≡ deepest depths.now (map field_of fields.now) }
 {

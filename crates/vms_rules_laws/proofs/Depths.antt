@@ -1,4 +1,4 @@
--- Structures lie as deep in one another as the walk finds, and so do tests.
+-- Structures and tests have the number of levels that the walk computes.
 use Rattle.std.proofs.Common.{◌≡◌, ◌⊎◌, ℕ, zero, suc, ◌+◌, ◌<◌, ◌≤◌, max, nat_lt, true, false, List, [], ◌∷◌, ◌++◌, length, get_or, length-append, inl, inr, refl, sym, ap, subst, ◌∙◌, arith}
 use Rattle.std.proofs.Math.Nat.{max-le, le-max_left, le-max_right}
 use Rattle.std.proofs.lemmas.Bool.{cases_Bool, ltb-true}
@@ -42,7 +42,7 @@ some_depth (Not t) = omega arith
 some_depth (And s t) = omega arith
 some_depth (Or s t) = omega arith
 
--- a test that lies within another is less deep
+-- a test within another has fewer levels
 within_less : (s t : Formula) → IsWithinTest s t → depth s < depth t
 within_less s (AtLeast m) w = absurd w
 within_less s (Below m) w = absurd w
@@ -120,7 +120,7 @@ module _ (ds : List Desc) where
       let here : get_or (depths ds i) j 0 ≤ deepest (depths ds i) uses.desc.fields = subst (λ (item : Item). item_depth (depths ds i) item ≤ deepest (depths ds i) uses.desc.fields) uses.is among in
       omega (arith, inner, own, same, here)
 
-  -- an item of a structure that uses n at most
+  -- a structure in which uses nest less than n times has depth at most n
   abbrev IsBounded : ℕ → Type 0
   IsBounded n = (i : ℕ) (d : Desc) → At ds i d → (UsesOn ds n i → ⊥) → depth_at ds i ≤ n
 

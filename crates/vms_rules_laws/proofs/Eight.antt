@@ -1,4 +1,4 @@
--- The eight rules hold exactly where the walk finds no fault.
+-- The eight rules hold exactly if the walk finds no fault.
 use Rattle.std.proofs.Common.{◌≡◌, ℕ, zero, suc, ◌+◌, ◌<◌, ◌≤◌, Bool, true, false, not, ◌&&◌, ◌==◌, nat_le, List, [], ◌∷◌, length, get_or, take, Option, None, inl, inr, refl, subst, arith}
 use Rattle.std.specs.Bool.{Decides}
 use Rattle.std.specs.List.{list_any}

@@ -1,4 +1,4 @@
--- What the rules at a field and at a validation decide.
+-- The rules that the tests at a field and at a validation decide.
 use Rattle.std.proofs.Common.{◌≡◌, ℕ, suc, ◌<◌, Bool, true, false, ◌&&◌, ◌==◌, nat_le, if◌then◌else◌, List, [], ◌∷◌, ◌++◌, length, Option, Some, None, ℤ, pos, ◌≤ℤ◌, inl, inr, refl, sym, ap, ◌∙◌, subst}
 use Rattle.std.specs.Bool.{Decides}
 use Rattle.std.specs.List.{AllByRecursion, list_all, slice_get}
@@ -27,7 +27,7 @@ use Rattle.vms_rules_laws.proofs.Tests.{all_decides, at_places, earlier_decides,
 
 -- ---- tests
 
--- of a test that there may be
+-- the same of a test, if there is one
 optional_decides : (p : Formula → Bool) (P : Formula → Type 0) (b : Option Formula → Bool) → ((t : Formula) → Decides (p t) (P t)) → b None ≡ true → ((t : Formula) → b (Some t) ≡ p t)
     → (o : Option Formula) → Decides (b o) ((t : Formula) → o ≡ Some t → P t)
 optional_decides p P b each none some None = (λ e t same. absurd (cc), λ h. none)
@@ -118,7 +118,7 @@ default_decides (Equal kind y) z = Decides-and (in_range kind y) (same_number z 
 default_decides (Unused n) z = zero_decides z
 default_decides (Struct j) z = zero_decides z
 
--- what holds of the capacities of the arrays that field i counts
+-- a property of the capacities of the arrays that field i counts
 module _ (P : ℕ → Type 0) (i : ℕ) where
   abbrev OfCounted : List Field → Type 0
   OfCounted fs = (j most : ℕ) (g : Field) → At fs j g → g.count ≡ Counted i most → P most

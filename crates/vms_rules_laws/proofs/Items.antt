@@ -1,4 +1,4 @@
--- The items of a set are as many as the walk counts.
+-- A set has the number of items that the walk computes.
 use Rattle.std.proofs.Common.{◌≡◌, ℕ, zero, suc, ◌+◌, ◌*◌, List, [], ◌∷◌, ◌++◌, length, get_or, map, ℤ, Option, None, Bool, ◌&&◌, nat_lt, refl, sym, ap, ◌∙◌, arith}
 use Rattle.std.proofs.Math.Nat.{suc-mul}
 use Rattle.vms_kinds.specs.declared.Item.{Item}
@@ -29,7 +29,7 @@ items_absent : (xs : List Element) → items_among (map absent xs) ≡ items_amo
 items_absent [] = refl
 items_absent (x ∷ xs) = ap (λ (n : ℕ). item_number x.what + n) (items_absent xs)
 
--- each structure's elements have as many items as its size says
+-- each structure's elements have the number of items that its size says
 abbrev AreCounted : List Shape → List ℕ → Type 0
 AreCounted ss sizes = (j : ℕ) (numbers : List ℤ) (at : ℕ) → items_among ((get_or ss j no_shape).elements numbers at) ≡ get_or sizes j 0
 

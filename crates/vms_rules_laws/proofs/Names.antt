@@ -1,4 +1,4 @@
--- What the tests on names decide.
+-- The relations that the tests of names decide.
 use Rattle.std.proofs.Common.{◌≡◌, ◌⊎◌, ℕ, zero, suc, ◌+◌, ◌<◌, true, not, ◌&&◌, nat_le, List, [], ◌∷◌, ◌++◌, append_assoc, length, length-append, take, drop, inl, inr, refl, sym, ap, ◌∙◌, subst, arith}
 use Rattle.std.specs.Bool.{Decides}
 use Rattle.std.specs.List.{list_all}
@@ -94,7 +94,7 @@ distinct_decides (n ∷ names) =
     apart none later (suc j) zero name lt x y = omega (arith, lt)
     apart none later (suc j) (suc k) name lt x y = later j k name (omega (arith, lt)) x y
 
--- none of the names is one of the earlier ones, nor comes twice
+-- the names are distinct, and none of them is among the earlier ones
 record AreAllNew (earlier names : List (List ℕ)) : Type 0 where
   new : (a b : ℕ) (name : List ℕ) → At earlier a name → At names b name → ⊥
   once : (a b : ℕ) (name : List ℕ) → a < b → At names a name → At names b name → ⊥

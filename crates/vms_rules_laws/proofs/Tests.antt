@@ -1,4 +1,4 @@
--- What the tests on lists and on formulas decide.
+-- The relations that the tests of lists and of formulas decide.
 use Rattle.std.proofs.Common.{◌≡◌, ◌⊎◌, ℕ, zero, suc, ◌<◌, ◌≤◌, Bool, true, false, not, ◌&&◌, ◌||◌, nat_le, nat_lt, List, [], ◌∷◌, take, map, Option, Some, None, inl, inr, refl, sym, ap, subst, arith}
 use Rattle.std.specs.Bool.{Decides}
 use Rattle.std.specs.List.{list_all, slice_get}
@@ -57,7 +57,7 @@ one_of_decides (m ∷ names) name = more (one_of_decides names name)
     more : Decides (is_one_of names name) ((k : ℕ) × At names k name) → Decides (is_one_of (m ∷ names) name) ((k : ℕ) × At (m ∷ names) k name)
     more later = (λ e. found (split (bytes_eq m name) (is_one_of names name) e) later, λ h. there later h.0 h.1)
 
--- what stands among the first i
+-- an element among the first i
 mapped : {X : Type 0} (f : X → List ℕ) (xs : List X) (i k : ℕ) (n : List ℕ) → At (map f (take i xs)) k n → (x : X) × (k < i) × At xs k x × (f x ≡ n)
 mapped f xs zero k n e = absurd (cc)
 mapped f [] (suc i) k n e = absurd (cc)

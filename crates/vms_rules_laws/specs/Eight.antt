@@ -1,5 +1,6 @@
--- The eight rules of description sets, each as it is worded. The walk of a set gives the first rule that fails, and where; a law
--- says that it finds none exactly where all of this holds.
+-- The eight rules of description sets as they are worded (docs/format.md, "Which sets are well
+-- formed"). The walk over a set gives the first rule that fails, and its place. A law says that it
+-- finds none exactly if all of this holds.
 use Rattle.std.specs.Prelude.{◌≡◌, ◌⊎◌, ℕ, zero, suc, ◌+◌, ◌<◌, ◌≤◌, List, [], ◌∷◌, ◌++◌, length, Some, None, ℤ, pos, ◌≤ℤ◌}
 use Rattle.std.specs.List.{slice_get}
 use Rattle.vms_kinds.specs.declared.Item.{Item}
@@ -17,12 +18,13 @@ use Rattle.vms_spec.specs.Sets.{Formula, AtLeast, Below, Cell, Not, And, Or, Fie
 use Rattle.vms_elements.specs.Elements.{What, Number, Constant, Filler, Rule, Element}
 use Rattle.vms_elements.specs.Parts.{device_elements}
 
--- this stands at this number of a list
+-- the element at this number of a list is this one
 abbrev pub At : {X : Type 0} → List X → ℕ → X → Type 0
 At xs k x = slice_get xs k ≡ Some x
 
 -- ---- 1: names
 
+-- the number is from the first to the second
 abbrev pub IsWithin : ℕ → ℕ → ℕ → Type 0
 IsWithin least most n = (least ≤ n) × (n ≤ most)
 
@@ -30,13 +32,13 @@ IsWithin least most n = (least ≤ n) × (n ≤ most)
 abbrev pub IsNameByte : ℕ → Type 0
 IsNameByte b = IsWithin 48 57 b ⊎ IsWithin 65 90 b ⊎ IsWithin 97 122 b ⊎ (b ≡ 95) ⊎ (b ≡ 45) ⊎ (b ≡ 46)
 
--- of 1 to so many bytes
+-- a name of 1 to `most` bytes, each of them a name's byte
 pub record IsName (most : ℕ) (name : List ℕ) : Type 0 where
   pub some : 1 ≤ length name
   pub few : length name ≤ most
   pub each : (k b : ℕ) → At name k b → IsNameByte b
 
--- the device's name, a slash and a tail
+-- a subsection's full name: the device's name, a slash and a tail
 pub record IsSubName (device name : List ℕ) : Type 0 where
   pub tail : List ℕ
   pub is : name ≡ device ++ 47 ∷ tail
@@ -44,7 +46,7 @@ pub record IsSubName (device name : List ℕ) : Type 0 where
 
 -- ---- 2: distinct names
 
--- none that stands before number i has this name
+-- no earlier element than number i has this name
 abbrev pub IsNew : {X : Type 0} → (X → List ℕ) → List X → ℕ → List ℕ → Type 0
 IsNew {X} name_of xs i name = (j : ℕ) (x : X) → j < i → At xs j x → name_of x ≡ name → ⊥
 
@@ -52,14 +54,14 @@ IsNew {X} name_of xs i name = (j : ℕ) (x : X) → j < i → At xs j x → name
 abbrev pub names_of : Field → List (List ℕ)
 names_of f = f.name ∷ f.former
 
--- no name of field i is a name of an earlier field, nor comes twice
+-- the names of field i are distinct, and none of them is a name of an earlier field
 pub record AreNewNames (fields : List Field) (i : ℕ) (f : Field) : Type 0 where
   pub new : (j a b : ℕ) (g : Field) (name : List ℕ) → j < i → At fields j g → At (names_of g) a name → At (names_of f) b name → ⊥
   pub once : (a b : ℕ) (name : List ℕ) → a < b → At (names_of f) a name → At (names_of f) b name → ⊥
 
--- ---- 4: what tests and counts name
+-- ---- 4: the fields that tests and counts name
 
--- a single number of a description, which is there at every version from the minimum on
+-- field k is a single number without a test, present at every version from the minimum on
 pub record IsSteady (d : Desc) (k : ℕ) : Type 0 where
   pub field : Field
   pub there : At d.fields k field
@@ -78,25 +80,26 @@ Names (Not t) whose k = Names t whose k
 Names (And s t) whose k = Names s whose k ⊎ Names t whose k
 Names (Or s t) whose k = Names s whose k ⊎ Names t whose k
 
--- of a description's own fields, and of those of its parent, a test names such alone
+-- the test names only such fields of its own description, and only such of the parent
 pub record NamesOnly (IsOwn IsParent : ℕ → Type 0) (t : Formula) : Type 0 where
   pub own : (k : ℕ) → Names t Own k → IsOwn k
   pub parent : (k : ℕ) → Names t Parent k → IsParent k
 
+-- no field of a parent may be named
 abbrev pub Nobody : ℕ → Type 0
 Nobody k = ⊥
 
--- a steady field that stands before field i
+-- field k is such a field before field i
 abbrev pub IsEarlier : Desc → ℕ → ℕ → Type 0
 IsEarlier d i k = (k < i) × IsSteady d k
 
--- a count is one of these
+-- the kinds of a field that counts
 abbrev pub IsCounting : Item → Type 0
 IsCounting item = (item ≡ Num U8) ⊎ (item ≡ Num U16) ⊎ (item ≡ Num U32)
 
 -- ---- 6: defaults
 
--- a number's default and a constant are in range; what is no number has the default 0
+-- a number's default, and a constant, is in range; every other item has the default 0
 abbrev pub DefaultFits : Item → ℤ → Type 0
 DefaultFits (Num kind) z = InRange kind z
 DefaultFits (Equal kind y) z = InRange kind y × (z ≡ pos 0)
@@ -105,7 +108,7 @@ DefaultFits (Struct j) z = z ≡ pos 0
 
 -- ---- 7: limits
 
--- a test with the tests that it is made of
+-- a test and the tests that it contains
 abbrev pub parts_of : Formula → List Formula
 parts_of (AtLeast n) = AtLeast n ∷ []
 parts_of (Below n) = Below n ∷ []
@@ -114,19 +117,19 @@ parts_of (Not t) = Not t ∷ parts_of t
 parts_of (And s t) = And s t ∷ (parts_of s ++ parts_of t)
 parts_of (Or s t) = Or s t ∷ (parts_of s ++ parts_of t)
 
--- a test is joined or negated by another
+-- the first test is negated or joined by the second
 abbrev pub IsWithinTest : Formula → Formula → Type 0
 IsWithinTest s (Not t) = s ≡ t
 IsWithinTest s (And t u) = (s ≡ t) ⊎ (s ≡ u)
 IsWithinTest s (Or t u) = (s ≡ t) ⊎ (s ≡ u)
 IsWithinTest s _ = ⊥
 
--- within a test lies one, within that another, and so on n times
+-- the test contains one that contains one, and so on n times
 abbrev pub Nests : ℕ → Formula → Type 0
 Nests zero t = Unit {0}
 Nests (suc n) t = (s : Formula) × IsWithinTest s t × Nests n s
 
--- it is made of at most 64, and at most 16 lie one within the other, itself among them
+-- it has at most 64 nodes and 16 levels, itself included
 pub record IsSmall (t : Formula) : Type 0 where
   pub few : length (parts_of t) ≤ 64
   pub shallow : Nests 16 t → ⊥
@@ -146,24 +149,27 @@ abbrev pub UsesOn : List Desc → ℕ → ℕ → Type 0
 UsesOn structs zero i = Unit {0}
 UsesOn structs (suc n) i = (j : ℕ) × Uses structs i j × UsesOn structs n j
 
--- a number, a constant and unused bytes are an item each; the end of a description is none
+-- a number, a constant and unused bytes are one item each; the end of a description is none
 abbrev pub item_number : What → ℕ
 item_number (Number cell) = 1
 item_number (Constant kind z) = 1
 item_number (Filler n) = 1
 item_number (Rule holds) = 0
 
+-- the items of these elements
 abbrev pub items_among : List Element → ℕ
 items_among [] = 0
 items_among (x ∷ xs) = item_number x.what + items_among xs
 
--- how many items devices have: arrays at their full length, and structures wherever they are used
+-- the number of items of the devices: arrays at their full length or capacity, and structures
+-- wherever they are used
 abbrev pub items_of : Set → List Device → ℕ
 items_of set [] = 0
 items_of set (d ∷ devices) = items_among (device_elements set d (default_image set d)) + items_of set devices
 
 -- ---- 8: counts
 
+-- constants and unused bytes are single items, and lengths and capacities are at least 1
 abbrev pub CountFits : Item → Count → Type 0
 CountFits (Equal kind z) count = count ≡ One
 CountFits (Unused n) count = count ≡ One
@@ -187,10 +193,12 @@ pub record IsField (k : ℕ) (d : Desc) (i : ℕ) (f : Field) : Type 0 where
   pub unused : (n : ℕ) → f.item ≡ Unused n → IsWithin 1 MOST_UNUSED n
   pub good_count : CountFits f.item f.count
 
+-- the rules at a validation
 pub record IsValidation (d : Desc) (t : Formula) : Type 0 where
   pub named : NamesOnly (IsSteady d) Nobody t
   pub small : IsSmall t
 
+-- the rules at a description that may use the structures of numbers below k
 pub record IsDesc (k : ℕ) (d : Desc) : Type 0 where
   pub versions : d.minimum ≤ d.version
   pub few_fields : length d.fields ≤ 256
@@ -198,7 +206,7 @@ pub record IsDesc (k : ℕ) (d : Desc) : Type 0 where
   pub fields : (i : ℕ) (f : Field) → At d.fields i f → IsField k d i f
   pub validations : (i : ℕ) (t : Formula) → At d.validate i t → IsValidation d t
 
--- a structure uses those of smaller number alone
+-- the rules at structure i, which uses only structures of smaller number
 pub record IsStruct (structs : List Desc) (i : ℕ) (d : Desc) : Type 0 where
   pub named : IsName 100 d.name
   pub new : IsNew (λ e. e.name) structs i d.name
@@ -206,6 +214,7 @@ pub record IsStruct (structs : List Desc) (i : ℕ) (d : Desc) : Type 0 where
   pub shallow : UsesOn structs 4 i → ⊥
   pub some : 1 ≤ length d.fields
 
+-- the rules at subsection j
 pub record IsSub (k : ℕ) (d : Device) (j : ℕ) (s : Sub) : Type 0 where
   pub named : IsSubName d.desc.name s.desc.name
   pub new : IsNew (λ t. t.desc.name) d.subs j s.desc.name
@@ -213,6 +222,7 @@ pub record IsSub (k : ℕ) (d : Device) (j : ℕ) (s : Sub) : Type 0 where
   pub needed : NamesOnly (IsSteady s.desc) (IsSteady d.desc) s.needed
   pub small : IsSmall s.needed
 
+-- the rules at device i
 pub record IsDevice (set : Set) (i : ℕ) (d : Device) : Type 0 where
   pub named : IsName 100 d.desc.name
   pub new : (j : ℕ) (e : Device) → j < i → At set.devices j e → (e.desc.name ≡ d.desc.name) × (e.instance ≡ d.instance) → ⊥
@@ -220,6 +230,7 @@ pub record IsDevice (set : Set) (i : ℕ) (d : Device) : Type 0 where
   pub few_subs : length d.subs ≤ 32
   pub subs : (j : ℕ) (s : Sub) → At d.subs j s → IsSub (length set.structs) d j s
 
+-- the rules at a set
 pub record ObeysRules (set : Set) : Type 0 where
   pub named : (k : ℕ) (name : List ℕ) → At set.machines k name → IsName 64 name
   pub new : (j k : ℕ) (name : List ℕ) → j < k → At set.machines j name → At set.machines k name → ⊥

@@ -3,6 +3,6 @@ use Rattle.vms_spec.specs.Sets.{Set}
 use Rattle.vms_spec.specs.WellFormed.{WellFormed}
 use Rattle.vms_rules_laws.specs.Eight.{ObeysRules}
 
--- the walk finds no fault exactly where the eight rules hold
+-- the walk finds no fault exactly if the eight rules hold
 abbrev pub EightLaw : Type 0
 EightLaw = (set : Set) → (WellFormed set → ObeysRules set) × (ObeysRules set → WellFormed set)

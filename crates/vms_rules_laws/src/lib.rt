@@ -1,4 +1,5 @@
-//! What the eight rules of description sets say, each as it is worded, and that the walk of a set judges by just these.
+//! The eight rules of description sets as they are worded, and the law that the walk over a set
+//! checks exactly these.
 #![tactic(auto)]
 
 pub mod laws;

@@ -1,4 +1,4 @@
--- What the rows of the tables of shipped sets stand for.
+-- What the rows of the tables of the shipped sets describe.
 use Rattle.std.specs.Prelude.{List, [], ◌∷◌, ◌++◌, map}
 use Rattle.std.specs.Option.{option_map}
 use Rattle.vms_fields.specs.Fields.{fields_at}
@@ -16,34 +16,42 @@ use Rattle.vms_shipped.specs.declared.rows.SubRow.{SubRow}
 use Rattle.vms_shipped.specs.declared.rows.DeviceRow.{DeviceRow}
 use Rattle.vms_shipped.specs.declared.rows.SetRow.{SetRow}
 
+-- the test of a row
 abbrev pub asked_in : Asked → sets.Formula
 asked_in a = sets.Cell Own a.field a.mask a.rel a.value
 
+-- the field of a row
 abbrev pub field_in : FieldRow → sets.Field
 field_in r = record { name = r.name.now; former = map (λ n. n.now) r.former.now; item = r.item; count = r.count; since = r.since; test = option_map asked_in r.asked; default = r.default }
 
+-- the fields of a row
 abbrev pub fields_in : Rows → List sets.Field
 fields_in (Numbers kind names) = numbers kind (map (λ n. n.now) names.now)
 fields_in (One row) = field_in row ∷ []
 fields_in (Of rows version part) = fields_at version part (map (λ r. (r.0.now, r.1)) rows.now)
 
--- the fields of all rows, one after another
+-- the fields of all rows, in order
 abbrev pub all_in : List Rows → List sets.Field
 all_in [] = []
 all_in (row ∷ rows) = fields_in row ++ all_in rows
 
+-- the description of a row
 abbrev pub desc_in : DescRow → sets.Desc
 desc_in r = desc r.name.now r.version (all_in r.rows.now)
 
+-- the needed test of a row
 abbrev pub needed_in : Needed → sets.Formula
 needed_in (Only a) = asked_in a
 needed_in (Either a b) = sets.Or (asked_in a) (asked_in b)
 
+-- the subsection of a row
 abbrev pub sub_in : SubRow → sets.Sub
 sub_in r = record { desc = desc_in r.desc; needed = needed_in r.needed }
 
+-- the device of a row
 abbrev pub device_in : DeviceRow → sets.Device
 device_in r = device r.instance (desc_in r.desc) (map sub_in r.subs.now)
 
+-- the set of a row
 abbrev pub set_in : SetRow → sets.Set
 set_in r = record { machines = map (λ n. n.now) r.machines.now; structs = map desc_in r.structs.now; devices = map device_in r.devices.now }

@@ -52,7 +52,7 @@ const I8259_WITH_ELCR: DescRow = DescRow {
     rows: &[I8259_BYTES, I8259_FLAGS, ELCR],
 };
 
-// The level mode.
+// The subsection of the level mode.
 const LTIM: SubRow = SubRow {
     desc: DescRow {
         name: "i8259/ltim",
@@ -112,7 +112,7 @@ const LOAD_TIME: Rows = Rows::Numbers(Kind::U64, &["load_time"]);
 
 const HALVES: Rows = Rows::Numbers(Kind::Bool, &["read_high", "wlow_held"]);
 
-// The low half of a count that is being written, where one is held.
+// The low half of a count that is being written, if one is held.
 const WLOW: Rows = Rows::One(FieldRow {
     name: "wlow",
     asked: Some(Asked {
@@ -126,7 +126,7 @@ const WLOW: Rows = Rows::One(FieldRow {
 
 const LATCHED: Rows = Rows::Numbers(Kind::Bool, &["latched"]);
 
-// The count that is latched, where one is.
+// The latched count, if one is latched.
 const LATCH: Rows = Rows::One(FieldRow {
     name: "latch",
     item: Item::Num(Kind::U16),
@@ -148,14 +148,14 @@ const GATE: Rows = Rows::One(FieldRow {
     ..BYTE
 });
 
-// From version 2 on, the gate's byte tells nothing.
+// From version 2 on, the byte of the gate is unused.
 const NO_GATE: Rows = Rows::One(FieldRow {
     name: "gate",
     item: Item::Unused { bytes: 1 },
     ..BYTE
 });
 
-// One counter.
+// The structure of one counter.
 pub(crate) const CHANNEL_AT_1: DescRow = DescRow {
     name: "pit_channel",
     version: 1,

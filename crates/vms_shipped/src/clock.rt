@@ -3,7 +3,7 @@ use crate::rows::{Asked, DescRow, DeviceRow, Needed, Rows, SubRow};
 use vms_fields::clock::MC146818;
 use vms_parts::Rel;
 
-// The flag of the periodic interrupt.
+// The subsection of the periodic interrupt's flag.
 const PENDING: SubRow = SubRow {
     desc: DescRow {
         name: "mc146818/pending",

@@ -1,5 +1,8 @@
-//! The shipped sets as plain parts: the machines isa-0 to isa-4 with the sections of a timer, the pair of 8259A,
-//! the 8253 or 8254, and the 16450 or 16550A, and clk-1 and clk-2 with an MC146818 beside those of isa-4.
+//! The shipped sets as plain parts.
+//!
+//! The machines isa-0 to isa-4 have the sections of a timer, the pair of 8259A, the 8253 or 8254,
+//! and the 16450 or 16550A. The machines clk-1 and clk-2 have an MC146818 in front of those of
+//! isa-4.
 #![tactic(auto)]
 
 mod chips;

@@ -4,7 +4,7 @@ ghost use Rattle.vms_kinds.specs.declared.TheConstants.{NEWEST_CLOCK_SET, NEWEST
 ghost use Rattle.vms_shipped.specs.ClockSets.{clock_machine};
 ghost use Rattle.vms_spec.specs.Shipped.{isa_machine};
 
-/// The machine of set 0, which has a timer alone.
+/// The machine of set 0, whose only device is a timer.
 pub const ISA_0: &str = "isa-0";
 /// The machine of a board of level 1.
 pub const ISA_1: &str = "isa-1";
@@ -19,7 +19,11 @@ pub const CLK_1: &str = "clk-1";
 /// The machine of a board with version 2 of the clock chip.
 pub const CLK_2: &str = "clk-2";
 
-/// The machine of a level, `isa-0` to `isa-4`.
+/// Returns the machine name of `level`, `isa-0` to `isa-4`.
+///
+/// # Requires
+///
+/// `level` is at most 4.
 pub fn isa_machine(level: u8) -> &'static str
     requires { level ≤ NEWEST_SET }
     ensures { result.now ≡ isa_machine level }
@@ -33,7 +37,11 @@ pub fn isa_machine(level: u8) -> &'static str
     }
 }
 
-/// The machine of a version of the clock chip, `clk-1` or `clk-2`.
+/// Returns the machine name for `version` of the clock chip, `clk-1` or `clk-2`.
+///
+/// # Requires
+///
+/// `version` is 1 or 2.
 pub fn clock_machine(version: u8) -> &'static str
     requires first { 1 ≤ version }
     requires last { version ≤ NEWEST_CLOCK_SET }

@@ -1,4 +1,4 @@
-// The parts that rows of tables stand for.
+// The parts that the rows of the tables describe.
 ghost use Rattle.std.specs.Prelude.{◌≡◌, ◌++◌, map, option_map, IfOk, OnOk};
 ghost use Rattle.vms_fields.specs.Fields.{fields_at, listed_at};
 ghost use Rattle.vms_spec.specs.Shipped.{numbers};
@@ -18,7 +18,7 @@ fn text(alloc: Global, bytes: &str) -> Result<Text, NoMemory>
     Ok(Text::new(String::from_str(alloc, bytes)?))
 }
 
-// A text for each of these.
+// Returns a text for each of the names.
 fn texts(alloc: Global, names: &[&str]) -> Result<Listed<Text>, NoMemory>
     ensures { IfOk result (λ made. made ≡ map (λ n. n.now) names.now) }
 {
@@ -29,7 +29,7 @@ fn texts(alloc: Global, names: &[&str]) -> Result<Listed<Text>, NoMemory>
     Ok(Listed::new(made))
 }
 
-// Whether a field of the description's own is so.
+// Returns the test of a field of the description itself.
 fn test(asked: Asked) -> Test
     ensures { formula result ≡ asked_in asked }
 {
@@ -65,7 +65,7 @@ fn field(alloc: Global, row: &FieldRow) -> Result<Field, NoMemory>
     })
 }
 
-// Puts a number of this kind for each name after the fields that are there.
+// Appends a number of this kind for each name.
 fn put_numbers(
     alloc: Global,
     fields: &mut Vec<Field>,
@@ -86,7 +86,7 @@ fn put_numbers(
     Ok(())
 }
 
-// Puts the field of a row after those that are there, if a version has it in a part.
+// Appends the field of a row, if it is in `part` at `version`.
 fn put_listed(
     alloc: Global,
     fields: &mut Vec<Field>,
@@ -111,7 +111,7 @@ fn put_listed(
     Ok(())
 }
 
-// Puts the fields of a list that a version has in a part after those that are there.
+// Appends the fields of a list that are in `part` at `version`.
 fn put_list(
     alloc: Global,
     fields: &mut Vec<Field>,
@@ -128,7 +128,7 @@ fn put_list(
     Ok(())
 }
 
-// Puts the fields of a row after those that are there.
+// Appends the fields of a row.
 fn put(alloc: Global, fields: &mut Vec<Field>, rows: &Rows) -> Result<(), NoMemory>
     ensures { OnOk result
         (map field_of fields.new.items ≡ map field_of fields.old.items ++ fields_in rows.now) }
@@ -224,7 +224,11 @@ fn devices(alloc: Global, rows: &[DeviceRow]) -> Result<Listed<Device>, NoMemory
     Ok(Listed::new(devices))
 }
 
-/// The parts of a set.
+/// Returns the parts of a set.
+///
+/// # Errors
+///
+/// - [`NoMemory`]: out of memory.
 pub(crate) fn parts(alloc: Global, row: &SetRow) -> Result<Parts, NoMemory>
     ensures { IfOk result (λ parts. set_of parts ≡ set_in row.now) }
 {

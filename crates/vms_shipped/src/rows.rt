@@ -1,4 +1,4 @@
-// The rows of which the tables of the shipped sets are made.
+// The rows of the tables of the shipped sets.
 use vms_fields::Row;
 use vms_kinds::{Item, Kind};
 use vms_parts::{Count, Rel};
@@ -6,13 +6,16 @@ use vms_parts::{Count, Rel};
 /// Some fields of a description.
 #[derive(Clone, Copy)]
 pub(crate) enum Rows {
-    /// A number of this kind for each name.
+    /// A number of this kind for each of the names.
     Numbers(Kind, &'static [&'static str]),
+    /// One field.
     One(FieldRow),
-    /// Those of a device's list that a version has in a part: the section, 0, or a subsection, from 1 on.
+    /// The fields of a device's list that are in a part at a version: first the list, then the
+    /// version, then the part. Part 0 is the section; parts from 1 on are subsections.
     Of(&'static [Row], u32, u8),
 }
 
+/// A field of a description.
 #[derive(Clone, Copy)]
 pub(crate) struct FieldRow {
     pub(crate) name: &'static str,
@@ -20,12 +23,12 @@ pub(crate) struct FieldRow {
     pub(crate) item: Item,
     pub(crate) count: Count,
     pub(crate) since: u32,
-    /// Where it is there, if not everywhere.
+    /// The test of the field, if it has one.
     pub(crate) asked: Option<Asked>,
     pub(crate) default: i128,
 }
 
-/// A number of one byte, for a row that says what is other in it.
+/// A number of one byte, from which other rows are made.
 pub(crate) const BYTE: FieldRow = FieldRow {
     name: "",
     former: &[],
@@ -36,6 +39,7 @@ pub(crate) const BYTE: FieldRow = FieldRow {
     default: 0,
 };
 
+/// A description, whose minimum version is 1 and which has no validations.
 #[derive(Clone, Copy)]
 pub(crate) struct DescRow {
     pub(crate) name: &'static str,
@@ -43,7 +47,8 @@ pub(crate) struct DescRow {
     pub(crate) rows: &'static [Rows],
 }
 
-/// What a field of the description's own, masked, has to be to a value.
+/// A test: field `field` of the description itself, masked with `mask`, is in relation `rel` to
+/// `value`.
 #[derive(Clone, Copy)]
 pub(crate) struct Asked {
     pub(crate) field: u32,
@@ -52,20 +57,23 @@ pub(crate) struct Asked {
     pub(crate) value: u64,
 }
 
-/// Where a subsection is sent.
+/// When a subsection is sent.
 #[derive(Clone, Copy)]
 pub(crate) enum Needed {
+    /// If the test holds.
     Only(Asked),
+    /// If one of the tests holds.
     Either(Asked, Asked),
 }
 
-/// A subsection.
+/// A subsection, with its needed test.
 #[derive(Clone, Copy)]
 pub(crate) struct SubRow {
     pub(crate) desc: DescRow,
     pub(crate) needed: Needed,
 }
 
+/// A device, with its subsections.
 #[derive(Clone, Copy)]
 pub(crate) struct DeviceRow {
     pub(crate) instance: u32,
@@ -73,6 +81,7 @@ pub(crate) struct DeviceRow {
     pub(crate) subs: &'static [SubRow],
 }
 
+/// A set.
 #[derive(Clone, Copy)]
 pub(crate) struct SetRow {
     pub(crate) machines: &'static [&'static str],

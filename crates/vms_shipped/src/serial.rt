@@ -3,7 +3,7 @@ use crate::rows::{Asked, BYTE, DescRow, DeviceRow, FieldRow, Needed, Rows, SubRo
 use vms_kinds::{Item, Kind};
 use vms_parts::{Count, Rel};
 
-// The moment of a timer that isn't pending, and the mask of all bits.
+// The moment of a timer that isn't pending, which is also the mask of all bits.
 const NEVER: u64 = u64::MAX;
 
 const DIVIDER: Rows = Rows::Numbers(Kind::U16, &["divider"]);
@@ -54,7 +54,7 @@ const THR_IPENDING: SubRow = SubRow {
     }),
 };
 
-// The first field of the FIFOs or rings, where it isn't 0.
+// The first field, which is a count, isn't 0.
 const HOLDS: Asked = Asked {
     field: 0,
     mask: 255,

@@ -18,7 +18,7 @@ use std::alloc::Global;
 use vms_io::NoMemory;
 use vms_parts::Parts;
 
-// The machine isa-0 with a timer alone.
+// The machine isa-0, whose only device is a timer.
 const SET_0: SetRow = SetRow {
     machines: &[ISA_0],
     structs: &[],
@@ -50,7 +50,15 @@ const SET_4: SetRow = SetRow {
     devices: &[TIMER, FIRST_AT_4, SECOND_AT_4, I8254_AT_2, SERIAL_AT_4],
 };
 
-/// The parts of the shipped set of this number, 0 to 4. The answer is an error only where memory is wanting.
+/// Returns the parts of the shipped set `s`, 0 to 4.
+///
+/// # Errors
+///
+/// - [`NoMemory`]: out of memory.
+///
+/// # Requires
+///
+/// `s` is at most 4.
 pub fn shipped_parts(alloc: Global, s: u8) -> Result<Parts, NoMemory>
     requires { s ≤ NEWEST_SET }
     ensures { IfOk result (λ parts. set_of parts ≡ shipped_set s) }
@@ -64,7 +72,7 @@ pub fn shipped_parts(alloc: Global, s: u8) -> Result<Parts, NoMemory>
     }
 }
 
-// The boards with a clock chip, which stands in front of the devices of isa-4.
+// The boards with a clock chip, which is in front of the devices of isa-4.
 const CLOCK_1: SetRow = SetRow {
     machines: &[CLK_1],
     structs: &[CHANNEL_AT_2],
@@ -91,8 +99,15 @@ const CLOCK_2: SetRow = SetRow {
     ],
 };
 
-/// The parts of the clock set of this number, 1 or 2; number 0 stands for the first too. The answer is an error only
-/// where memory is wanting.
+/// Returns the parts of the clock set `c`, 1 or 2. For 0 they are those of set 1.
+///
+/// # Errors
+///
+/// - [`NoMemory`]: out of memory.
+///
+/// # Requires
+///
+/// `c` is at most 2.
 pub fn clock_parts(alloc: Global, c: u8) -> Result<Parts, NoMemory>
     requires { c ≤ NEWEST_CLOCK_SET }
     ensures { IfOk result (λ parts. set_of parts ≡ clock_set c) }

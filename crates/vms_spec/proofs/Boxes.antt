@@ -1,4 +1,4 @@
--- The sets of the worked rows: device box 0 with a few fields, and one set that has everything.
+-- The sets of the worked rows: device box 0 with a few fields, and one set with everything.
 use Rattle.std.proofs.Common.{ℕ, List, [], ◌∷◌, Some, None, pos, negsuc, codes}
 use Rattle.vms_kinds.specs.declared.Kind.{Kind}
 use Rattle.vms_kinds.specs.declared.Kind.TheVariants.{U8, U16, U32, I8, Bool as Truth}
@@ -21,7 +21,7 @@ box version fields validate subs = record {
 abbrev pub box_set : List Field → List Formula → List Sub → Set
 box_set fields validate subs = record { machines = codes "lab" ∷ []; structs = []; devices = box 1 fields validate subs ∷ [] }
 
--- n, and as many 16-bit numbers, at most two
+-- the field n, and an array of n 16-bit numbers, at most two
 abbrev pub counted_set : Set
 counted_set = box_set (number U8 (codes "n") ∷ record (number U16 (codes "v")) { count = Counted 0 2 } ∷ []) [] []
 
@@ -52,7 +52,7 @@ bare_set = box_set [] (AtLeast 2 ∷ []) []
 abbrev pub empty_set : Set
 empty_set = record { machines = []; structs = []; devices = [] }
 
--- a structure of version 3: y came at 3, z is to come at 4
+-- a structure of version 3: y has `since` 3, z has `since` 4
 abbrev pub point : Desc
 point = record {
   name = codes "pt";
@@ -62,7 +62,8 @@ point = record {
   validate = Cell Own 0 255 Lt 200 ∷ [];
 }
 
--- a field with a test, whose `since` is never asked; one that came at version 2; a validation; and a subsection
+-- a field with a test, whose `since` doesn't matter; a field with `since` 2; a validation; and a
+-- subsection
 abbrev pub mixed_set : Set
 mixed_set = record {
   machines = codes "lab" ∷ [];

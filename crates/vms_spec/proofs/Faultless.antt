@@ -1,4 +1,4 @@
--- A set without a fault: nothing that is asked in order answers, and each rule holds.
+-- A set without a fault: each test in the walk finds nothing, and each rule holds.
 use Rattle.std.proofs.Common.{◌≡◌, ℕ, zero, suc, ◌+◌, ◌≤◌, List, [], ◌∷◌, length, Option, Some, None, refl, sym, ap, ◌∙◌, arith, Bool, true, false, ◌&&◌, ◌||◌, nat_le}
 use Rattle.std.specs.List.{slice_get, list_all}
 use Rattle.std.specs.Str.{bytes_eq}
@@ -16,7 +16,7 @@ pub or_else_none : {X : Type 0} (x y : Option X) → or_else x y ≡ None → (x
 or_else_none (Some x) y e = cc
 or_else_none None y e = (refl, e)
 
--- what stands at a number was asked with it
+-- the element at a number is tested with that number
 pub answers_none : {X Y : Type 0} (f : ℕ → X → Option Y) (i : ℕ) (xs : List X) → first_answer f i xs ≡ None → (j : ℕ) (x : X) → slice_get xs j ≡ Some x → f (i + j) x ≡ None
 answers_none f i [] e j x h = cc
 answers_none f i (y ∷ xs) e zero x h =
@@ -42,7 +42,7 @@ all_true r (false ∷ rules) p e = cc
 
 -- ---- the set itself
 
--- what holds of all names holds of one of them
+-- a test that holds of all names holds of each of them
 pub every_one : (p : List ℕ → Bool) (names : List (List ℕ)) (name : List ℕ) → list_all p names ≡ true → is_one_of names name ≡ true → p name ≡ true
 every_one p [] name h e = absurd (cc)
 every_one p (n ∷ names) name h e =

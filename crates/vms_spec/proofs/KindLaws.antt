@@ -1,4 +1,4 @@
--- Numbers are read back from their bytes.
+-- Numbers can be read back from their bytes.
 use Rattle.std.proofs.Common.{◌≡◌, List, ◌++◌, ℕ, ◌%◌, ◌^◌, ◌*◌, ◌<◌, length, ℤ, pos, negsuc, refl, sym, ap, ◌∙◌, arith, append-nil, false, ◌≤◌, []}
 use Rattle.std.proofs.lemmas.Bool.{le-ltb}
 use Rattle.std.proofs.lemmas.Int.{ints}

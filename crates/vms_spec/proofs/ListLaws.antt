@@ -67,7 +67,7 @@ both_none x y e f = ap (λ o. or_else o y) e ∙ f
 pub drop_on : {A : Type 0} (all : List A) (at : ℕ) (xs ys : List A) → drop at all ≡ xs ++ ys → drop (at + length xs) all ≡ ys
 drop_on all at xs ys e = sym (drop-drop (length xs) at all) ∙ ap (λ l. drop (length xs) l) e ∙ drop-append_seam xs ys
 
--- where a first is found, there is one
+-- if a first element is found, its number is within the list
 pub found_inside : {X : Type 0} (p : X → Bool) (i : ℕ) (xs : List X) (k : ℕ) → position p i xs ≡ Some k → (i ≤ k) × (k - i < length xs)
 found_inside p i [] k e = absurd (cc)
 found_inside p i (x ∷ xs) k e = by (λ h. found_inside p (suc i) xs k h) (p x) e
@@ -95,12 +95,12 @@ versions_long (s ∷ subs) [] h = absurd h
 versions_long (s ∷ subs) (None ∷ came) h = ap suc (versions_long subs came h)
 versions_long (s ∷ subs) (Some v ∷ came) h = ap suc (versions_long subs came h.1)
 
--- a number grows by its digits
+-- a number doesn't shrink if digits are added
 pub natural_up : (n : ℕ) (bs : List ℕ) → n ≤ natural_from n bs
 natural_up n [] = omega arith
 natural_up n (b ∷ bs) = omega (arith, natural_up (n * 10 + (b - 48)) bs)
 
--- a name that is found, where no earlier one is it
+-- a name is found at the first place that has it
 pub found_one : (names : List (List ℕ)) (i : ℕ) (name one : List ℕ) → i < length names → one ≡ get_or names i one → bytes_eq one name ≡ true → is_one_of (drop i names) name ≡ is_one_of names name
     → (is_one_of names name ≡ true) × (get_or names i [] ≡ name)
 found_one names i name one lt is same inv = (

@@ -1,4 +1,4 @@
--- The bytes of names are among those of ASCII that print.
+-- The bytes of names are printable ASCII.
 use Rattle.std.proofs.Common.{◌≡◌, ℕ, ◌<◌, ◌≤◌, true, arith}
 use Rattle.std.proofs.lemmas.Bool.Decides.{nat_tests}
 use Rattle.vms_spec.specs.Names.{is_name_byte}

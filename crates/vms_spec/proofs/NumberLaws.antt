@@ -1,4 +1,4 @@
--- Tests on numbers, and what they say.
+-- Tests on numbers, and the relations that they decide.
 use Rattle.std.proofs.Common.{◌≡◌, ℕ, Bool, true, false, List, ◌∷◌, ℤ, pos, negsuc, ◌≤ℤ◌, refl, ap, ◌∙◌, arith, ◌||◌, []}
 use Rattle.std.specs.List.{AllByRecursion}
 use Rattle.std.proofs.lemmas.Bool.{eqb-true, eq-eqb, ltb-false, le-ltb, or_parts}

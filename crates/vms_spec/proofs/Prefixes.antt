@@ -1,4 +1,4 @@
--- A structure means the same in each table that reaches it.
+-- A structure has the same meaning in each table that includes it.
 use Rattle.std.proofs.Common.{◌≡◌, ℕ, zero, suc, ◌+◌, ◌<◌, ◌≤◌, List, ◌∷◌, ◌++◌, length, get_or, map, ℤ, pos, refl, sym, ap, ◌∙◌, arith, true, if◌then◌else◌, []}
 use Rattle.std.proofs.Math.ListN.{get_or-map}
 use Rattle.std.proofs.Math.Path.{fun_ext}
@@ -14,7 +14,7 @@ use Rattle.vms_spec.specs.Layout.{Cell, Slot, Rule, Meaning, no_desc, no_field, 
 use Rattle.vms_spec.proofs.Tables.{first_at}
 use Rattle.vms_spec.specs.ValuesReading.{Reader, reader, cells_of}
 
--- the item is no structure, or one of a number below k
+-- the item is no structure, or a structure of a number below k
 abbrev pub ItemBelow : ℕ → Item → Type 0
 ItemBelow k (Struct j) = j < k
 ItemBelow k _ = Unit {0}
@@ -72,7 +72,7 @@ pub row_same : {B : Type 0} (cells : B → List Cell) (none : B) (bs bs' : List 
     → get_or (map cells bs) i (cells none) ≡ get_or (map cells bs') i (cells none)
 row_same cells none bs bs' i e = get_or-map cells bs i none ∙ ap cells e ∙ sym (get_or-map cells bs' i none)
 
--- the cells in a table of what f makes, which has those of the description at hand
+-- the cells in a table that f makes, if f keeps the cells of each description
 pub first_cells : {B : Type 0} (cells : B → List Cell) (f : List B → Desc → B) → ((bs : List B) (d : Desc) → cells (f bs d) ≡ desc_cells (map cells bs) d)
     → (ds : List Desc) (k : ℕ) → map cells (first f ds k) ≡ first desc_cells ds k
 unfolding first
@@ -128,7 +128,7 @@ module _ (j : ℕ) (ms ms' : List Meaning) (same : (i : ℕ) → i < j → get_o
       ∙ ap (λ (own : ℕ → ℕ). slots_from ms' d.fields v own numbers 0 at d.fields ++ Rule (all_hold d.validate v own) ∷ [])
       (own_same j (cells_in ms) (cells_in ms') cells_row d numbers at h)
 
--- structure j, by all of them
+-- structure j by the table of all structures
 pub struct_slots : (ds : List Desc) (k j : ℕ) (numbers : List ℤ) (at : ℕ) → j < k → FieldsBelow j (get_or ds j no_desc).fields
     → (get_or (meanings ds k) j no_meaning).slots numbers at ≡ desc_slots (meanings ds k) (get_or ds j no_desc) (get_or ds j no_desc).version numbers at
 struct_slots ds k j numbers at h below =

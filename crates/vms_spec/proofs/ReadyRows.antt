@@ -1,4 +1,4 @@
--- Which images may be written.
+-- The images that may be written.
 use Rattle.std.proofs.Common.{◌≡◌, ℕ, List, [], ◌∷◌, map, Bool, true, false, Option, Some, None, pos, negsuc, refl}
 use Rattle.std.specs.List.{list_all}
 use Rattle.vms_spec.specs.Layout.{first}
@@ -8,7 +8,7 @@ use Rattle.vms_spec.specs.Readiness.{is_normal, is_ready}
 use Rattle.vms_spec.specs.Shipped.{shipped_sets}
 use Rattle.vms_spec.proofs.Boxes.{counted_set, subsection_set, tested_set, mixed_set}
 
--- whether each device's default image is ready
+-- each device's default image is ready
 abbrev defaults_are_ready : Set → Bool
 defaults_are_ready set = list_all (λ (d : Device). is_ready set d (default_image set d)) set.devices
 
@@ -16,7 +16,7 @@ writes_the_defaults_of_each_shipped_set : list_all defaults_are_ready shipped_se
 unfolding first
 writes_the_defaults_of_each_shipped_set = refl
 
--- of the one device of a set
+-- a test of the image of a set's only device
 abbrev of_box : (Set → Device → Image → Bool) → Set → Image → Bool
 of_box test set image = list_all (λ (d : Device). test set d image) set.devices
 

@@ -1,4 +1,5 @@
--- What the worked rows are written with: bytes by their hexadecimal digits, lines of text, and what a reading shows.
+-- Helpers of the worked rows: bytes from hexadecimal digits, lines of text, and the result of a
+-- reading.
 use Rattle.std.proofs.Common.{ℕ, ◌+◌, ◌-◌, ◌*◌, nat_lt, if◌then◌else◌, List, [], ◌∷◌, ◌++◌, codes}
 
 -- a digit of 0 to 9 or a to f
@@ -19,7 +20,7 @@ head = hex (codes "5145564d00000003")
 abbrev pub smallest : List ℕ
 smallest = head ++ hex (codes "04000000000574696d657200000000000000010000000000000000") ++ hex (codes "7e0000000000")
 
--- the stream head and the head of box 0 at version 1, and then a footer and the end mark
+-- the stream head and the head of box 0 at version 1; after it a footer and the end mark
 abbrev pub box_head : List ℕ
 box_head = head ++ hex (codes "040000000003626f780000000000000001")
 

@@ -1,4 +1,4 @@
--- Each shipped set is well formed, and good: the premises of laws over sets can be met.
+-- Each shipped set is well formed and good. So the premises of the laws about sets can be met.
 use Rattle.std.proofs.Common.{◌≡◌, ℕ, zero, suc, ◌<◌, ◌^◌, Bool, true, List, [], ◌∷◌, Option, Some, None, refl, subst}
 use Rattle.std.specs.Prelude.{◌&&◌, is_none, nat_lt}
 use Rattle.std.specs.List.{AllByRecursion, list_all, slice_get}
@@ -10,7 +10,7 @@ use Rattle.vms_spec.specs.Shipped.{shipped_sets}
 use Rattle.vms_spec.specs.Good.{IsFit, ShippedLaw}
 use Rattle.vms_spec.specs.Heads.{FitsHeads}
 
--- ---- what four bytes hold, computed
+-- ---- the numbers that four bytes can hold, computed
 
 abbrev is_word : ℕ → Bool
 is_word n = nat_lt n (2 ^ 32)

@@ -1,4 +1,4 @@
--- How many cells a field has, and that its elements are no more than it has room for.
+-- The number of cells of a field, and that its elements fit into it.
 use Rattle.std.proofs.Common.{◌≡◌, ℕ, zero, suc, ◌+◌, ◌*◌, ◌≤◌, List, length, refl, sym, ap, ◌∙◌, arith, length-append, ℤ}
 use Rattle.std.proofs.Math.Nat.{mul-le-mul_right}
 use Rattle.vms_kinds.specs.declared.Item.{Item}
@@ -32,7 +32,7 @@ elements_fit (Counted by most) own = omega arith
 
 -- ---- room for elements
 
--- an element of an array lies in it
+-- an element of an array is within the array
 pub element_room : (e n size : ℕ) → suc e ≤ n → e * size + size ≤ n * size
 element_room e n size le = grind arith
 

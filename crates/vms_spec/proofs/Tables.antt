@@ -1,4 +1,4 @@
--- Tables by number: what stands at a number is made from the earlier ones alone.
+-- Tables by number: each element is made from the earlier ones alone.
 use Rattle.std.proofs.Common.{◌≡◌, ℕ, zero, suc, ◌<◌, ◌≤◌, List, [], ◌∷◌, ◌++◌, length, length-append, get_or, take, refl, sym, ap, ◌∙◌, arith, Bool, true, false, nat_lt}
 use Rattle.std.proofs.lemmas.Bool.{ltb-true, ltb-false}
 use Rattle.std.proofs.lemmas.List.{get_or_append_left, get_or-take}
@@ -31,7 +31,7 @@ at_step f ds d k j lt earlier false e =
     ∙ last_is (first f ds k) (f (first f ds k) (get_or ds k no_desc)) d k (first_long f ds k)
     ∙ ap (λ (i : ℕ). f (first f ds i) (get_or ds i no_desc)) same
 
--- each of a list and of one more
+-- a property of each element of a list and of one more
 pub one_more : {A : Type 0} (P : A → Type 0) (a0 : A) → P a0 → (xs : List A) → ((j : ℕ) → P (get_or xs j a0)) → (a : A) → P a → (j : ℕ) → P (get_or (xs ++ a ∷ []) j a0)
 one_more P a0 p0 [] all a p zero = p
 one_more P a0 p0 [] all a p (suc j) = p0
@@ -43,7 +43,7 @@ unfolding first
 first_at f ds d zero j lt = absurd (omega arith)
 first_at f ds d (suc k) j lt = at_step f ds d k j lt (λ l. first_at f ds d k j l) (nat_lt j k) refl
 
--- those of the first j descriptions are made from these alone
+-- the elements for the first j descriptions are made from these descriptions alone
 pub first_take : {B : Type 0} (f : List B → Desc → B) (ds : List Desc) (j k : ℕ) → k ≤ j → first f (take j ds) k ≡ first f ds k
 unfolding first
 first_take {B = B} f ds j zero le = refl

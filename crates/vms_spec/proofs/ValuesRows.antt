@@ -46,7 +46,7 @@ refuses_a_failing_validation : reads tested_set (lines (codes "section box 0 v1"
 unfolding reads first digits
 refuses_a_failing_validation = refl
 
--- the first pass goes before the second
+-- the first pass comes before the second
 refuses_a_bad_line_before_a_failing_validation : reads tested_set (lines (codes "section box 0 v1" ∷ codes "f = 10" ∷ codes "g = 256" ∷ [])) ≡ Bad 3 reasons.Number
 unfolding reads first digits
 refuses_a_bad_line_before_a_failing_validation = refl
@@ -56,7 +56,7 @@ refuses_a_needed_subsection_that_did_not_come : reads subsection_set (lines (cod
 unfolding reads first digits
 refuses_a_needed_subsection_that_did_not_come = refl
 
--- ---- what is shown is read
+-- ---- a printed text can be read
 
 abbrev mixed : Image
 mixed = record {

@@ -31,7 +31,7 @@ use Rattle.vms_spec.proofs.Tables.{one_more}
 
 -- ---- no fault anywhere
 
--- what holds of a description without a fault
+-- the properties of a description without a fault
 pub record Clean (k : ℕ) (d : Desc) (rules : List Bool) : Type 0 where
   pub own : AllTrue rules
   pub fields : (i : ℕ) (f : Field) → slice_get d.fields i ≡ Some f → AllTrue (field_rules k d i f)
@@ -202,7 +202,7 @@ fit_item structs all (Equal kind y) caps z e f = tt
 fit_item structs all (Unused n) caps z e f = tt
 fit_item structs all (Struct j) caps z e f = all j
 
--- the rule on defaults at each field of a description, from one on
+-- the rule about defaults at each field of a description from field i on
 record FieldsFit (fields : List Field) (i : ℕ) (fs : List Field) : Type 0 where
   pub fit : (j : ℕ) (f : Field) → slice_get fs j ≡ Some f → (defaults_well f.item f.default ≡ true) × (counts_well (counted (i + j) fields) f.default ≡ true)
 
@@ -233,7 +233,7 @@ fields_fit k d rules c = record {
 constants_of : (k : ℕ) (d : Desc) (rules : List Bool) → Clean k d rules → ConstantsFit d.fields
 constants_of k d rules c = constants_fit d.fields (λ i f e. constant_fits f.item f.default (and_parts (defaults_well f.item f.default) (counts_well (counted i d.fields) f.default) (c.fields i f e).1.1.1.1.1.0).0)
 
--- as DefaultsFit says it
+-- in the form of DefaultsFit
 fit_at : (cells : List OneCell) → Fit cells → DefaultsFit cells
 fit_at [] p = λ c lt. absurd (omega arith)
 fit_at (x ∷ cells) p = by_place x cells p.0 (fit_at cells p.1)
@@ -293,7 +293,7 @@ module _ (set : Set) (well : WellFormed set) where
       clean (length set.structs) s.desc (parts.Sub k j) (sub_rules d j s)
       (subst (λ (i : ℕ). sub_fault (length set.structs) k d i s ≡ None) plus (answers_none (sub_fault (length set.structs) k d) 0 d.subs (device_parts k d e).1 j s f))
 
-  -- structure m, of which there may be none
+  -- structure m, which may not exist
   struct_fits : (structs : List (List OneCell)) → AllFit structs → (m : ℕ) (o : Option Desc) → slice_get set.structs m ≡ o → Fit (desc_cells structs (get_or set.structs m no_desc))
   struct_fits structs all m None e = subst (λ (d : Desc). Fit (desc_cells structs d)) (sym (get_none set.structs m no_desc e)) tt
   struct_fits structs all m (Some d) e =

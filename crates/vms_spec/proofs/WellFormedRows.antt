@@ -40,12 +40,12 @@ refuses_a_count_by_a_later_field : faulty (box_set (record (number U8 (codes "v"
 unfolding faulty first
 refuses_a_count_by_a_later_field = refl
 
--- a field goes before a validation of the same description
+-- a field's fault comes before a validation's of the same description
 refuses_a_bad_field_before_a_bad_validation : faulty (box_set (record (number U8 (codes "a")) { count = Fixed 0 } ∷ []) (Cell Own 1 255 Lt 10 ∷ []) []) ≡ Some (record { rule = 8; place = in_field (parts.Device 0) 0 })
 unfolding faulty first
 refuses_a_bad_field_before_a_bad_validation = refl
 
--- a needed test stands at the subsection, before its fields
+-- a needed test's fault is at the subsection, before its fields
 refuses_a_needed_test_of_no_field : faulty (box_set [] [] (record (sub_of (codes "box/p") [] 5) { needed = Cell Parent 0 255 Eq 1 } ∷ [])) ≡ Some (record { rule = 4; place = here (parts.Sub 0 0) })
 unfolding faulty first
 refuses_a_needed_test_of_no_field = refl

@@ -1,4 +1,4 @@
--- What the numbers of a section head and of a subsection head can hold.
+-- The numbers of section heads and subsection heads (docs/format.md, "The parts of a stream").
 use Rattle.std.specs.Prelude.{◌≡◌, ℕ, ◌^◌, ◌<◌, Some}
 use Rattle.std.specs.List.{slice_get}
 use Rattle.vms_spec.specs.Sets.{Device, Sub, Set}

@@ -1,8 +1,9 @@
--- The words that name a reason of refusal in a line, and a device's rule by its number.
+-- The names of the reasons of refusal in a line, and the number of a device's rule.
 use Rattle.std.specs.Prelude.{ℕ, List, Option, Some, None, codes}
 use Rattle.vms_spec.specs.declared.Reason.{Reason}
 use Rattle.vms_spec.specs.declared.Reason.TheVariants as reasons
 
+-- the name of a reason
 abbrev pub reason_word : Reason → List ℕ
 reason_word reasons.Truncated = codes "Truncated"
 reason_word reasons.BadMagic = codes "BadMagic"
@@ -31,7 +32,7 @@ reason_word reasons.LinesDisagree = codes "LinesDisagree"
 reason_word reasons.Trailing = codes "Trailing"
 reason_word reasons.DescriptionTooLong = codes "DescriptionTooLong"
 
--- the number of the device's rule that fails
+-- the number of the device's rule that fails, if that is the reason
 abbrev pub rule_of : Reason → Option ℕ
 rule_of (reasons.Unsound rule) = Some rule
 rule_of _ = None

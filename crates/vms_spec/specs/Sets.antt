@@ -1,13 +1,14 @@
--- Description sets as plain data. Names are the bytes of their text. Structures, devices, fields and subsections
--- are named by number, from 0 on, in the order in which they stand here.
+-- Description sets as plain data (docs/format.md, "What a section has"). Names are the bytes of
+-- their text. Structures, devices, fields and subsections have numbers from 0 on, in the order of
+-- the lists here.
 use Rattle.std.specs.Prelude.{ℕ, List, Option, ℤ}
 use Rattle.vms_kinds.specs.declared.Item.{Item}
 use Rattle.vms_spec.specs.declared.Rel.{Rel}
 use Rattle.vms_spec.specs.declared.Whose.{Whose}
 use Rattle.vms_spec.specs.declared.Count.{Count}
 
--- A test. AtLeast and Below ask the version. Cell asks the number of a field: whose it is, its number, a mask, and how
--- the masked number compares with a value.
+-- A test. AtLeast and Below compare the version. Cell compares the number of a field: whose field
+-- it is, its number, a mask, a relation, and the value that the masked number is compared with.
 pub data Formula : Type 0 where
   AtLeast : ℕ → Formula
   Below : ℕ → Formula
@@ -16,6 +17,7 @@ pub data Formula : Type 0 where
   And : Formula → Formula → Formula
   Or : Formula → Formula → Formula
 
+-- a field: its names, item, count, first version, test and default
 pub record Field : Type 0 where
   pub name : List ℕ
   pub former : List (List ℕ)
@@ -25,6 +27,7 @@ pub record Field : Type 0 where
   pub test : Option Formula
   pub default : ℤ
 
+-- a description: a name, the version and the minimum version, fields, and validations
 pub record Desc : Type 0 where
   pub name : List ℕ
   pub version : ℕ
@@ -32,16 +35,18 @@ pub record Desc : Type 0 where
   pub fields : List Field
   pub validate : List Formula
 
--- the name of a subsection's description is its full name: the device's, a slash and a tail
+-- a subsection and its needed test; its name is the full one: the device's name, a slash and a tail
 pub record Sub : Type 0 where
   pub desc : Desc
   pub needed : Formula
 
+-- a device: an instance id, a description, and subsections
 pub record Device : Type 0 where
   pub instance : ℕ
   pub desc : Desc
   pub subs : List Sub
 
+-- a description set: the names of machines, the structures, and the devices
 pub record Set : Type 0 where
   pub machines : List (List ℕ)
   pub structs : List Desc

@@ -1,99 +1,102 @@
-//! The definitions of the format: what a description set means, of which pieces streams are made, what the
+//! The definitions of the format: what a description set means, the pieces of streams, what the
 //! writer gives, and how values texts are printed and read.
 //!
-//! The definitions are in `specs/`, one module a subject. The crate's code is the few enums without
-//! pointers that the definitions and the public types of the crates above share, and the words of reasons.
+//! The definitions are in `specs/`, one module for each subject. The code of the crate is the enums
+//! that the definitions and the public types of the crates above share, and the names of reasons.
 #![tactic(auto)]
 
 ghost use Rattle.std.specs.Prelude.{◌≡◌, ◌≤◌, length};
 ghost use Rattle.vms_spec.specs.Reasons.{reason_word, rule_of};
 
-/// How many items the devices of a well-formed set have together at most: what stands in an array counts
-/// as often as it may stand there.
+/// The greatest number of items that the devices of a well-formed set have together. An item of an
+/// array counts once for each element of its full length or capacity.
 pub const MOST_ITEMS: u32 = 16_384;
 
-/// How many unused bytes stand in one place of a well-formed set at most, as `VMSTATE_UNUSED` has them.
+/// The greatest number of bytes of one unused item (`VMSTATE_UNUSED`) in a well-formed set.
 pub const MOST_UNUSED: u16 = 4096;
 
-/// How many bytes the name of a section, a subsection or a machine has in a stream at most: as many as one byte
-/// can tell.
+/// The greatest number of bytes of a name of a section, a subsection or a machine in a stream: what
+/// a length byte can hold.
 pub const LONGEST_NAME: usize = 255;
 
-/// How many bytes of text a description has in a stream at most.
+/// The greatest number of bytes of text in a description section.
 pub const LONGEST_TEXT: u32 = 16_777_216;
 
-/// How a masked number is compared with a value in a test.
+/// How a test compares a masked number with a value.
 #[derive(Clone, Copy, Debug, PartialEq, Eq)]
 pub enum Rel {
-    /// Equal.
+    /// The number is equal to the value.
     Eq,
-    /// Not equal.
+    /// The number isn't equal to the value.
     Ne,
-    /// Less than the value.
+    /// The number is less than the value.
     Lt,
-    /// The value or more.
+    /// The number is the value or greater.
     Ge,
 }
 
-/// Whose field a test asks: the description's own, or the device's where a subsection's needed test asks.
+/// The description whose field a test names.
 #[derive(Clone, Copy, Debug, PartialEq, Eq)]
 pub enum Whose {
-    /// The description's own field.
+    /// The description that the test belongs to.
     Own,
-    /// The device's field.
+    /// The device of a subsection. Only a needed test names a field of it.
     Parent,
 }
 
-/// How many elements a field has.
+/// The number of elements of a field.
 #[derive(Clone, Copy, Debug, PartialEq, Eq)]
 pub enum Count {
-    /// A single item, which is no array.
+    /// A single item, not an array.
     One,
     /// An array of this fixed length, as `VMSTATE_ARRAY`.
     Fixed(u32),
-    /// An array whose length is the number of the field `by`, at most `capacity`, as `VMSTATE_VARRAY`.
+    /// An array, as `VMSTATE_VARRAY`, whose length is the number of field `by`, at most `capacity`.
     Counted { by: u32, capacity: u32 },
 }
 
-/// A part of a description set, by its numbers.
+/// A part of a description set. Structures, devices and the subsections of a device are numbered
+/// from 0.
 #[derive(Clone, Copy, Debug, PartialEq, Eq)]
 pub enum Part {
     /// The set itself.
     Set,
-    /// A structure.
+    /// The structure of this number.
     Struct(u32),
-    /// A device.
+    /// The device of this number.
     Device(u32),
-    /// A device's subsection.
+    /// The subsection whose number is second, of the device whose number is first.
     Sub(u32, u32),
 }
 
 /// A place in a description set: a part, or a field of a structure, a device or a subsection.
 #[derive(Clone, Copy, Debug, PartialEq, Eq)]
 pub struct Place {
+    /// The part that the place is in.
     pub part: Part,
-    /// The number of the field; none where the part itself is meant.
+    /// The number of the field, or `None` if the part itself is meant.
     pub field: Option<u32>,
 }
 
-/// Why a stream is refused, in the order in which the reasons are tried within one unit.
+/// A reason to refuse a stream. Within one unit the reasons are tried in this order
+/// (docs/format.md, "Units, offsets and refusals").
 #[derive(Clone, Copy, Debug, PartialEq, Eq)]
 pub enum Reason {
     /// The input ends inside the unit.
     Truncated,
-    /// The magic is other bytes.
+    /// The magic isn't `QEVM`.
     BadMagic,
     /// The stream's version is 2.
     OldStream,
     /// The stream's version is neither 2 nor 3.
     BadVersion,
-    /// Between sections, a mark that no other reason takes.
+    /// Between sections, a mark to which no other reason applies.
     BadMark,
     /// A RAM section starts.
     Ram,
     /// Another section that is sent in parts.
     Iterative,
-    /// A command section.
+    /// A command section starts.
     Command,
     /// A subsection of the configuration.
     ConfigurationExtra,
@@ -103,15 +106,15 @@ pub enum Reason {
     UnknownSection,
     /// This device's section came already.
     RepeatedSection,
-    /// The version id is above the description's version.
+    /// The version id is greater than the description's version.
     TooNew,
-    /// The version id is below the description's minimum version.
+    /// The version id is less than the description's minimum version.
     TooOld,
-    /// A bool byte is above 1.
+    /// A bool's byte is neither 0 nor 1.
     BadBool,
-    /// A constant's number is another.
+    /// A constant has another number.
     NotEqual,
-    /// A number is above the capacity of an array that it counts.
+    /// A number is greater than the capacity of an array that it counts.
     CountTooLarge,
     /// The device has no subsection of this name.
     UnknownSubsection,
@@ -119,22 +122,22 @@ pub enum Reason {
     RepeatedSubsection,
     /// A validation of a description fails.
     Invalid,
-    /// A device's rule of this number fails.
+    /// The rule of this number, one of the device's own, fails.
     Unsound(u8),
-    /// No footer where one must stand, or one of another id.
+    /// There is no footer although one is required, or it has another id.
     BadFooter,
     /// The end mark comes before this device's section.
     MissingSection,
-    /// The interrupt lines of the devices disagree.
+    /// The interrupt lines of the devices contradict each other.
     LinesDisagree,
-    /// After the end mark, a byte that begins no description section.
+    /// The byte after the end mark begins no description section.
     Trailing,
-    /// The description's length is above 16,777,216.
+    /// The description's length is greater than 16,777,216.
     DescriptionTooLong,
 }
 
 impl Reason {
-    /// Returns the word that names this reason in a line, of at most 18 bytes.
+    /// Returns the name of this reason, as a line of the program has it. It has at most 18 bytes.
     pub fn word(self) -> &'static str
         ensures word { result.now ≡ reason_word self }
         ensures short { length result.now ≤ 18 }
@@ -169,7 +172,8 @@ impl Reason {
         }
     }
 
-    /// Returns the number of the device's rule that fails, or `None` for every other reason.
+    /// Returns the number of the device's rule that fails, or `None` for every reason but
+    /// [`Unsound`](Reason::Unsound).
     pub fn rule(self) -> Option<u8>
         ensures { result ≡ rule_of self }
     {
@@ -180,19 +184,20 @@ impl Reason {
     }
 }
 
-/// Why a values text is refused at a line, in the order in which the reasons are tried there.
+/// A reason to refuse a values text at a line. At one line the reasons are tried in this order.
 #[derive(Clone, Copy, Debug, PartialEq, Eq)]
 pub enum ValuesReason {
-    /// The line isn't the one that must stand there, or is one too many or too few.
+    /// The line isn't the required one, or a line is missing or too many.
     Form,
-    /// The number is misspelled or out of its kind's range.
+    /// The number is misspelled or outside of its kind's range.
     Number,
-    /// The number is above the capacity of an array that it counts.
+    /// The number is greater than the capacity of an array that it counts.
     Count,
-    /// The cell isn't there at the set's version and not at its default.
+    /// The cell isn't present at the set's version, and its number isn't the default.
     Absent,
-    /// A validation fails in this section or subsection.
+    /// A validation of this section or subsection fails.
     Invalid,
-    /// The subsection's line doesn't say whether it is needed, or a cell that isn't needed is not at its default.
+    /// The subsection's line contradicts its needed test, or the subsection isn't needed and one of
+    /// its cells isn't at its default.
     Needed,
 }

@@ -1,4 +1,4 @@
--- What a buffer holds, and what stays when a number is put into it.
+-- What contracts see of a buffer, and what is unchanged when a number is set.
 use Rattle.std.proofs.Common.{◌≡◌, ℕ, ◌+◌, ◌-◌, ◌<◌, ◌≤◌, List, [], ◌∷◌, ◌++◌, length, get_or, take, drop, map, replicate, set, ℤ, pos, negsuc, sym, ap, ◌∙◌, subst, arith, length-append}
 use Rattle.std.proofs.lemmas.Int.{ints}
 use Rattle.std.proofs.lemmas.List.{length-replicate, get_or_read, length-map, get_or-map, get_or-replicate, replicate-append-replicate}
@@ -13,7 +13,7 @@ use Rattle.vms_spots.specs.Spots.{aligned, spots_of, end_from, bytes_of, no_spot
 use Rattle.vms_spots.proofs.SpotLaws.{aligned_is, spot_is, code_at, numbers_are, set_fits, set_raw, code_0, range_0, end_after}
 use Rattle.vms_spots.proofs.LayoutLaws.{few_bytes, laid_again, kinds_again}
 
--- as many bytes as the spots want
+-- there are the number of bytes that the spots need
 pub raw_long : (e : ℕ) (kinds : List Kind) (numbers : List ℤ) → length numbers ≡ length kinds → e + length (raw_from e kinds numbers) ≡ end_from e kinds
 raw_long e [] [] long = omega arith
 raw_long e [] (z ∷ numbers) long = absurd (omega arith)
@@ -32,7 +32,7 @@ raw_long e (kind ∷ kinds) (z ∷ numbers) long =
       length-code kind z,
     )
 
--- a number in range is no bad truth value
+-- a number in range is no invalid bool
 good_bool : (kind : Kind) (z : ℤ) → InRange kind z → IsBadBool kind (code kind z) → ⊥
 unfolding code
 good_bool U8 z h b = cc
@@ -94,7 +94,7 @@ at_spot spots bytes cell s h lt is =
       good = λ bad. good_bool s.kind (number_at bytes s) fits (subst (IsBadBool s.kind) bytes_are bad);
     }
 
--- the same by what is seen
+-- the same by what contracts see
 pub at_cell : (spots : List Spot) (bytes : List ℕ) (cell : ℕ) (s : Spot) (seen : Held) → held spots bytes ≡ seen → IsHeld spots bytes → cell < length seen.numbers
     → s ≡ get_or spots cell s → AtSpot spots bytes cell s
 at_cell spots bytes cell s seen same h lt is =
@@ -109,7 +109,7 @@ pub record Holds (spots : List Spot) (numbers : List ℤ) (bytes : List ℕ) : T
   pub seen : held spots bytes ≡ record { kinds = kinds_of spots; numbers = numbers }
   pub long : length bytes ≡ bytes_of (kinds_of spots)
 
--- the bytes of numbers in range hold them
+-- the bytes of numbers in range have these numbers
 pub holds : (spots : List Spot) (numbers : List ℤ) (bytes : List ℕ) → length spots ≤ MOST_ITEMS → spots ≡ spots_of (kinds_of spots)
     → AreOf (kinds_of spots) numbers → bytes ≡ raw_of (kinds_of spots) numbers → Holds spots numbers bytes
 holds spots numbers bytes few laid are raw =
@@ -127,7 +127,7 @@ holds spots numbers bytes few laid are raw =
       long = omega (arith, ap length raw, raw_long 0 kinds numbers are.long);
     }
 
--- a number is put over another
+-- a number is set in place of another
 pub puts : (spots : List Spot) (bytes new part : List ℕ) (cell n : ℕ) (z : ℤ) (s : Spot) → IsHeld spots bytes → cell < length spots → s ≡ get_or spots cell no_spot
     → InRange s.kind z → part ≡ code s.kind z → n ≡ width s.kind → new ≡ take s.offset bytes ++ (part ++ drop n (drop s.offset bytes))
     → Holds spots (set (map (number_at bytes) spots) cell z) new
@@ -144,7 +144,7 @@ puts spots bytes new part cell n z s h lt is fits p w e =
     ∙ set_raw kinds numbers cell z s.offset n here h.fit.long offset (ap width (sym a.kind) ∙ sym w) in
     holds spots (set numbers cell z) new h.few h.laid (set_fits kinds numbers cell z h.fit (subst (λ (k : Kind). InRange k z) a.kind fits)) raw
 
--- the same by what is seen
+-- the same by what contracts see
 pub puts_seen : (spots : List Spot) (bytes new part : List ℕ) (cell n : ℕ) (z : ℤ) (s : Spot) (seen : Held) → held spots bytes ≡ seen → IsHeld spots bytes
     → cell < length seen.numbers → s ≡ get_or spots cell s → InRange (get_or seen.kinds cell U8) z → part ≡ code s.kind z → n ≡ width s.kind
     → new ≡ take s.offset bytes ++ (part ++ drop n (drop s.offset bytes))
@@ -194,7 +194,7 @@ starts spots bytes n few laid size e =
     (holds spots (replicate (length kinds) (pos 0)) bytes few laid (zeros_fit kinds)
     (e ∙ ap (λ (m : ℕ). replicate m 0) (size ∙ sym all) ∙ sym (zeros 0 kinds)))
 
--- so does a buffer of these kinds begin
+-- a new buffer of these kinds
 pub begun : (kinds : List Kind) (spots : List Spot) (bytes : List ℕ) (n : ℕ) → length kinds ≤ MOST_ITEMS → spots ≡ spots_of kinds
     → n ≡ bytes_of (kinds_of spots) → bytes ≡ replicate n 0 → IsHeld spots bytes × (held spots bytes ≡ record { kinds = kinds; numbers = replicate (length kinds) (pos 0) })
 begun kinds spots bytes n few laid size e =
@@ -207,7 +207,7 @@ begun kinds spots bytes n few laid size e =
           ∙ ap (λ (m : ℕ). let x : Held = record { kinds = kinds; numbers = replicate m (pos 0) } in x) long,
     )
 
--- buffers of the same kinds have the same spots and as many bytes
+-- buffers of the same kinds have the same spots and the same number of bytes
 pub same_spots : (spots others : List Spot) (bytes more : List ℕ) (seen other : Held) → held spots bytes ≡ seen → held others more ≡ other → IsHeld spots bytes → IsHeld others more → seen.kinds ≡ other.kinds
     → (spots ≡ others) × (length bytes ≡ length more)
 same_spots spots others bytes more seen other s o h k same =

@@ -1,4 +1,4 @@
--- Spots that are laid out one after the other.
+-- Spots that are laid out in order.
 use Rattle.vms_spec.specs.declared.TheConstants.{MOST_ITEMS}
 use Rattle.std.proofs.Common.{◌≡◌, Some, ℕ, suc, ◌+◌, ◌-◌, ◌*◌, ◌<◌, ◌≤◌, List, [], ◌∷◌, ◌++◌, length, get_or, drop, map, refl, sym, ap, ◌∙◌, arith, append_assoc, append-nil}
 use Rattle.std.proofs.lemmas.List.{drop_all, drop_more, length-map}
@@ -11,7 +11,7 @@ use Rattle.vms_spots.specs.declared.layout.Spot.{Spot}
 use Rattle.vms_spots.specs.Spots.{aligned, spots_from, spots_of, bytes_of, no_spot, kinds_of}
 use Rattle.vms_spots.proofs.SpotLaws.{aligned_is, kinds_are, last_end, end_small}
 
--- what is laid out and what is still to come is the whole
+-- the spots so far and the remaining ones are the whole
 pub record LaidOut (kinds : List Kind) (spots : List Spot) (end i : ℕ) : Type 0 where
   pub small : end ≤ 8 * i
   pub rest : spots ++ spots_from end (drop i kinds) ≡ spots_of kinds
@@ -53,7 +53,7 @@ pub record IsLast (kinds : List Kind) (s : Spot) : Type 0 where
   pub end : s.offset + width s.kind ≡ bytes_of kinds
   pub bound : bytes_of kinds ≤ MOST_BYTES
 
--- no more than 8 bytes for each
+-- at most 8 bytes for each
 pub few_bytes : (kinds : List Kind) → length kinds ≤ MOST_ITEMS → bytes_of kinds ≤ MOST_BYTES
 few_bytes kinds few = omega (arith, end_small 0 kinds 0 (omega arith))
 
@@ -67,7 +67,7 @@ is_last spots s n few laid long is =
     let bound : bytes_of kinds ≤ MOST_BYTES = few_bytes kinds (omega (arith, all, long)) in
     record { small = omega (arith, end, bound); end = end; bound = bound }
 
--- so it is where a list has a last one
+-- the same if the list has a last spot
 pub last_is : (spots : List Spot) (s : Spot) → length spots ≤ MOST_ITEMS → spots ≡ spots_of (kinds_of spots)
     → slice_get spots (length spots - 1) ≡ Some s → IsLast (kinds_of spots) s
 last_is spots s few laid got =

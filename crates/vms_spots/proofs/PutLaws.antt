@@ -1,4 +1,4 @@
--- Numbers of one kind whose cells follow one another are put by their codes, one after the other.
+-- Numbers of one kind in consecutive cells are set by their codes.
 use Rattle.std.proofs.Common.{◌≡◌, ℕ, zero, suc, ◌+◌, ◌-◌, ◌*◌, ◌<◌, ◌≤◌, List, [], ◌∷◌, ◌++◌, length, get_or, take, drop, map, set, ℤ, refl, sym, ap, ◌∙◌, subst, arith, length-append, append_assoc, length-drop}
 use Rattle.std.proofs.lemmas.List.{length-map, length-take-le, take-append-drop, get_or_read}
 use Rattle.vms_kinds.specs.Bytes.{IsBytes}
@@ -13,7 +13,7 @@ use Rattle.vms_spots.proofs.SpotLaws.{put_is}
 use Rattle.vms_spots.proofs.BufferLaws.{Holds, at_spot, holds, puts}
 use Rattle.vms_spots.proofs.RunLaws.{again, twice, codes_seen}
 
--- behind one of a kind the next of the kind stands without a gap
+-- after a number of a kind the next of the kind follows without a gap
 next_spot : (kind : Kind) (e : ℕ) (kinds : List Kind) (k : ℕ) → suc k < length kinds → get_or kinds k U8 ≡ kind → get_or kinds (suc k) U8 ≡ kind
     → (get_or (spots_from e kinds) (suc k) no_spot).offset ≡ (get_or (spots_from e kinds) k no_spot).offset + width kind
 next_spot kind e [] k lt a b = absurd (omega (arith, lt))
@@ -31,7 +31,7 @@ no_more (x ∷ xs) ys e f = absurd (omega (arith, e))
 no_more [] (y ∷ ys) e f = absurd (omega (arith, f))
 
 module _ (spots : List Spot) (kind : Kind) (any : kind ≡ Bool → ⊥) where
-  -- one more is put in place of what stood there
+  -- one more is set in place of the old one
   record One (first : ℕ) (before old codes after bytes : List ℕ) : Type 0 where
     held_is : IsHeld spots (before ++ (take (width kind) codes ++ (drop (width kind) old ++ after)))
     seen : map (number_at (before ++ (take (width kind) codes ++ (drop (width kind) old ++ after)))) spots ≡ set (map (number_at bytes) spots) first (value_of kind (take (width kind) codes))
@@ -88,7 +88,7 @@ module _ (spots : List Spot) (kind : Kind) (any : kind ≡ Bool → ⊥) where
       subst (λ (l : List ℕ). Holds spots (put_from (map (number_at bytes) spots) first (values_of kind (suc count) codes)) l) all
       (subst (λ (l : List ℤ). Holds spots (put_from l (first + 1) (values_of kind count rest)) (front ++ (rest ++ after))) one.seen r)
 
--- in a buffer, as it is seen
+-- in a buffer, by what contracts see
 pub puts_codes : (spots : List Spot) (bytes new codes : List ℕ) (first count n : ℕ) (kind : Kind) (s : Spot) (seen : Held) → held spots bytes ≡ seen → IsHeld spots bytes → 0 < count
     → first + count ≤ length seen.numbers → AreOne seen.kinds first count kind → (kind ≡ Bool → ⊥) → length codes ≡ count * width kind → IsBytes codes → s ≡ get_or spots first s → n ≡ length codes
     → new ≡ take s.offset bytes ++ (codes ++ drop n (drop s.offset bytes))

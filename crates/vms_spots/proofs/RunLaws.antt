@@ -1,4 +1,4 @@
--- Numbers of one kind whose cells follow one another stand one after the other, with nothing between.
+-- Numbers of one kind in consecutive cells follow one another without a gap.
 use Rattle.std.proofs.Common.{◌≡◌, ℕ, zero, suc, ◌+◌, ◌-◌, ◌*◌, ◌<◌, ◌≤◌, List, [], ◌∷◌, ◌++◌, length, get_or, take, drop, map, replicate, ℤ, refl, sym, ap, ◌∙◌, subst, arith, length-append, append_assoc}
 use Rattle.std.proofs.lemmas.List.{length-replicate, length-map, length-take-le, length-drop, get_or_read}
 use Rattle.vms_kinds.specs.declared.Kind.{Kind}
@@ -9,7 +9,7 @@ use Rattle.vms_spots.specs.declared.layout.Spot.{Spot}
 use Rattle.vms_spots.specs.Spots.{aligned, spots_from, spots_of, no_spot, kinds_of, raw_from, number_at, Held, held, IsHeld, codes_of, AreOne}
 use Rattle.vms_spots.proofs.SpotLaws.{aligned_is, part_is}
 
--- ---- behind one at a multiple of its width comes the next
+-- ---- after one at a multiple of its width the next follows
 
 again_1 : (n : ℕ) → aligned 1 n ≡ n → aligned 1 (n + 1) ≡ n + 1
 again_1 n h = omega (arith, h)
@@ -133,7 +133,7 @@ codes_long kind (z ∷ numbers) =
     let n : length numbers + 1 ≡ suc (length numbers) = omega arith in
     all ∙ ap (λ (k : ℕ). k * width kind) n
 
--- in a buffer, as it is seen
+-- in a buffer, by what contracts see
 pub codes_seen : (spots : List Spot) (bytes : List ℕ) (first count : ℕ) (kind : Kind) (s : Spot) (seen : Held) → held spots bytes ≡ seen → IsHeld spots bytes → 0 < count
     → first + count ≤ length seen.numbers → AreOne seen.kinds first count kind → s ≡ get_or spots first s
     → (s.offset + count * width kind ≤ length bytes) × (take (count * width kind) (drop s.offset bytes) ≡ codes_of kind (take count (drop first seen.numbers)))

@@ -1,4 +1,5 @@
--- The spots of kinds: each at a multiple of its width, inside the buffer, apart from the others; and what stands there.
+-- The spots of kinds: each at a multiple of its width, inside of the buffer, apart from the others;
+-- and the bytes there.
 use Rattle.std.proofs.Common.{◌≡◌, ◌⊎◌, inl, inr, ℕ, zero, suc, ◌+◌, ◌-◌, ◌*◌, ◌%◌, ◌<◌, ◌≤◌, List, [], ◌∷◌, ◌++◌, length, get_or, take, drop, map, replicate, set, ℤ, pos, refl, sym, ap, ◌∙◌, subst, arith, append_assoc, length-append}
 use Rattle.std.proofs.lemmas.Int.{ints}
 use Rattle.std.proofs.lemmas.List.{length-replicate, length-map, length-set, drop_at, take_at, get_or-map, set-get_or, ext_get_or, get_or-set_same, get_or-set_other}
@@ -110,7 +111,7 @@ last_end e (kind ∷ next ∷ kinds) (suc n) lt = last_end (aligned (width kind)
 
 -- ---- the bytes
 
--- the bytes before and behind a spot, whatever number stands there
+-- the bytes before and after a spot, whichever number is there
 pub record Split (e : ℕ) (kinds : List Kind) (numbers : List ℤ) (k : ℕ) : Type 0 where
   pub before : List ℕ
   pub after : List ℕ
@@ -143,11 +144,11 @@ split e (kind ∷ kinds) (y ∷ numbers) (suc k) lt long =
           ∙ sym (append_assoc front (code kind y ++ r.before) (code (get_or kinds k U8) z ++ r.after));
     }
 
--- what stands behind so many bytes
+-- the bytes at an offset, by those before them
 pub part_is : (before part after : List ℕ) (at n : ℕ) → length before ≡ at → length part ≡ n → take n (drop at (before ++ (part ++ after))) ≡ part
 part_is before part after at n a p = ap (λ (l : List ℕ). take n l) (drop_at before (part ++ after) at a) ∙ take_at part after n p
 
--- the code of a number stands at its spot
+-- the code of a number is at its spot
 pub code_at : (kinds : List Kind) (numbers : List ℤ) (k : ℕ) → k < length kinds → length numbers ≡ length kinds
     → take (width (get_or kinds k U8)) (drop (get_or (spots_of kinds) k no_spot).offset (raw_of kinds numbers)) ≡ code (get_or kinds k U8) (get_or numbers k (pos 0))
 code_at kinds numbers k lt long =
@@ -167,7 +168,7 @@ number_is kinds numbers k lt are =
     ∙ ap (λ (l : List ℕ). value_of kind l) (code_at kinds numbers k lt are.long)
     ∙ value_code kind (get_or numbers k (pos 0)) (are.fits k lt)
 
--- so the numbers are read back from the bytes
+-- so the numbers can be read back from the bytes
 pub numbers_are : (kinds : List Kind) (numbers : List ℤ) → AreOf kinds numbers → map (number_at (raw_of kinds numbers)) (spots_of kinds) ≡ numbers
 numbers_are kinds numbers are =
     let spots = spots_of kinds in
@@ -189,7 +190,7 @@ set_fits kinds numbers cell z are fits = record {
       (subst (λ (y : ℤ). InRange (get_or kinds cell U8) y) (sym (get_or-set_same numbers cell z (pos 0) (omega (arith, lt, e, are.long)))) fits)
   at k lt (inr n) = subst (λ (y : ℤ). InRange (get_or kinds k U8) y) (sym (get_or-set_other numbers cell k z (pos 0) n)) (are.fits k lt)
 
--- the bytes of a spot are put in place of what stood there
+-- the bytes of a spot are replaced
 pub put_is : (before old part after xs : List ℕ) (at n : ℕ) → xs ≡ before ++ (old ++ after) → length before ≡ at → length old ≡ n
     → take at xs ++ (part ++ drop n (drop at xs)) ≡ before ++ (part ++ after)
 put_is before old part after xs at n is a o =

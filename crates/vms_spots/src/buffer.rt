@@ -10,8 +10,10 @@ use std::alloc::{AllocError, Global};
 use std::marker::Model;
 use vms_kinds::Kind;
 
-/// The numbers of a state in one buffer of bytes: each stands at its spot with the highest byte first, and
-/// the bytes between the spots are 0. It is seen as the kinds and the numbers of its cells.
+/// The numbers of a state in one buffer of bytes.
+///
+/// Each number is at its spot, big-endian, and the bytes between the spots are 0. Contracts see the
+/// kinds and the numbers of the cells.
 #[derive(Drop)]
 pub struct Buffer {
     spots: Vec<Spot>,
@@ -29,7 +31,15 @@ impl Model for Buffer {
 }
 
 impl Buffer {
-    /// The buffer of numbers of these kinds, each of which is 0.
+    /// Returns the buffer of numbers of these `kinds`, all 0.
+    ///
+    /// # Errors
+    ///
+    /// - [`AllocError`]: out of memory.
+    ///
+    /// # Requires
+    ///
+    /// There are at most [`MOST_ITEMS`] kinds.
     pub fn new(alloc: Global, kinds: &[Kind]) -> Result<Buffer, AllocError>
         requires { length kinds.now ≤ MOST_ITEMS }
         ensures { IfOk result (λ b.
@@ -43,7 +53,11 @@ impl Buffer {
         Ok(Buffer { spots, bytes })
     }
 
-    /// A buffer of the same spots with the same numbers.
+    /// Returns a buffer of the same kinds with the same numbers.
+    ///
+    /// # Errors
+    ///
+    /// - [`AllocError`]: out of memory.
     pub fn copy(&self, alloc: Global) -> Result<Buffer, AllocError>
         ensures { IfOk result (λ b. b ≡ self.now) }
     {
@@ -53,7 +67,11 @@ impl Buffer {
         })
     }
 
-    /// Takes the numbers of another buffer of its kinds.
+    /// Copies the numbers of `other` into this buffer.
+    ///
+    /// # Requires
+    ///
+    /// `other` has the same kinds.
     pub fn copy_from(&mut self, other: &Buffer)
         requires { self.old.kinds ≡ other.now.kinds }
         ensures { self.new ≡ other.now }
@@ -61,14 +79,14 @@ impl Buffer {
         self.bytes.copy_from_slice(&other.bytes);
     }
 
-    /// How many numbers it has.
+    /// Returns how many numbers there are.
     pub fn len(&self) -> u32
         ensures { result ≡ length self.now.numbers }
     {
         self.spots.len() as u32
     }
 
-    /// Where its numbers stand.
+    /// Returns the spot of each number.
     pub fn spots(&self) -> &[Spot]
         ensures spots { result.now ≡ spots_of self.now.kinds }
         ensures count { length result.now ≡ length self.now.numbers }
@@ -76,7 +94,11 @@ impl Buffer {
         &self.spots
     }
 
-    /// The number of a cell.
+    /// Returns the number of cell `cell`, which is in the range of the cell's kind.
+    ///
+    /// # Requires
+    ///
+    /// There is such a cell.
     pub fn get(&self, cell: u32) -> i128
         requires { cell < length self.now.numbers }
         ensures number { result ≡ get_or self.now.numbers cell (pos 0) }
@@ -91,7 +113,11 @@ impl Buffer {
         }
     }
 
-    /// The code of a cell's number, which are its bytes.
+    /// Returns the code of the number of cell `cell`: its bytes, big-endian.
+    ///
+    /// # Requires
+    ///
+    /// There is such a cell.
     pub fn code(&self, cell: u32) -> &[u8]
         requires { cell < length self.now.numbers }
         ensures { result.now ≡ code (get_or self.now.kinds cell U8)
@@ -103,8 +129,12 @@ impl Buffer {
         &self.bytes[offset..end]
     }
 
-    /// The codes of so many numbers of one kind, one after the other: their cells follow one another from
-    /// `first` on.
+    /// Returns the codes of the numbers of `count` consecutive cells from `first` on, one after the
+    /// other.
+    ///
+    /// # Requires
+    ///
+    /// There are these cells, and all are of kind `kind`.
     pub fn codes(&self, first: u32, count: u32, kind: Kind) -> &[u8]
         requires room { first + count ≤ length self.now.numbers }
         requires one { AreOne self.now.kinds first count kind }
@@ -118,7 +148,11 @@ impl Buffer {
         &self.bytes[offset..end]
     }
 
-    /// Puts a number into a cell; all else stays.
+    /// Sets the number of cell `cell` to `value`. Everything else is unchanged.
+    ///
+    /// # Requires
+    ///
+    /// There is such a cell, and `value` is in the range of its kind.
     pub fn set(&mut self, cell: u32, value: i128)
         requires cell { cell < length self.old.numbers }
         requires range { InRange (get_or self.old.kinds cell U8) value }
@@ -130,8 +164,13 @@ impl Buffer {
         spot.kind.write(value, &mut self.bytes[offset..end]);
     }
 
-    /// Puts so many numbers of one kind, by their codes one after the other, into the cells from `first` on; all
-    /// else stays. The kind isn't `Bool`, so that each code stands for a number.
+    /// Stores the numbers with these `codes` in `count` consecutive cells from `first` on.
+    /// Everything else is unchanged.
+    ///
+    /// # Requires
+    ///
+    /// There are these cells, and all are of kind `kind`, which isn't `Bool`: so each code is a
+    /// number's. `codes` has the bytes of `count` codes.
     pub fn put_codes(&mut self, first: u32, count: u32, kind: Kind, codes: &[u8])
         requires room { first + count ≤ length self.old.numbers }
         requires one { AreOne self.old.kinds first count kind }
@@ -148,7 +187,7 @@ impl Buffer {
         self.bytes[offset..offset + codes.len()].copy_from_slice(codes);
     }
 
-    /// The bytes: the code of each number at its spot, and 0 elsewhere.
+    /// Returns the bytes: the code of each number at its spot, and 0 elsewhere.
     pub fn raw(&self) -> &[u8]
         ensures { result.now ≡ raw_of self.now.kinds self.now.numbers }
     {

@@ -1,4 +1,4 @@
-// Where numbers lie.
+// The places of numbers in a buffer.
 ghost use Rattle.vms_spec.specs.declared.TheConstants.{MOST_ITEMS};
 ghost use Rattle.std.specs.Prelude.{◌≡◌, ◌≤◌, ◌+◌, length, IfOk};
 ghost use Rattle.vms_kinds.specs.Codes.{width};
@@ -8,20 +8,20 @@ ghost use Rattle.vms_spots.specs.Spots.{aligned, spots_of, kinds_of, bytes_of, A
 use std::alloc::{AllocError, Global};
 use vms_kinds::Kind;
 
-/// The numbers of a well-formed set's devices take no more bytes: eight for each item.
+/// The greatest number of bytes of the numbers of a well-formed set's devices: eight for each item.
 pub const MOST_BYTES: u32 = 131_072;
 
-/// Where the number of a cell stands in an image's bytes.
+/// The place of a cell's number in an image's bytes.
 #[derive(Clone, Copy, Debug, PartialEq, Eq)]
 pub struct Spot {
-    /// Its first byte, a multiple of its width.
+    /// The offset of its first byte, a multiple of the kind's width.
     pub offset: u32,
-    /// The kind of the number, which says how many bytes it takes.
+    /// The kind of the number, which has the number of its bytes.
     pub kind: Kind,
 }
 
 impl Spot {
-    // The first spot for a number of this kind that doesn't begin before a byte.
+    // Returns the first spot for a number of this kind that isn't before byte `end`.
     fn behind(end: u32, kind: Kind) -> Spot
         requires { end ≤ MOST_BYTES }
         ensures { result ≡ record { offset = aligned (width kind) end; kind = kind } }
@@ -33,7 +33,11 @@ impl Spot {
         }
     }
 
-    /// The byte behind its last one.
+    /// Returns the offset after its last byte.
+    ///
+    /// # Requires
+    ///
+    /// `offset` is at most [`MOST_BYTES`].
     pub fn end(self) -> u32
         requires { self.offset ≤ MOST_BYTES }
         ensures { result ≡ self.offset + width self.kind }
@@ -42,8 +46,18 @@ impl Spot {
     }
 }
 
-/// The spots of numbers of these kinds, in order: each at the least multiple of its kind's width that isn't
-/// below the end of the one before, and the first at 0.
+/// Returns the spots of numbers of these `kinds`, in order.
+///
+/// The first spot is at 0. Each further one is at the least multiple of its kind's width that isn't
+/// below the end of the one before.
+///
+/// # Errors
+///
+/// - [`AllocError`]: out of memory.
+///
+/// # Requires
+///
+/// There are at most [`MOST_ITEMS`] kinds.
 pub fn lay_out(alloc: Global, kinds: &[Kind]) -> Result<Vec<Spot>, AllocError>
     requires { length kinds.now ≤ MOST_ITEMS }
     ensures spots { IfOk result (λ spots. spots.items ≡ spots_of kinds.now) }
@@ -59,7 +73,13 @@ pub fn lay_out(alloc: Global, kinds: &[Kind]) -> Result<Vec<Spot>, AllocError>
     Ok(spots)
 }
 
-/// How many bytes numbers at these spots take: the end of the last, or 0 where there is none.
+/// Returns the number of bytes of numbers at these `spots`: the end of the last, or 0 if there is
+/// none.
+///
+/// # Requires
+///
+/// The spots are those that [`lay_out`] returns for their kinds, and there are at most
+/// [`MOST_ITEMS`].
 pub fn size(spots: &[Spot]) -> u32
     requires few { length spots.now ≤ MOST_ITEMS }
     requires laid { spots.now ≡ spots_of (kinds_of spots.now) }

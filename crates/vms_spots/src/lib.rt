@@ -1,6 +1,6 @@
-//! Spots: where each number of a device's state lies in one buffer of bytes, and the buffer.
+//! Spots: the places of the numbers of a device's state in one buffer of bytes, and the buffer.
 //!
-//! Each number stands at a multiple of its width, with the highest byte first; the bytes between are 0.
+//! Each number is at a multiple of its width, big-endian. The bytes between are 0.
 #![tactic(auto)]
 
 mod buffer;

@@ -20,7 +20,7 @@ no_line xs n =
     let e : first_line xs ≡ None = no_line_in xs (λ k h is. n k (omega arith) h (eq-eqb (get_or xs k 0) 10 is)) in
     subst (λ (o : Option (List ℕ × List ℕ)). IsFirstLine o None) (sym e) tt
 
--- what a line that was found says of the text
+-- the first line of the text is the one that was found
 pub first_is : (o : Option (List ℕ × List ℕ)) (line : NextLine) → IsFirstLine o (Some line) → o ≡ Some (line.text.now, line.after.now)
 first_is None line h = absurd h
 first_is (Some (text, after)) line h = ap (λ (t : List ℕ). Some (t, after)) (sym h.0) ∙ ap (λ (a : List ℕ). Some (line.text.now, a)) (sym h.1)

@@ -1,4 +1,4 @@
--- Lines, taken from the front of a text.
+-- Lines at the front of a text.
 use Rattle.std.proofs.Common.{◌≡◌, ℕ, suc, ◌≤◌, Bool, true, false, ◌==◌, nat_le, List, ◌∷◌, ◌++◌, length, take, drop, Option, Some, None, ℤ, pos, negsuc, if◌then◌else◌, refl, sym, ap, ◌∙◌, arith, []}
 use Rattle.std.specs.List.{list_all}
 use Rattle.std.proofs.lemmas.Bool.{and_parts, leb-true, ne_eqb, eqb-true}
@@ -10,7 +10,7 @@ use Rattle.vms_spec.specs.Spelling.{first_line, longer_line, begins_with, is_dig
 use Rattle.vms_words.specs.Texts.{IsShort}
 use Rattle.vms_words.proofs.Spells.{AreDigits, numerals}
 
--- ---- the line of a number ends behind it
+-- ---- the line of a number ends after it
 
 digits_line : (ds rest : List ℕ) → AreDigits ds → first_line (ds ++ 10 ∷ rest) ≡ Some (ds, rest)
 digits_line [] rest e = refl
@@ -24,7 +24,7 @@ pub number_line : (z : ℤ) (rest : List ℕ) → IsShort z → first_line (sign
 number_line (pos n) rest h = digits_line (decimal n) rest (digits_decimal numerals n h)
 number_line (negsuc n) rest h = ap (longer_line 45) (digits_line (decimal (suc n)) rest (digits_decimal numerals (suc n) (omega arith)))
 
--- ---- what a line leaves
+-- ---- the rest after a line
 
 abbrev front_of : Option (List ℕ × List ℕ) → List ℕ
 front_of None = []

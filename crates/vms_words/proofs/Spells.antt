@@ -1,4 +1,4 @@
--- Numbers are spelled in one way.
+-- Each number has one spelling.
 use Rattle.std.proofs.Common.{◌≡◌, ℕ, zero, suc, ◌-◌, ◌^◌, ◌<◌, Bool, true, false, not, ◌&&◌, ◌==◌, nat_le, List, ◌∷◌, length, get_or, drop, Some, None, pos, negsuc, if◌then◌else◌, refl, sym, ap, ◌∙◌, arith, ◌||◌, []}
 use Rattle.std.specs.List.{list_all}
 use Rattle.std.proofs.lemmas.Bool.{and_parts, leb-true, le-leb, ne_eqb, eq-eqb, eqb-true, and_from, false≢true}

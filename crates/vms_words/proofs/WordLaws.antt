@@ -1,4 +1,4 @@
--- A kind and its word tell one another.
+-- The kinds and their words correspond.
 use Rattle.std.proofs.Common.{◌≡◌, ℕ, ◌+◌, ◌<◌, ◌≤◌, List, ◌∷◌, length, get_or, drop, Bool, true, false, Option, Some, None, if◌then◌else◌, refl, sym, ap, ◌∙◌, subst, []}
 use Rattle.std.proofs.lemmas.List.{drop_more, drop_all}
 use Rattle.std.proofs.lemmas.Slice.Eq.{bytes_eq-Decides}
@@ -7,7 +7,7 @@ use Rattle.vms_kinds.specs.declared.Kind.{Kind}
 use Rattle.vms_kinds.specs.declared.Kind.TheVariants as kinds
 use Rattle.vms_words.specs.Words.{kind_word, kind_if, kind_named, TellsKind}
 
--- what is answered for a word has that word
+-- the answer's word is the given one
 abbrev HasWord : List ℕ → Option Kind → Type 0
 HasWord word named = (kind : Kind) → named ≡ Some kind → word ≡ kind_word kind
 
@@ -43,14 +43,14 @@ tells_kind word kind = (has_word word kind, λ same. ap kind_named same ∙ word
 pub told : (word : List ℕ) (named : Option Kind) → kind_named word ≡ named → TellsKind word named
 told word named e = subst (TellsKind word) e (tells_kind word)
 
--- ---- the kinds tried one by one
+-- ---- the kinds, tried in order
 
--- the first of these kinds that has the word
+-- the first of these kinds whose word this is
 abbrev pub named_in : List ℕ → List Kind → Option Kind
 named_in word [] = None
 named_in word (kind ∷ kinds) = kind_if word kind (named_in word kinds)
 
--- a kind is tried: it has the word, or the kinds after it are left
+-- a kind is tried: its word is the given one, or the later kinds remain
 module _ (word text : List ℕ) (kinds : List Kind) (i : ℕ) (d : Kind) (lt : i < length kinds) (e : text ≡ kind_word (get_or kinds i d)) where
   tried_once : (b : Bool) → bytes_eq word text ≡ b → named_in word (drop i kinds) ≡ (if b then Some (get_or kinds i d) else named_in word (drop (i + 1) kinds))
   tried_once b same =

@@ -2,7 +2,7 @@
 use Rattle.std.specs.Prelude.{◌≡◌, ℕ, List, Option, Some, None}
 use Rattle.vms_words.specs.declared.line.NextLine.{NextLine}
 
--- a line and what stands after it, or none
+-- the line and the text after it, or none
 abbrev pub IsFirstLine : Option (List ℕ × List ℕ) → Option NextLine → Type 0
 IsFirstLine None None = Unit {0}
 IsFirstLine None (Some line) = ⊥

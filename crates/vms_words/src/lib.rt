@@ -1,6 +1,7 @@
-//! Words and lines of texts: the words of the kinds of number, in description files and in
-//! self-descriptions, the form of names, the first line of a text, what lines are made of, and laws of
-//! numbers as texts spell them.
+//! Words and lines of texts.
+//!
+//! The crate has the words of the kinds of number, which description files and self-descriptions
+//! use; the form of names; the first line of a text; and laws about the spelling of numbers.
 #![tactic(auto)]
 
 ghost use Rattle.std.specs.Prelude.{◌≡◌};
@@ -27,7 +28,7 @@ const KINDS: [Kind; 10] = [
     Kind::Timer,
 ];
 
-/// The word of a kind.
+/// Returns the word of `kind`, for example `u8`.
 pub fn kind_word(kind: Kind) -> &'static str
     ensures { result.now ≡ kind_word kind }
 {
@@ -45,7 +46,7 @@ pub fn kind_word(kind: Kind) -> &'static str
     }
 }
 
-/// The kind of a word, or `None` exactly for any other text.
+/// Returns the kind whose word is `word`, or `None` exactly if there is none.
 pub fn kind_named(word: &str) -> Option<Kind>
     ensures kind { result ≡ kind_named word.now }
     ensures right { TellsKind word.now result }

@@ -6,14 +6,16 @@ ghost use Rattle.vms_words.specs.Lines.{IsFirstLine};
 use arrayvec::ArrayVec;
 use memchr::memchr;
 
-/// A line without its line feed, and what stands after it.
+/// A line without its line feed, and the text after it.
 #[derive(Clone, Copy)]
 pub struct NextLine<'a> {
+    /// The line, without its line feed.
     pub text: &'a [u8],
+    /// The text after the line feed.
     pub after: &'a [u8],
 }
 
-/// The first line, or `None` exactly where no line feed ends it.
+/// Returns the first line of `rest`, or `None` exactly if there is no line feed.
 #[inline(always)]
 pub fn next_line<'a>(rest: &'a [u8]) -> Option<NextLine<'a>>
     ensures first { IsFirstLine (first_line rest.now) result }
@@ -29,7 +31,11 @@ pub fn next_line<'a>(rest: &'a [u8]) -> Option<NextLine<'a>>
     }
 }
 
-/// Appends bytes to a line that has room for them.
+/// Appends `more` to `line`.
+///
+/// # Requires
+///
+/// `line` has room for the bytes.
 pub fn append<const N: usize>(line: &mut ArrayVec<u8, N>, more: &[u8])
     requires { length line.old.items + length more.now ≤ N }
     ensures { line.new.items ≡ line.old.items ++ more.now }

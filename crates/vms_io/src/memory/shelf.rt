@@ -10,14 +10,15 @@ use crate::{FetchFault, NoMemory, Shelf, StoreFault};
 use std::alloc::Global;
 use std::collections::BTreeMap;
 
-// What stands under a name.
+// The bytes under a name.
 #[derive(Drop)]
 struct Content {
     bytes: Vec<u8>,
     ghost octets: { IsBytes bytes.items },
 }
 
-/// Bytes under names, where the calls of some numbers fail.
+/// A shelf in memory, for tests and for a save and a restore in one process. The calls of chosen
+/// numbers fail.
 #[derive(Drop)]
 pub struct MemShelf {
     alloc: Global,
@@ -31,8 +32,10 @@ pub struct MemShelf {
 impl MemShelf {
     ghost use Rattle.vms_io.specs.Cabinets.{cabinet};
 
-    /// An empty shelf. The calls of `fetch` and `store` whose numbers, counted from 1, are `failing` fail,
-    /// and no other.
+    /// Returns an empty shelf whose memory comes from `alloc`.
+    ///
+    /// Calls of `fetch` and `store` are counted together from 1. Exactly those whose numbers are in
+    /// `failing` fail.
     pub fn new(alloc: Global, failing: Vec<u32>) -> MemShelf
         ensures empty { (name : List ℕ) → (cabinet result).held name ≡ None }
         ensures failing { (cabinet result).failing ≡ failing.items }
@@ -48,7 +51,13 @@ impl MemShelf {
         }
     }
 
-    /// Holds these bytes under the name from now on.
+    /// Stores `bytes` under `name`, in place of what was there.
+    ///
+    /// This isn't counted as a call, and it never fails by `failing`.
+    ///
+    /// # Errors
+    ///
+    /// - [`NoMemory`]: out of memory. The shelf holds what it held before.
     pub fn put(&mut self, name: &str, bytes: Vec<u8>) -> Result<(), NoMemory>
         ensures ok { OnOk result
             (PutsUnder (cabinet self.old).held (cabinet self.new).held name.now bytes.items) }
@@ -76,6 +85,14 @@ impl Shelf for MemShelf {
 
     ghost octets = { λ s. contents_hold s.entries.entries };
 
+    /// Returns a copy of the bytes under `name`, at most `limit` of them.
+    ///
+    /// # Errors
+    ///
+    /// - [`FetchFault::Failed`]: this is a call that must fail. No other call returns it.
+    /// - [`FetchFault::NotThere`]: nothing is stored under `name`.
+    /// - [`FetchFault::TooLarge`]: more than `limit` bytes are stored under `name`.
+    /// - [`FetchFault::NoMemory`]: out of memory.
     fn fetch(&mut self, alloc: Global, name: &str, limit: u32) -> Result<Vec<u8>, FetchFault>
         ensures fits { IfOk result (λ bytes. length bytes.items ≤ limit) }
         ensures bytes { IfOk result (λ bytes. (cabinet self.old).held name.now ≡ Some bytes.items) }
@@ -109,6 +126,14 @@ impl Shelf for MemShelf {
             .map_err(|_| FetchFault::NoMemory)
     }
 
+    /// Stores a copy of `piece` under `name`, in place of what was there.
+    ///
+    /// # Errors
+    ///
+    /// In every case the shelf holds what it held before.
+    ///
+    /// - [`StoreFault::Failed`]: this is a call that must fail. No other call returns it.
+    /// - [`StoreFault::NoMemory`]: out of memory.
     fn store(&mut self, name: &str, piece: &[u8]) -> Result<(), StoreFault>
         ensures stored { OnOk result
             (PutsUnder (cabinet self.old).held (cabinet self.new).held name.now piece.now) }

@@ -9,7 +9,7 @@ use super::is_listed;
 use crate::{Failed, NoMemory, Sink};
 use std::alloc::Global;
 
-/// Bytes in a room of fixed size, where the writes of some numbers fail.
+/// A sink in memory with room for a fixed number of bytes. The writes of chosen numbers fail.
 #[derive(Drop)]
 pub struct MemSink {
     bytes: Vec<u8>,
@@ -25,8 +25,14 @@ pub struct MemSink {
 impl MemSink {
     ghost use Rattle.vms_io.specs.Supplies.{store};
 
-    /// An empty sink with all its room in bytes taken, so that no write takes memory. The writes whose
-    /// numbers, counted from 1, are `failing` fail, and so does one of a piece that finds no room left.
+    /// Returns an empty sink with room for `room` bytes.
+    ///
+    /// All memory is taken here, so no write takes any. Writes are counted from 1. A write fails
+    /// exactly if its number is in `failing`, or if its piece has bytes and there is no room left.
+    ///
+    /// # Errors
+    ///
+    /// - [`NoMemory`]: out of memory.
     pub fn new(alloc: Global, room: u32, failing: Vec<u32>) -> Result<MemSink, NoMemory>
         ensures { IfOk result (λ s.
             store s ≡ record {
@@ -47,7 +53,7 @@ impl MemSink {
         })
     }
 
-    /// The bytes that were written.
+    /// Returns the bytes that have been written.
     pub fn bytes(&self) -> &[u8]
         ensures { result.now ≡ (store self.now).bytes }
     {
@@ -66,6 +72,13 @@ impl Sink for MemSink {
 
     ghost promised = { λ s. promise_kept s.failing.items s.room s.bytes.items s.faults s.quiet };
 
+    /// Appends the first bytes of `piece`: all of them, or as many as there is room for. Returns
+    /// their number.
+    ///
+    /// # Errors
+    ///
+    /// - [`Failed`]: this is a write that must fail, or there is no room left for a piece that
+    ///   isn't empty. Nothing has been written.
     fn write(&mut self, piece: &[u8]) -> Result<usize, Failed>
         ensures bound { WritesAtMost result piece.now }
         ensures some { IfOk result (λ n. 0 < length piece.now → 0 < n) }

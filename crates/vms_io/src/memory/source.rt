@@ -9,7 +9,8 @@ ghost use Rattle.vms_io.specs.Memory.{is_empty, empty_is, piece_of, taken_of, by
 use super::is_listed;
 use crate::{Failed, Source};
 
-/// Bytes that come in pieces, where the reads of some numbers fail.
+/// A source of bytes in memory, which come in pieces of chosen lengths. The reads of chosen numbers
+/// fail.
 #[derive(Drop)]
 pub struct MemSource {
     bytes: Vec<u8>,
@@ -28,8 +29,11 @@ pub struct MemSource {
 impl MemSource {
     ghost use Rattle.vms_io.specs.Supplies.{supply};
 
-    /// A source of these bytes. Read k, counted from 1, gives at most the k-th of `pieces`, where 0 counts
-    /// as 1, and reads past that list aren't cut; the reads whose numbers are `failing` fail, and no other.
+    /// Returns a source of `bytes`.
+    ///
+    /// Reads are counted from 1. Read k gives at most the k-th number of `pieces`, where 0 means 1;
+    /// reads after the end of that list aren't limited. Exactly the reads whose numbers are in
+    /// `failing` fail.
     pub fn new(bytes: Vec<u8>, pieces: Vec<u32>, failing: Vec<u32>) -> Self
         ensures { supply result ≡ record {
           left = bytes.items;
@@ -51,7 +55,7 @@ impl MemSource {
         }
     }
 
-    // The greatest piece of the next read.
+    // Returns the greatest number of bytes of the next read.
     fn piece(&self) -> usize
         ensures { result ≡ piece_of (supply self.now).pieces (supply self.now).calls }
     {
@@ -80,6 +84,11 @@ impl Source for MemSource {
 
     ghost octets = { λ s. bytes_left s.bytes.items s.at s.octets };
 
+    /// Copies the next bytes into the front of `buf` and returns their number.
+    ///
+    /// # Errors
+    ///
+    /// - [`Failed`]: this is a read that must fail. Nothing has been read.
     fn read(&mut self, buf: &mut [u8]) -> Result<usize, Failed>
         ensures bound { ReadsAtMost result buf.new }
         ensures bytes { ReadConsumes (Some (supply self.old).left) (Some (supply self.new).left)

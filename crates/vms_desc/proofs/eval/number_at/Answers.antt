@@ -15,7 +15,7 @@ use Rattle.vms_desc.specs.declared.eval.Scope.{Scope}
 use Rattle.vms_desc.proofs.NumberLaws.{number_there}
 use Rattle.vms_desc.proofs.eval.number_at.Goals as goal
 
--- the first cell of a field as the code has it
+-- the first cell of a field, in the code's form
 place_code : (s : Scope) (k : ℕ) → k < length s.fields.now → s.base + get_or s.starts.now k 0 ≡ place_in s.starts.now (map field_of s.fields.now) s.base k
 place_code s k lt =
     let same : k ≡ min k (length (map field_of s.fields.now)) = omega (arith, length-map s.fields.now field_of) in

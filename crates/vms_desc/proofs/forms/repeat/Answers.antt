@@ -2,11 +2,11 @@ use Rattle.std.proofs.Common.{rules, ◌≡◌, ◌+◌, ◌-◌, ◌*◌, ◌�
 use Rattle.vms_desc.proofs.FormLaws.{repeated, repeats_more, repeated_room}
 use Rattle.vms_desc.proofs.forms.repeat.Goals as goal
 
--- how long what stands before a place and what is repeated are
+-- the lengths of the front and of the repeated part
 at_place : {X : Type 0} (old : List X) (len start : ℕ) → len ≡ length old → start ≤ length old → (start ≡ length (take start old)) × (len - start ≡ length (drop start old))
 at_place old len start all within = (sym (length-take-le start old within), omega (arith, all, length-drop start old))
 
--- the elements that are copied are there
+-- the copied elements exist
 room_for : {X : Type 0} (old items : List X) (len start done more : ℕ) → len ≡ length old → start ≤ length old → items ≡ take start old ++ repeated (drop start old) done → more ≤ done → start + (len - start) * more ≤ length items
 room_for old items len start done more all within is few =
     let at = at_place old len start all within in

@@ -10,7 +10,7 @@ use Rattle.vms_desc.specs.declared.path.Placed.{Placed}
 use Rattle.vms_desc.proofs.PathLaws.{at_there, element_fits, element_is, before_fits}
 use Rattle.vms_desc.proofs.path.element_at.Goals as goal
 
--- what is known of the element of a step
+-- what is known about the element of a step
 record Found (p : Placed) (step : ℕ × ℕ) (field : Field) (before size : ℕ) : Type 0 where
   pub there : slice_get (desc_of p.desc.now).fields step.0 ≡ Some (field_of field)
   pub before_is : before ≡ fields_size Cells p.sizes.now (take step.0 (desc_of p.desc.now).fields)

@@ -17,7 +17,7 @@ use Rattle.vms_rules.proofs.WalkLaws.{stops_by, first_stops}
 use Rattle.vms_rules.proofs.devices.check_device.Goals.{After-as_slice, After-index-as_slice-number, In_ok-lowest}
 use Rattle.vms_rules.proofs.devices.check_device.Goals as goal
 
--- the device of the number
+-- the device of this number
 device_is : (c : After-index-as_slice-number) → device_at (set_of c.args.parts.now) c.args.number ≡ device_of c.index-as_slice-number.result
 device_is c =
     let p = c.args.parts.now in

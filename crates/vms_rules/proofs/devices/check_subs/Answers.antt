@@ -15,7 +15,7 @@ use Rattle.vms_rules.specs.declared.devices.Within.{Within}
 use Rattle.vms_rules.proofs.devices.check_subs.Goals.{After-sub-item}
 use Rattle.vms_rules.proofs.devices.check_subs.Goals as goal
 
--- the subsection of the number
+-- the subsection of this number
 record IsSub (w : Within) (i : ℕ) (s : Sub) : Type 0 where
   lt : i < length w.device.now.subs
   is : s ≡ get_or w.device.now.subs i s

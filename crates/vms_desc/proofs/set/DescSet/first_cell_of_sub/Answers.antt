@@ -20,7 +20,7 @@ loop-earlier-init c =
     let same : c.cells_of-cell.result ≡ own_cells set d = omega arith in
     same ∙ sym (sub_first set (own_cells set d) d.subs)
 
--- an earlier subsection is one of the device's, and the code has its size
+-- an earlier subsection is one of the device's, and the code knows its size
 earlier : (c : goal.After-cells_of-cell-in-loop-earlier) → (let d = device_at (described c.args.self.now) c.args.device in
     (c.loop-earlier.earlier < length d.subs) × (c.cells_of-cell-in-loop-earlier.result ≡ own_cell_count (described c.args.self.now) (sub_at d c.loop-earlier.earlier).desc))
 earlier c =

@@ -6,7 +6,7 @@ use Rattle.vms_json.proofs.EndLaws.{below_front, IsTold, list_ended, object_ende
 use Rattle.vms_json.proofs.parse.Laid.end.Goals as goal
 use Rattle.vms_json.proofs.parse.Laid.end.Goals.{then-self, else-self, In-Some, After-len, After-is_in_list-self}
 
--- those left open begin below where the innermost began, and that below the end
+-- the remaining open ones begin below the innermost, which begins below the end
 below : (c : goal.In-Some) → AreBelow c.pop.new.self.items (length c.args.self.now.rows.items) × (c.in-Some.at < length c.args.self.now.rows.items)
 below c =
     let rows = c.args.self.now.rows.items in

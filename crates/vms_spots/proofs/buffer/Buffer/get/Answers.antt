@@ -14,7 +14,7 @@ pub end-end-requires : goal.end-end-requires
 end-end-requires c =
     (at_cell c.self.inside.spots.items c.self.inside.bytes.items c.args.cell c.index-spot.result.now c.args.self.now c.self.view_is c.self.invariant c.requires c.index-spot.ensures).small
 
--- the cell's number stands at its spot, which the code found
+-- the cell's number is at its spot, which the code found
 at_spot : (c : goal.After-end-end) → AtSpot c.self.inside.spots.items c.self.inside.bytes.items c.args.cell c.index-spot.result.now
 at_spot c = at_cell c.self.inside.spots.items c.self.inside.bytes.items c.args.cell c.index-spot.result.now c.args.self.now c.self.view_is c.self.invariant c.requires c.index-spot.ensures
 
