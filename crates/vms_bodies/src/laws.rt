@@ -16,13 +16,13 @@ pub fn shipped_law()
     ensures { ShippedLaw }
 {}
 
-/// States that the cell that a path names is one of the device's cells, for every set.
+/// States that the cell that a path names (`cell_at`) is one of the device's cells, for every set.
 #[tactic(auto, using(crate::proofs::Stated::cell_holds))]
 pub fn cell_law()
     ensures { CellLaw }
 {}
 
-/// States that the computed test of readiness is true exactly if an image is ready.
+/// States that the computed test `is_ready` is true exactly if an image is ready (`IsReady`).
 ///
 /// Ready means normal, valid, at the set's versions, and with exactly the needed subsections.
 #[tactic(auto, using(crate::proofs::Stated::ready_holds))]
@@ -30,8 +30,8 @@ pub fn ready_law()
     ensures { ReadyLaw }
 {}
 
-/// States that what the writer gives for the fields of a description, with 0 for unused bytes, are
-/// bytes of these fields.
+/// States that what the writer gives for the fields of a description (`zeroed`, with 0 for unused
+/// bytes) are bytes of these fields.
 #[tactic(auto, using(crate::proofs::Stated::zeroed_holds))]
 pub fn zeroed_law()
     ensures { ZeroedLaw }

@@ -73,7 +73,7 @@ abbrev pub part_due : Set → Device → List (Option ℕ) → Option Open → �
 part_due set d came None = 0
 part_due set d came (Some part) = bytes_of_part set d part.sub + (subs_due set d.subs came + FOOT_LENGTH)
 
--- ---- where the reading of a section stands
+-- ---- how far the reading of a section is
 
 -- The spot before the fields of the part that comes next, or after the section.
 abbrev pub spot_in : Section → Option Open → Spot

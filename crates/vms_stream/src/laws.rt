@@ -14,8 +14,8 @@ pub fn found_law()
     ensures { FoundLaw }
 {}
 
-/// States that the judge refuses an input exactly if it has a fault, with the same offset, device,
-/// reason and size.
+/// States that the judge refuses an input exactly if it has a `Fault`, with the same offset,
+/// device, reason and size.
 ///
 /// The judge's state is the list of the units so far.
 pub fn refuses_law()
@@ -27,12 +27,12 @@ pub fn state_refuses_law()
     ensures { StateRefusesLaw }
 {}
 
-/// States that the judge accepts or refuses every input, for every set.
+/// States that the judge (`by_state`) accepts or refuses every input, for every set.
 pub fn told_law()
     ensures { ToldLaw }
 {}
 
-/// States that what the judge accepts is a stream of the set at the front of the input.
+/// States that the input takes (`Takes`) what the judge accepts: a stream of the set at its front.
 ///
 /// The stream is footed or bare. It has exactly the bytes that were read, and the machine and the
 /// images of the judge's last state.
@@ -40,13 +40,14 @@ pub fn accepted_law()
     ensures { AcceptedLaw }
 {}
 
-/// States that the judge accepts each stream of the set at the front of an input, with its length,
+/// States that the judge accepts each stream that an input takes (`Takes`), with its length,
 /// machine and images.
 pub fn taken_law()
     ensures { TakenLaw }
 {}
 
-/// States that a footed section of a device that hasn't come is read, whatever follows it.
+/// States that a footed section (`IsSection`) of a device that hasn't come is read, whatever
+/// follows it.
 ///
 /// The reading resumes after the section.
 pub fn section_read_law()
@@ -61,42 +62,47 @@ pub fn section_found_law()
     ensures { SectionFoundLaw }
 {}
 
-/// States that the unit found at the front of an input depends only on the bytes of that unit.
+/// States that the unit found at the front of an input (`unit_at`) depends only on the bytes of
+/// that unit.
 pub fn local_law()
     ensures { LocalLaw }
 {}
 
-/// States that units without a fault that end well are a stream that the input takes.
+/// States that units without a fault that end well (`Ends`) are a stream that the input takes.
 pub fn units_law()
     ensures { UnitsLaw }
 {}
 
-/// States that a stream that an input takes consists of units without a fault that end well.
+/// States that a stream that an input takes consists of units without a fault that end well
+/// (`Ends`).
 pub fn stream_law()
     ensures { StreamLaw }
 {}
 
-/// States that units without a fault are the first units of a stream, if the input has no fault.
+/// States that units without a fault (`Front`) are the first units of a stream, if the input has no
+/// fault.
 pub fn front_law()
     ensures { FrontLaw }
 {}
 
-/// States that an input takes at most one stream: its bytes determine length, machine and images.
+/// States that an input takes (`Takes`) at most one stream: its bytes determine length, machine and
+/// images.
 pub fn one_stream_law()
     ensures { OneStreamLaw }
 {}
 
-/// States that every input of bytes takes a stream or has a fault.
+/// States that every input of bytes takes a stream (`Takes`) or has a fault (`Fault`).
 pub fn either_law()
     ensures { EitherLaw }
 {}
 
-/// States that no input both takes a stream and has a fault.
+/// States that no input both takes a stream (`Takes`) and has a fault (`Fault`).
 pub fn never_both_law()
     ensures { NeverBothLaw }
 {}
 
-/// States that an input has at most one fault: its bytes determine offset, device, reason and size.
+/// States that an input has at most one `Fault`: its bytes determine offset, device, reason and
+/// size.
 pub fn one_fault_law()
     ensures { OneFaultLaw }
 {}
@@ -107,31 +113,31 @@ pub fn further_law()
     ensures { FurtherLaw }
 {}
 
-/// States that what the writer gives for a ready image is a footed section with this image, for
-/// every set.
+/// States that what the writer gives for a ready image (`written_section`) is a footed section with
+/// this image, for every set.
 pub fn section_law()
     ensures { SectionLaw }
 {}
 
-/// States that what the writer gives for ready images is a footed stream with this machine and
-/// these images.
+/// States that what the writer gives for ready images (`written`) is a footed stream with this
+/// machine and these images.
 ///
 /// An input that begins with these bytes takes exactly them, for every set.
 pub fn written_law()
     ensures { WrittenLaw }
 {}
 
-/// States that what the writer gives for ready images is a whole stream of the set.
+/// States that what the writer gives for ready images (`written`) is a whole stream of the set.
 ///
 /// The machine is one of `names` or none. The text fits a description section, or there is none.
 pub fn whole_law()
     ensures { WholeLaw }
 {}
 
-/// States that the result of a cursor's call decides the judge's verdict.
+/// States that the result of a cursor's call (`seen`) decides the judge's verdict.
 ///
-/// It decides a fault with its size, and a cut. For a good unit, only the rows that need the set,
-/// the machines or the units so far are still open.
+/// It decides a fault with its size, and a cut. For a good unit, only the rows of `asking` are
+/// still open: those that need the set, the machines or the units so far.
 pub fn judged_law()
     ensures { JudgedLaw }
 {}
@@ -144,8 +150,8 @@ pub fn next_law()
     ensures { NextLaw }
 {}
 
-/// States that the call after fields depends on the id of the open section and on nothing else of
-/// what is known.
+/// States that what a cursor sees after fields (`seen`) depends only on the id of the open section,
+/// and on nothing else known.
 pub fn seen_law()
     ensures { SeenLaw }
 {}

@@ -1,8 +1,8 @@
 // The laws of fronts.
 ghost use Rattle.vms_stream_laws.specs.Laws.{BeginningLaw, RefusedLaw};
 
-/// States that units without a fault are exactly those with which some stream of the set begins,
-/// without its validations.
+/// States that units without a fault (`Front`) are exactly those with which some stream begins
+/// (`Begins`), without the set's validations.
 ///
 /// In the other direction, each validation must also hold of the descriptions that ended before the
 /// last unit.
@@ -10,8 +10,8 @@ pub fn beginning_law()
     ensures { BeginningLaw }
 {}
 
-/// States that the units before the fault of an input begin some stream of the set, without its
-/// validations.
+/// States that the units before the fault of an input begin some stream (`Begins`), without the
+/// set's validations.
 pub fn refused_law()
     ensures { RefusedLaw }
 {}
