@@ -16,7 +16,7 @@ use Rattle.vms_analyze.specs.Laws.{OneLaw}
 use Rattle.vms_analyze.proofs.ReadBack.{map_twice}
 use Rattle.vms_words.proofs.WordLaws.{word_named}
 
--- ---- one tree is told by one list of devices
+-- ---- one tree has one list of devices
 
 some_same : {A : Type 0} (x y : A) → Some x ≡ Some y → x ≡ y
 some_same x y e = cc

@@ -53,7 +53,7 @@ other_key k l e = sym (is_eq-slice_cmp k l) ∙ ap is_eq e
 other_back : (k l : List ℕ) → IsLess l k → bytes_eq k l ≡ false
 other_back k l e = sym (is_eq-slice_cmp k l) ∙ ap is_eq (greater_turned k l e)
 
--- a key before all of these isn't one of them, and nothing stands under it
+-- a key before all of these isn't one of them, and has no value
 none_of : (l : List ℕ) (keys : List (List ℕ)) → IsBefore l keys → is_one_of keys l ≡ false
 none_of l [] h = refl
 none_of l (k ∷ keys) h = ap (λ (b : Bool). b || is_one_of keys l) (other_back k l h.0) ∙ none_of l keys h.1
@@ -109,7 +109,7 @@ just_keys (k ∷ keys) (member l d ms) h g e f = go (slice_cmp nat_cmp k l) refl
         let left : has_no_others keys ms ≡ true = others_left k keys ms (subst (λ (m : List ℕ). IsBefore m (keys_of ms)) (sym same) g.0) p.1 in
         ap (λ (m : List ℕ). m ∷ keys_of ms) (sym same) ∙ ap (λ (ks : List (List ℕ)). k ∷ ks) (more left (all_left l d ms keys first q.1))
 
--- ---- what stands under them
+-- ---- their values
 
 -- the members of these keys, one after the other
 abbrev pub picked : List (List ℕ) → Data → Members

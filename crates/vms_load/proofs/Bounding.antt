@@ -99,7 +99,7 @@ module _ (set : Set) (well : is_well_formed set ≡ true) where
             subst (λ (x : Sub). AreSmall x.desc.fields) (get_or_from_slice_get (device_at set k).subs j s _ g) (part_small set (well_of set well) k (Some j) lt (slice_get_within (device_at set k).subs j s g)),
       )
 
-  -- so many bytes are no place above 2 ^ 63
+  -- this many bytes give no offset above 2 ^ 63
   pub most_small : devices_most set set.devices ≤ 2 ^ 27
   most_small = omega (arith, devices_small set.devices part_of_device, few_items set well, few_devices set well)
 

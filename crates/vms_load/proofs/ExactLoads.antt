@@ -47,7 +47,7 @@ exact_holds set names well heads input ok left images taken result l = record {
 
 -- ---- what a refusal takes
 
--- the unit at fault stands within the input
+-- the offending unit is within the input
 unit_within : (set : Set) (names : List (List ℕ)) (u : List Piece) (rest : List ℕ) (section : Option ℕ) (reason : Reason) (size : ℕ) → Why set names u rest section reason size → size ≤ length rest
 unit_within set names u rest section reason size (Fails h) = omega arith
 unit_within set names u rest section reason size (Cut h o n) = omega arith

@@ -75,7 +75,7 @@ rule-le holds = omega arith
 
 -- ---- fields
 
--- each structure has at most so many bytes
+-- each structure has at most this many bytes
 record Within (structs : List Meaning) (ws : List ℕ) : Type 0 where
   pub bounded : (j : ℕ) (numbers : List ℤ) (at : ℕ) → slots_most ((get_or structs j no_meaning).slots numbers at) ≤ get_or ws j 0
 

@@ -123,7 +123,7 @@ desc_at [] k = refl
 desc_at (d ∷ ds) zero = refl
 desc_at (d ∷ ds) (suc k) = desc_at ds k
 
--- what doesn't ask for validations is the same of each structure
+-- what doesn't depend on validations is the same for each structure
 pub first_unruled : {B : Type 0} (f : List B → Desc → B) → ((bs : List B) (d : Desc) → f bs (unruled_desc d) ≡ f bs d) → (ds : List Desc) (k : ℕ) → first f (map unruled_desc ds) k ≡ first f ds k
 unfolding first
 first_unruled f h ds zero = refl

@@ -60,7 +60,7 @@ long_take (x ∷ xs) (suc n) le = ap suc (long_take xs n (omega (arith, le)))
 
 -- ---- all devices
 
--- the first n devices have these images and this first bad line of the second pass, and then what is left is the whole reading
+-- the first n devices have these images and this first bad line of the second pass; the rest is the whole reading
 pub record Gathered (set : Set) (n : ℕ) (start : Result ReadAll BadLine) (first judged : Option BadLine) (images : List Image) (left : Result ReadAll BadLine) : Type 0 where
   pub done : List ReadDevice
   pub count : length done ≡ n

@@ -51,7 +51,7 @@ abbrev pub with_subs : List (Option ℕ) → List ℕ → Result ReadSubs BadLin
 with_subs came lines (Err b) = Err b
 with_subs came lines (Ok r) = Ok (record { place = r.place; came = came ++ r.came; lines = lines ++ r.lines })
 
--- the first n subsections came so and have these lines, and then what is left is the whole reading
+-- the first n subsections came so and have these lines; the rest of the reading is the whole reading
 pub record Follows (start : Result ReadSubs BadLine) (n : ℕ) (came : List (Option ℕ)) (lines : List ℕ) (left : Result ReadSubs BadLine) : Type 0 where
   pub whole : with_subs (take n came) lines left ≡ start
 

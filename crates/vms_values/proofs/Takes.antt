@@ -1,4 +1,4 @@
--- What is left to read of the elements of an array and of the fields of a part.
+-- The elements of an array and the fields of a part that remain to be read.
 use Rattle.std.proofs.Common.{◌≡◌, ℕ, zero, suc, ◌+◌, ◌-◌, ◌*◌, ◌<◌, Bool, not, ◌&&◌, ◌||◌, if◌then◌else◌, List, ◌++◌, length, get_or, drop, slice_set, Option, Some, None, Ok, Err, ℤ, refl, sym, ap, ◌∙◌, arith, codes}
 use Rattle.std.specs.Fmt.{decimal}
 use Rattle.vms_kinds.specs.declared.Item.{Item}
@@ -103,7 +103,7 @@ module _ (set : Set) where
       by_count (Fixed k) other = ap (λ (s : ℕ). read_elements (readers set) f caps (path ++ f.name) present at s 0 count p) (sym (read_size f.item))
       by_count (Counted by most) other = ap (λ (s : ℕ). read_elements (readers set) f caps (path ++ f.name) present at s 0 count p) (sym (read_size f.item))
 
-  -- field k of a description, by the numbers so far: so many of its elements are read, of a number that counts so many at most
+  -- field k of a description, by the numbers so far: how many of its elements are read, and the most that its number counts
   pub record IsNext (d : Desc) (v : ℕ) (present : Bool) (base k count : ℕ) (most : Option ℕ) (now : Bool) (f : Field) (p : Standing) : Type 0 where
     pub inside : k < length d.fields
     pub found : f ≡ get_or d.fields k no_field

@@ -16,7 +16,7 @@ use Rattle.vms_values_laws.proofs.Numbers.{AreShort, of_numbers, cancel, number_
 use Rattle.vms_values_laws.proofs.DevicesCome.{AllShort}
 use Rattle.std.proofs.lemmas.List.{ext_get_or}
 
--- the same is demanded, and it has the same line, one after the other
+-- the same is required, with the same line, one after the other
 abbrev pub Match : List Entry → List Entry → Type 0
 Match [] [] = Unit {0}
 Match [] (f ∷ fs) = ⊥
@@ -83,7 +83,7 @@ parted (e ∷ es) fs [] [] i i' n n' m = absurd m
 parted (e ∷ es) fs [] (f' ∷ fs') i i' n n' m = absurd (other e f' i.0 n' m.0)
 parted (e ∷ es) fs (e' ∷ es') fs' i i' n n' m = let p = parted es fs es' fs' i.1 i'.1 n n' m.2 in record { inside = (m.0, m.1, p.inside); rest = p.rest }
 
--- the entries of a device behind its section's
+-- the entries of a device after its section's
 abbrev pub inside_of : Set → Device → Image → List Entry
 inside_of set d image = number_entries set d.desc image.numbers 0 ++ subs_entries set d image 0 (own_cells set d) d.subs image.came
 

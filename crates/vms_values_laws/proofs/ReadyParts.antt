@@ -1,4 +1,4 @@
--- A state of which a text speaks, whose parts are good, is ready.
+-- A state that a text says, with good parts, is ready.
 use Rattle.std.proofs.Common.{◌≡◌, ℕ, suc, ◌+◌, ◌<◌, ◌≤◌, Bool, true, false, List, ◌∷◌, ◌++◌, length, get_or, Option, Some, None, ℤ, refl, sym, ap, ◌∙◌, subst, arith, []}
 use Rattle.std.specs.List.{flat_map, slice_get}
 use Rattle.std.proofs.lemmas.Bool.{or_from}
@@ -69,7 +69,7 @@ module _ (set : Set) (n : List ℤ) (short : AreShort n) where
   desc_bare d at h =
       subst (λ (l : List Cell). AreBare n at l (λ k. false)) (walks set d d.version d.version n n at at).cells_are (have_each n at (elements_in set d d.version n at) (walks set d d.version d.version n n at at).up h)
 
-  -- what is at its default is right, whatever stands in the bytes
+  -- what is at its default is right, whatever is in the bytes
   pub default_right : (at : ℕ) (cs : List Cell) (ss : List Slot) → DefaultsFit cs → AreBare n at cs (λ k. false) → AreRight n at cs ss
   default_right at cs ss defaults bare =
       record { right = λ c k lt e. let is = bare c k lt e refl in record { fits = subst (λ (z : ℤ). FitsCell (get_or cs c no_cell) z) (sym is) (defaults c lt); absent = λ h. is } }

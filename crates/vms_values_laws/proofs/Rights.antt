@@ -1,4 +1,4 @@
--- When the numbers of a part of a state are right: each fits its cell, and is the default where no byte stands for it.
+-- When the numbers of a part of a state are right: each fits its cell, and is the default if it has no byte.
 use Rattle.std.proofs.Common.{◌≡◌, ◌⊎◌, inl, inr, ℕ, zero, suc, ◌+◌, ◌-◌, ◌<◌, ◌≤◌, Bool, true, false, ◌&&◌, ◌==◌, nat_lt, List, ◌∷◌, ◌++◌, length, get_or, ℤ, pos, None, refl, sym, ap, ◌∙◌, subst, arith, if◌then◌else◌, ◌||◌, []}
 use Rattle.std.proofs.lemmas.Bool.{ltb-true, ltb-false, eq-eqb, ne_eqb, and_parts, or_parts}
 use Rattle.std.proofs.lemmas.List.{get_or_append_left, get_or-append-add, length-append}

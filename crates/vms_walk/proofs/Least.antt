@@ -1,4 +1,4 @@
--- A number that counts arrays is within the capacities of all where it is within the least of them.
+-- A number that counts arrays is within all capacities if it is within the least of them.
 use Rattle.std.proofs.Common.{◌≡◌, ℕ, ◌<◌, ◌≤◌, min, List, ◌∷◌, Option, Some, None, ℤ, pos, negsuc, refl, sym, ap, ◌∙◌, arith, Bool, true, false, nat_lt, [], ◌||◌}
 use Rattle.std.proofs.lemmas.Bool.{ltb-true, ltb-false, lt-ltb}
 use Rattle.std.proofs.Math.Bool.{or-false, or_assoc}

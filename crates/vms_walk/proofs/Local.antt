@@ -1,4 +1,4 @@
--- The slots up to a place depend on the cells below it alone.
+-- The slots up to a place depend only on the cells below it.
 use Rattle.std.proofs.Common.{◌≡◌, ℕ, zero, suc, ◌+◌, ◌*◌, ◌<◌, ◌≤◌, List, ◌∷◌, ◌++◌, length, get_or, take, drop, ℤ, refl, sym, ap, ◌∙◌, subst, arith, Bool, if◌then◌else◌, ◌==◌, [], ◌||◌}
 use Rattle.std.proofs.lemmas.List.{drop_more}
 use Rattle.std.proofs.lemmas.Bool.{or_parts}

@@ -48,7 +48,7 @@ run_both first (suc n) m kind =
     ap (λ (k : ℕ). run_of first k kind) one
     ∙ ap (λ (l : List WalkStep). Number first kind None ∷ l) (run_both (first + 1) n m kind ∙ ap (λ (k : ℕ). run_of (first + 1) n kind ++ run_of k m kind) e)
 
--- some of them behind those before them
+-- some of them after those before them
 pub run_parts : (first n m count : ℕ) (kind : Kind) → n + m ≤ count → run_of first count kind ≡ run_of first n kind ++ (run_of (first + n) m kind ++ run_of (first + (n + m)) (count - (n + m)) kind)
 run_parts first n m count kind le =
     let all : count ≡ (n + m) + (count - (n + m)) = omega (arith, le) in

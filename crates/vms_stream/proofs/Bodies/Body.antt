@@ -1,4 +1,4 @@
--- In the fields of a part the judge goes slot by slot as the structural reader does.
+-- In the fields of a part the judge reads slot by slot, as the structural reader does.
 use Rattle.std.proofs.Common.{◌≡◌, ℕ, zero, suc, ◌+◌, ◌<◌, List, [], ◌∷◌, length, get_or, take, drop, slice_set, Option, Some, ℤ, Ok, Err, refl, sym, ap, ◌∙◌, arith, Bool, true, false, not, nat_lt, ◌==◌, ◌&&◌, if◌then◌else◌}
 use Rattle.std.specs.List.{slice_get}
 use Rattle.vms_kinds.specs.declared.Kind.{Kind}

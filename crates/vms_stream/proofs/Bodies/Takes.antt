@@ -1,4 +1,4 @@
--- Taking a slot is what is seen of the unit that stands there.
+-- Taking a slot is what is seen of its unit.
 use Rattle.std.proofs.Common.{◌≡◌, ℕ, length, take, Option, Some, None, ℤ, refl, ap, ◌∙◌, Bool, true, false, not, nat_lt, ◌&&◌, if◌then◌else◌}
 use Rattle.vms_kinds.specs.declared.Kind.{Kind}
 use Rattle.vms_kinds.specs.Codes.{width, value_of}

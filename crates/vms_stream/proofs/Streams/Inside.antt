@@ -1,4 +1,4 @@
--- In a section, where all slots are passed: what an accepted reading finds behind the fields.
+-- In a section, where all slots are passed: what an accepted reading finds after the fields.
 use Rattle.std.proofs.Common.{◌≡◌, ℕ, ◌+◌, ◌<◌, List, ◌++◌, length, drop, slice_set, Option, Some, None, refl, sym, ap, ◌∙◌, subst, arith, Bool, true, false, ◌==◌, []}
 use Rattle.std.specs.List.{slice_get}
 use Rattle.vms_kinds.specs.Bytes.{IsBytes}
@@ -81,7 +81,7 @@ module _ (set : Set) (names : List (List ℕ)) (machine : Option (List ℕ)) (im
       ∙ ap (λ (i : Image). next i (Some j)) (image_is image part n)
       ∙ ap (λ (l : List Image). to l (Some j)) (set_twice images k image (record image { came = slice_set image.came j (Some v) }))
 
-  -- what stands behind the fields: a subsection head, the footer, or what stands between sections
+  -- what comes after the fields: a subsection head, the footer, or a unit between sections
   pub data Behind (image : Image) (part : Option ℕ) (n place : ℕ) (rest : List ℕ) (taken : ℕ) (end : State) : Type 0 where
     ASub : (j v : ℕ) (s : Sub) (more : List ℕ) → rest ≡ sub_head s.desc.name v ++ more → slice_get d.subs j ≡ Some s → slice_get image.came j ≡ Some None → IsVersionOf s.desc v
         → reading_on (judge (by_state set names)) (stands (record image { came = slice_set image.came j (Some v) }) (Some j) 0) (place + length (sub_head s.desc.name v)) more ≡ Some (Accepted taken end)
@@ -139,7 +139,7 @@ module _ (set : Set) (names : List (List ℕ)) (machine : Option (List ℕ)) (im
               ANext (next_agrees t (first_byte x) f')
               (opening set names false false (AfterFields k t) (stands image part n) place rest more taken end long (next_between t (first_byte x) f') x m none2 e goes)
 
-  -- behind the fields of a part an accepted reading goes on so
+  -- after the fields of a part an accepted reading goes on so
   pub behind_found : (image : Image) (part : Option ℕ) (n place : ℕ) (rest : List ℕ) (taken : ℕ) (end : State) → length came ≡ length set.devices → length image.came ≡ length d.subs
       → drop n (part_slots set (Some d) image part) ≡ [] → IsBytes rest → reading_on (judge (by_state set names)) (stands image part n) place rest ≡ Some (Accepted taken end) → Behind image part n place rest taken end
   behind_found image part n place rest taken end long subs_long done ok h =

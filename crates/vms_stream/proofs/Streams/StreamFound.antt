@@ -35,7 +35,7 @@ record Ending (machine : Option (List ℕ)) (images : List Image) (place : ℕ) 
   machine_is : end.machine ≡ machine
   images_are : end.images ≡ images
 
--- what stands from the first section on
+-- what comes from the first section on
 record Rest (set : Set) (images : List Image) (came : List Bool) (t : Tail) (machine : Option (List ℕ)) (place : ℕ) (rest : List ℕ) (n : ℕ) (end : State) : Type 0 where
   order : List ℕ
   each_once : EachOnce came order
