@@ -11,7 +11,8 @@ use vms_io::{Sink, Source, write_all_of};
 /// Reads a stream from `source` and writes its values text to `sink`, by the stream's own
 /// description.
 ///
-/// The source is read to its end, or 100,000,001 bytes of it if it has more than 100,000,000.
+/// The source is read to its end, or 100,000,001 bytes of it if it has more than 100,000,000,
+/// unless a read fails or memory runs out.
 ///
 /// # Errors
 ///

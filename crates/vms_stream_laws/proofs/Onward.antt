@@ -1,5 +1,6 @@
--- Units without a fault go on to an end, where every validation holds: the open section's fields come with the number 0, its
--- constants and unused bytes, then its footer, then a section of each device that has not come, and the end mark.
+-- Units without a fault go on to an end, where every validation holds. The open section's fields come with
+-- the number 0, its constants and unused bytes. Then come its footer, a section of each device that hasn't
+-- come, and the end mark.
 use Rattle.std.proofs.Common.{◌≡◌, ℕ, zero, suc, ◌+◌, ◌<◌, ◌≤◌, Bool, true, false, List, [], ◌∷◌, ◌++◌, append_assoc, length, length-drop, length-set, drop, slice_set, ℤ, pos, Option, Some, None, refl, sym, ap, ◌∙◌, subst, arith}
 use Rattle.std.specs.Prelude.{replicate}
 use Rattle.std.specs.List.{slice_get}

@@ -1,11 +1,11 @@
 // The laws of fronts.
 ghost use Rattle.vms_stream_laws.specs.Laws.{BeginningLaw, RefusedLaw};
 
-/// States that units without a fault (`Front`) are exactly those with which some stream begins
-/// (`Begins`), without the set's validations.
+/// States that units have no fault (`Front`) exactly if some stream begins with them (`Begins`) and
+/// the validations hold.
 ///
-/// In the other direction, each validation must also hold of the descriptions that ended before the
-/// last unit.
+/// `Begins` leaves the set's validations out. They must hold of the descriptions that ended before
+/// the last unit.
 pub fn beginning_law()
     ensures { BeginningLaw }
 {}

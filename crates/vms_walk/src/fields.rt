@@ -238,7 +238,7 @@ fn walk_field<W: Walker>(
 ///
 /// # Errors
 ///
-/// The walker's [`Walker::Fault`], if it stops at a step. No further step is taken.
+/// The walker's [`Walker::Fault`], if it stops at one of the steps.
 ///
 /// # Requires
 ///

@@ -16,8 +16,9 @@ use vms_kinds::Kind;
 use vms_spots::Buffer;
 use vms_walk::{PartAt, WalkStep, Walker, walk};
 
-// Returns whether each number of a part is in range and at most the capacity that it counts, each
-// cell without a byte is at its default, and the validations hold, those of structures included.
+// Returns whether the numbers of a part may be written. Each is in range and at most the capacity
+// that it counts. Each cell without a byte is at its default. The validations hold, those of
+// structures included.
 pub(crate) fn is_part_fine(set: &DescSet, spot: PartAt, image: &Image, defaults: &Buffer) -> bool
     requires spot { HasSpot (described set.now) spot image.now.numbers }
     requires forms { length (formed defaults.now) ≡ length image.now.numbers }

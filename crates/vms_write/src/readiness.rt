@@ -14,9 +14,12 @@ use vms_walk::PartAt;
 
 /// Returns whether `image`, of device `device`, may be written.
 ///
-/// It must be at the set's version, each number must be in range and at most the capacity that it
-/// counts, cells without a byte must be at their defaults, the validations must hold, and exactly
-/// the needed subsections must have come. The call walks once over the device's cells.
+/// - It is at the set's version, and exactly the needed subsections came.
+/// - Each number is in range and at most the capacity that it counts.
+/// - Each cell without a byte is at its default.
+/// - The validations hold.
+///
+/// The call walks once over the device's cells.
 ///
 /// # Requires
 ///
