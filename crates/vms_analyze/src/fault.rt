@@ -1,4 +1,5 @@
-// Why an input has no listing.
+// Why an input isn't listed.
+/// Why an input has no listing.
 #[derive(Clone, Copy, PartialEq, Eq, Debug)]
 pub enum AnalyzeReason {
     /// It has more than 100,000,000 bytes.
