@@ -44,8 +44,8 @@ GoesOn old new most reading next from to result =
 abbrev pub GoesSoFar : Intake → Intake → Onward → Onward → Stand → Stand → Type 0
 GoesSoFar old new reading next from to = Reads On old new (λ n. n ≡ reach to - reach from) (λ rest left. LeadsOn reading next from to (Some rest) (Some left))
 
--- The same for a call that begins after a unit of `long` bytes at offset `at`, on which the verdict is `v`.
--- The reading is taken from the unit on.
+-- The same for a call that begins after a unit of `long` bytes at offset `at`, whose verdict is `v`. What is
+-- said begins with that unit.
 abbrev pub GoesBehind : {X : Type 0} → Intake → Intake → ℕ → (State → Onward) → Verdict State → (X → Onward) → ℕ → ℕ → Stand → Stand → Result X LoadFault → Type 0
 GoesBehind old new most go v next at long from to result =
     Reads (course result) old new (IsSpent from to most result)

@@ -47,7 +47,7 @@ due_field tail (Some k) (FillerSlot zero ∷ slots) = due_field tail (Some k) sl
 due_field tail (Some k) (slot ∷ slots) = Field k slot
 
 module _ (set : Set) where
-  -- `due set u` is what is due after the units `u`, of which the last is first in the list.
+  -- `due set u` is what is due after the units `u`. The latest unit is first in the list.
   abbrev pub due : List Piece → Due
   due [] = AMagic
   due (Magic bytes ∷ u) = AVersion

@@ -9,6 +9,6 @@ use Rattle.vms_walk.specs.declared.step.WalkStep.TheVariants.{Number}
 abbrev pub run_of : ℕ → ℕ → Kind → List WalkStep
 run_of first count kind = times count (λ cell. Number cell kind None ∷ []) first 1
 
--- Wherever a walker is within these steps, each that is left may come.
+-- Wherever the walker is among these steps, each remaining one may come.
 abbrev pub MayRun : {S : Type 0} → (List WalkStep → S → S → Type 0) → (S → WalkStep → Type 0) → List WalkStep → S → Type 0
 MayRun {S} goes may all a = (xs ys rest : List WalkStep) (x : WalkStep) (b : S) → goes xs a b → all ≡ xs ++ (ys ++ (x ∷ rest)) → may b x

@@ -88,6 +88,6 @@ field_by set spot k cell numbers = slots_at set spot numbers k cell
 abbrev pub cell_of : Set → PartAt → ℕ → ℕ
 cell_of set spot k = place_of (cells_in (table set)) (desc_at set spot.part).fields 0 spot.base (desc_at set spot.part).fields k
 
--- Wherever a walker is within these slots, each step that is left may come.
+-- Wherever the walker is among the steps of these slots, each remaining one may come.
 abbrev pub MayCome : {S : Type 0} → (List WalkStep → S → S → Type 0) → (S → List ℤ) → (S → WalkStep → Type 0) → (List ℤ → List Slot) → S → Type 0
 MayCome {S} goes numbers may slots_by a = (xs ys rest : List WalkStep) (x : WalkStep) (b : S) → goes xs a b → steps_of (slots_by (numbers b)) ≡ xs ++ (ys ++ (x ∷ rest)) → may b x

@@ -78,6 +78,10 @@ pub trait Walker: Cells {
     /// # Errors
     ///
     /// [`Walker::Fault`] if it stops.
+    ///
+    /// # Requires
+    ///
+    /// The cell of a number is among the walker's numbers, and the step may come.
     fn step(&mut self, step: WalkStep) -> Result<(), Self::Fault>
         requires inside { IsInside (Self.numbers self.old) step }
         requires may { may self.old step }
@@ -92,6 +96,11 @@ pub trait Walker: Cells {
     /// # Errors
     ///
     /// [`Walker::Fault`] if it stops.
+    ///
+    /// # Requires
+    ///
+    /// The set has the part at `spot`, its cells are among the walker's numbers, and the step may
+    /// come.
     #[inline(always)]
     fn rules(&mut self, set: &DescSet, spot: PartAt) -> Result<(), Self::Fault>
         requires spot { HasSpot (described set.now) spot (Self.numbers self.old) }
@@ -109,11 +118,16 @@ pub trait Walker: Cells {
     /// Takes `count` steps for numbers of one kind in consecutive cells from `first` on, or stops
     /// at one of them.
     ///
-    /// The numbers count nothing, and `kind` isn't `Bool`.
+    /// The numbers count nothing.
     ///
     /// # Errors
     ///
     /// [`Walker::Fault`] if it stops.
+    ///
+    /// # Requires
+    ///
+    /// `count` is 1 to [`LONGEST_RUN`], `kind` isn't `Bool`, the cells are among the walker's
+    /// numbers, and the steps may come.
     fn run(&mut self, first: u32, count: u32, kind: Kind) -> Result<(), Self::Fault>
         requires some { 0 < count }
         requires short { count ≤ LONGEST_RUN }
@@ -143,10 +157,10 @@ pub trait Walker: Cells {
     ghost keeps_stopped: { (xs : List OneStep) (a b : Self) (fault : Self.Fault)
         → stops xs a fault b → Keeps xs (Self.numbers a) (Self.numbers b) };
 
-    /// No steps leave it unchanged.
+    /// Taking no steps leaves the walker unchanged.
     ghost none: { (a : Self) → goes [] a a };
 
-    /// Steps after steps lead on.
+    /// Steps from `a` to `b` and further steps from `b` to `c` lead from `a` to `c`.
     ghost more: { (xs ys : List OneStep) (a b c : Self)
         → goes xs a b → goes ys b c → goes (xs ++ ys) a c };
 
