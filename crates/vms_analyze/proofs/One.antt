@@ -1,4 +1,4 @@
--- An input has one listing at most.
+-- An input has at most one listing.
 use Rattle.std.proofs.Common.{◌≡◌, ℕ, Bool, true, false, nat_lt, List, [], ◌∷◌, map, take, Some, None, ℤ, pos, negsuc, refl, sym, ap, ap₂, ◌∙◌, subst, arith, codes}
 use Rattle.std.proofs.lemmas.Bool.{ltb-true, ltb-false}
 use Rattle.serde_json.specs.Data.{Data, number, string, boolean, array, object, Members, no_members, member}

@@ -1,4 +1,4 @@
--- An object whose keys come in order and are just these has them one after the other.
+-- An object whose keys are in order and are exactly these has them one after the other.
 use Rattle.std.proofs.Common.{Ordering, Less, Equal, Greater, ◌≡◌, ℕ, Bool, true, false, ◌&&◌, ◌||◌, List, [], ◌∷◌, ◌++◌, append-nil, is_some, unwrap_or, Option, Some, None, refl, sym, ap, ap₂, ◌∙◌, subst}
 use Rattle.std.proofs.lemmas.Bool.{and_parts}
 use Rattle.std.proofs.lemmas.Cmp.{nat_list_cmp_total}
@@ -45,7 +45,7 @@ put_ordered k d (member m e ms) h = go (slice_cmp nat_cmp k m) refl (put_ordered
     go Equal is more = h
     go Greater is more = (put_before m k d ms (less_turned k m is) h.0, more)
 
--- ---- just these keys
+-- ---- exactly these keys
 
 other_key : (k l : List ℕ) → IsLess k l → bytes_eq k l ≡ false
 other_key k l e = sym (is_eq-slice_cmp k l) ∙ ap is_eq e
@@ -62,7 +62,7 @@ none_under : (k : List ℕ) (ms : Members) → IsBefore k (keys_of ms) → get_m
 none_under k no_members h = refl
 none_under k (member l e ms) h = ap (λ (o : Ordering). match_ordering o (get_member k ms) (Some e) (get_member k ms)) h.0 ∙ none_under k ms h.1
 
--- without the first key, where no other is it
+-- without the first key, if no other is it
 others_left : (k : List ℕ) (keys : List (List ℕ)) (ms : Members) → IsBefore k (keys_of ms) → has_no_others (k ∷ keys) ms ≡ true → has_no_others keys ms ≡ true
 others_left k keys no_members h e = refl
 others_left k keys (member l d ms) h e =
@@ -145,7 +145,7 @@ all_picked (member l d ms) h =
 not_listed : {C : Type 0} → false ≡ true → C
 not_listed e = cc
 
--- an object of just these keys
+-- an object of exactly these keys
 pub is_picked : (keys : List (List ℕ)) → AreOrdered keys → (d : Data) → IsSorted d → fits keys [] d ≡ true → d ≡ object (picked keys d)
 is_picked keys h null sorted e = not_listed e
 is_picked keys h (boolean b) sorted e = not_listed e

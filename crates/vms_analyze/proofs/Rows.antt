@@ -50,7 +50,7 @@ refuses_another_footer : found (wants says_timer) 0 0 (smallest 0x7f) ≡ Differ
 unfolding digits code
 refuses_another_footer = refl
 
--- where the end mark isn't the last byte
+-- the end mark isn't the last byte
 refuses_more_bytes : found (wants says_timer) 0 0 (smallest 0x7e ++ 0 ∷ []) ≡ Differs 41
 unfolding digits code
 refuses_more_bytes = refl

@@ -47,7 +47,7 @@ front_drop n xs ys rest e len = ap (drop n) e ∙ ap (λ (k : ℕ). drop k (xs +
 front_long : (n : ℕ) (xs ys rest : List ℕ) → rest ≡ xs ++ ys → length xs ≡ n → nat_lt (length rest) n ≡ false
 front_long n xs ys rest e len = le-ltb (length rest) n (omega (arith, ap length e, length-append xs ys))
 
--- a number's code is taken where it doesn't fail
+-- a number's code is taken if it doesn't fail
 value_taken : (kind : Kind) (reason : Reason) (fails : ℤ → Bool) (put : ℤ → List ℤ) (z : ℤ) (p : Progress) (r : List ℕ) → InRange kind z → fails z ≡ false → p.rest ≡ code kind z ++ r
     → take_value kind reason fails put p ≡ Ok (record { numbers = put z; place = p.place + width kind; rest = r })
 value_taken kind reason fails put z p r fits good e =

@@ -1,4 +1,4 @@
--- Readings: how many units are allowed doesn't matter, if it is enough.
+-- Readings: the allowed number of units doesn't matter, if it is enough.
 use Rattle.std.proofs.Common.{◌≡◌, ℕ, zero, suc, ◌+◌, ◌<◌, ◌≤◌, List, ◌++◌, length, drop, Option, refl, ap, ◌∙◌, drop_at, arith, length-drop}
 use Rattle.vms_spec.specs.Readings.{Verdict, Goes, Faulty, Over, Reading, reading_from, reading_after}
 use Rattle.vms_bodies.specs.Whole.{reading_on, Advances}

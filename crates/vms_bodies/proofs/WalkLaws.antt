@@ -19,7 +19,7 @@ use Rattle.vms_spec.proofs.Sizes.{field_size, elements_fit}
 
 -- ---- what one slot gives
 
--- the numbers where a slot is taken
+-- the numbers after a slot is taken
 abbrev pub Sets : Slot → List ℤ → List ℤ → Type 0
 Sets (Number c kind capacities) old new = (z : ℤ) × (new ≡ slice_set old c z)
 Sets slot old new = new ≡ old
@@ -50,7 +50,7 @@ module _ (P : Taken → Type 0) (p : Progress) (bad : (reason : Reason) (n : ℕ
 pub record Keeps (cell : ℕ) (n : List ℤ) (t : Taken) : Type 0 where
   pub kept : IfOk t (λ q. SameBelow cell n q.numbers)
 
--- a slot whose cell, where it has one, isn't below this one
+-- a slot whose cell, if it has one, isn't below this one
 abbrev pub IsFrom : ℕ → Slot → Type 0
 IsFrom cell (Number c kind capacities) = cell ≤ c
 IsFrom cell slot = Unit {0}
@@ -98,7 +98,7 @@ module _ (total : List ℤ → List Slot) (Holds : ℕ → List Slot → Progres
   IsOther (Number c kind capacities) = ⊥
   IsOther slot = Unit {0}
 
-  -- what each slot keeps, at its cell and with these slots done before it, where it is the next
+  -- what each slot keeps if it is the next, at its cell and with these slots done before it
   pub record Keeping : Type 0 where
     pub less : (cell further : ℕ) (done : List Slot) (left : List ℤ → List Slot) (p : Progress) → cell ≤ further → ((m : List ℤ) → IsAbove further (left m)) → Left cell p done left → Holds further done p
     pub number : (cell : ℕ) (kind : Kind) (capacities : List ℕ) (done : List Slot) (left : List ℤ → List Slot) (p : Progress)

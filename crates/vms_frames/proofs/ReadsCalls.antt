@@ -23,7 +23,7 @@ use Rattle.vms_frames.specs.Reads.{IsLong, ReadsAs, ReadsMagic, ReadsVersion, Re
 use Rattle.vms_frames.proofs.UnitLemmas.{cut_short, seen_whole}
 use Rattle.vms_frames.proofs.ReadsUnits.{unit_passed, unit_short}
 
--- of a unit of which nothing came before
+-- for a unit of which nothing came before
 bare : {X : Type 0} (long : X → ℕ) (most : ℕ) (r : Result X FrameFault) (n : ℕ) → IsLong long most r (0 + n) → IsLong long most r n
 bare long most r n l = subst (λ (k : ℕ). IsLong long most r k) (omega arith) l
 
@@ -53,7 +53,7 @@ calls_behind t id at (Sub name version) h = reads_as (λ n l. omega (arith, l)) 
 calls_behind t id at (Next b) h = reads_as (λ n l. omega (arith, l)) (λ rest left p. p) h
 calls_behind t id at Done h = reads_as (λ n l. omega (arith, l)) (λ rest left p. p) h
 
--- a fault says nothing of the byte that is held
+-- a fault says nothing about the byte that is held
 pub calls_none_behind : {a b : Intake} (t : Tail) (id at : ℕ) (held : Option ℕ) (e : FrameFault) → ReadsBehind a b t id [] at (Err e) → BehindReads a b t id at held (Err e)
 calls_none_behind t id at held (Refused place reason) h = reads_as (λ n l. omega (arith, l)) (λ rest left p. p) h
 calls_none_behind t id at held ReadFault h = reads_as (λ n l. omega (arith, l)) (λ rest left p. p) h

@@ -1,4 +1,4 @@
--- A load answers exactly by what the input is.
+-- The result of a load says exactly what the input is.
 use Rattle.std.proofs.Common.{ℕ, ◌+◌, ◌≤◌, List, length, drop, Option, Some, Ok, Err, ap, arith, length-append, length-drop}
 use Rattle.vms_io.proofs.ReadingLemmas.{reads_as}
 use Rattle.vms_frames.specs.declared.fault.Refusal.{Refusal}

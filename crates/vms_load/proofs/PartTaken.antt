@@ -22,7 +22,7 @@ use Rattle.vms_walk.proofs.Least.{exceeds_least}
 use Rattle.vms_load.specs.Bodies.{TakesAs}
 use Rattle.vms_load.specs.Reading.{slot_of, take_steps, last_numbers, numbers_then, take_append, last_taken, Told, from, IsTaken, IsStopped}
 
--- a step takes what its slot takes: of the capacities that a number counts, the least decides
+-- a step takes what its slot takes: the least of the capacities that a number counts decides
 slot_taken : (x : Slot) (p : Progress) → take_slot (slot_of (step_of x)) p ≡ take_slot x p
 slot_taken (Number c kind caps) p =
     let w = width kind in

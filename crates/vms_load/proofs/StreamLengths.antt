@@ -1,4 +1,4 @@
--- How long the streams of a set are at most.
+-- The greatest length of the streams of a set.
 use Rattle.std.proofs.Common.{◌≡◌, ℕ, zero, suc, ◌+◌, ◌*◌, ◌≤◌, Bool, true, false, if◌then◌else◌, List, [], ◌∷◌, ◌++◌, length, map, get_or, Option, Some, None, ℤ, sym, ◌∙◌, arith, length-append}
 use Rattle.std.specs.Prelude.{replicate}
 use Rattle.std.proofs.Math.Nat.{suc-mul}

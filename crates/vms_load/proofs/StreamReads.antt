@@ -57,7 +57,7 @@ module _ (set : Set) (names : List (List ℕ)) where
       subst (λ (y : Option (Reading State)). ReadsAll set y staged input left (Err (faults.Refused r))) (sym h.is) (refl, h.taken ∙ ap (λ (k : ℕ). Some (drop k input)) all)
   all_refused x staged input left next from to faults.ReadFault zero h = all_fault x staged input left
 
-  -- the reading of a whole input, where the cursor holds nothing
+  -- the reading of a whole input, if the cursor holds nothing
   begins : (state : State) (from : Stand) (input : List ℕ) → state ≡ at_start set → from.at ≡ 0 → from.held ≡ None → go state from.at (ahead from.held input) ≡ whole input
   begins state from input is zero held =
       ap (λ (s : State). go s from.at (ahead from.held input)) is ∙ ap (λ (n : ℕ). go (at_start set) n (ahead from.held input)) zero

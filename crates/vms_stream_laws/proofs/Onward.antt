@@ -1,6 +1,6 @@
--- Units without a fault go on to an end, where every validation holds. The open section's fields come with
--- the number 0, its constants and unused bytes. Then come its footer, a section of each device that hasn't
--- come, and the end mark.
+-- Units without a fault go on to an end, if every validation holds. The open section's fields come with the
+-- number 0, its constants and unused bytes. Then come its footer, a section of each device that hasn't come,
+-- and the end mark.
 use Rattle.std.proofs.Common.{◌≡◌, ℕ, zero, suc, ◌+◌, ◌<◌, ◌≤◌, Bool, true, false, List, [], ◌∷◌, ◌++◌, append_assoc, length, length-drop, length-set, drop, slice_set, ℤ, pos, Option, Some, None, refl, sym, ap, ◌∙◌, subst, arith}
 use Rattle.std.specs.Prelude.{replicate}
 use Rattle.std.specs.List.{slice_get}
@@ -205,7 +205,7 @@ module _ (set : Set) (names : List (List ℕ)) (well : WellFormed set) (heads : 
       on u x front (subst (λ (d : Due). May d x) (sym is) (AtFoot k t (id_of u) may (id_fits u front)))
       (foot_passes set names (due set u) (known set u) (id_of u) refl) (foot_bytes (id_of u)) (λ f. next (x ∷ u) f (opens_between (x ∷ u) false false refl) refl)
 
-  -- after the fields of a section comes its footer, or, where sections have none, what may come between sections
+  -- after the fields of a section comes its footer, or, if sections have none, what may come between sections
   close_on : (u : List Piece) (k : ℕ) (t : Tail) → Fine u → due set u ≡ AfterFields k t → Open (come set u) → Goes u
   close_on u k Unknown front is next = foot_on u k Unknown refl front is next
   close_on u k Footed front is next = foot_on u k Footed refl front is next

@@ -1,4 +1,4 @@
--- The slots of a set without its validations are those of the set, where every rule holds.
+-- The slots of a set without its validations are those of the set, with every rule true.
 use Rattle.std.proofs.Common.{◌≡◌, ℕ, zero, suc, ◌+◌, Bool, true, false, if◌then◌else◌, List, [], ◌∷◌, ◌++◌, length, map, get_or, drop, Option, Some, None, ℤ, refl, sym, ap, ◌∙◌}
 use mathlib.Core.Path.{fun_ext}
 use Rattle.std.specs.List.{flat_map, slice_get}

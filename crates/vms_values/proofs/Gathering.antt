@@ -79,7 +79,7 @@ module _ (set : Set) (i : ℕ) (lt : i < length set.devices) where
       ap (λ (l : List Device). read_devices set l old.lines.line old.lines.rest.now) (drop_more set.devices i _ lt)
       ∙ one_device set (device_at set i) (start_of set (device_at set i) old) (λ line rest. read_devices set (drop (i + 1) set.devices) line rest)
 
-  -- the answer for one device
+  -- the result for one device
   record Given (old new : Reading) (image : Image) : Type 0 where
     r : ReadDevice
     p : Standing

@@ -93,7 +93,7 @@ module _ (set : Set) (i j : ℕ) (lt : j < length (device_at set i).subs) where
       let rest = λ (p : Standing). read_subs set (first_cell set (parts.Sub i (j + 1))) (drop (j + 1) (device_at set i).subs) p in
       sym f.whole ∙ ap (with_subs (take j old.image.came) lines) (next_sub set i j (place_of old) lt ∙ ap (after_sub old.lines.line rest) r)
 
--- ---- answers
+-- ---- results
 
 pub record Came (r : Result (Option ℕ × Standing) BadLine) (j : ℕ) (old new : Taken) : Type 0 where
   pub o : Option ℕ

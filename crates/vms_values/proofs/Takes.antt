@@ -23,7 +23,7 @@ use Rattle.vms_walk.proofs.Least.{exceeds_least}
 use Rattle.vms_values.proofs.Readers.{then_same}
 use Rattle.vms_spec.proofs.Prefixes.{readers_cells}
 
--- ---- of the capacities that a number counts, the least is enough
+-- ---- the least of the capacities that a number counts is enough
 
 put_least : (path : List ℕ) (cell : ℕ) (spot : CellLine) (p : Standing) (o : Option (List ℕ × List ℕ)) → put_line path (record spot { capacities = capacities_of (least_of spot.capacities) }) p o ≡ put_line path spot p o
 put_least path cell spot p None = refl

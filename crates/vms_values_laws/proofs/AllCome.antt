@@ -190,7 +190,7 @@ module _ (set : Set) (d : Device) (devices : List Device) (line : ℕ) (text : L
         along_then x.taken taken (λ es. es ≡ devices_entries set devices images) P (device_entries set d image ++ devices_entries set devices images)
         (x.along (devices_entries set devices images)) (λ es is. subst (λ (l : List Entry). Along taken P l) (sym is) h)
 
-    -- a number of which nothing was said is its default
+    -- a number about which nothing was said is its default
     image_unsaid : AreUnsaid set d image
     image_unsaid c lt bare =
         let room : c < length (device_cells set d) = omega (arith, x.told.long, length-map (device_cells set d) (λ c. c.default)) in

@@ -121,7 +121,7 @@ parts_machine set None line images e = ap (λ (l : ℕ). parts_from set l (devic
 parts_machine set (Some name) line images e = ap (λ (l : ℕ). parts_from set l (devices_entries set set.devices images)) e
 
 module _ (set : Set) (text : List ℕ) (machine : Option (List ℕ)) (line : ℕ) (after : List ℕ) (head : Headed set text machine line after) where
-  -- a line that is bad after what was taken, where the entries to come are so
+  -- a line that is bad after what was taken, if these entries are to come
   first_bad : (images : List Image) (taken : List Taken) (at : ℕ) (rest : List ℕ) (reason : ValuesReason) (Q : List Entry → Type 0) → AreShaped set set.devices images → AllShort images
       → ((images : List Image) → AreShaped set set.devices images → AllShort images → Follows taken Q (devices_entries set set.devices images)) → Along taken Q (devices_entries set set.devices images)
       → Moved line after taken at rest → ((es : List Entry) → Q es → front_reason es rest ≡ Some reason) → FirstBad set text at reason

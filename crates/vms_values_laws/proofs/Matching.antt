@@ -1,4 +1,4 @@
--- Two states that have the same lines, and their defaults where there is none, are the same.
+-- Two states with the same lines, and with defaults where there is no line, are the same.
 use Rattle.std.proofs.Common.{◌≡◌, ℕ, suc, ◌+◌, ◌<◌, Bool, true, false, ◌||◌, ◌==◌, List, [], ◌∷◌, ◌++◌, length, get_or, map, Option, Some, None, ℤ, pos, refl, sym, ap, ◌∙◌, subst, arith, codes}
 use Rattle.std.specs.List.{AllByRecursion}
 use Rattle.std.proofs.lemmas.Bool.{eqb-true}
@@ -87,7 +87,7 @@ parted (e ∷ es) fs (e' ∷ es') fs' i i' n n' m = let p = parted es fs es' fs'
 abbrev pub inside_of : Set → Device → Image → List Entry
 inside_of set d image = number_entries set d.desc image.numbers 0 ++ subs_entries set d image 0 (own_cells set d) d.subs image.came
 
--- of entries of which each is so
+-- for entries that all satisfy it
 module _ (P : Entry → Type 0) where
   all_both : (es fs : List Entry) → AllByRecursion P es → AllByRecursion P fs → AllByRecursion P (es ++ fs)
   all_both [] fs a b = b

@@ -101,7 +101,7 @@ module _ (set : Set) (d : Device) (image : Image) (short : AreShort image.number
       lines_both (number_entries set s.desc n at) others k
       ∙ or_from (has_line (number_entries set s.desc n at) k) (has_line others k) (below_desc set n short s.desc at k lt) (below_subs (suc j) next subs came k (omega arith))
 
-  -- what is so of the subsections
+  -- what holds of the subsections
   pub record SubsReady (j at : ℕ) (subs : List Sub) (came : List (Option ℕ)) : Type 0 where
     pub right : AreRight n at (sub_cells set subs) (came_slots set d n at subs came)
     pub valid : RulesHold (came_slots set d n at subs came)

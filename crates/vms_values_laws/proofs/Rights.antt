@@ -22,7 +22,7 @@ pub record IsRight (n : List ℤ) (ss : List Slot) (k : ℕ) (cell : Cell) : Typ
   pub fits : FitsCell cell (get_or n k (pos 0))
   pub absent : has_cell ss k ≡ false → get_or n k (pos 0) ≡ cell.default
 
--- those of these cells, the first of which has this place
+-- the same for these cells, from this one on
 pub record AreRight (n : List ℤ) (at : ℕ) (cells : List Cell) (ss : List Slot) : Type 0 where
   pub right : (c k : ℕ) → c < length cells → k ≡ at + c → IsRight n ss k (get_or cells c no_cell)
 

@@ -38,6 +38,6 @@ exceeds_from o [] z = sym (or-false (exceeds (capacities_of o) z))
 exceeds_from o (m ∷ caps) z =
     exceeds_from (lesser o m) caps z ∙ ap (λ (b : Bool). b || exceeds caps z) (exceeds_lesser o m z) ∙ or_assoc (exceeds (capacities_of o) z) (is_above z m) (exceeds caps z)
 
--- a number is above the least of these capacities where it is above one of them
+-- a number is above the least of these capacities if it is above one of them
 pub exceeds_least : (caps : List ℕ) (z : ℤ) → exceeds (capacities_of (least_of caps)) z ≡ exceeds caps z
 exceeds_least caps z = exceeds_from None caps z

@@ -33,7 +33,7 @@ part_left before here rest whole ys ws zs x e f =
 pub times_next : {B : Type 0} (part : ℕ → List B) (n m at step : ℕ) → n ≡ suc m → times n part at step ≡ part at ++ times m part (at + step) step
 times_next part n m at step e = ap (λ (k : ℕ). times k part at step) e
 
--- ---- of the capacities that a number counts the least is enough
+-- ---- the least of the capacities that a number counts is enough
 
 pub least_again : (o : Option ℕ) → least_of (capacities_of o) ≡ o
 least_again None = refl

@@ -83,7 +83,7 @@ never : {A : Type 0} (p : Bool) (x y : A) → (if p && false then x else y) ≡ 
 never true x y = refl
 never false x y = refl
 
--- where no section may begin, no mark is one of those that may not begin one
+-- if no section may begin, no mark is one of those that may not begin one
 pub not_between : (bad : Line) (p q r : Bool)
     → (if p && false then Some (None, reasons.Iterative) else if q && false then Some (None, reasons.Command) else if r && false then Some (None, reasons.ConfigurationExtra) else bad) ≡ bad
 not_between bad p q r =

@@ -35,7 +35,7 @@ module _ (set : Set) (names : List (List ℕ)) (s : State) (rest : List ℕ) whe
   abbrev k : Known
   k = known_at set s
 
-  -- a whole unit that no row of its own takes is judged by the rows that ask
+  -- a whole unit that no row of its own takes is judged by the rows of `asking`
   pub good : (x : Piece) (n : ℕ) → unit_at d rest ≡ Whole x n → first_row (alone d k x) ≡ None
       → judge_found (by_state set names) s rest (unit_at d rest) ≡ by_row (by_state set names) (first_row (asking set names k x)) n (after set s x)
   good x n e f =

@@ -93,7 +93,7 @@ module _ (set : Set) (names : List (List ℕ)) where
       let u = steps set names s place rest n end ok refl h in
       opening first c (Between first c) s place rest u.more n end long refl u.unit u.may u.none u.there u.goes
 
--- the same, where no configuration may come
+-- the same, if no configuration may come
 pub data OpensAt (set : Set) (names : List (List ℕ)) (machine : Option (List ℕ)) (images : List Image) (came : List Bool) (t : Tail) (place : ℕ) (rest : List ℕ) (n : ℕ) (end : State) : Type 0 where
   Closed : (more : List ℕ) → rest ≡ 0x00 ∷ more → position not 0 came ≡ None → reading_on (judge (by_state set names)) (ended machine images came t) (place + 1) more ≡ Some (Accepted n end)
       → OpensAt set names machine images came t place rest n end

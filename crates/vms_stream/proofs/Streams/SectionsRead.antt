@@ -36,7 +36,7 @@ IsOpening (Head id name instance v) = Unit {0}
 IsOpening End = Unit {0}
 IsOpening _ = ⊥
 
--- where a section may begin, and the end mark may come
+-- a section may begin, and the end mark may come
 pub record IsFree (set : Set) (names : List (List ℕ)) (s : State) : Type 0 where
   pub held : (g set names).holds s ≡ true
   pub may : (x : Piece) → May (Between false false) x → IsOpening x → May ((g set names).due s) x
@@ -50,7 +50,7 @@ free_is set names first c s e = subst (IsFree set names) (ap (λ (p : Spot). rec
     may _ (AtStart _ _ id name f) o = absurd o
     may _ (AtMark _ _ b f) o = absurd o
 
--- after the fields of a section, where the stream isn't footed
+-- after the fields of a section, if the stream isn't footed
 next_may : (k : ℕ) (t : Tail) → Agrees t false → (x : Piece) → May (Between false false) x → IsOpening x → May (AfterFields k t) x
 next_may k Unknown a _ (AtHead p q id name instance v f g h) o = AtNext k Unknown (Head id name instance v) refl (AtHead p q id name instance v f g h)
 next_may k Unknown a _ (AtEnd p q) o = AtNext k Unknown End refl (AtEnd p q)

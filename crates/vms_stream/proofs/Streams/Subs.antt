@@ -33,7 +33,7 @@ use Rattle.vms_kinds.proofs.ByteLemmas.{bytes_rest}
 abbrev pub image_so : ℕ → List (Option ℕ) → List ℤ → Image
 image_so v came n = record { version = v; came = came; numbers = n }
 
--- what closes a section
+-- what ends a section
 abbrev pub closing : Bool → ℕ → List ℕ
 closing footed id = if footed then foot id else []
 
