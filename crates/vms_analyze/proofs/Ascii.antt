@@ -1,4 +1,4 @@
--- What is told of the shape has a text of ASCII.
+-- A description of the right shape has an ASCII text.
 use Rattle.std.proofs.Common.{◌≡◌, ℕ, zero, suc, ◌<◌, Bool, true, false, ◌&&◌, ◌||◌, ◌==◌, nat_le, List, [], ◌∷◌, length, get_or, map, refl, arith, codes}
 use Rattle.std.specs.List.{AllByRecursion, list_all}
 use Rattle.std.proofs.lemmas.Bool.{and_parts, eqb-true}
@@ -49,7 +49,7 @@ bytes_ascii (x ∷ xs) e =
 path_ascii : (most : ℕ) (path : List ℕ) → is_path most path ≡ true → AllByRecursion Ascii path
 path_ascii most path e = bytes_ascii path (and_parts (nat_le 1 (length path) && nat_le (length path) most) (list_all is_path_byte path) e).1
 
--- ---- what is told
+-- ---- what is described
 
 element_ascii : (t : Told) → is_good t ≡ true → IsSpelled Ascii (told_entry t)
 element_ascii (Sent path kind) e = record { path = path_ascii LONGEST_PATH path e; type = kind_letters allows kind }

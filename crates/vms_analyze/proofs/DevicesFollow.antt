@@ -1,4 +1,4 @@
--- What is written of ready images is found as it is told, device after device.
+-- What is written for ready images is found as described, device after device.
 use Rattle.std.proofs.Common.{◌≡◌, ℕ, suc, ◌+◌, ◌<◌, ◌≤◌, ◌^◌, Bool, true, false, List, [], ◌∷◌, ◌++◌, length, append-nil, map, Option, Some, None, ℤ, refl, sym, ap, ◌∙◌, arith}
 use Rattle.std.specs.List.{flat_map}
 use Rattle.vms_spec.specs.declared.ValuesReason.TheVariants as reasons
@@ -100,7 +100,7 @@ module _ (set : Set) (d : Device) (image : Image) (short : AreShort image.number
 
 -- ---- all devices
 
--- the section that is open behind them
+-- the section that is open after them
 abbrev pub last : ℕ → ℕ → List Device → List Image → ℕ
 last old id [] images = old
 last old id (d ∷ devices) [] = old

@@ -1,4 +1,4 @@
--- What is read of a description's devices is what it tells, and of what is told just that is read.
+-- What is read of a description's devices is exactly what it says.
 use Rattle.std.proofs.Common.{◌≡◌, ℕ, Bool, true, false, ◌&&◌, ◌||◌, if◌then◌else◌, List, [], ◌∷◌, map, Option, Some, None, IfSome, Ordering, Less, Equal, Greater, codes, refl, sym, ap, ◌∙◌, subst}
 use Rattle.std.specs.List.{list_all}
 use Rattle.std.specs.Ordering.{nat_cmp, match_ordering}

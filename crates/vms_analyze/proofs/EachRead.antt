@@ -7,7 +7,7 @@ use Rattle.vms_analyze.specs.Typed.{ReadsAs}
 use Rattle.vms_analyze.specs.declared.members.Unread.{Unread}
 use Rattle.vms_analyze.specs.declared.members.Unread.TheVariants as unread
 
--- what items before tell, put before what the others tell
+-- what the first items say, before what the others say
 abbrev pub before : {A : Type 0} → List A → Option (List A) → Option (List A)
 before done said = next said (λ rest. Some (done ++ rest))
 

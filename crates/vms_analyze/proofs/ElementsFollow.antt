@@ -1,4 +1,4 @@
--- The elements of a part are found as they are told: what stands in the bytes is taken, and the numbers that are printed are listed.
+-- The elements of a part are found as described: those in the bytes are taken, and the printed numbers are listed.
 use Rattle.std.proofs.Common.{◌≡◌, ℕ, Bool, true, false, ◌&&◌, List, [], ◌∷◌, ◌++◌, append_assoc, append-nil, get_or, map, replicate, None, ℤ, pos, refl, sym, ap, ◌∙◌, codes, if◌then◌else◌}
 use Rattle.std.specs.Fmt.{signed_decimal}
 use Rattle.std.proofs.lemmas.List.{map-append, length-replicate}
@@ -24,9 +24,9 @@ use Rattle.vms_analyze.specs.Telling.{told_what, tolds}
 use Rattle.vms_analyze.proofs.Following.{Follows, none_follows, one_follows, both_follow, follows_as, takes_line, takes_any, takes_number}
 use Rattle.std.proofs.Math.Bool.{and-false, and-true}
 
--- ---- what is asked of an element
+-- ---- what is required of an element
 
--- a number that stands in the bytes is counted and in range, and one that has a line alone is its default
+-- a number in the bytes is counted and in range, and one that has only a line is its default
 abbrev pub IsSaidAs : Bool → What → Bool → Bool → ℤ → Type 0
 IsSaidAs sent (Number cell) counted present z =
     ((sent && present) ≡ true → (counted ≡ true) × InRange cell.kind z) × (counted ≡ true → (sent && present) ≡ false → z ≡ cell.default)
@@ -126,7 +126,7 @@ module _ (n : List ℤ) (id : ℕ) where
       follows_as _ _ id id _ _ _ _ (sym (map-append element_want (told_what x.what x.counted (sent && x.present) x.name) (tolds sent xs))) refl (line_more (x.counted && is_number x.what) x (printed xs))
       (both_follow _ _ id id id _ _ _ _ (one sent x.what x.counted x.present x.cell x.name said.0) (all_follow sent xs said.1))
 
-  -- of a part that stands in the stream
+  -- of a part that is in the stream
   pub sent_follow : (xs : List Element) → Each (IsSaid true n) xs → Follows (map element_want (tolds true xs)) id (zeroed n (slots_of xs)) id (map (number_line n) (printed xs))
   sent_follow xs said = follows_as _ _ id id _ _ _ _ refl (sent_bytes xs) refl (all_follow true xs said)
 

@@ -39,9 +39,9 @@ four_same p p' s s' t t' v v' e f g h = cc
 word_of : (word : List ℕ) (kind : Kind) → kind_named word ≡ Some kind → word ≡ kind_word kind
 word_of word kind e = (tells_kind word kind).0 e
 
--- ---- what stands in the stream
+-- ---- what is in the stream
 
--- an element of a path is told, and its tree is this
+-- an element of a path, and its tree
 record IsToldBy (path : List ℕ) (tree_read : Data) (t : Told) : Type 0 where
   tree : tree_read ≡ element_tree t
   good : is_path LONGEST_PATH path ≡ true → is_good t ≡ true

@@ -1,4 +1,4 @@
--- What is wanted, one after the other, is taken where it stands at the front.
+-- What is required, one after the other, is taken if it is at the front.
 use Rattle.std.proofs.Common.{◌≡◌, ℕ, ◌+◌, ◌<◌, ◌^◌, Bool, true, false, ◌&&◌, nat_le, List, [], ◌∷◌, ◌++◌, length, length-append, append_assoc, take, Some, ℤ, refl, sym, ap, ◌∙◌, arith, codes, decimal}
 use Rattle.std.proofs.lemmas.Bool.{le-leb, and_from}
 use Rattle.vms_kinds.specs.declared.Kind.{Kind}
@@ -74,7 +74,7 @@ pub behind_both : (xs ys : List (List ℕ)) (f : Found) → behind xs (behind ys
 behind_both xs ys (Lines more) = ap Lines (sym (append_assoc xs ys more))
 behind_both xs ys (Differs place) = refl
 
--- what is wanted takes these bytes, with these lines, and whatever is wanted then is looked for behind them
+-- what is required takes these bytes, with these lines, and what is required next is looked for after them
 pub record Follows (ws : List Want) (id : ℕ) (bytes : List ℕ) (next : ℕ) (lines : List (List ℕ)) : Type 0 where
   pub goes : (more : List Want) (place : ℕ) (rest : List ℕ) → found (ws ++ more) id place (bytes ++ rest) ≡ behind lines (found more next (place + length bytes) rest)
 

@@ -1,4 +1,4 @@
--- What the description of a well-formed set tells is of the shape.
+-- The description of a well-formed set has the right shape.
 use Rattle.std.proofs.Common.{◌≡◌, ℕ, zero, suc, ◌+◌, ◌<◌, ◌≤◌, Bool, true, ◌&&◌, ◌||◌, List, [], ◌∷◌, length, get_or, is_some, is_none, Option, Some, None, ℤ, refl, ap, arith}
 use Rattle.std.specs.List.{list_all}
 use Rattle.std.proofs.lemmas.Bool.{lt-ltb, and_from}
@@ -21,7 +21,7 @@ use Rattle.vms_analyze.specs.Telling.{told_part, told_sub_of, told_subs, told_de
 use Rattle.vms_analyze.proofs.Letters.{IsNamed, named_path, named_within, name_named, sub_named}
 use Rattle.vms_analyze.proofs.Shapes.{all_kept, part_good, part_few}
 
--- ---- what is told is of the shape
+-- ---- what is described has the shape
 
 abbrev no_device : Device
 no_device = record { instance = 0; desc = no_desc; subs = [] }
@@ -40,7 +40,7 @@ device_few sizes [] i lt = absurd (omega arith)
 device_few sizes (d ∷ devices) zero lt = omega arith
 device_few sizes (d ∷ devices) (suc i) lt = let h = device_few sizes devices i (omega arith) in omega arith
 
--- what a description of the set tells
+-- what a description of the set says
 pub record IsGoodPart (set : Set) (most : ℕ) (d : Desc) : Type 0 where
   pub name : IsNamed most d.name
   pub version : fits_four d.version ≡ true

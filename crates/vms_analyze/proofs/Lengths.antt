@@ -1,4 +1,4 @@
--- How many bytes are as wanted: no more than the description allows.
+-- How many bytes are as required: no more than the description allows.
 use Rattle.std.proofs.Common.{◌≡◌, ℕ, ◌+◌, ◌*◌, ◌≤◌, Bool, true, false, ◌&&◌, ◌||◌, ◌==◌, nat_le, if◌then◌else◌, List, [], ◌∷◌, ◌++◌, length, length-append, length-drop, get_or, map, drop, Option, Some, None, ℤ, refl, sym, ap, arith}
 use Rattle.std.proofs.lemmas.Bool.{and_parts, leb-true, eqb-true}
 use Rattle.std.specs.List.{flat_map, list_all}
@@ -71,7 +71,7 @@ taken_long (Line line) id rest u e = omega (arith, some_long (took 0 id (line �
 abbrev IsBound : List Want → Type 0
 IsBound ws = (id place : ℕ) (rest : List ℕ) (lines : List (List ℕ)) → found ws id place rest ≡ Lines lines → length rest ≤ total ws
 
--- what is as wanted throughout is no longer than that
+-- what is as required throughout is no longer than that
 pub found_long : (ws : List Want) (id place : ℕ) (rest : List ℕ) (lines : List (List ℕ)) → found ws id place rest ≡ Lines lines → length rest ≤ total ws
 found_long [] id place [] lines e = omega arith
 found_long [] id place (b ∷ rest) lines e = cc

@@ -11,7 +11,7 @@ use Rattle.vms_elements.specs.Elements.{index_text}
 use Rattle.vms_analyze.specs.Told.{is_path_byte, is_path}
 use Rattle.vms_selfdesc.proofs.Plain.{sub_name_is}
 
--- of 1 to so many bytes, all of them letters of paths
+-- of 1 to n bytes, all of them letters of paths
 pub record IsNamed (most : ℕ) (text : List ℕ) : Type 0 where
   pub some : 1 ≤ length text
   pub few : length text ≤ most

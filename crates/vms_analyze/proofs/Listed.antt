@@ -51,7 +51,7 @@ why_none ws old new stream stops.NoMemory s h = tt
 
 -- ---- what an input lists
 
--- the text behind a place
+-- the text after a place
 pub text_behind : (input : List ℕ) (k : ℕ) → take (length input - k) (drop k input) ≡ drop k input
 text_behind input k = take_all (length input - k) (drop k input) (omega (arith, length-drop k input))
 

@@ -1,4 +1,4 @@
--- How long things are at most.
+-- Greatest lengths.
 use Rattle.std.proofs.Common.{refl}
 use Rattle.vms_analyze.specs.Laws.{LongestLaw}
 

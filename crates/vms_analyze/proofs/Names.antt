@@ -1,4 +1,4 @@
--- Each element of a part of a well-formed set has a path of the right bytes, and what it is may be told.
+-- Each element of a part of a well-formed set has a path of the right bytes, and may be described.
 use Rattle.std.proofs.Common.{◌≡◌, ℕ, zero, suc, ◌+◌, ◌≤◌, Bool, true, ◌&&◌, nat_lt, nat_le, List, [], ◌∷◌, ◌++◌, length, length-append, get_or, map, ℤ, refl, arith}
 use Rattle.std.specs.List.{list_all}
 use Rattle.vms_kinds.specs.declared.Item.{Item}
@@ -15,7 +15,7 @@ use Rattle.vms_elements.proofs.Members.{Each, each_append, each_map}
 use Rattle.vms_analyze.specs.Told.{is_path_byte}
 use Rattle.vms_analyze.proofs.Letters.{name_named, every_both, index_bytes}
 
--- ---- what is asked
+-- ---- what is required
 
 abbrev pub IsGoodWhat : What → Type 0
 IsGoodWhat (Number cell) = in_range cell.kind cell.default ≡ true

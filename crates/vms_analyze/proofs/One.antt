@@ -1,4 +1,4 @@
--- An input has one listing at most.
+-- An input has at most one listing.
 use Rattle.std.proofs.Common.{◌≡◌, ℕ, Bool, true, false, nat_lt, List, [], ◌∷◌, map, take, Some, None, ℤ, pos, negsuc, refl, sym, ap, ap₂, ◌∙◌, subst, arith, codes}
 use Rattle.std.proofs.lemmas.Bool.{ltb-true, ltb-false}
 use Rattle.serde_json.specs.Data.{Data, number, string, boolean, array, object, Members, no_members, member}
@@ -16,7 +16,7 @@ use Rattle.vms_analyze.specs.Laws.{OneLaw}
 use Rattle.vms_analyze.proofs.ReadBack.{map_twice}
 use Rattle.vms_words.proofs.WordLaws.{word_named}
 
--- ---- one tree is told by one list of devices
+-- ---- one tree has one list of devices
 
 some_same : {A : Type 0} (x y : A) → Some x ≡ Some y → x ≡ y
 some_same x y e = cc

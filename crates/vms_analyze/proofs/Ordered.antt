@@ -1,4 +1,4 @@
--- An object whose keys come in order and are just these has them one after the other.
+-- An object whose keys are in order and are exactly these has them one after the other.
 use Rattle.std.proofs.Common.{Ordering, Less, Equal, Greater, ◌≡◌, ℕ, Bool, true, false, ◌&&◌, ◌||◌, List, [], ◌∷◌, ◌++◌, append-nil, is_some, unwrap_or, Option, Some, None, refl, sym, ap, ap₂, ◌∙◌, subst}
 use Rattle.std.proofs.lemmas.Bool.{and_parts}
 use Rattle.std.proofs.lemmas.Cmp.{nat_list_cmp_total}
@@ -45,7 +45,7 @@ put_ordered k d (member m e ms) h = go (slice_cmp nat_cmp k m) refl (put_ordered
     go Equal is more = h
     go Greater is more = (put_before m k d ms (less_turned k m is) h.0, more)
 
--- ---- just these keys
+-- ---- exactly these keys
 
 other_key : (k l : List ℕ) → IsLess k l → bytes_eq k l ≡ false
 other_key k l e = sym (is_eq-slice_cmp k l) ∙ ap is_eq e
@@ -53,7 +53,7 @@ other_key k l e = sym (is_eq-slice_cmp k l) ∙ ap is_eq e
 other_back : (k l : List ℕ) → IsLess l k → bytes_eq k l ≡ false
 other_back k l e = sym (is_eq-slice_cmp k l) ∙ ap is_eq (greater_turned k l e)
 
--- a key before all of these isn't one of them, and nothing stands under it
+-- a key before all of these isn't one of them, and has no value
 none_of : (l : List ℕ) (keys : List (List ℕ)) → IsBefore l keys → is_one_of keys l ≡ false
 none_of l [] h = refl
 none_of l (k ∷ keys) h = ap (λ (b : Bool). b || is_one_of keys l) (other_back k l h.0) ∙ none_of l keys h.1
@@ -62,7 +62,7 @@ none_under : (k : List ℕ) (ms : Members) → IsBefore k (keys_of ms) → get_m
 none_under k no_members h = refl
 none_under k (member l e ms) h = ap (λ (o : Ordering). match_ordering o (get_member k ms) (Some e) (get_member k ms)) h.0 ∙ none_under k ms h.1
 
--- without the first key, where no other is it
+-- without the first key, if no other is it
 others_left : (k : List ℕ) (keys : List (List ℕ)) (ms : Members) → IsBefore k (keys_of ms) → has_no_others (k ∷ keys) ms ≡ true → has_no_others keys ms ≡ true
 others_left k keys no_members h e = refl
 others_left k keys (member l d ms) h e =
@@ -109,7 +109,7 @@ just_keys (k ∷ keys) (member l d ms) h g e f = go (slice_cmp nat_cmp k l) refl
         let left : has_no_others keys ms ≡ true = others_left k keys ms (subst (λ (m : List ℕ). IsBefore m (keys_of ms)) (sym same) g.0) p.1 in
         ap (λ (m : List ℕ). m ∷ keys_of ms) (sym same) ∙ ap (λ (ks : List (List ℕ)). k ∷ ks) (more left (all_left l d ms keys first q.1))
 
--- ---- what stands under them
+-- ---- their values
 
 -- the members of these keys, one after the other
 abbrev pub picked : List (List ℕ) → Data → Members
@@ -145,7 +145,7 @@ all_picked (member l d ms) h =
 not_listed : {C : Type 0} → false ≡ true → C
 not_listed e = cc
 
--- an object of just these keys
+-- an object of exactly these keys
 pub is_picked : (keys : List (List ℕ)) → AreOrdered keys → (d : Data) → IsSorted d → fits keys [] d ≡ true → d ≡ object (picked keys d)
 is_picked keys h null sorted e = not_listed e
 is_picked keys h (boolean b) sorted e = not_listed e

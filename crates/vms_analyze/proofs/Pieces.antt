@@ -17,7 +17,7 @@ piece_ends {was = was} p a e le =
       end = a.end e;
     }
 
--- where more is left
+-- if there is more
 pub piece_grows : {mid new : Intake} {was now : List ℕ} {room : ℕ} {done : Bool} → Appended mid new was now room done → done ≡ false → length now ≡ length was + room
 piece_grows {was = was} a e = ap length a.items ∙ length-append was a.bytes ∙ ap (λ (n : ℕ). length was + n) (a.all e)
 

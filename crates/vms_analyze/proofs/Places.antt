@@ -1,4 +1,4 @@
--- The description of a stream stands at the last place that there is.
+-- The description of a stream is at the last possible offset.
 use Rattle.std.proofs.Common.{◌≡◌, ℕ, zero, suc, ◌+◌, ◌*◌, ◌<◌, ◌^◌, ◌/◌, ◌-◌, List, [], ◌∷◌, ◌++◌, length, length-append, get_or, drop, sym, ap, ◌∙◌, arith}
 use Rattle.std.proofs.lemmas.List.{get_or-append-add, drop-drop}
 use Rattle.std.proofs.Math.Seq.{drop-append_seam}
@@ -14,11 +14,11 @@ use Rattle.vms_analyze.specs.Listing.{IsPlace, IsLastPlace}
 pub record HasNoMark (text : List ℕ) : Type 0 where
   pub none : (i : ℕ) → get_or text i 0 ≡ 6 → ⊥
 
--- behind a front
+-- after a front
 behind_front : (front tail : List ℕ) (i : ℕ) → number_at 4 (length front + i) (front ++ tail) ≡ number_at 4 i tail
 behind_front front tail i = ap (big_number 4) (sym (drop-drop i (length front) (front ++ tail)) ∙ ap (drop i) (drop-append_seam front tail))
 
--- four bytes of a length, and the text's first four, are no length of what is left
+-- four bytes of a length, and the text's first four, are no length of the rest
 record FitsNone (a b c d k : ℕ) : Type 0 where
   first : a ≡ 6 → ⊥
   second : b ≡ 6 → 1 + (c * 16777216 + (d * 65536 + 31522)) ≡ k → ⊥
@@ -33,7 +33,7 @@ fits_none a b c d k p q r s e lt = record {
   fourth = λ f g. omega arith;
 }
 
--- a text of fewer than 16,777,216 bytes that begins with `{"de`, behind the mark and its length
+-- a text of fewer than 16,777,216 bytes that begins with `{"de`, after the mark and its length
 module _ (front more : List ℕ) where
   abbrev text : List ℕ
   text = 0x7b ∷ 0x22 ∷ 0x64 ∷ 0x65 ∷ more

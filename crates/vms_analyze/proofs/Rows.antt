@@ -33,7 +33,7 @@ smallest mark =
 abbrev says_timer : List ToldDevice
 says_timer = record { name = codes "timer"; instance = 0; version = 1; elements = Sent (codes "now") U64 ∷ []; subs = [] } ∷ []
 
--- its description tells of one number
+-- its description has one number
 reads_the_description : value_in (codes "{\"devices\":[{\"fields\":[{\"name\":\"now\",\"size\":8,\"type\":\"u64\"}],\"instance_id\":0,\"name\":\"timer\",\"subsections\":[],\"version\":1}]}")
     ≡ Some (told_tree says_timer)
 unfolding serde_json_on_literals is_utf8 chars
@@ -50,7 +50,7 @@ refuses_another_footer : found (wants says_timer) 0 0 (smallest 0x7f) ≡ Differ
 unfolding digits code
 refuses_another_footer = refl
 
--- where the end mark isn't the last byte
+-- the end mark isn't the last byte
 refuses_more_bytes : found (wants says_timer) 0 0 (smallest 0x7e ++ 0 ∷ []) ≡ Differs 41
 unfolding digits code
 refuses_more_bytes = refl

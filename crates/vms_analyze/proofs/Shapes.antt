@@ -1,4 +1,4 @@
--- What the description of a well-formed set tells is of the shape: the elements of one part.
+-- The description of a well-formed set has the right shape: the elements of one part.
 use Rattle.std.proofs.Common.{◌≡◌, ℕ, suc, ◌+◌, ◌*◌, ◌<◌, ◌≤◌, Bool, true, false, cond, ◌&&◌, ◌||◌, ◌==◌, nat_lt, nat_le, List, [], ◌∷◌, ◌++◌, length, length-append, get_or, map, ℤ, refl, sym, ap, subst, arith, codes}
 use Rattle.std.specs.List.{list_all}
 use Rattle.std.proofs.lemmas.Bool.{and_parts, ltb-true, ltb-false, and_from}
@@ -71,7 +71,7 @@ path_short (Kept path kind z) le = omega (arith, name_longer path (sized 0 (kind
 path_short (Fixed path n) le = omega (arith, name_longer path (sized n (codes "equal") no_members), le)
 path_short (Skipped path n) le = omega (arith, name_longer path (sized n (codes "unused") no_members), le)
 
--- ---- what is told of an element
+-- ---- what is described of an element
 
 abbrev IsOfShape : Told → Type 0
 IsOfShape (Sent path kind) = Unit {0}
@@ -130,7 +130,7 @@ all_good : (ts : List Told) → AreFine ts → AreLong 299 (map told_entry ts) �
 all_good [] fine long = refl
 all_good (t ∷ ts) fine long = and_from (is_good t) (list_all is_good ts) (one_good t fine.0 (path_short t long.0)) (all_good ts fine.1 long.1)
 
--- of a part that isn't sent no element stands in the stream
+-- of a part that isn't sent no element is in the stream
 kept_append : (xs ys : List Told) → list_all is_kept xs ≡ true → list_all is_kept ys ≡ true → list_all is_kept (xs ++ ys) ≡ true
 kept_append [] ys e f = f
 kept_append (x ∷ xs) ys e f =

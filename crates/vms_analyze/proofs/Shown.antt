@@ -49,7 +49,7 @@ module _ (set : Set) (well : WellFormed set) (heads : FitsHeads set) (images : L
   short : length text < 16777216
   short = short_holds.short set well heads images
 
-  -- it is read back, as what it tells
+  -- it is read back as what it says
   pub text_read : read text ≡ Some (told_tree (told set images))
   text_read =
       let same = tree_same set images in
@@ -57,7 +57,7 @@ module _ (set : Set) (well : WellFormed set) (heads : FitsHeads set) (images : L
       let flat = (described_plain set images).flat in
       reads_whole (described_tree set images) text refl sound (omega arith) ∙ ap Some (sym same)
 
-  -- it stands at the last place behind a front
+  -- it is at the last place after a front
   placed : (before : List ℕ) → IsLastPlace (before ++ trailer text) (length before)
   placed before =
       let e = begins set images in

@@ -1,4 +1,4 @@
--- What is written of ready images is found as it is told.
+-- What is written for ready images is found as described.
 use Rattle.std.proofs.Common.{◌≡◌, ℕ, ◌+◌, ◌<◌, ◌^◌, Bool, true, false, ◌&&◌, ◌==◌, nat_le, if◌then◌else◌, List, [], ◌∷◌, ◌++◌, length, append_assoc, append-nil, get_or, Option, Some, None, refl, ap, ◌∙◌, arith, codes}
 use Rattle.std.proofs.lemmas.Bool.{le-leb, and_parts, and_from}
 use Rattle.std.specs.List.{flat_map, list_all}
@@ -53,7 +53,7 @@ machine_good set well name h =
     let few = machine_short set well name h in
     and_from (nat_le (length name) LONGEST_NAME) (list_all is_name_byte name) (le-leb (length name) LONGEST_NAME (omega arith)) (machine_plain set well name h)
 
--- without a machine none is taken, since a section or the end mark stands there
+-- without a machine none is taken, since a section or the end mark is there
 pub no_machine : (id : ℕ) (rest : List ℕ) → (get_or rest 0 0 == 7) ≡ false → taken Machine id rest ≡ Some (took 0 id [])
 no_machine id rest e = ap (λ (b : Bool). if b then take_machine id rest (bytes_at (number_at 4 1 rest) 5 rest) else Some (took 0 id [])) e
 
@@ -62,7 +62,7 @@ section_first set id [] images = refl
 section_first set id (d ∷ devices) [] = refl
 section_first set id (d ∷ devices) (image ∷ images) = refl
 
--- what stands behind the stream head
+-- what comes after the stream head
 module _ (set : Set) (well : WellFormed set) (images : List Image) (us : List Want) (sections : List ℕ) (f : Found) where
   machine_found : (machine : Option (List ℕ)) → IsMachineOf set machine → (get_or sections 0 0 == 7) ≡ false → ((place : ℕ) → found us 0 place sections ≡ f)
       → (place : ℕ) → found (Machine ∷ us) 0 place (optional configuration machine ++ sections) ≡ behind (machine_lines machine) f

@@ -20,7 +20,7 @@ use Rattle.vms_analyze.proofs.Streams.{takes_machine, no_machine}
 use Rattle.vms_analyze.proofs.Walks.{printed_goes}
 use Rattle.vms_words.proofs.Lines.{begun}
 
--- ---- what stands at the front
+-- ---- what is at the front
 
 no : {C : Type 0} → true ≡ false → C
 no e = cc
@@ -35,7 +35,7 @@ begins_short front rest lt = go (begins_with front rest) refl
     go true e = let long = begins_long front rest e in absurd (omega (arith, long, lt))
     go false e = e
 
--- what is left behind it
+-- the rest after it
 behind_front : (front : List ℕ) (old mid : Walk) → begins_with front (left old) ≡ true → mid.place ≡ old.place + length front → mid.input.now ≡ old.input.now → left old ≡ front ++ left mid
 behind_front front old mid e place input =
     begun front (left old) e
@@ -156,7 +156,7 @@ is_cut rest lt = no_machine_if rest (λ n. omega (arith, lt, n.long))
 pub no_name : (rest : List ℕ) → list_all is_name_byte (bytes_at (number_at 4 1 rest) 5 rest) ≡ false → HasNoMachine rest
 no_name rest e = no_machine_if rest (λ n. no (sym n.plain ∙ e))
 
--- the name that stands there
+-- the name that is there
 pub name_there : (w : Walk) (n : ℕ) → n ≡ number_at 4 1 (left w) → take n (take (length w.input.now - (w.place + 5)) (drop (w.place + 5) w.input.now)) ≡ bytes_at (number_at 4 1 (left w)) 5 (left w)
 name_there w n is =
     ap (take n) (take_all (length w.input.now - (w.place + 5)) (drop (w.place + 5) w.input.now) (omega (arith, length-drop (w.place + 5) w.input.now)) ∙ sym (drop-drop 5 w.place w.input.now))

@@ -50,7 +50,7 @@ pub all_good : {X : Type 0} (xs : List X) → list_all (λ _. true) xs ≡ true
 all_good [] = refl
 all_good (x ∷ xs) = all_good xs
 
--- ---- what is wanted
+-- ---- what is required
 
 elements_are : (es : List Element) → element_wants es ≡ map element_want (map told_of es)
 elements_are es = flat_map_single (λ e. element_want (told_of e)) es ∙ twice es

@@ -31,7 +31,7 @@ goes w old new bytes lines t m = record {
   input = m.input;
 }
 
--- a piece of an input, and what is left behind it
+-- a piece of an input, and the rest after it
 pub split : (input piece : List ℕ) (place n : ℕ) → piece ≡ take n (drop place input) → drop place input ≡ piece ++ drop (place + n) input
 split input piece place n e =
     sym (take-append-drop n (drop place input)) ∙ ap (λ (l : List ℕ). l ++ drop n (drop place input)) (sym e) ∙ ap (λ (l : List ℕ). piece ++ l) (drop-drop n place input)
@@ -77,7 +77,7 @@ goes_then ws vs a b c g h = record {
   input = h.input ∙ g.input;
 }
 
--- a walk that stops, before more is wanted, and after what is taken
+-- a walk that stops, before more is required, and after what is taken
 pub stops_before : (ws vs : List Want) (a c : Walk) → Stops ws a c → Stops (ws ++ vs) a c
 stops_before ws vs a c s = record { differs = λ more. ap (λ (l : List Want). found l a.id a.place (left a)) (append_assoc ws vs more) ∙ s.differs (vs ++ more) }
 

@@ -1,4 +1,4 @@
--- What the calls answer, beside the listing.
+-- What the calls return, beside the listing.
 use Rattle.std.specs.Prelude.{◌≡◌, ℕ, ◌+◌, ◌≤◌, List, length, Result, Ok, Err, Vec}
 use Rattle.std.specs.Global.{Global}
 use Rattle.std.specs.Io.KnownBytes.{IsAtEnd}
@@ -12,38 +12,38 @@ use Rattle.vms_analyze.specs.Listing.{Listing, Text, Refused, Lists, longest_inp
 
 -- ---- of bytes
 
--- this listing is answered; memory may be wanting
+-- The result is this listing, unless memory runs out.
 abbrev pub ShowsAs : Listing → Result (Vec ℕ Global) AnalyzeFault → Type 0
 ShowsAs listing (Ok text) = listing ≡ Text text.items
 ShowsAs listing (Err (faults.Refused at reason)) = listing ≡ Refused at reason
 ShowsAs listing (Err faults.NoMemory) = Unit {0}
 ShowsAs listing (Err fault) = ⊥
 
--- the listing of these bytes is answered; memory may be wanting
+-- The result is the listing of these bytes, unless memory runs out.
 abbrev pub ListsAs : List ℕ → Result (Vec ℕ Global) AnalyzeFault → Type 0
 ListsAs input (Ok text) = Lists input (Text text.items)
 ListsAs input (Err (faults.Refused at reason)) = Lists input (Refused at reason)
 ListsAs input (Err faults.NoMemory) = Unit {0}
 ListsAs input (Err fault) = ⊥
 
--- ---- of what a source has left
+-- ---- of the rest of a source
 
--- all that was left was taken, and has this listing
+-- The rest of the source was taken, and has this listing.
 pub record IsListed (old new : Intake) (listing : Listing) : Type 0 where
   pub reads : Reads Last old new (λ n. n ≤ longest_input) (λ input more. Lists input listing)
   pub end : IsAtEnd new.left
 
--- so many bytes were taken that the input has this listing, whatever follows them
+-- The bytes taken are so many that the input has this listing, whatever follows them.
 pub record IsTooMuch (old new : Intake) (listing : Listing) : Type 0 where
   pub reads : Reads On old new (λ n. n ≡ longest_input + 1) (λ input more. Lists input listing)
 
--- some bytes were taken, and no more than that
+-- Some bytes were taken, at most one more than the longest input.
 pub record TakesFew (old new : Intake) : Type 0 where
   pub bytes : List ℕ
   pub takes : Takes old new bytes
   pub few : length bytes ≤ longest_input + 1
 
--- the text of the listing is answered, or its reason and place; or a read failed, or memory is wanting
+-- The result is the text of the listing, or its reason and offset; or a read failed, or memory ran out.
 abbrev pub ListsTaken : Intake → Intake → Result (Vec ℕ Global) AnalyzeFault → Type 0
 ListsTaken old new (Ok text) = IsListed old new (Text text.items)
 ListsTaken old new (Err (faults.Refused at reasons.TooLong)) = IsTooMuch old new (Refused at reasons.TooLong)
@@ -54,15 +54,17 @@ ListsTaken old new (Err faults.NoMemory) = TakesFew old new
 
 -- ---- over a source and a sink
 
--- a text that the input lists was written, or a beginning of it before a write that failed; else nothing was
+-- The text that the input lists was written, or a beginning of it before a write that failed.
 pub record WritesListed (old new : Intake) (Writes : List ℕ → Type 0) : Type 0 where
   pub text : List ℕ
   pub listed : IsListed old new (Text text)
   pub written : Writes text
 
+-- The listing fails, and nothing was written.
 abbrev pub Refuses : Intake → Intake → Outlet → Outlet → AnalyzeFault → Type 0
 Refuses old new out out' fault = ListsTaken old new (Err fault) × (out' ≡ out)
 
+-- What `analyze` does with its source and sink.
 abbrev pub Analyzes : Intake → Intake → Outlet → Outlet → Result (Unit {0}) AnalyzeFault → Type 0
 Analyzes old new out out' (Ok x) = WritesListed old new (λ text. Puts out out' text)
 Analyzes old new out out' (Err (faults.Refused at reason)) = Refuses old new out out' (faults.Refused at reason)

@@ -1,4 +1,4 @@
--- What is read of a source: all that is left, at most the longest input, and one byte more where there is more.
+-- What is read of a source: the rest of it, at most the longest input, and one more byte if there are more.
 use Rattle.std.specs.Prelude.{◌≡◌, ℕ, ◌+◌, ◌<◌, ◌≤◌, Bool, true, false, List, ◌++◌, length, Result, Ok, Err, Vec}
 use Rattle.std.specs.Global.{Global}
 use Rattle.std.specs.Io.KnownBytes.{IsAtEnd}
@@ -9,19 +9,19 @@ use Rattle.vms_analyze.specs.Calls.{TakesFew}
 use Rattle.vms_analyze.specs.declared.input.NoInput.{NoInput}
 use Rattle.vms_analyze.specs.declared.input.NoInput.TheVariants as none
 
--- these are all bytes that were left
+-- These are all bytes of the rest.
 pub record IsWhole (old new : Intake) (input : List ℕ) : Type 0 where
   pub few : length input ≤ longest_input
   pub takes : Takes old new input
   pub end : IsAtEnd new.left
 
--- there are more bytes than that
+-- There are more bytes than the longest input.
 pub record HasMore (old new : Intake) : Type 0 where
   pub front : List ℕ
   pub long : length front ≡ longest_input + 1
   pub takes : Takes old new front
 
--- these bytes were taken and appended to what is there: fewer than there is room for at the end, and else as many
+-- These bytes were taken and appended to `was`: `room` of them, or fewer at the end.
 pub record Appended (old new : Intake) (was now : List ℕ) (room : ℕ) (done : Bool) : Type 0 where
   pub bytes : List ℕ
   pub takes : Takes old new bytes
@@ -31,18 +31,20 @@ pub record Appended (old new : Intake) (was now : List ℕ) (room : ℕ) (done :
   pub short : done ≡ true → length bytes < room
   pub end : done ≡ true → IsAtEnd new.left
 
--- some bytes were taken, and no more than that
+-- Some bytes were taken, at most `room`.
 pub record TakesSome (old new : Intake) (room : ℕ) : Type 0 where
   pub bytes : List ℕ
   pub takes : Takes old new bytes
   pub few : length bytes ≤ room
 
+-- What reading a piece does.
 abbrev pub TakesPiece : Intake → Intake → List ℕ → List ℕ → ℕ → Result Bool NoInput → Type 0
 TakesPiece old new was now room (Ok done) = Appended old new was now room done
 TakesPiece old new was now room (Err none.TooLong) = ⊥
 TakesPiece old new was now room (Err none.ReadFault) = Breaks old new room
 TakesPiece old new was now room (Err none.NoMemory) = TakesSome old new room
 
+-- What reading the whole input does.
 abbrev pub TakesInput : Intake → Intake → Result (Vec ℕ Global) NoInput → Type 0
 TakesInput old new (Ok input) = IsWhole old new input.items
 TakesInput old new (Err none.TooLong) = HasMore old new

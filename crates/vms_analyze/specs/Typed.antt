@@ -1,4 +1,4 @@
--- What the typed devices tell, and what the code answers of a value.
+-- What the code's devices say, and what the code returns for a value.
 use Rattle.std.specs.Prelude.{◌≡◌, List, [], ◌∷◌, map, Option, Some, None, Result, Ok, Err}
 use Rattle.std.specs.List.{flat_map}
 use Rattle.vms_analyze.specs.Told.{Told, Sent, Kept, Fixed, Skipped, ToldSub, ToldDevice}
@@ -10,15 +10,18 @@ use Rattle.vms_analyze.specs.declared.told.Device.{Device}
 use Rattle.vms_analyze.specs.declared.members.Unread.{Unread}
 use Rattle.vms_analyze.specs.declared.members.Unread.TheVariants as unread
 
+-- What an element says.
 abbrev pub told_of : Element → Told
 told_of (typed.Sent path kind) = Sent path.now kind
 told_of (typed.Kept path kind z) = Kept path.now kind z
 told_of (typed.Fixed path n) = Fixed path.now n
 told_of (typed.Skipped path n) = Skipped path.now n
 
+-- What a subsection says.
 abbrev pub sub_of : Sub → ToldSub
 sub_of s = record { name = s.name.now; sent = s.sent; version = s.version; elements = map told_of s.elements.items }
 
+-- What a device says.
 abbrev pub device_of : Device → ToldDevice
 device_of d = record {
   name = d.name.now;
@@ -28,29 +31,36 @@ device_of d = record {
   subs = map sub_of d.subs.items;
 }
 
--- ---- what is wanted of them
+-- ---- what they require
 
+-- What an element requires of the stream.
 abbrev pub want_of : Element → List Want
 want_of e = element_want (told_of e) ∷ []
 
+-- What a subsection requires.
 abbrev pub wants_of_sub : Sub → List Want
 wants_of_sub s = sub_wants (sub_of s)
 
+-- What a device requires.
 abbrev pub wants_of_device : Device → List Want
 wants_of_device d = device_wants (device_of d)
 
+-- What elements require.
 abbrev pub element_wants : List Element → List Want
 element_wants es = flat_map want_of es
 
+-- What subsections require.
 abbrev pub subs_wants : List Sub → List Want
 subs_wants ss = flat_map wants_of_sub ss
 
+-- What devices require.
 abbrev pub devices_wants : List Device → List Want
 devices_wants ds = flat_map wants_of_device ds
 
 -- ---- what is read of a value
 
--- this is read, where m says what the code's value means; or nothing; memory may be wanting in any case
+-- This is read, where `m` says what the code's value means; or nothing, if the shape is another. Memory may
+-- run out in any case.
 abbrev pub ReadsAs : {A T : Type 0} → (T → A) → Option A → Result T Unread → Type 0
 ReadsAs m said (Ok t) = said ≡ Some (m t)
 ReadsAs m said (Err unread.Shape) = said ≡ None

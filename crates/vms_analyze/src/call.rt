@@ -8,9 +8,18 @@ use crate::list::list;
 use std::alloc::Global;
 use vms_io::{Sink, Source, write_all_of};
 
-/// Lists the stream of a source by its own description: appends the values text, or tells why there is none. The source is
-/// taken whole, or 100,000,001 bytes of it where it has more than 100,000,000. Whatever is answered but `Ok` and
-/// `WriteFault`, nothing is written; after `WriteFault` a beginning of the text is.
+/// Reads a stream from `source` and writes its values text to `sink`, by the stream's own
+/// description.
+///
+/// The source is read to its end, or 100,000,001 bytes of it if it has more than 100,000,000,
+/// unless a read fails or memory runs out.
+///
+/// # Errors
+///
+/// - [`AnalyzeFault::Refused`]: the input has no listing. Nothing has been written.
+/// - [`AnalyzeFault::ReadFault`]: the source failed. Nothing has been written.
+/// - [`AnalyzeFault::WriteFault`]: the sink failed. A beginning of the text has been written.
+/// - [`AnalyzeFault::NoMemory`]: out of memory. Nothing has been written.
 pub fn analyze<S: Source, K: Sink>(
     alloc: Global,
     source: &mut S,
@@ -26,7 +35,7 @@ pub fn analyze<S: Source, K: Sink>(
     }
 }
 
-// The text of what a source has left.
+// Returns the text for the rest of `source`.
 fn list_source<S: Source>(alloc: Global, source: &mut S) -> Result<Vec<u8>, AnalyzeFault>
     ensures { ListsTaken (intake S.Source source.old) (intake S.Source source.new) result }
 {

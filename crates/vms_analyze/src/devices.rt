@@ -1,4 +1,4 @@
-// The devices that a description tells.
+// The devices in a description.
 ghost use Rattle.std.specs.Prelude.{map};
 ghost use Rattle.vms_json.specs.Nodes.{view};
 ghost use Rattle.vms_analyze.specs.Read.{device_from, device_in, devices_in, sub_from, sub_in, subs_in};
@@ -13,7 +13,12 @@ use std::alloc::Global;
 use vms_json::{Node, fits};
 use vms_spec::LONGEST_NAME;
 
-/// The devices of a description.
+/// Returns the devices in a description.
+///
+/// # Errors
+///
+/// - [`Unread::Shape`]: the value has another shape.
+/// - [`Unread::NoMemory`]: out of memory.
 pub(crate) fn devices_in<'a>(alloc: Global, value: &Node<'_, 'a>) -> Result<Vec<Device<'a>>, Unread>
     ensures { ReadsAs (λ v. map device_of v.items) (devices_in (view value.now)) result }
 {
@@ -44,7 +49,7 @@ impl<'a> Reads<'a> for Device<'a> {
     }
 }
 
-// A device whose keys are there.
+// Reads a device whose keys are there.
 fn device_from<'a>(alloc: Global, value: &Node<'_, 'a>) -> Result<Device<'a>, Unread>
     ensures { ReadsAs device_of (device_from (view value.now)) result }
 {
@@ -84,7 +89,7 @@ impl<'a> Reads<'a> for Sub<'a> {
     }
 }
 
-// A subsection whose keys are there.
+// Reads a subsection whose keys are there.
 fn sub_from<'a>(alloc: Global, value: &Node<'_, 'a>) -> Result<Sub<'a>, Unread>
     ensures { ReadsAs sub_of (sub_from (view value.now)) result }
 {

@@ -1,4 +1,4 @@
-// Lists of what is told.
+// Lists of what is described.
 ghost use Rattle.std.specs.Prelude.{map, Option};
 ghost use Rattle.serde_json.specs.Data.{Data};
 ghost use Rattle.vms_json.specs.Nodes.{items_left, view};
@@ -9,22 +9,32 @@ use crate::members::Unread;
 use std::alloc::Global;
 use vms_json::{Items, Node};
 
-/// What is read of one value.
+/// What is read from a JSON value.
 pub(crate) trait Reads<'a>: Drop {
-    // As plain data.
+    // The value as plain data.
     ghost Meaning: { Type 0 };
 
     ghost means: { Self → Meaning };
 
-    // What a value tells, if it is of the shape.
+    // What a value says, if it has the shape.
     ghost says: { Data → Option Meaning };
 
-    /// What the value tells.
+    /// Returns what `value` says.
+    ///
+    /// # Errors
+    ///
+    /// - [`Unread::Shape`]: the value has another shape.
+    /// - [`Unread::NoMemory`]: out of memory.
     fn read(alloc: Global, value: &Node<'_, 'a>) -> Result<Self, Unread>
         ensures { ReadsAs means (says (view value.now)) result };
 }
 
-/// What all items tell.
+/// Returns what all items say.
+///
+/// # Errors
+///
+/// - [`Unread::Shape`]: an item has another shape.
+/// - [`Unread::NoMemory`]: out of memory.
 pub(crate) fn each<'a, T: Reads<'a>>(
     alloc: Global,
     mut items: Items<'_, 'a>,

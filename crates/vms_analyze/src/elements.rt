@@ -1,4 +1,4 @@
-// The elements that a description tells.
+// The elements in a description.
 ghost use Rattle.std.specs.Prelude.{◌≡◌, ◌||◌, ◌==◌, map, Some};
 ghost use Rattle.std.specs.List.{list_all};
 ghost use Rattle.vms_json.specs.Nodes.{view};
@@ -14,10 +14,15 @@ use vms_json::{Node, fits};
 use vms_spec::MOST_UNUSED;
 use vms_words::kind_named;
 
-/// A path has at most so many bytes.
+/// The most bytes of a path.
 const LONGEST_PATH: usize = 300;
 
-/// The elements of a device or a subsection.
+/// Returns the elements of a device or a subsection.
+///
+/// # Errors
+///
+/// - [`Unread::Shape`]: the value has another shape.
+/// - [`Unread::NoMemory`]: out of memory.
 pub(crate) fn elements_in<'a>(
     alloc: Global,
     value: &Node<'_, 'a>,
@@ -34,7 +39,7 @@ impl<'a> Reads<'a> for Element<'a> {
 
     ghost says = { element_in };
 
-    // By its keys.
+    // The keys decide which kind of element it is.
     fn read(_: Global, value: &Node<'_, 'a>) -> Result<Self, Unread> {
         if fits(value, &["name", "size", "type"], &[]) {
             sent_in(value)
@@ -46,7 +51,7 @@ impl<'a> Reads<'a> for Element<'a> {
     }
 }
 
-// What stands in the stream.
+// Reads an element that is in the stream.
 fn sent_in<'a>(value: &Node<'_, 'a>) -> Result<Element<'a>, Unread>
     ensures { ReadsAs told_of (sent_in (view value.now)) result }
 {
@@ -60,7 +65,7 @@ fn sent_in<'a>(value: &Node<'_, 'a>) -> Result<Element<'a>, Unread>
     }
 }
 
-// What stands there and isn't printed.
+// Reads an element that is in the stream and isn't printed.
 fn unprinted<'a>(path: &'a str, size: u64, word: &str) -> Result<Element<'a>, Unread>
     ensures { ReadsAs told_of (unprinted path.now size word.now) result }
 {
@@ -80,7 +85,7 @@ fn unprinted<'a>(path: &'a str, size: u64, word: &str) -> Result<Element<'a>, Un
     Err(Unread::Shape)
 }
 
-// A number that doesn't stand there.
+// Reads a number that isn't in the stream.
 fn kept_in<'a>(value: &Node<'_, 'a>) -> Result<Element<'a>, Unread>
     ensures { ReadsAs told_of (kept_in (view value.now)) result }
 {
@@ -94,7 +99,7 @@ fn kept_in<'a>(value: &Node<'_, 'a>) -> Result<Element<'a>, Unread>
     }
 }
 
-/// Whether none of the elements stands in the stream.
+/// Returns whether none of the elements is in the stream.
 pub(crate) fn are_kept(elements: &[Element]) -> bool
     ensures { result ≡ list_all is_kept (map told_of elements.now) }
 {

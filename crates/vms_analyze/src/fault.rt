@@ -4,23 +4,23 @@
 pub enum AnalyzeReason {
     /// It has more than 100,000,000 bytes.
     TooLong,
-    /// No description stands at its end.
+    /// There is no description at its end.
     NoDescription,
-    /// The description is no JSON value, or of another shape.
+    /// The description isn't a JSON value, or has another shape.
     Shape,
     /// The bytes before the description aren't as described.
     Mismatch,
 }
 
-/// Why an input isn't listed.
+/// Why a call of [`analyze`](crate::analyze) failed.
 #[derive(Clone, Copy, PartialEq, Eq, Debug)]
 pub enum AnalyzeFault {
-    /// It has no listing: the place in bytes, and why.
+    /// The input has no listing, because of `reason`, at offset `at`.
     Refused { at: u64, reason: AnalyzeReason },
     /// The source failed.
     ReadFault,
     /// The sink failed, after a beginning of the text.
     WriteFault,
-    /// Memory is wanting.
+    /// Out of memory.
     NoMemory,
 }

@@ -16,7 +16,11 @@ use vms_words::are_name_bytes;
 use vms_write::{configuration, section_head};
 
 impl<'a> Walk<'a> {
-    /// A configuration with the name of any machine, or nothing.
+    /// Reads a configuration with the name of any machine, if there is one.
+    ///
+    /// # Errors
+    ///
+    /// The [`Stop`]: the bytes differ, or memory runs out.
     pub(crate) fn machine(&mut self) -> Result<(), Stop>
         requires { IsInside self.old }
         ensures ok { OnOk result (Goes (Machine ∷ []) self.old self.new) }
@@ -36,7 +40,11 @@ impl<'a> Walk<'a> {
         self.print_machine(name)
     }
 
-    /// The head of a section with any id, which is open then.
+    /// Reads the head of a section with any id; the section is open then.
+    ///
+    /// # Errors
+    ///
+    /// The [`Stop`]: the bytes differ, or memory runs out.
     pub(crate) fn head(&mut self, name: &str, instance: u32, version: u32) -> Result<(), Stop>
         requires inside { IsInside self.old }
         requires short { length name.now ≤ LONGEST_NAME }
@@ -56,7 +64,11 @@ impl<'a> Walk<'a> {
         self.print_section(name, instance, version)
     }
 
-    /// The footer of the section that is open.
+    /// Reads the footer of the open section.
+    ///
+    /// # Errors
+    ///
+    /// The [`Stop`]: the bytes differ.
     pub(crate) fn foot(&mut self) -> Result<(), Stop>
         requires { IsInside self.old }
         ensures ok { OnOk result (Goes (TheFoot ∷ []) self.old self.new) }
@@ -66,7 +78,7 @@ impl<'a> Walk<'a> {
         self.bytes(&foot.bytes())
     }
 
-    // Whether what is left begins with these bytes.
+    // Returns whether the rest of the input begins with `bytes`.
     fn begins_with(&self, bytes: &[u8]) -> bool
         requires { IsInside self.now }
         ensures { result ≡ begins_with bytes.now (left self.now) }
@@ -83,7 +95,7 @@ impl<'a> Walk<'a> {
         !rest.is_empty() && rest[0] == Mark::Configuration.byte()
     }
 
-    // The number of four bytes behind the next byte.
+    // Returns the number of four bytes after the next byte.
     fn number_behind(&self) -> Option<u32>
         requires { IsInside self.now }
         ensures { MatchOption result (length (left self.now) < 5)
@@ -96,7 +108,7 @@ impl<'a> Walk<'a> {
         Some(BigEndian::read_u32(&rest[1..5]))
     }
 
-    // The name in a configuration, where it is that of a machine.
+    // Returns the name in a configuration, if a machine may have it.
     fn machine_name(&self) -> Option<&'a [u8]>
         requires { IsInside self.now }
         ensures { MatchOption result (HasNoMachine (left self.now))

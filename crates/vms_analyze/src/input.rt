@@ -1,4 +1,4 @@
-// The whole input.
+// Reads the whole input.
 ghost use Rattle.std.specs.Prelude.{◌≤◌, length};
 ghost use Rattle.vms_io.specs.Told.{intake};
 ghost use Rattle.vms_analyze.specs.declared.input.TheConstants.{PIECE};
@@ -7,10 +7,10 @@ ghost use Rattle.vms_analyze.specs.Inputs.{TakesInput, TakesPiece};
 use std::alloc::Global;
 use vms_io::{Source, read_exact_of};
 
-/// An input has at most so many bytes.
+/// The most bytes of an input.
 pub(crate) const LONGEST: usize = 100_000_000;
 
-// So many bytes are read at once.
+// The number of bytes that are read at once.
 const PIECE: usize = 16384;
 
 /// Why there is no input.
@@ -21,7 +21,11 @@ pub(crate) enum NoInput {
     NoMemory,
 }
 
-/// All bytes of a source. Of more than 100,000,000 bytes it takes 100,000,001.
+/// Returns all bytes of `source`. If there are more than 100,000,000, it reads 100,000,001.
+///
+/// # Errors
+///
+/// The [`NoInput`]: too many bytes, a failed read, or no memory.
 pub(crate) fn read_input<S: Source>(alloc: Global, source: &mut S) -> Result<Vec<u8>, NoInput>
     ensures { TakesInput (intake S.Source source.old) (intake S.Source source.new) result }
 {
@@ -40,7 +44,8 @@ pub(crate) fn read_input<S: Source>(alloc: Global, source: &mut S) -> Result<Vec
     Err(NoInput::TooLong)
 }
 
-// Appends so many bytes to the input, or all that are left where they are fewer, and answers whether they are.
+// Appends `room` bytes to `input`, or the rest of the input if that is shorter. Returns whether it
+// is.
 fn read_piece<S: Source>(source: &mut S, room: usize, input: &mut Vec<u8>) -> Result<bool, NoInput>
     requires { room ≤ PIECE }
     ensures { TakesPiece (intake S.Source source.old) (intake S.Source source.new)
@@ -50,7 +55,7 @@ fn read_piece<S: Source>(source: &mut S, room: usize, input: &mut Vec<u8>) -> Re
     fill_piece(source, &mut piece[..room], input)
 }
 
-// The same, over a piece of so many bytes.
+// Does the same with the buffer `piece`.
 fn fill_piece<S: Source>(
     source: &mut S,
     piece: &mut [u8],

@@ -1,32 +1,36 @@
-//! Laws of listings, each the contract of a function without a body. The statements stand in `specs/Laws.antt`.
+//! The laws of listings, each the contract of a function without a body. The statements are in
+//! `specs/Laws.antt`.
 ghost use Rattle.vms_analyze.specs.Laws.{LongestLaw, OneLaw, ReadBackLaw, ShownLaw, TotalLaw};
 
-/// An input has one listing at most.
+/// States that an input has at most one listing (`Lists`).
 #[tactic(auto, using(crate::proofs::One::one_holds))]
 pub fn one_law()
     ensures { OneLaw }
 {}
 
-/// Each input has a listing.
+/// States that each input has a listing (`Lists`).
 #[tactic(auto, using(crate::proofs::Total::total_holds))]
 pub fn total_law()
     ensures { TotalLaw }
 {}
 
-/// The self-description of images of a well-formed set, whatever they are, is read back as its tree.
+/// States that the self-description of any images of a well-formed set (`described_text`) is read
+/// back as its tree.
 #[tactic(auto, using(crate::proofs::Shown::read_back))]
 pub fn read_back_law()
     ensures { ReadBackLaw }
 {}
 
-/// What is written of ready images with their self-description, under any well-formed set and with a
-/// machine of it or none, lists the values text of that machine and these images.
+/// States that what is `written` for ready images with their self-description lists the values text
+/// of the machine and the images.
+///
+/// The set is well-formed; the machine is one of the set or none.
 #[tactic(auto, using(crate::proofs::Shown::shown_holds))]
 pub fn shown_law()
     ensures { ShownLaw }
 {}
 
-/// An input that is listed has at most 100,000,000 bytes, and a path 300.
+/// States that a listed input has at most 100,000,000 bytes, and a path 300.
 #[tactic(auto, using(crate::proofs::Longest::longest_are))]
 pub fn longest_law()
     ensures { LongestLaw }

@@ -1,4 +1,5 @@
-//! Listings of streams by their own descriptions: what `show` prints, without a set.
+//! Listings of streams by their own descriptions: what `show` prints, without a set
+//! (docs/format.md, "Without a set").
 #![tactic(auto)]
 
 mod call;

@@ -20,7 +20,12 @@ use std::alloc::Global;
 use vms_json::{NoNode, read_bytes};
 use vms_marks::DESCRIPTION_FRONT;
 
-/// The text of an input that has a listing, or why it has none.
+/// Returns the text of an input that has a listing, or why it has none.
+///
+/// # Errors
+///
+/// - [`AnalyzeFault::Refused`]: the input has no listing.
+/// - [`AnalyzeFault::NoMemory`]: out of memory.
 pub(crate) fn list(alloc: Global, input: &[u8]) -> Result<Vec<u8>, AnalyzeFault>
     requires { length input.now ≤ longest_input }
     ensures { ListsAs input.now result }
@@ -34,7 +39,7 @@ pub(crate) fn list(alloc: Global, input: &[u8]) -> Result<Vec<u8>, AnalyzeFault>
     }
 }
 
-// The same, where the description stands at this place.
+// Does the same for the description at `place`.
 fn list_at(alloc: Global, input: &[u8], place: usize) -> Result<Vec<u8>, AnalyzeFault>
     requires few { length input.now ≤ longest_input }
     requires last { IsLastPlace input.now place }
@@ -51,7 +56,8 @@ fn list_at(alloc: Global, input: &[u8], place: usize) -> Result<Vec<u8>, Analyze
     }
 }
 
-// The devices that a text describes. The tree of its values is given back before they are gone through.
+// Returns the devices that a text describes. The tree of its values is freed before the devices are
+// used.
 fn described<'a>(
     alloc: Global,
     text: &'a [u8],
@@ -66,7 +72,7 @@ fn described<'a>(
     }
 }
 
-// The lines of a stream that is as described.
+// Returns the lines of a stream that is as described.
 fn show(alloc: Global, stream: &[u8], devices: &[Device]) -> Result<Vec<u8>, AnalyzeFault>
     requires { list_all is_good_device (map device_of devices.now) ≡ true }
     ensures { ShowsAs (listing_of (found (wants (map device_of devices.now)) 0 0 stream.now))

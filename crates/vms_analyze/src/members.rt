@@ -1,4 +1,4 @@
-// The members of JSON objects.
+// The members of JSON objects. If there is no such member, the fault is [`Unread::Shape`].
 ghost use Rattle.std.specs.Prelude.{◌≡◌};
 ghost use Rattle.std.specs.List.{list_all};
 ghost use Rattle.serde_json.specs.Find.{as_bool};
@@ -16,9 +16,9 @@ use vms_words::is_name_byte;
 /// Why a value isn't read.
 #[derive(Clone, Copy, Drop)]
 pub(crate) enum Unread {
-    /// It is of another shape.
+    /// It has another shape.
     Shape,
-    /// Memory is wanting.
+    /// Out of memory.
     NoMemory,
 }
 
@@ -42,7 +42,7 @@ impl<T: Drop> From<AllocFailed<T>> for Unread {
     }
 }
 
-/// The text under a key.
+/// Returns the text under `key`.
 pub(crate) fn text_at<'a>(value: &Node<'_, 'a>, key: &str) -> Result<&'a str, Unread>
     ensures { ReadsAs (λ t. t.now) (text_at key.now (view value.now)) result }
 {
@@ -52,7 +52,7 @@ pub(crate) fn text_at<'a>(value: &Node<'_, 'a>, key: &str) -> Result<&'a str, Un
     }
 }
 
-/// The path or name under a key, of 1 to so many bytes.
+/// Returns the path or name under `key`, of 1 to `most` bytes.
 pub(crate) fn path_at<'a>(value: &Node<'_, 'a>, key: &str, most: usize) -> Result<&'a str, Unread>
     ensures { ReadsAs (λ t. t.now) (path_at most key.now (view value.now)) result }
 {
@@ -64,7 +64,7 @@ pub(crate) fn path_at<'a>(value: &Node<'_, 'a>, key: &str, most: usize) -> Resul
     }
 }
 
-/// The number without a sign under a key.
+/// Returns the number without a sign under `key`.
 pub(crate) fn natural_at(value: &Node, key: &str) -> Result<u64, Unread>
     ensures { ReadsAs (λ n. n) (natural_at key.now (view value.now)) result }
 {
@@ -74,7 +74,7 @@ pub(crate) fn natural_at(value: &Node, key: &str) -> Result<u64, Unread>
     }
 }
 
-/// The number of four bytes under a key.
+/// Returns the number of four bytes under `key`.
 pub(crate) fn four_at(value: &Node, key: &str) -> Result<u32, Unread>
     ensures { ReadsAs (λ n. n) (four_at key.now (view value.now)) result }
 {
@@ -86,7 +86,7 @@ pub(crate) fn four_at(value: &Node, key: &str) -> Result<u32, Unread>
     }
 }
 
-/// The whole number under a key.
+/// Returns the whole number under `key`.
 pub(crate) fn whole_at(value: &Node, key: &str) -> Result<i128, Unread>
     ensures { ReadsAs (λ z. z) (whole_at key.now (view value.now)) result }
 {
@@ -96,7 +96,7 @@ pub(crate) fn whole_at(value: &Node, key: &str) -> Result<i128, Unread>
     }
 }
 
-/// Whether the flag under a key is set.
+/// Returns whether the flag under `key` is set.
 pub(crate) fn flag_at(value: &Node, key: &str) -> Result<bool, Unread>
     ensures { ReadsAs (λ b. b) (flag_at key.now (view value.now)) result }
 {
@@ -106,7 +106,7 @@ pub(crate) fn flag_at(value: &Node, key: &str) -> Result<bool, Unread>
     }
 }
 
-/// The items of the list under a key.
+/// Returns the items of the list under `key`.
 pub(crate) fn list_at<'t, 'a>(value: &Node<'t, 'a>, key: &str) -> Result<Items<'t, 'a>, Unread>
     ensures { ReadsAs (λ v. items_left v) (list_at key.now (view value.now)) result }
 {
@@ -116,7 +116,7 @@ pub(crate) fn list_at<'t, 'a>(value: &Node<'t, 'a>, key: &str) -> Result<Items<'
     }
 }
 
-// A whole number: one without a sign, or one below 0.
+// Returns a whole number: one without a sign, or one below 0.
 fn whole_of(number: &Number) -> Option<i128>
     ensures { result ≡ whole_of (number_view number.now) }
 {
@@ -129,7 +129,7 @@ fn whole_of(number: &Number) -> Option<i128>
     }
 }
 
-// Whether a text is a path or a name of 1 to so many bytes.
+// Returns whether `text` is a path or a name of 1 to `most` bytes.
 fn is_path(text: &str, most: usize) -> bool
     ensures { result ≡ is_path most text.now }
 {
@@ -142,7 +142,7 @@ fn are_path_bytes(bytes: &[u8]) -> bool
     bytes.iter().all(|byte| is_path_byte(*byte))
 }
 
-// A letter, a digit, or one of these.
+// Returns whether `byte` is a letter, a digit, or one of these.
 fn is_path_byte(byte: u8) -> bool
     ensures { result ≡ is_path_byte byte }
 {

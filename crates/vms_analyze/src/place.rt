@@ -1,4 +1,4 @@
-// Where the description of a stream stands.
+// Finds the description in a stream.
 ghost use Rattle.std.specs.Prelude.{◌↔◌, ◌<◌, length, IsTrue};
 ghost use Rattle.vms_analyze.specs.Listing.{IsPlace, TellsPlace};
 
@@ -9,7 +9,7 @@ use vms_marks::DESCRIPTION_FRONT;
 // The mark of a description section.
 const MARK: u8 = 0x06;
 
-// Whether a description may stand here: the mark, and the length of all that is left.
+// Returns whether a description may be at `at`: the mark, and the length of the rest of the input.
 fn is_place(input: &[u8], at: usize) -> bool
     requires { at < length input.now }
     ensures { IsTrue result ↔ IsPlace input.now at }
@@ -20,7 +20,7 @@ fn is_place(input: &[u8], at: usize) -> bool
         && BigEndian::read_u32(&input[at + 1..]) as usize == left - DESCRIPTION_FRONT
 }
 
-/// The last place at which a description may stand.
+/// Returns the last offset at which a description may be.
 pub(crate) fn last_place(input: &[u8]) -> Option<usize>
     ensures { TellsPlace input.now result }
 {

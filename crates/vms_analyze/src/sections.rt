@@ -1,4 +1,4 @@
-// What stands in a stream around its elements.
+// What a stream has around its elements.
 ghost use Rattle.std.specs.Prelude.{◌≡◌, ◌≤◌, ◌∷◌, [], true, length, map, OnOk, IfErr};
 ghost use Rattle.std.specs.List.{list_all};
 ghost use Rattle.vms_spec.specs.declared.TheConstants.{LONGEST_NAME};
@@ -37,7 +37,11 @@ impl Sought for Sub<'_> {
 }
 
 impl Walk<'_> {
-    /// A stream of these devices and nothing behind its end mark.
+    /// Reads a stream of `devices`, with nothing after its end mark.
+    ///
+    /// # Errors
+    ///
+    /// The [`Stop`]: the bytes differ, or memory runs out.
     pub(crate) fn whole(&mut self, devices: &[Device]) -> Result<(), Stop>
         requires start { AtStart self.old self.old.input.now }
         requires good { list_all is_good_device (map device_of devices.now) ≡ true }
@@ -55,7 +59,7 @@ impl Walk<'_> {
         Ok(())
     }
 
-    // A stream of these devices, up to its end mark.
+    // Reads a stream of `devices`, up to its end mark.
     fn stream(&mut self, devices: &[Device]) -> Result<(), Stop>
         requires inside { IsInside self.old }
         requires good { list_all is_good_device (map device_of devices.now) ≡ true }
@@ -72,7 +76,7 @@ impl Walk<'_> {
         self.bytes(&[Mark::End.byte()])
     }
 
-    // The stream head and the machine.
+    // Reads the stream head and the machine.
     fn start(&mut self) -> Result<(), Stop>
         requires { IsInside self.old }
         ensures ok { OnOk result (Goes start_wants self.old self.new) }
@@ -136,7 +140,7 @@ impl Walk<'_> {
         self.elements(&sub.elements)
     }
 
-    // The head of a subsection that was sent, and its line.
+    // Reads the head of a subsection that was sent, and prints its line.
     fn sub_head(&mut self, sub: &Sub) -> Result<(), Stop>
         requires inside { IsInside self.old }
         requires short { length sub.now.name.now ≤ LONGEST_NAME }

@@ -1,33 +1,33 @@
-// What a description tells, over its text.
+// What a description says. Texts are borrowed from it.
 use vms_kinds::Kind;
 
 /// An element under its path.
 #[derive(Clone, Copy, Drop)]
 pub(crate) enum Element<'a> {
-    /// A number that stands in the stream.
+    /// A number that is in the stream.
     Sent {
         path: &'a str,
         kind: Kind,
     },
-    /// One that doesn't, with its value.
+    /// A number that isn't, with its value.
     Kept {
         path: &'a str,
         kind: Kind,
         value: i128,
     },
-    /// A constant of so many bytes.
+    /// A constant of `bytes` bytes.
     Fixed {
         path: &'a str,
         bytes: usize,
     },
-    /// So many unused bytes.
+    /// `bytes` unused bytes.
     Skipped {
         path: &'a str,
         bytes: usize,
     },
 }
 
-/// A subsection, and whether it stands in the stream.
+/// A subsection, and whether it is in the stream.
 #[derive(Drop)]
 pub(crate) struct Sub<'a> {
     pub(crate) name: &'a str,

@@ -1,4 +1,4 @@
-// What is wanted, one after the other, and what stands in the stream.
+// Compares a stream with what is required, piece by piece.
 ghost use Rattle.std.specs.Prelude.{◌≡◌, ◌∷◌, [], Bool, List, true, OnOk, IfErr};
 ghost use Rattle.std.specs.List.{flat_map, list_all};
 ghost use Rattle.vms_analyze.specs.Wanted.{Want, Bytes, Any, Number, Line, number_line, element_want};
@@ -11,8 +11,8 @@ use itoa::Buffer;
 use std::alloc::AllocError;
 use vms_kinds::Kind;
 
-/// A stream, the place up to which it is as wanted, the id of the section that is open, and the
-/// lines that are printed.
+/// A stream, the offset up to which it is as required, the id of the open section, and the lines
+/// that are printed.
 #[derive(Drop)]
 pub(crate) struct Walk<'a> {
     pub(crate) input: &'a [u8],
@@ -21,12 +21,12 @@ pub(crate) struct Walk<'a> {
     pub(crate) text: Vec<u8>,
 }
 
-/// Why a walk goes no further.
+/// Why a walk ends early.
 #[derive(Clone, Copy, Drop)]
 pub(crate) enum Stop {
-    /// What stands at the place isn't as wanted.
+    /// What is at the offset isn't as required.
     Differs,
-    /// Memory is wanting.
+    /// Out of memory.
     NoMemory,
 }
 
@@ -44,7 +44,7 @@ impl From<AllocError> for Stop {
 pub(crate) trait Sought {
     ghost wants: { Self → List Want };
 
-    // It is of the shape of what was read.
+    // Whether it has the shape of what was read.
     ghost is_good: { Self → Bool };
 
     fn seek(&self, walk: &mut Walk) -> Result<(), Stop>
@@ -65,7 +65,7 @@ impl Sought for Element<'_> {
 }
 
 impl Walk<'_> {
-    /// Things one after the other.
+    /// Reads `items` one after the other.
     pub(crate) fn each<T: Sought>(&mut self, items: &[T]) -> Result<(), Stop>
         requires inside { IsInside self.old }
         requires good { list_all T.is_good items.now ≡ true }
@@ -80,7 +80,7 @@ impl Walk<'_> {
         Ok(())
     }
 
-    /// Bytes of any content.
+    /// Reads `n` bytes of any content.
     pub(crate) fn any(&mut self, n: usize) -> Result<(), Stop>
         requires { IsInside self.old }
         ensures ok { OnOk result (Goes (Any n ∷ []) self.old self.new) }
@@ -93,7 +93,7 @@ impl Walk<'_> {
         Ok(())
     }
 
-    /// These bytes.
+    /// Reads exactly `bytes`.
     pub(crate) fn bytes(&mut self, bytes: &[u8]) -> Result<(), Stop>
         requires { IsInside self.old }
         ensures ok { OnOk result (Goes (Bytes bytes.now ∷ []) self.old self.new) }
@@ -110,7 +110,7 @@ impl Walk<'_> {
         Ok(())
     }
 
-    /// A number, which is printed under its path.
+    /// Reads a number, and prints it under its path.
     pub(crate) fn number(&mut self, path: &str, kind: Kind) -> Result<(), Stop>
         requires { IsInside self.old }
         ensures ok { OnOk result (Goes (Number path.now kind ∷ []) self.old self.new) }
@@ -131,7 +131,7 @@ impl Walk<'_> {
         }
     }
 
-    /// An element.
+    /// Reads an element.
     pub(crate) fn element(&mut self, element: &Element) -> Result<(), Stop>
         requires { IsInside self.old }
         ensures ok { OnOk result
@@ -147,7 +147,7 @@ impl Walk<'_> {
         }
     }
 
-    /// Elements one after the other.
+    /// Reads elements one after the other.
     pub(crate) fn elements(&mut self, elements: &[Element]) -> Result<(), Stop>
         requires { IsInside self.old }
         ensures ok { OnOk result (Goes (element_wants elements.now) self.old self.new) }
@@ -156,7 +156,7 @@ impl Walk<'_> {
         self.each(elements)
     }
 
-    // A number that is told.
+    // Prints a number that the description gives.
     fn kept(&mut self, path: &str, value: i128) -> Result<(), Stop>
         requires { IsInside self.old }
         ensures ok { OnOk result (Goes (Line (number_line path.now value) ∷ []) self.old self.new) }
@@ -166,7 +166,7 @@ impl Walk<'_> {
         Ok(())
     }
 
-    // The line of a number.
+    // Prints the line of a number.
     fn print(&mut self, path: &str, value: i128) -> Result<(), Stop>
         ensures ok { OnOk result (Prints self.old self.new (number_line path.now value)) }
         ensures err { IfErr result (λ e. e ≡ stops.NoMemory) }

@@ -31,7 +31,7 @@ if_false b x y e = ap (λ (b : Bool). if b then x else y) e
 pub if_true : {A : Type 0} (b : Bool) (x y : A) → b ≡ true → (if b then x else y) ≡ x
 if_true b x y e = ap (λ (b : Bool). if b then x else y) e
 
--- the front of what is left, of a known length
+-- the front of the rest, of a known length
 pub front_take : (n : ℕ) (xs ys rest : List ℕ) → rest ≡ xs ++ ys → length xs ≡ n → take n rest ≡ xs
 front_take n xs ys rest e len = ap (take n) e ∙ take-append-le n xs ys (omega arith) ∙ take_all n xs len
   where
@@ -47,7 +47,7 @@ front_drop n xs ys rest e len = ap (drop n) e ∙ ap (λ (k : ℕ). drop k (xs +
 front_long : (n : ℕ) (xs ys rest : List ℕ) → rest ≡ xs ++ ys → length xs ≡ n → nat_lt (length rest) n ≡ false
 front_long n xs ys rest e len = le-ltb (length rest) n (omega (arith, ap length e, length-append xs ys))
 
--- a number's code is taken where it doesn't fail
+-- a number's code is taken if it doesn't fail
 value_taken : (kind : Kind) (reason : Reason) (fails : ℤ → Bool) (put : ℤ → List ℤ) (z : ℤ) (p : Progress) (r : List ℕ) → InRange kind z → fails z ≡ false → p.rest ≡ code kind z ++ r
     → take_value kind reason fails put p ≡ Ok (record { numbers = put z; place = p.place + width kind; rest = r })
 value_taken kind reason fails put z p r fits good e =
@@ -75,7 +75,7 @@ none_taken p = filler_taken [] p.rest p 0 refl refl ∙ ap (λ (k : ℕ). Ok (re
 abbrev pub Never : Refusal → Type 0
 Never e = ⊥
 
--- the slots to come of the numbers n spell what is left before a tail, and besides their cells the numbers so far are n's
+-- the remaining slots spell the rest before a tail by the numbers n; besides their cells the numbers so far are n's
 pub record Spelling (total : List ℤ → List Slot) (n : List ℤ) (end : ℕ) (tail : List ℕ) (cell : ℕ) (done : List Slot) (q : Progress) : Type 0 where
   pub more : List Slot
   pub bytes : List ℕ
@@ -93,7 +93,7 @@ module _ (all : List Cell) (total : List ℤ → List Slot) (n : List ℤ) (end 
   agrees : (cell : ℕ) (done : List Slot) (q : Progress) → Spelling total n end tail cell done q → SameBelow cell q.numbers n
   agrees cell done q s = record { same = λ c lt. s.same c (s.high.below c lt) }
 
-  -- what is to come is what is left
+  -- the remaining slots are the rest
   more_is : (cell : ℕ) (done : List Slot) (left : List ℤ → List Slot) (q : Progress) (l : Left total (Spelling total n end tail) Never cell q done left) → l.holds.more ≡ left n
   more_is cell done left q l = append_cancel_left done l.holds.more (left n) (sym l.holds.split ∙ l.split n (agrees cell done q l.holds))
 

@@ -1,4 +1,4 @@
--- The numbers that stand in the bytes of a description are its cells.
+-- The numbers that are in the bytes of a description are its cells.
 use Rattle.std.proofs.Common.{◌≡◌, ℕ, zero, suc, ◌+◌, ◌<◌, ◌≤◌, List, ◌∷◌, ◌++◌, length, get_or, map, drop, ℤ, refl, ap, ◌∙◌, subst, arith, append_assoc, Bool, true, false, if◌then◌else◌, []}
 use Rattle.std.proofs.Math.ListN.{get_or-map}
 use Rattle.vms_kinds.specs.declared.Item.{Item}
@@ -12,7 +12,7 @@ use Rattle.vms_spec.proofs.Prefixes.{first_cells}
 use Rattle.vms_spec.proofs.Tables.{one_more}
 use Rattle.vms_spec.proofs.ListLaws.{drop_on}
 
--- from a place on, these cells stand in a list
+-- from an index on, these cells are in a list
 pub record Stands (all : List Cell) (at : ℕ) (cells : List Cell) : Type 0 where
   pub more : List Cell
   pub is : drop at all ≡ cells ++ more

@@ -1,4 +1,4 @@
--- The judge counts slots, the relation counts units: how the two stand to each other. And what bytes say as a number.
+-- The judge counts slots, the relation counts units: how the two are related. And what bytes say as a number.
 use Rattle.std.proofs.Common.{◌≡◌, ℕ, List, length, refl, ◌&&◌}
 use Rattle.vms_kinds.specs.declared.Kind.{Kind}
 use Rattle.vms_kinds.specs.declared.Kind.TheVariants.{U8, U16, U32, U64, I8, I16, I32, I64, Bool as Truth, Timer}

@@ -1,9 +1,9 @@
--- Readings: how many units are allowed doesn't matter, if it is enough.
+-- Readings: the allowed number of units doesn't matter, if it is enough.
 use Rattle.std.proofs.Common.{◌≡◌, ℕ, zero, suc, ◌+◌, ◌<◌, ◌≤◌, List, ◌++◌, length, drop, Option, refl, ap, ◌∙◌, drop_at, arith, length-drop}
 use Rattle.vms_spec.specs.Readings.{Verdict, Goes, Faulty, Over, Reading, reading_from, reading_after}
 use Rattle.vms_bodies.specs.Whole.{reading_on, Advances}
 
--- what is read after a verdict depends on the reading that goes on from there alone
+-- what is read after a verdict depends only on the reading that goes on from there
 after_same : {S : Type 0} (go on : S → ℕ → List ℕ → Option (Reading S)) (at : ℕ) (rest : List ℕ) (v : Verdict S)
     → ((n : ℕ) (next : S) → v ≡ Goes n next → go next (at + n) (drop n rest) ≡ on next (at + n) (drop n rest))
     → reading_after go at rest v ≡ reading_after on at rest v
@@ -22,7 +22,7 @@ enough judge a (suc m) (suc k) state at rest h i =
     let q : n ≤ length rest = b.1 in
     enough judge a m k next (at + n) (drop n rest) (omega (arith, length-drop n rest)) (omega (arith, length-drop n rest)))
 
--- one unit, and what is left
+-- one unit, and the rest
 pub one_unit : {S : Type 0} (judge : S → List ℕ → Verdict S) → Advances judge → (state : S) (at : ℕ) (rest : List ℕ)
     → reading_on judge state at rest ≡ reading_after (reading_on judge) at rest (judge state rest)
 one_unit judge a state at rest =

@@ -60,7 +60,7 @@ head_bytes rest n ok mark size long =
 
 -- ---- the device that is found
 
--- a device of this name and instance stands at k
+-- a device of this name and instance is at index k
 pub record Found (devices : List Device) (j : ℕ) (name : List ℕ) (instance k : ℕ) : Type 0 where
   pub i : ℕ
   pub is : k ≡ j + i

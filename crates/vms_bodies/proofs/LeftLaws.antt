@@ -1,4 +1,4 @@
--- What the reader of a body leaves: the bytes from its place on, also where a unit is at fault.
+-- What the reader of a body leaves: the bytes from its offset on, also if a unit is invalid.
 use Rattle.std.proofs.Common.{◌≡◌, ℕ, ◌+◌, ◌-◌, ◌≤◌, List, [], ◌∷◌, ◌++◌, length, drop, Ok, Err, ℤ, refl, ap, ◌∙◌, arith}
 use Rattle.std.proofs.lemmas.List.{drop-drop}
 use Rattle.vms_spec.specs.Sets.{Desc}
@@ -8,12 +8,12 @@ use Rattle.vms_spec.specs.Sound.{IsSound, AreSound}
 use Rattle.vms_bodies.proofs.WalkLaws.{Gives, Keeping, ComesTo, slot_gives, set_desc_comes}
 
 module _ (at : ℕ) (input : List ℕ) where
-  -- these bytes are left of the input at this place
+  -- these bytes are the rest of the input at this offset
   pub record IsLeft (place : ℕ) (rest : List ℕ) : Type 0 where
     pub from : at ≤ place
     pub is : rest ≡ drop (place - at) input
 
-  -- those behind what was taken, or from the unit at fault on
+  -- those after what was taken, or from the offending unit on
   abbrev pub Leaves : Taken → Type 0
   Leaves (Ok q) = IsLeft q.place q.rest
   Leaves (Err e) = IsLeft e.place e.rest

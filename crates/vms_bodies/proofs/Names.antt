@@ -1,4 +1,4 @@
--- Which cells stand in slots that are joined.
+-- Which cells are in slots that are joined.
 use Rattle.std.proofs.Common.{◌≡◌, ℕ, List, ◌∷◌, ◌++◌, refl, sym, ap, ◌∙◌, Bool as Truth, true, false, ◌==◌, [], ◌||◌}
 use Rattle.std.proofs.lemmas.Bool.{or_parts, or_right}
 use Rattle.std.proofs.Math.Bool.{or_assoc}

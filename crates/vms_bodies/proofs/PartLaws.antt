@@ -40,7 +40,7 @@ places_apart set from (t ∷ subs) (suc i) (suc j) s e lt = places_apart set (fr
 
 -- ---- cells
 
--- what holds of cells at a place, and so of their front and of the others behind it, holds of a subsection's at its place
+-- what holds of cells at a place, and so of their front and of the others, holds of a subsection's at its place
 pub cells_of_sub : (P : ℕ → List Cell → Type 0) → ((at : ℕ) (xs ys : List Cell) → P at (xs ++ ys) → P at xs) → ((at : ℕ) (xs ys : List Cell) → P at (xs ++ ys) → P (at + length xs) ys)
     → (set : Set) (from : ℕ) (subs : List Sub) (j : ℕ) (s : Sub) → slice_get subs j ≡ Some s
     → P from (flat_map (λ s. desc_cells (struct_cells set) s.desc) subs) → P (sub_place set from subs j) (desc_cells (struct_cells set) s.desc)
@@ -51,7 +51,7 @@ cells_of_sub P front rest set from (t ∷ subs) zero s e h =
 cells_of_sub P front rest set from (t ∷ subs) (suc j) s e h =
     cells_of_sub P front rest set (from + length (desc_cells (struct_cells set) t.desc)) subs j s e (rest from (desc_cells (struct_cells set) t.desc) (flat_map (λ s. desc_cells (struct_cells set) s.desc) subs) h)
 
--- a subsection's slots stand in the device's cells
+-- a subsection's slots are among the device's cells
 pub sub_are : (set : Set) (d : Device) (j : ℕ) (s : Sub) (v : ℕ) (m : List ℤ) → slice_get d.subs j ≡ Some s
     → AreCells (device_cells set d) (sub_slots set s v m (sub_place set (own_cells set d) d.subs j))
 sub_are set d j s v m e =
@@ -143,7 +143,7 @@ none_came [] j v e = cc
 none_came (s ∷ subs) zero v e = cc
 none_came (s ∷ subs) (suc j) v e = none_came subs j v e
 
--- ---- what came, what is left, and what comes in all
+-- ---- what came, what is still to come, and both together
 
 abbrev pub Beside : List (Option ℕ) → List (Option ℕ) → List (Option ℕ) → Type 0
 Beside [] [] [] = Unit {0}

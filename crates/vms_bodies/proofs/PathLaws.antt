@@ -29,7 +29,7 @@ place_room cs fields i base (g ∷ fs) (suc k) f e =
 
 -- ---- paths
 
--- the cell lies among so many from a place on
+-- the cell is among n cells from a place on
 record Within (base size c : ℕ) : Type 0 where
   pub low : base ≤ c
   pub high : c < base + size

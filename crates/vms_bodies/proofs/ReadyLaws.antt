@@ -84,7 +84,7 @@ fit (cell ∷ cells) (z ∷ numbers) h =
     (and_from (in_range cell.kind z) (counts_well cell.capacities z) (ranged cell.kind z a.0) (counted_well cell.capacities z a.1))
     (fit cells numbers (record { long = omega arith; fits = λ c lt. h.fits (suc c) (omega arith) }))
 
--- what is at its default where it has bare byte, from a cell on
+-- what is at its default if it has no byte, from a cell on
 abbrev pub Settled : List Slot → ℕ → List Cell → List ℤ → Type 0
 Settled slots from cells numbers = (c : ℕ) → c < length numbers → has_cell slots (from + c) ≡ false → get_or numbers c (pos 0) ≡ (get_or cells c no_cell).default
 

@@ -30,7 +30,7 @@ fit_slots all m (Constant kind z ∷ slots) f c k = (k.0, fit_slots all m slots 
 fit_slots all m (Filler n ∷ slots) f c k = fit_slots all m slots f c k
 fit_slots all m (Rule b ∷ slots) f c k = fit_slots all m slots f c k
 
--- a device's own slots stand in its cells
+-- a device's own slots are among its cells
 pub own_are : (set : Set) (d : Device) (v : ℕ) (m : List ℤ) → AreCells (device_cells set d) (own_slots set d v m)
 own_are set d v m =
     let ds = set.structs in

@@ -1,4 +1,4 @@
--- The slots of a description depend on its own cells alone.
+-- The slots of a description depend only on its own cells.
 use Rattle.std.proofs.Common.{◌≡◌, ℕ, zero, suc, ◌+◌, ◌*◌, ◌<◌, ◌≤◌, List, ◌∷◌, ◌++◌, length, length-append, get_or, map, drop, ℤ, pos, refl, sym, ap, ◌∙◌, arith, Bool, if◌then◌else◌, []}
 use Rattle.std.proofs.Math.ListN.{get_or-map}
 use Rattle.std.proofs.Math.Nat.{mul-le-mul_right}

@@ -1,4 +1,4 @@
--- A reading that goes by slots, which are worked out again after each number, does what the structural reader does.
+-- A reading slot by slot, with the slots computed anew after each number, does what the structural reader does.
 use Rattle.std.proofs.Common.{◌≡◌, ℕ, suc, ◌+◌, List, [], ◌∷◌, ◌++◌, length, drop, Ok, Err, ℤ, ap, ◌∙◌, arith, length-append}
 use Rattle.std.proofs.Math.Seq.{drop-append_seam}
 use Rattle.vms_spec.specs.Layout.{Slot, Number}

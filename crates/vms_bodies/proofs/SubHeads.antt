@@ -31,7 +31,7 @@ sub_bytes rest n ok mark size long =
     shift : (n : ℕ) → (2 + n) + 4 ≡ 6 + n
     shift n = omega arith
 
--- a subsection of this name stands at k
+-- a subsection of this name is at index k
 pub record FoundSub (subs : List Sub) (j : ℕ) (name : List ℕ) (k : ℕ) : Type 0 where
   pub i : ℕ
   pub is : k ≡ j + i

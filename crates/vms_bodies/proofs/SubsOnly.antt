@@ -52,7 +52,7 @@ pick_at n xs cells c lt = pick_from n xs 0 c cells c (omega arith) lt
 beyond : (m : List ℤ) (c : ℕ) → length m ≤ c → get_or m c (pos 0) ≡ pos 0
 beyond m c le = get_or-eq_default m (pos 0) le
 
--- where the same cells are named, the same is picked
+-- if the same cells are named, the same is picked
 pick_same : (n : List ℤ) (xs ys : List Slot) (cells : List Cell) (c : ℕ) → has_cell xs c ≡ has_cell ys c → get_or (pick n xs 0 cells) c (pos 0) ≡ get_or (pick n ys 0 cells) c (pos 0)
 pick_same n xs ys cells c e = go (nat_lt c (length cells)) refl
   where
@@ -76,7 +76,7 @@ pick_default n xs cells c e = go (nat_lt c (length cells)) refl
         let le : length cells ≤ c = ltb-false c (length cells) l in
         beyond (pick n xs 0 cells) c (omega (arith, pick_long n xs 0 cells)) ∙ sym (beyond (map (λ (x : Cell). x.default) cells) c (omega (arith, defaults_long cells)))
 
--- where what is not picked is at its default, the numbers are picked as they are
+-- if what isn't picked is at its default, the numbers are picked as they are
 pick_all : (n : List ℤ) (xs : List Slot) (cells : List Cell) (c : ℕ) → length n ≡ length cells → (c < length n → has_cell xs c ≡ false → get_or n c (pos 0) ≡ (get_or cells c no_cell).default)
     → get_or (pick n xs 0 cells) c (pos 0) ≡ get_or n c (pos 0)
 pick_all n xs cells c long h = go (nat_lt c (length cells)) refl

@@ -19,12 +19,12 @@ use Rattle.vms_spec.proofs.Sizes.{field_size, elements_fit}
 
 -- ---- what one slot gives
 
--- the numbers where a slot is taken
+-- the numbers after a slot is taken
 abbrev pub Sets : Slot → List ℤ → List ℤ → Type 0
 Sets (Number c kind capacities) old new = (z : ℤ) × (new ≡ slice_set old c z)
 Sets slot old new = new ≡ old
 
--- it is refused where it stands, or some bytes are taken
+-- it is refused at its offset, or some bytes are taken
 module _ (P : Taken → Type 0) (p : Progress) (bad : (reason : Reason) (n : ℕ) → P (refuse p reason n)) where
   test : (b : Bool) (reason : Reason) (n : ℕ) (t : Taken) → (b ≡ false → P t) → P (if b then refuse p reason n else t)
   test true reason n t h = bad reason n
@@ -50,7 +50,7 @@ module _ (P : Taken → Type 0) (p : Progress) (bad : (reason : Reason) (n : ℕ
 pub record Keeps (cell : ℕ) (n : List ℤ) (t : Taken) : Type 0 where
   pub kept : IfOk t (λ q. SameBelow cell n q.numbers)
 
--- a slot whose cell, where it has one, isn't below this one
+-- a slot whose cell, if it has one, isn't below this one
 abbrev pub IsFrom : ℕ → Slot → Type 0
 IsFrom cell (Number c kind capacities) = cell ≤ c
 IsFrom cell slot = Unit {0}
@@ -61,7 +61,7 @@ sets_from cell (Constant kind z) old new le s = subst (SameBelow cell old) (sym 
 sets_from cell (Filler n) old new le s = subst (SameBelow cell old) (sym s) (same_refl cell old)
 sets_from cell (Rule b) old new le s = subst (SameBelow cell old) (sym s) (same_refl cell old)
 
--- the numbers below its cell stand
+-- the numbers below its cell are final
 pub slot_keeps : (cell : ℕ) (slot : Slot) (p : Progress) → IsFrom cell slot → Keeps cell p.numbers (take_slot slot p)
 slot_keeps cell slot p from =
     slot_gives (Keeps cell p.numbers) p (λ reason n. record { kept = tt }) slot (λ n numbers s. record { kept = sets_from cell slot p.numbers numbers from s })
@@ -85,7 +85,7 @@ place_first cs fields i at (f ∷ fs) = refl
 -- ---- readings by slots
 
 module _ (total : List ℤ → List Slot) (Holds : ℕ → List Slot → Progress → Type 0) (Fails : Refusal → Type 0) where
-  -- once the numbers below a cell stand, the slots are those done and those that are left
+  -- once the numbers below a cell are final, the slots are those done and those that remain
   pub record Left (cell : ℕ) (p : Progress) (done : List Slot) (left : List ℤ → List Slot) : Type 0 where
     pub split : (m : List ℤ) → SameBelow cell p.numbers m → total m ≡ done ++ left m
     pub holds : Holds cell done p
@@ -98,7 +98,7 @@ module _ (total : List ℤ → List Slot) (Holds : ℕ → List Slot → Progres
   IsOther (Number c kind capacities) = ⊥
   IsOther slot = Unit {0}
 
-  -- what each slot keeps, at its cell and with these slots done before it, where it is the next
+  -- what each slot keeps if it is the next, at its cell and with these slots done before it
   pub record Keeping : Type 0 where
     pub less : (cell further : ℕ) (done : List Slot) (left : List ℤ → List Slot) (p : Progress) → cell ≤ further → ((m : List ℤ) → IsAbove further (left m)) → Left cell p done left → Holds further done p
     pub number : (cell : ℕ) (kind : Kind) (capacities : List ℕ) (done : List Slot) (left : List ℤ → List Slot) (p : Progress)
@@ -118,7 +118,7 @@ module _ (total : List ℤ → List Slot) (Holds : ℕ → List Slot → Progres
   ComesTo cell left (Err e) = Fails e
   ComesTo cell left (Ok q) = (done : List Slot) × Left cell q done left
 
-  -- where this was taken, these slots are left
+  -- if this was taken, these slots remain
   pub record Comes (cell : ℕ) (left : List ℤ → List Slot) (t : Taken) : Type 0 where
     pub comes : ComesTo cell left t
 
@@ -240,7 +240,7 @@ module _ (total : List ℤ → List Slot) (Holds : ℕ → List Slot → Progres
       (λ m s. append_assoc (item_slots ms item caps m cell) (times n (item_slots ms item caps m) (cell + size) size) (left m)) l))
       (λ q done' l'. items_comes w ts ms pairs ab item caps n (cell + size) q done' left up' l'))
 
-  -- a field is there or not, and has so many elements, by the numbers before it
+  -- whether a field is there, and how many elements it has, by the numbers before it
   field_comes : (w : Keeping) (ts : List Taker) (ms : List Meaning) → Pairs ts ms → MeanAbove ms → (d : Desc) (v base i cell : ℕ) (f : Field) (p : Progress) (done : List Slot) (left : List ℤ → List Slot)
       → IsSoundField d.fields i f → cell ≡ place_of (cells_of ts) d.fields 0 base d.fields i
       → ((m : List ℤ) → IsAbove (cell + length (field_cells (cells_of ts) d.fields i f)) (left m))

@@ -1,4 +1,4 @@
--- Each kind has a byte at least.
+-- Each kind has at least one byte.
 use Rattle.std.proofs.Common.{◌<◌, arith}
 use Rattle.vms_kinds.specs.declared.Kind.{Kind}
 use Rattle.vms_kinds.specs.declared.Kind.TheVariants.{U8, U16, U32, U64, I8, I16, I32, I64, Bool as Truth, Timer}

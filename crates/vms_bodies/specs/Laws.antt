@@ -7,19 +7,19 @@ use Rattle.vms_spec.specs.Streams.{IsReady}
 use Rattle.vms_spec.specs.Places.{cell_at, cell_count}
 use Rattle.vms_spec.specs.Readiness.{is_ready}
 
--- the cell of a path is one of the device's
+-- The cell of a path is one of the device's.
 abbrev pub CellLaw : Type 0
 CellLaw = (set : Set) (k : ℕ) (part : Option ℕ) (path : List (ℕ × ℕ)) (c : ℕ) → cell_at set k part path ≡ Some c → c < cell_count set k
 
--- a test is true exactly where a fact holds
+-- A test is true exactly if P holds.
 pub record Decided (test : Bool) (P : Type 0) : Type 0 where
   pub holds : test ≡ true → P
   pub passes : P → test ≡ true
 
--- the test of readiness is the relation
+-- The test of readiness decides the relation.
 abbrev pub ReadyLaw : Type 0
 ReadyLaw = (set : Set) (d : Device) (image : Image) → Decided (is_ready set d image) (IsReady set d image)
 
--- the bytes whose unused ones are 0 are bytes of the slots
+-- The bytes with 0 for unused ones are bytes of the slots.
 abbrev pub ZeroedLaw : Type 0
 ZeroedLaw = (numbers : List ℤ) (slots : List Slot) → Spells numbers slots (zeroed numbers slots)

@@ -1,4 +1,4 @@
--- What is read off an array of which the first elements count and later ones give nothing.
+-- What is read of an array whose first elements count and whose later ones give nothing.
 use Rattle.std.proofs.Common.{◌≡◌, ℕ, zero, suc, ◌+◌, ◌-◌, ◌≤◌, List, [], ◌++◌, map, ap, arith, Bool, true, false, ◌&&◌}
 use Rattle.std.proofs.lemmas.Bool.{le-ltb, lt-ltb}
 use Rattle.vms_spec.specs.Sets.{Field}

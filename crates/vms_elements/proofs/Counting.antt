@@ -1,4 +1,4 @@
--- What stands in the bytes is counted, and the path of a number is its cell's.
+-- What is in the bytes is counted, and the path of a number is its cell's.
 use Rattle.std.proofs.Common.{length}
 use Rattle.vms_elements.specs.Parts.{elements_in}
 use Rattle.vms_elements.specs.Laws.{CellLaw, CountedLaw}

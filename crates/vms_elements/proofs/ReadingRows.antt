@@ -73,7 +73,7 @@ refuses_the_absent_number_before_the_validation = bad_after tested_set 2 (pos 10
 
 -- ---- the second pass
 
--- an image, the lines of its text, how many entries stand before the one that is refused, and that entry
+-- an image, the lines of its text, how many entries come before the refused one, and that entry
 record Judged (set : Set) (n : ℕ) (image : Image) (lines : List (List ℕ)) (entry : Entry) (reason : ValuesReason) : Type 0 where
   says : Says set (text_of lines) None (image ∷ [])
   whole : entries set None (image ∷ []) ≡ take n (entries set None (image ∷ [])) ++ (entry ∷ drop (suc n) (entries set None (image ∷ [])))

@@ -1,5 +1,5 @@
 -- One walk over the elements of a description, in two states side by side: their cells, their names, that the numbers count up, and
--- that what stands in the bytes is counted.
+-- that what is in the bytes is counted.
 use Rattle.std.proofs.Common.{◌≡◌, ℕ, zero, suc, ◌+◌, Bool, true, false, ◌&&◌, nat_lt, if◌then◌else◌, List, [], ◌∷◌, ◌++◌, length, get_or, map, ℤ, refl, sym, ap, ◌∙◌, subst, arith, append-nil}
 use Rattle.std.proofs.lemmas.List.{map-append, length-map}
 use Rattle.vms_kinds.specs.declared.Item.{Item}

@@ -1,46 +1,54 @@
-//! Each law is the contract of a function without a body. The statements stand in `specs/Laws.antt`.
+//! The laws of elements, each the contract of a function without a body. The statements are in
+//! `specs/Laws.antt`.
 ghost use Rattle.vms_elements.specs.Laws.{ElementsLaw, DeviceLaw, CountedLaw, TextLaw, EntryLaw, CellLaw, DistinctLaw, PathLaw};
 
-/// The elements of a description are its cells and its slots: its numbers are its cells, in order, and what stands in the
-/// bytes are its slots.
+/// States that the elements of a description (`elements_in`) are its cells and its slots.
+///
+/// Its numbers are the cells, in order, and what is in the bytes are the slots.
 pub fn elements_law()
     ensures { ElementsLaw }
 {}
 
-/// The elements of a device in the state of an image are its cells and the slots of the image.
+/// States that the elements of a device for an image (`device_elements`) are the device's cells and
+/// the image's slots.
 pub fn device_law()
     ensures { DeviceLaw }
 {}
 
-/// What stands in the bytes is counted, so it has its line in the values text.
+/// States that each element in the bytes (`present`) is `counted`, so each number in the bytes has
+/// its line in the values text.
 pub fn counted_law()
     ensures { CountedLaw }
 {}
 
-/// The lines of the numbers that are counted, with the lines of sections and subsections, are the values text.
+/// States that the lines of the counted numbers, with those of sections and subsections
+/// (`values_lines`), are the values text.
 #[tactic(auto, using(crate::proofs::Stated::text_law))]
 pub fn text_law()
     ensures { TextLaw }
 {}
 
-/// What the lines of a values text say has those lines: a machine, sections, subsections and numbers.
+/// States that the `entries` of a values text have exactly its lines: a machine, sections,
+/// subsections and numbers.
 #[tactic(auto, using(crate::proofs::EntryLines::entry_law))]
 pub fn entry_law()
     ensures { EntryLaw }
 {}
 
-/// The path of a number among the elements of a description is that of its cell.
+/// States that the path of a number among the elements of a description is that of its cell
+/// (`path_at`).
 pub fn cell_law()
     ensures { CellLaw }
 {}
 
-/// Distinct paths of a device have distinct cells.
+/// States that distinct paths of a device have distinct cells (`cell_at`).
 #[tactic(auto, using(crate::proofs::DevicePaths::distinct_law))]
 pub fn distinct_law()
     ensures { DistinctLaw }
 {}
 
-/// Each cell of a device has a path, which names a field of its kind and default.
+/// States that each cell of a device has a path (`HasPath`), which names a field of the cell's kind
+/// and default.
 pub fn path_law()
     ensures { PathLaw }
 {}

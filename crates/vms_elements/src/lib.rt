@@ -1,4 +1,5 @@
-//! One list of a description's elements: what cells, places of paths, slots and lines of values texts are parts of.
+//! One list of a description's elements. Cells, places of paths, slots and the lines of values
+//! texts are parts of it.
 #![tactic(auto)]
 
 pub mod laws;

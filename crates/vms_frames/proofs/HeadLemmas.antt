@@ -156,7 +156,7 @@ start_whole unit rest long =
     ∙ start_by (number_at 4 1 all) (bytes_at (get_or all 5 0) 6 all) (6 + get_or all 5 0)
     ∙ ap (λ (i : ℕ). bad i (bytes_at i 6 all)) n ∙ ap (bad k) (bytes_of_unit k 6 unit rest (omega (arith, long)) ∙ name)
 
--- ---- configurations and descriptions: a mark, a length, and so many bytes
+-- ---- configurations and descriptions: a mark, a length, and that many bytes
 
 module _ (d : Due) (k : Known) (mark longest : ℕ) (piece : List ℕ → Piece) where
   abbrev pub text_seen : List ℕ → Seen
@@ -186,7 +186,7 @@ module _ (d : Due) (k : Known) (mark longest : ℕ) (piece : List ℕ → Piece)
       text_came unit rest some ∙ ap (text_by (unit ++ rest) (number_at 4 1 unit)) (le-ltb longest (number_at 4 1 unit) low)
       ∙ cut_short d k (5 + number_at 4 1 unit) (unit ++ rest) _ (omega (arith, few, length-append unit rest))
 
-  -- a length that is at fault
+  -- an invalid length
   pub text_above : (unit rest : List ℕ) → length unit ≡ 5 → longest < number_at 4 1 unit → text_seen (unit ++ rest) ≡ seen_by (first_row (alone d k (Long mark (number_at 4 1 unit)))) (Long mark (number_at 4 1 unit)) 5
   unfolding text_by
   text_above unit rest long high =

@@ -26,7 +26,7 @@ number_seen kind all = seen (Field 0 (NumberSlot 0 kind [])) nothing_known all
 abbrev seen_if : Kind → ℤ → Bool → Seen
 seen_if kind z bad = seen_by (if bad then Some (None, reasons.BadBool) else None) (Number 0 kind z) (width kind)
 
--- what stands behind it doesn't matter
+-- what comes after it doesn't matter
 number_came : (kind : Kind) (code rest : List ℕ) → length code ≡ width kind → number_seen kind (code ++ rest) ≡ seen_if kind (value_of (raw kind) code) (is_bad_bool kind code)
 number_came kind code rest long =
     let of : List ℕ → Seen = λ l. seen_if kind (value_of (raw kind) l) (is_truth kind && is_above (value_of (raw kind) l) 1) in

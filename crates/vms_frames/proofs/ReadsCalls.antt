@@ -23,7 +23,7 @@ use Rattle.vms_frames.specs.Reads.{IsLong, ReadsAs, ReadsMagic, ReadsVersion, Re
 use Rattle.vms_frames.proofs.UnitLemmas.{cut_short, seen_whole}
 use Rattle.vms_frames.proofs.ReadsUnits.{unit_passed, unit_short}
 
--- of a unit of which nothing came before
+-- for a unit of which nothing came before
 bare : {X : Type 0} (long : X → ℕ) (most : ℕ) (r : Result X FrameFault) (n : ℕ) → IsLong long most r (0 + n) → IsLong long most r n
 bare long most r n l = subst (λ (k : ℕ). IsLong long most r k) (omega arith) l
 
@@ -46,19 +46,19 @@ calls_no_filler n at e s =
     (unit_short (λ all (x : Unit {0}). Filler (take n all)) (λ (x : Unit {0}). n) n (seen (Field 0 (FillerSlot n)) nothing_known) [] at e (omega arith) s
     (λ rest lt. cut_short (Field 0 (FillerSlot n)) nothing_known n rest (Filler (take n rest)) lt))
 
--- ---- behind fields
+-- ---- after fields
 
 pub calls_behind : {a b : Intake} (t : Tail) (id at : ℕ) (x : Behind) → ReadsBehind a b t id [] at (Ok x) → BehindReads a b t id at (held_of (Ok x)) (after_of (Ok x))
 calls_behind t id at (Sub name version) h = reads_as (λ n l. omega (arith, l)) (λ rest left p. p) h
 calls_behind t id at (Next b) h = reads_as (λ n l. omega (arith, l)) (λ rest left p. p) h
 calls_behind t id at Done h = reads_as (λ n l. omega (arith, l)) (λ rest left p. p) h
 
--- a fault says nothing of the byte that is held
+-- a fault says nothing about the byte that is held
 pub calls_none_behind : {a b : Intake} (t : Tail) (id at : ℕ) (held : Option ℕ) (e : FrameFault) → ReadsBehind a b t id [] at (Err e) → BehindReads a b t id at held (Err e)
 calls_none_behind t id at held (Refused place reason) h = reads_as (λ n l. omega (arith, l)) (λ rest left p. p) h
 calls_none_behind t id at held ReadFault h = reads_as (λ n l. omega (arith, l)) (λ rest left p. p) h
 
--- ---- behind the end mark, where a fault says nothing of the place
+-- ---- after the end mark, where a fault says nothing about the offset
 
 end_fault : (rest : List ℕ) (s : Seen) (at x y : ℕ) (left : Option (List ℕ)) (e : FrameFault) → AnswersEnd rest s at x left (Err e) → AnswersEnd rest s at y left (Err e)
 end_fault [] s at x y left (Refused place reason) h = h
@@ -69,7 +69,7 @@ end_fault (b ∷ more) s at x y left ReadFault h = h
 pub calls_no_end : {a b : Intake} (at behind : ℕ) (e : FrameFault) → EndReads a b at at (Err e) → EndReads a b at behind (Err e)
 calls_no_end at behind e h = reads_as (λ k l. l) (λ rest left p. end_fault rest _ at at behind (Some left) e p) h
 
--- ---- the stream head: the magic, and the version behind it
+-- ---- the stream head: the magic, and the version after it
 
 magic_came : (at : ℕ) (rest more : List ℕ) (left : Option (List ℕ)) (r : Result (Unit {0}) FrameFault) → AnswersSeen (λ (x : Unit {0}). Magic (take 4 rest)) (λ (x : Unit {0}). 4) (seen AMagic nothing_known rest) at rest (Some more) (Ok tt)
     → AnswersSeen (λ (x : Unit {0}). Version (number_at 4 0 more)) (λ (x : Unit {0}). 4) (seen AVersion nothing_known more) (at + 4) more left r → AnswersHead at rest left r

@@ -23,7 +23,7 @@ use Rattle.vms_frames.proofs.UnitLemmas.{seen_whole}
 use Rattle.vms_frames.proofs.HeadLemmas.{text_seen}
 use Rattle.vms_marks.specs.declared.description.TheConstants.{LONGEST_DESCRIPTION}
 
--- a description, behind its mark
+-- a description, after its mark
 pub description_there : (more : List ℕ) → text_seen AfterEnd nothing_known 0x06 longest_text Description (0x06 ∷ more) ≡ seen AfterEnd nothing_known (0x06 ∷ more)
 unfolding trailer_at
 description_there more = refl

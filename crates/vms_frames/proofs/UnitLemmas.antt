@@ -21,7 +21,7 @@ module _ {X : Type 0} (piece : List ℕ → X → Piece) (long : X → ℕ) (fou
       → AnswersSeen (piece (unit ++ left)) long (found (unit ++ left)) at (unit ++ left) (Some left) (Ok x)
   whole left unit at x e is = (is left, ap Some (sym (drop_at unit left (long x) e)))
 
-  -- a unit at fault came
+  -- an invalid unit came
   pub wrong : (left unit : List ℕ) (at n : ℕ) (why : Reason) → length unit ≡ n → ((rest : List ℕ) → found (unit ++ rest) ≡ Bad n why)
       → AnswersSeen (piece (unit ++ left)) long (found (unit ++ left)) at (unit ++ left) (Some left) (Err (Refused at why))
   wrong left unit at n why e is =
@@ -62,7 +62,7 @@ pub bytes_of_unit : (n i : ℕ) (unit rest : List ℕ) → i + n ≤ length unit
 bytes_of_unit n i unit rest h =
     ap (take n) (drop_append i unit rest (omega arith)) ∙ take-append-le n (drop i unit) rest (omega (arith, length-drop i unit))
 
--- ---- a unit needs so many bytes
+-- ---- the number of bytes that a unit needs
 
 pub cut_short : (d : Due) (k : Known) (n : ℕ) (rest : List ℕ) (x : Piece) → length rest < n → seen_in d k (needs n rest x) ≡ Short
 cut_short d k n rest x h = ap (λ (b : Bool). seen_in d k (if b then Cut else Whole x n)) (lt-ltb (length rest) n h)

@@ -6,24 +6,24 @@ use vms_spec::Reason;
 /// Where and why a stream is refused.
 #[derive(Clone, Copy, Debug, PartialEq, Eq)]
 pub struct Refusal {
-    /// The number of the device concerned in its set, if any is.
+    /// The number of the device concerned in its set, if any.
     pub section: Option<u32>,
-    /// The place of the first byte of the unit at fault, counted from 0.
+    /// The offset of the first byte of the offending unit, counted from 0.
     pub at: u64,
     /// What is wrong with it.
     pub reason: Reason,
 }
 
-/// Why a call of a cursor gives no unit.
+/// Why a call of a cursor returns no unit.
 #[derive(Clone, Copy, Debug, PartialEq, Eq)]
 pub enum FrameFault {
-    /// The unit whose first byte stands at this place is at fault.
+    /// The unit whose first byte is at offset `at` is invalid, or the input ends inside it.
     Refused { at: u64, reason: Reason },
-    /// A read of the source has failed.
+    /// The source failed.
     ReadFault,
 }
 
-// The unit at this place is at fault.
+// Returns the refusal of the unit at offset `at`.
 pub(crate) fn refused(at: u64, reason: Reason) -> FrameFault
     ensures { result ≡ FrameFault.Refused at reason }
 {

@@ -1,12 +1,12 @@
 //! The units of a migration stream, read from any source.
 //!
-//! A [`Cursor`] reads one unit a call and says its place in the stream. It knows the marks and the forms of
-//! the units, and no description set: whether a machine, a device or a version is the wanted one is asked by
-//! its caller. Each unit is judged when it is whole, and no byte behind it is taken, but for one: the byte that
-//! ends a section without a footer, which the cursor holds.
+//! A [`Cursor`] reads one unit a call and knows its offset in the stream. It knows the marks and
+//! the forms of the units, but no description set: its caller checks whether a machine, device or
+//! version is the expected one. Each unit is judged when it is complete. No byte after it is read,
+//! except the one that ends a section without a footer, which the cursor holds.
 //!
-//! Its clauses say what stands at the front of what is left, and the rows of the table of reasons that the unit
-//! alone decides.
+//! The contracts say which unit is at the front of the rest of the input, and which rows of the
+//! table of reasons it decides alone.
 #![tactic(auto)]
 
 mod cursor;

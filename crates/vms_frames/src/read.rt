@@ -1,4 +1,4 @@
-// One unit each, from its first byte.
+// Reads one unit a call, from its first byte on. Each is refused at the offset `at`.
 ghost use Rattle.std.specs.Prelude.{◌≡◌, true, false, ◌∷◌, [], ◌≤◌, length, IfOk};
 ghost use Rattle.vms_kinds.specs.Codes.{InRange};
 ghost use Rattle.vms_frames.specs.Calls.{IsNext, is_configuration, tail_of};
@@ -19,7 +19,7 @@ use vms_marks::{
 };
 use vms_spec::{LONGEST_NAME, LONGEST_TEXT, Reason};
 
-/// The first four bytes of a stream, which tell that it is one.
+/// Reads the magic, the first four bytes of a stream.
 pub(crate) fn magic<S: Source>(source: &mut S, at: u64) -> Result<(), FrameFault>
     ensures reads { ReadsMagic (intake S.Source source.old) (intake S.Source source.new)
         at result }
@@ -32,7 +32,7 @@ pub(crate) fn magic<S: Source>(source: &mut S, at: u64) -> Result<(), FrameFault
     Ok(())
 }
 
-/// The version of the stream's form.
+/// Reads the stream's version, which must be 3.
 pub(crate) fn version<S: Source>(source: &mut S, at: u64) -> Result<(), FrameFault>
     ensures reads { ReadsVersion (intake S.Source source.old) (intake S.Source source.new)
         at result }
@@ -46,7 +46,7 @@ pub(crate) fn version<S: Source>(source: &mut S, at: u64) -> Result<(), FrameFau
     }
 }
 
-/// A number of this kind.
+/// Reads a number of `kind`.
 #[inline(always)]
 pub(crate) fn number<S: Source>(source: &mut S, at: u64, kind: Kind) -> Result<i128, FrameFault>
     ensures range { IfOk result (InRange kind) }
@@ -62,7 +62,7 @@ pub(crate) fn number<S: Source>(source: &mut S, at: u64, kind: Kind) -> Result<i
     }
 }
 
-/// A unit between sections, whose first byte may be held.
+/// Reads a unit between sections. Its first byte may be held.
 pub(crate) fn step<S: Source>(
     source: &mut S,
     at: u64,
@@ -81,7 +81,7 @@ pub(crate) fn step<S: Source>(
     marked(source, at, between, unit)
 }
 
-// What begins with the one byte that came.
+// Reads the unit that begins with the byte in `unit`.
 fn marked<S: Source>(
     source: &mut S,
     at: u64,
@@ -107,7 +107,7 @@ fn marked<S: Source>(
     }
 }
 
-// Why a subsection may not stand between sections.
+// Returns why no subsection may come between sections.
 fn sub_reason(between: Between) -> Reason
     ensures { result ≡ sub_reason_of between }
 {
@@ -117,7 +117,7 @@ fn sub_reason(between: Between) -> Reason
     }
 }
 
-// The head of a section, of which the mark came.
+// Reads the head of a section, whose mark is in `unit`.
 fn section<S: Source>(source: &mut S, at: u64, unit: Unit) -> Result<Step, FrameFault>
     requires { length unit.items ≡ 1 }
     ensures reads { ReadsNext (intake S.Source source.old) (intake S.Source source.new)
@@ -131,7 +131,7 @@ fn section<S: Source>(source: &mut S, at: u64, unit: Unit) -> Result<Step, Frame
     Ok(Step::Section(Head::of(&unit)))
 }
 
-// A configuration, of which the mark came.
+// Reads a configuration, whose mark is in `unit`.
 fn configuration<S: Source>(source: &mut S, at: u64, unit: Unit) -> Result<Step, FrameFault>
     requires { length unit.items ≡ 1 }
     ensures reads { ReadsNext (intake S.Source source.old) (intake S.Source source.new)
@@ -147,7 +147,7 @@ fn configuration<S: Source>(source: &mut S, at: u64, unit: Unit) -> Result<Step,
     Ok(Step::Configuration(Configuration::of(&unit).machine))
 }
 
-// A section that is sent in parts, of which the mark came.
+// Reads the head of a section that is sent in parts, whose mark is in `unit`, and refuses it.
 fn start<S: Source>(source: &mut S, at: u64, unit: Unit) -> Result<Step, FrameFault>
     requires { length unit.items ≡ 1 }
     ensures reads { ReadsNext (intake S.Source source.old) (intake S.Source source.new)
@@ -161,7 +161,7 @@ fn start<S: Source>(source: &mut S, at: u64, unit: Unit) -> Result<Step, FrameFa
     Err(refused(at, start_reason(&unit[HEAD_FRONT..])))
 }
 
-// Why a section of this name, which is sent in parts, isn't read.
+// Returns why the section `name`, which is sent in parts, is refused.
 fn start_reason(name: &[u8]) -> Reason
     ensures { result ≡ start_reason_of name.now }
 {
@@ -172,7 +172,7 @@ fn start_reason(name: &[u8]) -> Reason
     }
 }
 
-/// What stands behind the fields of the section with this id.
+/// Reads what follows the fields of the section `id`.
 pub(crate) fn behind<S: Source>(
     source: &mut S,
     at: u64,
@@ -188,7 +188,7 @@ pub(crate) fn behind<S: Source>(
     behind_marked(source, at, id, tail, unit)
 }
 
-// What begins behind fields with the one byte that came.
+// Reads what begins after fields with the byte in `unit`.
 fn behind_marked<S: Source>(
     source: &mut S,
     at: u64,
@@ -215,7 +215,8 @@ fn behind_marked<S: Source>(
     }
 }
 
-// What begins behind fields with a byte: in a footed section a footer must come, and in a bare one none may.
+// Returns what `byte` begins after fields. In a footed stream a footer must come, in a bare one
+// none may.
 fn begins(tail: Tail, byte: u8) -> Begins
     ensures { IsBegun (tail_of tail) byte result }
 {
@@ -230,7 +231,7 @@ fn begins(tail: Tail, byte: u8) -> Begins
     }
 }
 
-// The head of a subsection, of which the mark came.
+// Reads the head of a subsection, whose mark is in `unit`.
 fn subsection<S: Source>(source: &mut S, at: u64, unit: Unit) -> Result<SubHead, FrameFault>
     requires { length unit.items ≡ 1 }
     ensures { ReadsSub (intake S.Source source.old) (intake S.Source source.new)
@@ -243,7 +244,7 @@ fn subsection<S: Source>(source: &mut S, at: u64, unit: Unit) -> Result<SubHead,
     Ok(SubHead::of(&unit))
 }
 
-// The footer of the section with this id, of which the mark came.
+// Reads the footer of the section `id`, whose mark is in `unit`.
 fn footer<S: Source>(source: &mut S, at: u64, id: u32, unit: Unit) -> Result<(), FrameFault>
     requires { length unit.items ≡ 1 }
     ensures { ReadsFoot (intake S.Source source.old) (intake S.Source source.new)
@@ -257,14 +258,15 @@ fn footer<S: Source>(source: &mut S, at: u64, id: u32, unit: Unit) -> Result<(),
     Ok(())
 }
 
-// What stands at this place is not the footer that the section must have.
+// Returns the refusal of what isn't the footer that the section must have.
 fn no_footer(at: u64) -> FrameFault
     ensures { result ≡ FrameFault.Refused at Reason.BadFooter }
 {
     refused(at, Reason::BadFooter)
 }
 
-/// What belongs to the stream after its end mark, and how many bytes it has: nothing, or a description section.
+/// Reads what belongs to the stream after its end mark, and returns its length: nothing, or a
+/// description section.
 pub(crate) fn trailer<S: Source>(source: &mut S, at: u64) -> Result<u64, FrameFault>
     ensures reads { ReadsTrailer (intake S.Source source.old) (intake S.Source source.new)
         at result }
@@ -279,7 +281,7 @@ pub(crate) fn trailer<S: Source>(source: &mut S, at: u64) -> Result<u64, FrameFa
     }
 }
 
-// A description section, of which the mark came, and how many bytes it has with its mark.
+// Reads a description section after its mark, and returns its length with the mark.
 fn description<S: Source>(source: &mut S, at: u64) -> Result<u64, FrameFault>
     ensures reads { ReadsText (intake S.Source source.old) (intake S.Source source.new)
         (0x06 ∷ []) at result }

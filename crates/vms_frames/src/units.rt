@@ -3,10 +3,10 @@ ghost use Rattle.std.specs.Prelude.{◌≡◌};
 
 use vms_marks::{CONFIGURATION_FRONT, Head, Name};
 
-/// Where between the sections a cursor stands.
+/// Where between sections a cursor is.
 #[derive(Clone, Copy, Debug, PartialEq, Eq)]
 pub enum Between {
-    /// Directly after the stream head, where alone a configuration may stand.
+    /// Directly after the stream head; only here a configuration may come.
     First,
     /// Directly after a configuration.
     AfterConfiguration,
@@ -28,11 +28,11 @@ pub enum Step {
 /// Whether the sections of a stream have footers.
 #[derive(Clone, Copy, Debug, PartialEq, Eq)]
 pub enum Tail {
-    /// Not known yet: no configuration came, and no section has ended.
+    /// Not known yet: no configuration has come, and no section has ended.
     Unknown,
-    /// All have: a configuration or a footer came.
+    /// All have one: a configuration or a footer has come.
     Footed,
-    /// None has: a section ended without a footer.
+    /// None has one: a section has ended without a footer.
     Bare,
 }
 
@@ -47,7 +47,7 @@ pub enum After {
     Done,
 }
 
-/// What was read behind fields.
+/// What was read after fields.
 #[derive(Drop)]
 pub(crate) enum Behind {
     /// The head of a subsection.
@@ -58,14 +58,14 @@ pub(crate) enum Behind {
     Done,
 }
 
-/// What begins behind fields with a byte.
+/// What a byte after fields begins.
 #[derive(Clone, Copy)]
 pub(crate) enum Begins {
     /// A subsection.
     Sub,
     /// A footer.
     Footer,
-    /// None of both, where one must be.
+    /// Neither a subsection nor a footer, though one is required.
     NoFooter,
     /// A unit between sections.
     Next,
@@ -74,7 +74,7 @@ pub(crate) enum Begins {
 impl Step {
     ghost use Rattle.vms_frames.specs.Calls.{step_long};
 
-    // The number of its bytes.
+    // Returns the unit's number of bytes.
     pub(crate) fn long(&self) -> u64
         ensures { result ≡ step_long self.now }
     {

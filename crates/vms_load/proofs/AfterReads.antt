@@ -1,4 +1,4 @@
--- What stands behind the fields of a part, as the judge reads it.
+-- What comes after the fields of a part, as the judge reads it.
 use Rattle.std.proofs.Common.{◌≡◌, ℕ, zero, suc, ◌+◌, ◌-◌, ◌<◌, ◌≤◌, List, [], ◌∷◌, length, drop, get_or, slice_set, Option, Some, None, Bool, true, false, nat_lt, if◌then◌else◌, Result, Ok, Err, IfSome, refl, sym, ap, ◌∙◌, subst, arith}
 use Rattle.std.specs.List.{slice_get}
 use Rattle.std.proofs.lemmas.List.{drop_all}
@@ -86,7 +86,7 @@ module _ (set : Set) (names : List (List ℕ)) (state : State) (section : Sectio
       ∙ ap (judge_seen (Some section.device) (ask set names inner) rest) (seen_holds t section.device (known_at set inner) (in_section section.id) rest refl)
       )
 
-  -- behind a section without a footer
+  -- after a section without a footer
   abbrev free : State
   free = record { machine = state.machine; images = slice_set state.images section.device image; came = state.came; tail = IsBare; spot = Free false false }
 
@@ -107,7 +107,7 @@ module _ (set : Set) (names : List (List ℕ)) (state : State) (section : Sectio
       (subst (λ (x : Option (Reading State)). Reads x next from.at to rest left (Err (faults.Refused (record { section = Some section.device; at = place; reason = reason })))) (sym (after_is from.at rest a.0))
       (unit_fails go (Some section.device) (ask set names inner) from.at rest (seen (AfterFields 0 t) (in_section section.id) rest) left next to place reason a.1 a.2))
 
-  -- a unit behind the fields that is judged
+  -- a unit after the fields that is judged
   pub after_settled : (from to : Stand) (old left : Option (List ℕ)) (x : Piece) (n : ℕ) (now : Section) (new : Image) (result : Result (Option Open) LoadFault) → from.held ≡ None → to.held ≡ None
       → IfSome old (λ rest. (begins_next t rest ≡ false) × (seen (AfterFields 0 t) (in_section section.id) rest ≡ Good x n) × (left ≡ Some (drop n rest))) → to.at ≡ from.at + n
       → Settles (ask set names inner x n) from.at (λ next. state_in state now new (spot_in now next)) n result

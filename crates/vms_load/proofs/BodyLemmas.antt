@@ -18,7 +18,7 @@ use Rattle.vms_frames.specs.declared.fault.FrameFault.{FrameFault}
 use Rattle.vms_frames.specs.declared.fault.FrameFault.TheVariants as faults
 use Rattle.vms_load.specs.Bodies.{TakesAs, ReadsCapped, ReadsConstant}
 
--- ---- what a slot asks besides
+-- ---- what else a slot requires
 
 module _ (kind : Kind) (rest : List ℕ) where
   abbrev z : ℤ
@@ -63,7 +63,7 @@ to_bad a b e x n why f g h =
 number_same : (kind : Kind) (z y : ℤ) → Number 0 kind z ≡ Number 0 kind y → z ≡ y
 number_same kind z y e = cc
 
--- a fault without what a slot asks is the same with it
+-- a fault without the slot's own checks is the same with them
 fails_with : (a b e : Bool) (x y : Piece) (n : ℕ) (why other : Reason) (rest : List ℕ) (left : Option (List ℕ)) (reason : Reason) → Fails (by_tests a b false x n why) rest left reason → Fails (by_tests a b e y n other) rest left reason
 fails_with true b e x y n why other rest left reason h = h
 fails_with false true e x y n why other rest left reason h = h

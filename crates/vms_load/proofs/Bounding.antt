@@ -1,4 +1,4 @@
--- How many bytes the streams of a well-formed set have at most.
+-- The most bytes of the streams of a well-formed set.
 use Rattle.std.proofs.Common.{◌≡◌, ℕ, zero, suc, ◌+◌, ◌*◌, ◌^◌, ◌<◌, ◌≤◌, List, [], ◌∷◌, ◌++◌, length, get_or, map, None, Some, false, true, nat_le, refl, sym, ap, ◌∙◌, subst, arith}
 use Rattle.std.specs.List.{slice_get}
 use Rattle.std.proofs.lemmas.Bool.{and_parts, leb-true}
@@ -99,7 +99,7 @@ module _ (set : Set) (well : is_well_formed set ≡ true) where
             subst (λ (x : Sub). AreSmall x.desc.fields) (get_or_from_slice_get (device_at set k).subs j s _ g) (part_small set (well_of set well) k (Some j) lt (slice_get_within (device_at set k).subs j s g)),
       )
 
-  -- so many bytes are no place above 2 ^ 63
+  -- this many bytes give no offset above 2 ^ 63
   pub most_small : devices_most set set.devices ≤ 2 ^ 27
   most_small = omega (arith, devices_small set.devices part_of_device, few_items set well, few_devices set well)
 

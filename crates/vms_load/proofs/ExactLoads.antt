@@ -1,4 +1,4 @@
--- A load answers exactly by what the input is.
+-- The result of a load says exactly what the input is.
 use Rattle.std.proofs.Common.{ℕ, ◌+◌, ◌≤◌, List, length, drop, Option, Some, Ok, Err, ap, arith, length-append, length-drop}
 use Rattle.vms_io.proofs.ReadingLemmas.{reads_as}
 use Rattle.vms_frames.specs.declared.fault.Refusal.{Refusal}
@@ -47,7 +47,7 @@ exact_holds set names well heads input ok left images taken result l = record {
 
 -- ---- what a refusal takes
 
--- the unit at fault stands within the input
+-- the offending unit is within the input
 unit_within : (set : Set) (names : List (List ℕ)) (u : List Piece) (rest : List ℕ) (section : Option ℕ) (reason : Reason) (size : ℕ) → Why set names u rest section reason size → size ≤ length rest
 unit_within set names u rest section reason size (Fails h) = omega arith
 unit_within set names u rest section reason size (Cut h o n) = omega arith

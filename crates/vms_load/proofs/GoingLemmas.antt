@@ -20,7 +20,7 @@ spent_on : {X : Type 0} (from to end : Stand) (some most : ℕ) (result : Result
 spent_on from to end some most (Ok x) up more le k n e l = omega (arith, up, more, e, l)
 spent_on from to end some most (Err fault) up more le k n e l = omega (arith, up, le, e, l)
 
--- whatever a call answers, it took as many bytes as the cursor has come further
+-- whatever a call returns, it took the bytes by which the cursor has advanced
 pub spent_by : {X : Type 0} (from to : Stand) (most : ℕ) (result : Result X LoadFault) (n : ℕ) → n ≡ reach to - reach from → n ≤ most → IsSpent from to most result n
 spent_by from to most (Ok x) n e le = e
 spent_by from to most (Err fault) n e le = le
@@ -40,11 +40,11 @@ pub goes_on : {X : Type 0} {a b c : Intake} (some most : ℕ) (reading middle : 
 goes_on some most reading middle next from to end result h i up more le p q =
     reads_both (λ k n e l. spent_on from to end some most result up more le k n e l) (λ all rest left l r. reads_on (Some all) (Some rest) (Some left) reading middle next from to end result h i l r) p q
 
--- a fault is told alike whatever would follow
+-- a fault is reported alike whatever would follow
 pub goes_still : (X Y : Type 0) {a b : Intake} (most : ℕ) (reading : Onward) (next : X → Onward) (other : Y → Onward) (from to end : Stand) (e : LoadFault) → GoesOn {X = X} a b most reading next from to (Err e) → GoesOn {X = Y} a b most reading other from end (Err e)
 goes_still X Y most reading next other from to end e p = reads_as (λ n l. l) (λ rest left h. still_on {X = X} {Y = Y} (Some rest) reading next other from to end (Some left) e h) p
 
--- a unit that came was judged: the call goes on, or the unit is at fault
+-- a unit that came was judged: the call goes on, or the unit is invalid
 module _ {a b : Intake} {L : ℕ → Type 0} {P : List ℕ → List ℕ → Type 0} where
   pub goes_refused : (e : LoadFault) → IsRefused e → Reads On a b L P → Reads (fault_course e) a b L P
   goes_refused (faults.Refused r) ok p = reads_last p
@@ -54,13 +54,13 @@ module _ {a b : Intake} {L : ℕ → Type 0} {P : List ℕ → List ℕ → Type
   goes_judged (Ok x) ok p = p
   goes_judged (Err e) ok p = goes_refused e ok p
 
--- a head that was judged, behind which nothing is read
+-- a head that was judged, after which nothing is read
 pub behind_here : {X : Type 0} (a : Intake) (most : ℕ) (go : State → Onward) (v : Verdict State) (next : X → Onward) (at long : ℕ) (from to : Stand) (e : LoadFault) → IsRefused e → a.given < 2 ^ 64
     → ((more bytes : List ℕ) → IsBehind long at bytes from (Some more) → ReadsBehind go v next at long bytes to (Some more) (Err e)) → GoesBehind a a most go v next at long from to (Err e)
 behind_here a most go v next at long from to e ok counted h =
     goes_refused e ok (record { bytes = []; takes = takes_none a counted; long = omega arith; says = λ more f. h more; cause = tt })
 
--- a fault of a cursor, beside the device concerned
+-- a fault of a cursor, with the device concerned
 pub same_course : (section : Option ℕ) (e : FrameFault) → frame_course e ≡ fault_course (concerning section e)
 same_course section (frames.Refused at reason) = refl
 same_course section frames.ReadFault = refl

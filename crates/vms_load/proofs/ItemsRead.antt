@@ -58,7 +58,7 @@ module _ {a b : Intake} (kind : Kind) (at : ℕ) where
   pub reads_no_constant : (y : ℤ) (e : FrameFault) → Number a b kind at (Err e) → Constant a b kind at y (Err e)
   reads_no_constant y e p = reads_as (λ n l. l) (λ rest left h. constant_err kind at (Some left) y rest e h) p
 
--- of the validations of a description nothing is read
+-- nothing is read for the validations of a description
 pub reads_rule : (a : Intake) (holds : Bool) (numbers : List ℤ) (at : ℕ) (result : Result (Unit {0}) FrameFault) → a.given < 2 ^ 64 → OnOk result (holds ≡ true)
     → IfErr result (λ fault. (holds ≡ false) × (fault ≡ faults.Refused at reasons.Invalid)) → TakesOn a a 0 at at (λ rest. take_slot (Rule holds) (progress numbers at rest)) numbers result
 reads_rule a holds numbers at (Ok x) counted ok err =

@@ -1,4 +1,4 @@
--- What a load answers, by what the judge reads.
+-- What a load returns, by what the judge reads.
 use Rattle.std.proofs.Common.{◌≡◌, ℕ, ◌+◌, List, [], ◌++◌, map, drop, Option, Some, None, Result, Ok, Err, IfSome, inl, inr, refl, sym, ap, ◌∙◌, subst}
 use Rattle.vms_kinds.specs.Bytes.{IsBytes}
 use Rattle.vms_spec.specs.Sets.{Set}
@@ -68,7 +68,7 @@ module _ {a b : Intake} (set : Set) (names : List (List ℕ)) (well : WellFormed
     cause = tt;
   }
 
-  -- one that is refused is at fault
+  -- one that is refused has a fault
   pub loads_refused : (images : List Image) (taken : ℕ) (fault : LoadFault) → Through a b set names staged (Err fault) → LoadReads a b set names images taken (Err fault)
   loads_refused images taken (faults.Refused r) h = record {
     bytes = h.bytes;

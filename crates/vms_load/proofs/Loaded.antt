@@ -1,4 +1,4 @@
--- What a load says of what is told, and how much is given.
+-- What a load says about the known input, and how many bytes it takes.
 use Rattle.std.proofs.Common.{◌≡◌, ◌≤◌, ℕ, ◌+◌, List, Option, Some, None, Result, Ok, Err, IfSome, arith}
 use Rattle.vms_io.specs.Causes.{capped}
 use Rattle.vms_io.specs.Told.{Intake}

@@ -36,7 +36,7 @@ use Rattle.vms_load.proofs.ReadLemmas.{IsLong, refused_here}
 pub refusal_is : (r s : Refusal) → faults.Refused r ≡ faults.Refused s → r ≡ s
 refusal_is r s e = cc
 
--- the unit of a head, and how long it is
+-- the unit of a head, and its length
 abbrev pub head_unit : Head → Piece
 head_unit head = HeadUnit head.id head.name.items head.instance head.version
 
@@ -117,7 +117,7 @@ module _ (set : Set) (names : List (List ℕ)) (staged : Staged) (first configur
       subst (λ (v : Verdict State). ReadsOn (behind go place v) (λ _. go final) from end old left result) (sym begins)
       (subst (λ (s : State). ReadsOn (in_fields set names (begun k) (record { device = k; id = head.id; tail = tail }) None image) (λ _. go s) from end old left result) last r)
 
--- where the section has ended
+-- if the section has ended
 abbrev pub ended_in : Option (List ℕ) → List Image → List Bool → tails.Tail → State
 ended_in machine images came tail = record { machine = machine; images = images; came = came; tail = tail; spot = Free false false }
 

@@ -75,7 +75,7 @@ module _ (set : Set) (good : IsGood set) (section : Section) (here : section.dev
         body_read set names outer device image section.device section.id sub there room good.structs (part_desc device sub) v (part_base set device sub) (part_sound sub (open_in device image sub v open'))
         (slots_are sub open') (start place rest)
 
-    -- behind all slots
+    -- after all slots
     all_done : section.device < length state.images → (done : ℕ) (q : Progress) → drop done (part_slots set (Some device) (record image { numbers = q.numbers }) sub) ≡ []
         → reading_on (judge (by_state set names)) (state_in state section (record image { numbers = q.numbers }) (Inside section.device section.id sub done)) q.place q.rest
         ≡ after_fields set names state section sub (record image { numbers = q.numbers }) q.place q.rest
@@ -85,7 +85,7 @@ module _ (set : Set) (good : IsGood set) (section : Section) (here : section.dev
         after_read set names outer device image section.device section.id sub there room done q h
         ∙ sym (after_read set names outer device image section.device section.id sub there room (length all) q (drop_all (length all) all enough))
 
-    -- what is left behind what was taken, or from the unit at fault on
+    -- the rest after what was taken, or from the offending unit on
     front_left : IsIn device sub → (place : ℕ) (rest : List ℕ) (t : Taken) → taken place rest ≡ t → Leaves place rest t
     front_left inside place rest t e = subst (λ (t : Taken). Leaves place rest t) e (desc_leaves set.structs good.structs (part_desc device sub) v (part_base set device sub) (start place rest) (part_sound sub inside))
 

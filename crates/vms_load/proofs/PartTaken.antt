@@ -22,7 +22,7 @@ use Rattle.vms_walk.proofs.Least.{exceeds_least}
 use Rattle.vms_load.specs.Bodies.{TakesAs}
 use Rattle.vms_load.specs.Reading.{slot_of, take_steps, last_numbers, numbers_then, take_append, last_taken, Told, from, IsTaken, IsStopped}
 
--- a step takes what its slot takes: of the capacities that a number counts, the least decides
+-- a step takes what its slot takes: the least of the capacities that a number counts decides
 slot_taken : (x : Slot) (p : Progress) → take_slot (slot_of (step_of x)) p ≡ take_slot x p
 slot_taken (Number c kind caps) p =
     let w = width kind in
@@ -67,7 +67,7 @@ last_below cell (x ∷ xs) p above =
     go (Ok q) k h = same_trans cell p.numbers q.numbers (last_numbers (steps_of xs) q) k.kept (h q)
     go (Err e) k h = same_refl cell p.numbers
 
--- ---- the slots by the numbers that stand at the end
+-- ---- the slots by the numbers at the end
 
 module _ (set : Set) (structs : AreSound set.structs) (d : Desc) (sound : IsSound d) (v base : ℕ) where
   abbrev slots : List ℤ → List Slot
@@ -80,7 +80,7 @@ module _ (set : Set) (structs : AreSound set.structs) (d : Desc) (sound : IsSoun
     abbrev Fails : Refusal → Type 0
     Fails e = take_steps (steps_of (slots n)) p ≡ Err e
 
-    -- the numbers below what is left stand
+    -- the numbers below the remaining slots are final
     later : (cell : ℕ) (done rest : List Slot) (q : Progress) → slots n ≡ done ++ rest → take_steps (steps_of done) p ≡ Ok q → IsAbove cell rest → SameBelow cell q.numbers n
     later cell done rest q e t above =
         let parts : steps_of (slots n) ≡ steps_of done ++ steps_of rest = ap steps_of e ∙ steps_append done rest in
@@ -120,7 +120,7 @@ module _ (set : Set) (structs : AreSound set.structs) (d : Desc) (sound : IsSoun
         let c = set_desc_comes slots Holds Fails keeping set.structs structs d v base p sound (λ m. refl) first in
         ended _ (take_desc (takers set.structs (length set.structs)) d v base p) c.comes
 
-  -- ---- by what a walk tells
+  -- ---- by what a walk says
 
   abbrev part_taken : Progress → Taken
   part_taken p = take_desc (takers set.structs (length set.structs)) d v base p

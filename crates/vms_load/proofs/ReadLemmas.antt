@@ -28,7 +28,7 @@ pub unit_of : (set : Set) (names : List (List ℕ)) (s : State) (place : ℕ) (r
     → reading_on (judge (by_state set names)) s place rest ≡ reading_after (reading_on (judge (by_state set names))) place rest (judge (by_state set names) s rest)
 unit_of set names s place rest = one_unit (judge (by_state set names)) (advances (by_state set names) (λ s. solid set s s.spot)) s place rest
 
--- a fault is told alike whatever would follow
+-- a fault is reported alike whatever would follow
 pub still : {X Y : Type 0} (reading same : Option (Reading State)) (next : X → Onward) (other : Y → Onward) (at : ℕ) (to end : Stand) (rest : List ℕ) (left : Option (List ℕ)) (e : LoadFault)
     → reading ≡ same → Reads reading next at to rest left (Err e) → Reads same other at end rest left (Err e)
 still reading same next other at to end rest left (faults.Refused r) e h = record { long = h.long; is = sym e ∙ h.is; from = h.from; taken = h.taken }
@@ -43,7 +43,7 @@ still_on (Some rest) reading next other from to end left e h =
 drop_between : (at to end : ℕ) (rest : List ℕ) → at ≤ to → to ≤ end → drop (end - to) (drop (to - at) rest) ≡ drop (end - at) rest
 drop_between at to end rest h i = drop-drop (end - to) (to - at) rest ∙ ap (λ (n : ℕ). drop n rest) (omega arith)
 
--- a fault behind bytes that were taken is one of the whole
+-- a fault after bytes that were taken is one of the whole
 pub still_behind : {X Y : Type 0} (reading same : Option (Reading State)) (next : X → Onward) (other : Y → Onward) (at to : ℕ) (end last : Stand) (rest left : List ℕ) (new : Option (List ℕ)) (e : LoadFault) → at ≤ to
     → left ≡ drop (to - at) rest → reading ≡ same → Reads same next to end left new (Err e) → Reads reading other at last rest new (Err e)
 still_behind reading same next other at to end last rest left new (faults.Refused r) le there e h =
@@ -84,7 +84,7 @@ leads_here (Some rest) next from = (refl, ap (λ (n : ℕ). drop n (ahead from.h
 
 -- ---- units
 
--- a verdict that goes on does so behind n bytes
+-- a verdict that goes on does so after n bytes
 abbrev pub IsLong : ℕ → Verdict State → Type 0
 IsLong n (Goes m s) = m ≡ n
 IsLong n (Faulty section reason long) = Unit {0}
@@ -101,7 +101,7 @@ refused_here at rest left section reason n r same is =
 abbrev refusal : Option ℕ → ℕ → Reason → Refusal
 refusal section at reason = record { section = section; at = at; reason = reason }
 
--- what is seen is judged further behind it
+-- what is seen is judged further after it
 module _ (go : State → Onward) (section : Option ℕ) (it : Piece → ℕ → Verdict State) (at : ℕ) (rest : List ℕ) where
   abbrev pub judged : Seen → Option (Reading State)
   judged found = reading_after go at rest (judge_seen section it rest found)

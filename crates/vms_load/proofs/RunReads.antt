@@ -28,7 +28,7 @@ pub run_first : (first count : ℕ) (kind : Kind) → 0 < count → (rest : List
 run_first first zero kind some = absurd (omega (arith, some))
 run_first first (suc count) kind some = (run_of (first + 1) count kind, refl)
 
--- an image with the numbers that some codes stand for from a cell on
+-- an image with the numbers of some codes, from a cell on
 abbrev pub filled : Typed → ℕ → Kind → ℕ → List ℕ → Typed
 filled image first kind count bytes = record image { numbers = put_from image.numbers first (values_of kind count bytes) }
 

@@ -42,7 +42,7 @@ run_long kind first (suc count) =
     let more : suc count * width kind ≡ width kind + count * width kind = grind arith in
     omega (arith, more, run_long kind (first + 1) count)
 
--- some first of the cells get numbers
+-- the first few cells get numbers
 pub run_keeps : (kind : Kind) (count first : ℕ) (numbers zs : List ℤ) → length zs ≤ count → Keeps (run_of first count kind) numbers (put_from numbers first zs)
 run_keeps kind count first numbers [] le = keeps_same (run_of first count kind) numbers numbers refl
 run_keeps kind zero first numbers (z ∷ zs) le = absurd (omega (arith, le))

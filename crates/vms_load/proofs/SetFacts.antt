@@ -42,7 +42,7 @@ pub base_is : (set : Set) (k : ℕ) (sub : Option ℕ) → first_cell set (part_
 base_is set k None = refl
 base_is set k (Some j) = refl
 
--- the fields of a part of a device stand among its cells
+-- the fields of a part of a device are among its cells
 module _ (set : Set) (well : is_well_formed set ≡ true) (k : ℕ) (lt : k < length set.devices) where
   has_part : (sub : Option ℕ) → IsIn (device_at set k) sub → HasPart set (part_of k sub)
   has_part None h = lt

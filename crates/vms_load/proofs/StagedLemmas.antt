@@ -35,7 +35,7 @@ same_or_not zero (suc k) P h i = i (λ e. absurd (omega (arith, e)))
 same_or_not (suc j) zero P h i = i (λ e. absurd (omega (arith, e)))
 same_or_not (suc j) (suc k) P h i = same_or_not j k P (λ e. h (ap suc e)) (λ ne. i (λ e. ne (omega (arith, e))))
 
--- an image of each device, one of which is put anew
+-- an image of each device, with one replaced
 pub shaped_put : (set : Set) (images : List Typed) (k : ℕ) (image : Typed) → AreShaped set images → k < length set.devices → IsImageOf set k image → AreShaped set (slice_set images k image)
 shaped_put set images k image s lt here = record {
   all = length-set images k image ∙ s.all;
@@ -211,7 +211,7 @@ sections_taken set (d ∷ devices) (true ∷ came) zero none long e = cc
 sections_taken set (d ∷ devices) (false ∷ came) (suc k) none long e = omega (arith, sections_taken set devices came k none (omega arith) e)
 sections_taken set (d ∷ devices) (true ∷ came) (suc k) none long e = sections_taken set devices came k none (omega arith) e
 
--- what hasn't come stays as it is where the image of one that has come is put
+-- what hasn't come is unchanged if the image of one that has come is put
 pub still_fresh : (set : Set) (old new : List Typed) (came now : List Bool) (k : ℕ) (x image : Typed) → k < length came → now ≡ slice_set came k true
     → new ≡ slice_set old k x → ((j : ℕ) → slice_get came j ≡ Some false → get_or old j no_image ≡ default_at set j)
     → (j : ℕ) → slice_get now j ≡ Some false → get_or (slice_set new k image) j no_image ≡ default_at set j

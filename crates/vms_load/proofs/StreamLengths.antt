@@ -1,4 +1,4 @@
--- How long the streams of a set are at most.
+-- The greatest length of the streams of a set.
 use Rattle.std.proofs.Common.{◌≡◌, ℕ, zero, suc, ◌+◌, ◌*◌, ◌≤◌, Bool, true, false, if◌then◌else◌, List, [], ◌∷◌, ◌++◌, length, map, get_or, Option, Some, None, ℤ, sym, ◌∙◌, arith, length-append}
 use Rattle.std.specs.Prelude.{replicate}
 use Rattle.std.proofs.Math.Nat.{suc-mul}
@@ -75,7 +75,7 @@ rule-le holds = omega arith
 
 -- ---- fields
 
--- each structure has at most so many bytes
+-- each structure has at most this many bytes
 record Within (structs : List Meaning) (ws : List ℕ) : Type 0 where
   pub bounded : (j : ℕ) (numbers : List ℤ) (at : ℕ) → slots_most ((get_or structs j no_meaning).slots numbers at) ≤ get_or ws j 0
 

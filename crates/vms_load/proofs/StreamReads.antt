@@ -28,7 +28,7 @@ use Rattle.vms_load.specs.declared.fault.LoadFault.TheVariants as faults
 use Rattle.vms_load.specs.declared.staged.Staged.{Staged}
 use Rattle.vms_load.proofs.ReadLemmas.{still_behind, unit_fails, unit_of}
 
--- the place behind the stream, or the fault of what follows the end mark
+-- the place after the stream, or the fault of what follows the end mark
 abbrev pub closes_at : ℕ → Result (Unit {0}) FrameFault → Result ℕ LoadFault
 closes_at end (Ok x) = Ok end
 closes_at end (Err fault) = Err (concerning None fault)
@@ -57,7 +57,7 @@ module _ (set : Set) (names : List (List ℕ)) where
       subst (λ (y : Option (Reading State)). ReadsAll set y staged input left (Err (faults.Refused r))) (sym h.is) (refl, h.taken ∙ ap (λ (k : ℕ). Some (drop k input)) all)
   all_refused x staged input left next from to faults.ReadFault zero h = all_fault x staged input left
 
-  -- the reading of a whole input, where the cursor holds nothing
+  -- the reading of a whole input, if the cursor holds nothing
   begins : (state : State) (from : Stand) (input : List ℕ) → state ≡ at_start set → from.at ≡ 0 → from.held ≡ None → go state from.at (ahead from.held input) ≡ whole input
   begins state from input is zero held =
       ap (λ (s : State). go s from.at (ahead from.held input)) is ∙ ap (λ (n : ℕ). go (at_start set) n (ahead from.held input)) zero
@@ -75,7 +75,7 @@ module _ (set : Set) (names : List (List ℕ)) where
     abbrev ended : State
     ended = state_of set staged Ended
 
-    -- behind a description
+    -- after a description
     abbrev closed_state : State
     closed_state = state_of set staged Over
 
@@ -87,7 +87,7 @@ module _ (set : Set) (names : List (List ℕ)) where
     unfolding trailer_at
     end_is place = unit_of set names ended place []
 
-    -- nothing is asked of a unit behind the end mark
+    -- no row needs more for a unit after the end mark
     abbrev IsLast : Seen → Type 0
     IsLast (Good x n) = ask set names ended x n ≡ Goes n closed_state
     IsLast (Bad n reason) = Unit {0}
@@ -161,7 +161,7 @@ module _ (set : Set) (names : List (List ℕ)) where
         subst (λ (x : Option (Reading State)). ReadsAll set x staged input left (closes_at end result)) (sym (trailer_is place b more))
         (by_last place end b input more left result (seen AfterEnd nothing_known (b ∷ more)) (is_last (b ∷ more)) there h)
 
-    -- the stream ends here, or what follows its end mark is at fault
+    -- the stream ends here, or what follows its end mark is invalid
     pub closed : (start : State) (old mid left : Option (List ℕ)) (from to : Stand) (end : ℕ) (result : Result (Unit {0}) FrameFault) → start ≡ at_start set → from.at ≡ 0 → from.held ≡ None → to.held ≡ None
         → LeadsOn (go start) (go ended) from to old mid → ReadsEnd to.at end mid left result
         → IfSome old (λ input. ReadsAll set (whole input) staged input left (closes_at end result))

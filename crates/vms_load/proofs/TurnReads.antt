@@ -1,4 +1,4 @@
--- What stands between sections and before them, as the judge reads it.
+-- The units between sections and before them, as the judge reads them.
 use Rattle.std.proofs.Common.{◌≡◌, ℕ, ◌+◌, ◌-◌, ◌≤◌, nat_lt, if◌then◌else◌, Bool, true, false, List, length, take, drop, Option, Some, None, Result, Ok, Err, IfSome, OnOk, refl, sym, ap, ◌∙◌, subst, arith}
 use Rattle.vms_spec.specs.Sets.{Set}
 use Rattle.vms_spec.specs.declared.Reason.{Reason}
@@ -89,7 +89,7 @@ module _ (set : Set) (names : List (List ℕ)) (state : State) where
   abbrev at_spot : Spot → State
   at_spot spot = record state { spot = spot }
 
-  -- what is asked of a unit of the head: nothing
+  -- no row needs more for a unit of the head
   abbrev asked : Spot → Piece → ℕ → Verdict State
   asked spot = ask set names (at_spot spot)
 
@@ -102,7 +102,7 @@ module _ (set : Set) (names : List (List ℕ)) (state : State) where
   abbrev onward : Unit {0} → Onward
   onward x = go set names (at_spot (Free true false))
 
-  -- the version, behind the magic
+  -- the version, after the magic
   version_read : (place : ℕ) (to : Stand) (rest : List ℕ) (left : Option (List ℕ)) (result : Result (Unit {0}) FrameFault) → OnOk result (to.at ≡ place + 4) → OnOk result (to.held ≡ None)
       → AnswersSeen (λ _. Version (number_at 4 0 rest)) (λ _. 4) (seen AVersion nothing_known rest) place rest left result
       → Reads (go set names (at_spot Headed) place rest) onward place to rest left (concerns None result)

@@ -1,4 +1,4 @@
--- What the calls that read fields answer.
+-- What the calls that read fields return.
 use Rattle.std.specs.Prelude.{◌≡◌, ℕ, ◌+◌, ◌≤◌, List, [], ◌∷◌, get_or, drop, Option, Some, ℤ, Result, Ok, Err, IfSome, OnOk}
 use Rattle.vms_io.specs.Told.{Intake}
 use Rattle.vms_io.specs.Reading.{Reads}
@@ -18,14 +18,14 @@ use Rattle.vms_frames.specs.Reads.{course}
 use Rattle.vms_frames.specs.declared.fault.FrameFault.{FrameFault}
 use Rattle.vms_frames.specs.declared.fault.FrameFault.TheVariants as faults
 
--- the number of a step is of the kind of its cell
+-- `IsOfKind kinds step`: the number of a step has the kind of its cell.
 abbrev pub IsOfKind : List Kind → WalkStep → Type 0
 IsOfKind kinds (steps.Number cell kind most) = get_or kinds cell U8 ≡ kind
 IsOfKind kinds (steps.Constant kind value) = Unit {0}
 IsOfKind kinds (steps.Filler bytes) = Unit {0}
 IsOfKind kinds (steps.Rule holds) = Unit {0}
 
--- each number of the slots is
+-- `AreOfKinds kinds slots`: each number of the slots has the kind of its cell.
 abbrev pub AreOfKinds : List Kind → List Slot → Type 0
 AreOfKinds kinds [] = Unit {0}
 AreOfKinds kinds (NumberSlot c kind capacities ∷ xs) = (get_or kinds c U8 ≡ kind) × AreOfKinds kinds xs
@@ -33,18 +33,20 @@ AreOfKinds kinds (ConstantSlot kind z ∷ xs) = AreOfKinds kinds xs
 AreOfKinds kinds (FillerSlot n ∷ xs) = AreOfKinds kinds xs
 AreOfKinds kinds (RuleSlot b ∷ xs) = AreOfKinds kinds xs
 
--- a number of this kind that is at most each of these capacities
+-- `ReadsCapped kind capacities at old left result`: the call reads a number of `kind` that is at most each of
+-- `capacities`.
 abbrev pub ReadsCapped : Kind → List ℕ → ℕ → Option (List ℕ) → Option (List ℕ) → Result ℤ FrameFault → Type 0
 ReadsCapped kind capacities at old left result =
     IfSome old (λ rest. AnswersSeen (Number 0 kind) (λ _. width kind) (seen (Field 0 (NumberSlot 0 kind capacities)) nothing_known rest) at rest left result)
 
--- this number
+-- `ReadsConstant kind z at old left result`: the call reads the number `z`.
 abbrev pub ReadsConstant : Kind → ℤ → ℕ → Option (List ℕ) → Option (List ℕ) → Result (Unit {0}) FrameFault → Type 0
 ReadsConstant kind z at old left result =
     IfSome old (λ rest. AnswersSeen (λ _. Constant kind z) (λ _. width kind) (seen (Field 0 (ConstantSlot kind z)) nothing_known rest) at rest left result)
 
--- the call takes what the definition takes: at its end these are the numbers, the place and what is left. At a fault exactly
--- the bytes up to the end of the unit at fault were taken.
+-- `TakesAs taken numbers place left result`: the call takes what `taken` says: the numbers, the offset and
+-- the rest of the input are those. After a refusal exactly the bytes up to the end of the offending unit were
+-- taken.
 abbrev pub TakesAs : Taken → List ℤ → ℕ → Option (List ℕ) → Result (Unit {0}) FrameFault → Type 0
 TakesAs (Ok p) numbers place left (Ok x) = (numbers ≡ p.numbers) × (place ≡ p.place) × (left ≡ Some p.rest)
 TakesAs (Ok p) numbers place left (Err (faults.Refused at reason)) = ⊥
@@ -52,15 +54,17 @@ TakesAs (Err e) numbers place left (Ok x) = ⊥
 TakesAs (Err e) numbers place left (Err (faults.Refused at reason)) = (at ≡ e.place) × (reason ≡ e.reason) × (left ≡ Some (drop e.long e.rest))
 TakesAs taken numbers place left (Err faults.ReadFault) = Unit {0}
 
--- where a body is read on: the numbers of all cells so far, the place, and the bytes that are left
+-- The progress of a body: the numbers of all cells so far, the offset, and the rest of the input.
 abbrev pub progress : List ℤ → ℕ → List ℕ → Progress
 progress numbers place rest = record { numbers = numbers; place = place; rest = rest }
 
--- at most so many bytes are taken: as many as the place has moved, where the call doesn't fail
+-- `HasMoved most from to result n`: at most `most` bytes are taken. If the call succeeds, `n` is the distance
+-- from offset `from` to `to`.
 abbrev pub HasMoved : ℕ → ℕ → ℕ → Result (Unit {0}) FrameFault → ℕ → Type 0
 HasMoved most from to result n = (n ≤ most) × OnOk result (to ≡ from + n)
 
--- from a place on the call takes what the definition takes of the bytes that are left, and these are the numbers then
+-- `TakesOn old new most from to taken numbers result`: from offset `from` on the call takes what `taken` says
+-- of the rest of the input, and the numbers are `numbers` then.
 abbrev pub TakesOn : Intake → Intake → ℕ → ℕ → ℕ → (List ℕ → Taken) → List ℤ → Result (Unit {0}) FrameFault → Type 0
 TakesOn old new most from to taken numbers result =
     Reads (course result) old new (HasMoved most from to result) (λ rest left. TakesAs (taken rest) numbers to (Some left) result)

@@ -1,4 +1,4 @@
--- What the images are that a loader keeps.
+-- The images that a loader keeps.
 use Rattle.std.specs.Prelude.{◌≡◌, ℕ, ◌<◌, List, [], ◌∷◌, length, Option, Some, None}
 use Rattle.std.specs.List.{slice_get}
 use Rattle.std.proofs.Props.{props}
@@ -6,12 +6,13 @@ use Rattle.vms_spec.specs.Layout.{Slot, Number, Constant, Filler, Rule}
 use Rattle.vms_spec.specs.Sets.{Sub, Device, Set}
 use Rattle.vms_spec.specs.Images.{Image, AreVersionsOf, RulesHold, IsNormal, IsValid}
 
--- an image of this device that a stream may have
+-- An image of this device that a stream may have: normal and valid (docs/format.md, "Which images may be
+-- written").
 pub record IsKept (set : Set) (d : Device) (image : Image) : Type 0 where
   pub normal : IsNormal set d image
   pub valid : IsValid set d image
 
--- one for each device
+-- There is one for each device.
 pub record AreKept (set : Set) (images : List Image) : Type 0 where
   pub one_each : length images ≡ length set.devices
   pub each : (k : ℕ) (d : Device) (image : Image) → slice_get set.devices k ≡ Some d → slice_get images k ≡ Some image → IsKept set d image

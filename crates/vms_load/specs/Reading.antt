@@ -18,69 +18,75 @@ use Rattle.vms_walk.specs.Steps.{capacities_of}
 use Rattle.vms_walk.proofs.Kept.{keeps_same, keeps_more, keeps_front}
 use Rattle.vms_load.specs.Bodies.{TakesAs, HasMoved, progress}
 
--- the slot of a step, which of the capacities keeps the least
+-- The slot of a step. A step keeps only the least of the capacities.
 abbrev pub slot_of : WalkStep → Slot
 slot_of (steps.Number cell kind most) = Number cell kind (capacities_of most)
 slot_of (steps.Constant kind value) = Constant kind value
 slot_of (steps.Filler bytes) = Filler bytes
 slot_of (steps.Rule holds) = Rule holds
 
--- what is taken at steps one after the other
+-- What steps take, one after the other.
 abbrev pub take_steps : List WalkStep → Progress → Taken
 take_steps [] p = Ok p
 take_steps (x ∷ xs) p = take_slot (slot_of x) p >>= take_steps xs
 
--- the numbers behind the steps, or where one of them is refused
+-- The numbers after what was taken, or those before a step that is refused.
 abbrev pub numbers_then : Taken → List ℤ → (Progress → List ℤ) → List ℤ
 numbers_then (Ok q) numbers more = more q
 numbers_then (Err e) numbers more = numbers
 
+-- The numbers after these steps, or before the first that is refused.
 abbrev pub last_numbers : List WalkStep → Progress → List ℤ
 last_numbers [] p = p.numbers
 last_numbers (x ∷ xs) p = numbers_then (take_slot (slot_of x) p) p.numbers (last_numbers xs)
 
--- how many bytes steps have
+-- The number of bytes of a step.
 abbrev pub step_long : WalkStep → ℕ
 step_long (steps.Number cell kind most) = width kind
 step_long (steps.Constant kind value) = width kind
 step_long (steps.Filler bytes) = bytes
 step_long (steps.Rule holds) = 0
 
+-- The number of bytes of steps.
 abbrev pub steps_long : List WalkStep → ℕ
 steps_long [] = 0
 steps_long (x ∷ xs) = step_long x + steps_long xs
 
--- an image, a place, and what a source tells
+-- An image, an offset, and what is known of a source.
 pub record Told : Type 0 where
   pub image : Typed
   pub place : ℕ
   pub source : Intake
 
+-- These three together.
 abbrev pub told : Typed → ℕ → Intake → Told
 told image place source = record { image = image; place = place; source = source }
 
+-- The progress at `t`, if `rest` is the rest of the input.
 abbrev pub from : Told → List ℕ → Progress
 from t rest = progress t.image.numbers t.place rest
 
--- of the bytes that are left these steps take what was taken, or are refused there
+-- `IsTaken xs old new result rest left`: of the bytes `rest` these steps take what was taken, or are refused
+-- so.
 abbrev pub IsTaken : List WalkStep → Told → Told → Result (Unit {0}) FrameFault → List ℕ → List ℕ → Type 0
 IsTaken xs old new result rest left = TakesAs (take_steps xs (from old rest)) new.image.numbers new.place (Some left) result
 
--- these steps were taken
+-- These steps were taken.
 pub record Took (xs : List WalkStep) (old new : Told) : Type 0 where
   pub reads : Reads On old.source new.source (HasMoved (steps_long xs) old.place new.place (Ok tt)) (IsTaken xs old new (Ok tt))
   pub kept : new.image ≡ record old.image { numbers = new.image.numbers }
   pub keeps : Keeps xs old.image.numbers new.image.numbers
 
--- where the input is at fault, the numbers are those before the step at fault
+-- `IfRefused fault P`: P, if the input is invalid.
 abbrev pub IfRefused : FrameFault → Type 0 → Type 0
 IfRefused (faults.Refused at reason) P = P
 IfRefused faults.ReadFault P = Unit {0}
 
+-- The steps stop so. If the input is invalid, the numbers are those before the refused step.
 abbrev pub IsStopped : List WalkStep → Told → FrameFault → Told → List ℕ → List ℕ → Type 0
 IsStopped xs old fault new rest left = IsTaken xs old new (Err fault) rest left × IfRefused fault (new.image.numbers ≡ last_numbers xs (from old rest))
 
--- some first of the steps were, and then a fault came
+-- Some of the first steps were taken, and then a fault came.
 pub record Failed (xs : List WalkStep) (old : Told) (fault : FrameFault) (new : Told) : Type 0 where
   pub reads : Reads (fault_course fault) old.source new.source (HasMoved (steps_long xs) old.place new.place (Err fault)) (IsStopped xs old fault new)
   pub kept : new.image ≡ record old.image { numbers = new.image.numbers }
@@ -100,7 +106,7 @@ pub long_append : (xs ys : List WalkStep) → steps_long (xs ++ ys) ≡ steps_lo
 long_append [] ys = omega arith
 long_append (x ∷ xs) ys = omega (arith, long_append xs ys)
 
--- the numbers behind steps that are taken, and where further ones follow
+-- The numbers after steps that are taken, if more steps follow.
 pub last_taken : (xs ys : List WalkStep) (p q : Progress) → take_steps xs p ≡ Ok q → last_numbers (xs ++ ys) p ≡ last_numbers ys q
 last_taken [] ys p q e = ap (λ (t : Taken). numbers_then t p.numbers (last_numbers ys)) e
 last_taken (x ∷ xs) ys p q e = go (take_slot (slot_of x) p) (λ r. last_taken xs ys r q) e
@@ -110,7 +116,7 @@ last_taken (x ∷ xs) ys p q e = go (take_slot (slot_of x) p) (λ r. last_taken 
     go (Ok r) h e = h r e
     go (Err r) h e = cc
 
--- where they are refused, nothing follows
+-- If the steps are refused, further ones change nothing.
 pub last_refused : (xs ys : List WalkStep) (p : Progress) (e : Refusal) → take_steps xs p ≡ Err e → last_numbers (xs ++ ys) p ≡ last_numbers xs p
 last_refused [] ys p r e = cc
 last_refused (x ∷ xs) ys p r e = go (take_slot (slot_of x) p) (λ q. last_refused xs ys q r) e
@@ -125,7 +131,7 @@ last_refused (x ∷ xs) ys p r e = go (take_slot (slot_of x) p) (λ q. last_refu
 abbrev whole : Progress → Taken
 whole p = Ok p
 
--- steps that were taken lead to where these bytes are left
+-- Steps that were taken lead to the progress with this rest.
 leads : (t : Taken) (b : Told) (left : List ℕ) → TakesAs t b.image.numbers b.place (Some left) (Ok tt) → t ≡ Ok (from b left)
 leads (Err e) b left h = absurd h
 leads (Ok q) b left h =

@@ -1,4 +1,4 @@
-// Reads the fields and the validations of a part, step by step.
+// Reads the fields and checks the validations of a part, step by step.
 ghost use Rattle.std.specs.Prelude.{◌≡◌, ◌+◌, ◌≤◌, ◌^◌, ◌∷◌, [], List, ℤ, None, OnOk, OnErr, IfErr};
 ghost use Rattle.vms_desc.specs.Described.{described};
 ghost use Rattle.vms_desc.specs.Parts.{desc_at};
@@ -20,7 +20,12 @@ use vms_kinds::Kind;
 use vms_spec::Reason;
 use vms_walk::{PartAt, WalkStep, Walker, walk};
 
-/// The fields and the validations of a description.
+/// Reads the fields of the part at `spot` into `image` and checks the validations.
+///
+/// # Errors
+///
+/// - [`FrameFault::Refused`]: a unit is invalid, the input ends, or a validation fails.
+/// - [`FrameFault::ReadFault`]: the source failed.
 pub(crate) fn read_part<S: Source>(
     set: &DescSet,
     spot: PartAt,
@@ -55,10 +60,10 @@ pub(crate) fn read_part<S: Source>(
     }
 }
 
-// The codes of a run of numbers have at most so many bytes: 8 for each of 128.
+// The most bytes that the codes of a run take: 128 numbers of 8 bytes.
 const LONGEST_CODES: usize = 1024;
 
-// Reads each step, and puts numbers into the image.
+// Reads each step and puts the numbers into the image.
 #[derive(Drop)]
 struct Reader<'a, S> {
     image: &'a mut Image,

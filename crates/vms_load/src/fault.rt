@@ -5,10 +5,10 @@ use thiserror::Error;
 use vms_frames::{FrameFault, Refusal};
 use vms_spec::Reason;
 
-/// Why a load gave no stream.
+/// Why a load failed.
 #[derive(Debug, Drop, Error)]
 pub enum LoadFault {
-    /// The input is no stream of the set.
+    /// The input isn't a stream of the set. Holds the offset, the device and the reason.
     #[error("the stream is refused")]
     Refused(Refusal),
     /// The source failed; its count of faults has risen.
@@ -19,7 +19,7 @@ pub enum LoadFault {
 impl LoadFault {
     ghost use Rattle.vms_load.specs.Reads.{concerning};
 
-    /// The fault of a unit of this device's section, or of no device's.
+    /// Returns the fault of a unit that belongs to the device `section`, or to none.
     pub(crate) fn concerning(section: Option<u32>, fault: FrameFault) -> LoadFault
         ensures { result ≡ concerning section fault }
     {
@@ -30,7 +30,7 @@ impl LoadFault {
     }
 }
 
-/// The unit at this place is at fault.
+/// Returns the refusal of the unit at offset `at`.
 pub(crate) fn refused(section: Option<u32>, at: u64, reason: Reason) -> LoadFault
     ensures { result ≡ LoadFault.Refused (record { section = section; at = at; reason = reason }) }
 {

@@ -15,7 +15,13 @@ use vms_image::Image;
 use vms_marks::{Head, Name};
 use vms_spec::Reason;
 
-/// The device that a section head at this place opens, where these have come.
+/// Returns the number of the device that the section head `head` at offset `at` opens.
+///
+/// `came` says which devices have come.
+///
+/// # Errors
+///
+/// - [`LoadFault::Refused`]: `UnknownSection`, `RepeatedSection`, `TooNew` or `TooOld`.
 pub(crate) fn open_section(
     set: &DescSet,
     came: &[bool],
@@ -40,7 +46,7 @@ pub(crate) fn open_section(
     }
 }
 
-// The reason against a section of a device that came before or not.
+// Returns the reason against a section of `device` at `version`, if there is one.
 fn against_device(device: &Device, came: bool, version: u32) -> Option<Reason>
     ensures { result ≡ reason_against (device_of device.now) came version }
 {
@@ -51,7 +57,7 @@ fn against_device(device: &Device, came: bool, version: u32) -> Option<Reason>
     }
 }
 
-// The reason against a version of a description.
+// Returns the reason against `version` of a description, if there is one.
 fn against_version(desc: &Desc, version: u32) -> Option<Reason>
     ensures { result ≡ reason_against_version (desc_of desc.now) version }
 {
@@ -64,7 +70,11 @@ fn against_version(desc: &Desc, version: u32) -> Option<Reason>
     }
 }
 
-/// The subsection that a subsection head opens in an image of a device, or the reason against it.
+/// Returns the number of the subsection `name` that a subsection head opens.
+///
+/// # Errors
+///
+/// - [`Reason`]: `UnknownSubsection`, `TooNew`, `TooOld` or `RepeatedSubsection`.
 pub(crate) fn open_sub(
     device: &Device,
     image: &Image,
@@ -91,7 +101,7 @@ pub(crate) fn open_sub(
     }
 }
 
-// The reason against a subsection that came before or not.
+// Returns the reason against a subsection that came at version `came` or not yet, if there is one.
 fn against_sub(sub: &Sub, came: Option<u32>, version: u32) -> Option<Reason>
     ensures { result ≡ reason_against_sub (sub_of sub.now) came version }
 {

@@ -1,4 +1,4 @@
-// Numbers that count arrays, constants and unused bytes.
+// Numbers, constants and validations, each with its check.
 ghost use Rattle.std.specs.Prelude.{◌≡◌, ◌+◌, ◌≤◌, ◌^◌, true, false, OnOk, IfOk, IfErr, None};
 ghost use Rattle.vms_kinds.specs.Codes.{InRange, width};
 ghost use Rattle.vms_io.specs.Told.{intake};
@@ -12,7 +12,15 @@ use vms_kinds::Kind;
 use vms_spec::Reason;
 use vms_walk::is_above;
 
-/// A number. It is at most `most`: the least of the capacities of the arrays that it counts, whether or not they are there.
+/// Reads a number of `kind` and checks that it is at most `most`.
+///
+/// `most` is the least capacity of the arrays that the number counts, whether or not these are
+/// there.
+///
+/// # Errors
+///
+/// - [`FrameFault::Refused`]: `CountTooLarge`, `BadBool` or `Truncated`.
+/// - [`FrameFault::ReadFault`]: the source failed.
 #[inline(always)]
 pub(crate) fn number<S: Source>(
     cursor: &mut Cursor,
@@ -40,7 +48,12 @@ pub(crate) fn number<S: Source>(
     Ok(value)
 }
 
-/// A number that must be this one.
+/// Reads a number of `kind` and checks that it is `value`.
+///
+/// # Errors
+///
+/// - [`FrameFault::Refused`]: `NotEqual`, `BadBool` or `Truncated`.
+/// - [`FrameFault::ReadFault`]: the source failed.
 pub(crate) fn constant<S: Source>(
     cursor: &mut Cursor,
     source: &mut S,
@@ -65,7 +78,11 @@ pub(crate) fn constant<S: Source>(
     Ok(())
 }
 
-/// The end of a description, whose validations hold or don't.
+/// Checks `holds`, a validation at the end of a description.
+///
+/// # Errors
+///
+/// - [`FrameFault::Refused`]: `Invalid`, at the cursor's offset, if it doesn't hold.
 pub(crate) fn rule(holds: bool, cursor: &Cursor) -> Result<(), FrameFault>
     ensures ok { OnOk result (holds ≡ true) }
     ensures err { IfErr result (λ fault.

@@ -1,15 +1,20 @@
-//! What follows of every load, as contracts of functions without a body. The statements stand in `specs/Exact.antt`.
+//! What follows for every load, as contracts of functions without a body. The statements are in
+//! `specs/Exact.antt`.
 ghost use Rattle.vms_load.specs.Exact.{ExactLaw, UnitLaw};
 
-/// A load is Ok exactly where the input takes a stream, with its machine, its images and its length, and refused exactly where
-/// it has a fault, at its place, for its device and its reason; but that a read fault may come in place of either.
+/// States that the result of a load says exactly what the input is (`Takes` or `Fault`).
+///
+/// If the input takes a stream, the result is Ok with its machine, images and length. If it has a
+/// fault, the load is refused with its offset, device and reason. A read fault may come instead of
+/// either. The set is well-formed.
 #[tactic(auto, using(crate::proofs::ExactLoads::exact_holds))]
 pub fn exact_law()
     ensures { ExactLaw }
 {}
 
-/// The bytes that a refused load took end with the unit at fault, whether or not the source tells them: they are those before
-/// its place and in it.
+/// States that the bytes that a refused load took end with the offending unit (`EndsAtUnit`).
+///
+/// This holds whether or not the content of the source is known.
 pub fn unit_law()
     ensures { UnitLaw }
 {}

@@ -13,8 +13,9 @@ use vms_desc::DescSet;
 use vms_image::Image;
 use vms_io::{NoMemory, Source};
 
-/// Takes streams of one set in half of the memory of a `Loader`: it keeps no earlier stream, so that after an error its
-/// images say nothing.
+/// A loader that keeps no earlier stream, so it needs half the memory of a `Loader`.
+///
+/// After an error its images mean nothing.
 #[derive(Drop)]
 pub struct LeanLoader {
     set: DescSet,
@@ -30,7 +31,13 @@ impl LeanLoader {
     ghost use Rattle.vms_load.specs.Going.{LoadReads};
     ghost use Rattle.vms_load.specs.Staging.{IsMachine, accepted_of};
 
-    /// A loader that has taken no stream yet. All memory that a load needs is taken here.
+    /// Creates a loader of `set` that has taken no stream yet.
+    ///
+    /// All memory that loads need is allocated here.
+    ///
+    /// # Errors
+    ///
+    /// - [`NoMemory`]: out of memory.
     pub fn new(alloc: Global, set: DescSet) -> Result<LeanLoader, NoMemory>
         ensures set { IfOk result (λ loader. loads loader ≡ described set) }
         ensures taken { IfOk result (λ loader. taken_by loader ≡ 0) }
@@ -43,8 +50,18 @@ impl LeanLoader {
         })
     }
 
-    /// Takes one stream from the source, and answers the machine that it names, or none. `only` and the bytes that are
-    /// taken are those of `Loader::load`.
+    /// Reads one stream from `source` and returns the number of the machine that it names, or none.
+    ///
+    /// `only` and the bytes that are taken are as for `Loader::load`.
+    ///
+    /// # Errors
+    ///
+    /// - [`LoadFault::Refused`]: the input isn't a stream of the set.
+    /// - [`LoadFault::ReadFault`]: the source failed.
+    ///
+    /// # Requires
+    ///
+    /// `only`, if given, is the number of a machine of the set.
     pub fn load<S: Source>(
         &mut self,
         source: &mut S,
@@ -64,7 +81,9 @@ impl LeanLoader {
         Ok(self.staged.machine)
     }
 
-    /// The images of the stream that was taken. They say nothing before the first one and after an error.
+    /// Returns the images of the stream that was taken, one for each device of the set.
+    ///
+    /// Before the first stream and after an error they mean nothing.
     pub fn images(&self) -> &[Image]
         ensures images { map untyped result.now ≡ has self.now }
         ensures of { AreImagesOf (loads self.now) result.now }
@@ -73,7 +92,7 @@ impl LeanLoader {
         &self.staged.images
     }
 
-    /// The set whose streams the loader takes.
+    /// Returns the set whose streams the loader reads.
     pub fn set(&self) -> &DescSet
         ensures { described result.now ≡ loads self.now }
     {

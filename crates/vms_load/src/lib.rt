@@ -1,6 +1,8 @@
-//! The loader: takes one stream of a set from a source, unit by unit, each judged when it is whole.
+//! The loader: reads one stream of a set from a source, unit by unit. Each unit is judged when it
+//! is complete.
 //!
-//! What is read is staged beside the images that are kept, so that a stream that is refused leaves these as they were.
+//! What is read is staged beside the images that are kept, so a refused stream leaves these
+//! unchanged.
 #![tactic(auto)]
 
 mod body;

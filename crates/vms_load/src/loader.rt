@@ -16,14 +16,16 @@ use vms_desc::DescSet;
 use vms_image::Image;
 use vms_io::{NoMemory, Source};
 
-/// Takes streams of one set, and keeps the images of the last that it took.
+/// A loader that keeps the images of the last stream that it took.
+///
+/// A stream that is refused changes nothing.
 #[derive(Drop)]
 pub struct Loader {
     set: DescSet,
     // The images of the last stream that was taken.
     images: Vec<Image>,
     taken: u64,
-    // What is read of a stream until all of it is taken.
+    // What has been read of a stream that isn't complete.
     staged: Staged,
     ghost kept: { AreShaped (set_of set.parts) images.items },
     ghost whole: { 0 < taken → AreKept (set_of set.parts)
@@ -39,8 +41,13 @@ impl Loader {
     ghost use Rattle.vms_load.specs.Going.{LoadReads};
     ghost use Rattle.vms_load.specs.Staging.{IsMachine, accepted_of};
 
-    /// A loader that has taken no stream yet: each image is at its defaults. All memory that a load needs is
-    /// taken here.
+    /// Creates a loader of `set` that has taken no stream yet, with each image at its defaults.
+    ///
+    /// All memory that loads need is allocated here.
+    ///
+    /// # Errors
+    ///
+    /// - [`NoMemory`]: out of memory.
     pub fn new(alloc: Global, set: DescSet) -> Result<Loader, NoMemory>
         ensures set { IfOk result (λ loader. loads loader ≡ described set) }
         ensures images { IfOk result (λ loader.
@@ -56,12 +63,21 @@ impl Loader {
         })
     }
 
-    /// Takes one stream from the source, and answers the machine that it names, or none.
+    /// Reads one stream from `source` and returns the number of the machine that it names, or none.
     ///
-    /// `only` names the one machine that is accepted in place of the set's. After an error the loader's images
-    /// and what it took are as they were. After a refusal exactly the bytes up to the end of the unit at fault were
-    /// taken from the source: up to the refusal's place after `Invalid`, which is judged behind the last unit of a
-    /// description, and all where the input ends inside the unit.
+    /// If `only` is given, that machine is the only one accepted, instead of all of the set's.
+    /// After an error the loader's images and `taken` are unchanged.
+    ///
+    /// # Errors
+    ///
+    /// - [`LoadFault::Refused`]: the input isn't a stream of the set. Exactly the bytes up to the
+    ///   end of the offending unit have been taken. These end at the refusal's offset for
+    ///   `Invalid`, and are all bytes if the input ends inside the unit.
+    /// - [`LoadFault::ReadFault`]: the source failed.
+    ///
+    /// # Requires
+    ///
+    /// `only`, if given, is the number of a machine of the set.
     pub fn load<S: Source>(
         &mut self,
         source: &mut S,
@@ -83,7 +99,9 @@ impl Loader {
         Ok(self.staged.machine)
     }
 
-    /// The images of the last stream that was taken, or the defaults before the first.
+    /// Returns the images of the last stream that was taken, or the defaults before the first.
+    ///
+    /// There is one for each device of the set, in the set's order.
     pub fn images(&self) -> &[Image]
         ensures images { map untyped result.now ≡ kept self.now }
         ensures of { AreImagesOf (loads self.now) result.now }
@@ -93,14 +111,14 @@ impl Loader {
         &self.images
     }
 
-    /// How many bytes the last stream that was taken has, or 0 before the first.
+    /// Returns the number of bytes of the last stream that was taken, or 0 before the first.
     pub fn taken(&self) -> u64
         ensures { result ≡ taken_by self.now }
     {
         self.taken
     }
 
-    /// The set whose streams the loader takes.
+    /// Returns the set whose streams the loader reads.
     pub fn set(&self) -> &DescSet
         ensures { described result.now ≡ loads self.now }
     {
@@ -108,7 +126,7 @@ impl Loader {
     }
 }
 
-// The images that a loader of the set keeps, and what it reads of a stream, before it has taken any.
+// Returns the images that a loader of `set` keeps at first, and room for what it reads.
 fn room(alloc: Global, set: &DescSet) -> Result<(Vec<Image>, Staged), NoMemory>
     ensures states { let set = described set.now in IfOk result (λ room.
         map untyped room.0.items ≡ map (default_image set) set.devices) }

@@ -21,7 +21,7 @@ use vms_image::Image;
 use vms_io::Source;
 use vms_walk::PartAt;
 
-/// The section that is read: the number of its device, its id, and whether the sections of the stream have footers.
+/// The section that is read: its device, its id, and whether the stream's sections have footers.
 #[derive(Clone, Copy)]
 pub(crate) struct Section {
     pub(crate) device: u32,
@@ -29,14 +29,15 @@ pub(crate) struct Section {
     pub(crate) tail: Tail,
 }
 
-/// A part of a section whose fields come next: the device's own or those of a subsection, at a version.
+/// A part of a section whose fields come next, at a version. `sub` is the subsection, or none for
+/// the device's own fields.
 #[derive(Clone, Copy)]
 pub(crate) struct Open {
     pub(crate) sub: Option<u32>,
     pub(crate) version: u32,
 }
 
-// The part of a device's section.
+// Returns the part of device `device`: its own fields, or those of its subsection `sub`.
 fn part_of(device: u32, sub: Option<u32>) -> Part
     ensures { result ≡ part_of device sub }
 {
@@ -46,7 +47,7 @@ fn part_of(device: u32, sub: Option<u32>) -> Part
     }
 }
 
-// Reads the fields of a part.
+// Reads the fields of `part` into `image`.
 fn read_fields<S: Source>(
     set: &DescSet,
     section: Section,
@@ -90,7 +91,8 @@ fn read_fields<S: Source>(
     }
 }
 
-// Reads what follows the fields of a part: the head of a subsection, which comes next, or the end of the section.
+// Reads what follows the fields of a part. Returns the subsection that comes next, or none at the
+// end of the section.
 fn read_after_fields<S: Source>(
     set: &DescSet,
     section: &mut Section,
@@ -147,7 +149,12 @@ fn read_after_fields<S: Source>(
     }
 }
 
-/// Reads a section behind its head, up to its end.
+/// Reads a section after its head, up to its end, into `image`.
+///
+/// # Errors
+///
+/// - [`LoadFault::Refused`]: a unit is invalid, the input ends, or a validation fails.
+/// - [`LoadFault::ReadFault`]: the source failed.
 pub(crate) fn read_section<S: Source>(
     set: &DescSet,
     section: &mut Section,

@@ -1,4 +1,4 @@
-// What is read of a stream so far.
+// What has been read of a stream so far.
 ghost use Rattle.std.specs.Prelude.{◌≡◌, ◌<◌, ◌≤◌, ◌+◌, ◌^◌, Bool, not, true, false, ℕ, List, length, get_or, map, replicate, slice_set, IfErr, IfOk, Some, None};
 ghost use Rattle.vms_spec.specs.declared.TheConstants.{LONGEST_NAME};
 ghost use Rattle.vms_marks.specs.declared.configuration.TheConstants.{CONFIGURATION_FRONT};
@@ -24,20 +24,24 @@ use vms_io::NoMemory;
 use vms_marks::Name;
 use vms_spec::Reason;
 
-/// What is read of a stream so far.
+/// What has been read of a stream so far.
 #[derive(Drop)]
 pub(crate) struct Staged {
     /// One image for each device of the set.
     pub(crate) images: Vec<Image>,
-    /// Which devices' sections came.
+    /// For each device, whether its section has come.
     pub(crate) came: ArrayVec<bool, 64>,
-    /// The machine that was named.
+    /// The number of the machine that the stream named.
     pub(crate) machine: Option<u32>,
-    /// Whether its sections have footers.
+    /// Whether the stream's sections have footers.
     pub(crate) tail: Tail,
 }
 
-/// The image of each device at its defaults.
+/// Returns the image of each device of `set` at its defaults.
+///
+/// # Errors
+///
+/// - [`NoMemory`]: out of memory.
 pub fn default_images(alloc: Global, set: &DescSet) -> Result<Vec<Image>, NoMemory>
     ensures states { let set = described set.now in
         IfOk result (λ images. map untyped images.items ≡ map (default_image set) set.devices) }
@@ -52,7 +56,11 @@ pub fn default_images(alloc: Global, set: &DescSet) -> Result<Vec<Image>, NoMemo
     Ok(images)
 }
 
-/// Room for what is read of a stream.
+/// Returns room for what is read of a stream of `set`.
+///
+/// # Errors
+///
+/// - [`NoMemory`]: out of memory.
 pub(crate) fn spare_room(alloc: Global, set: &DescSet) -> Result<Staged, NoMemory>
     ensures { IfOk result (λ staged. AreShaped (described set.now) staged.images.items) }
 {
@@ -64,7 +72,7 @@ pub(crate) fn spare_room(alloc: Global, set: &DescSet) -> Result<Staged, NoMemor
     })
 }
 
-/// Begins anew: nothing has come.
+/// Makes `staged` the state before a stream: no device has come.
 pub(crate) fn restart(set: &DescSet, staged: &mut Staged)
     requires { AreShaped (described set.now) staged.old.images.items }
     ensures state { state_of (described set.now) staged.new Before ≡ at_start (described set.now) }
@@ -76,7 +84,7 @@ pub(crate) fn restart(set: &DescSet, staged: &mut Staged)
     staged.tail = Tail::Unknown;
 }
 
-// Makes each image what `Image::new` gives.
+// Sets each image to what `Image::new` gives.
 fn reset(set: &DescSet, images: &mut [Image])
     requires { AreShaped (described set.now) images.old }
     ensures states { let set = described set.now in
@@ -90,7 +98,7 @@ fn reset(set: &DescSet, images: &mut [Image])
     }
 }
 
-// No device of so many has come.
+// Returns a list that says of `devices` devices that none has come.
 fn none_came(devices: usize) -> ArrayVec<bool, 64>
     requires { devices ≤ 64 }
     ensures { result.items ≡ replicate devices false }
@@ -102,7 +110,7 @@ fn none_came(devices: usize) -> ArrayVec<bool, 64>
     came
 }
 
-/// Begins the section of a device at a version: it has come.
+/// Begins the section of `device` at `version`, and marks the device as come.
 pub(crate) fn begin_section(staged: &mut Staged, device: u32, version: u32)
     requires image { device < length staged.old.images.items }
     requires device { device < length staged.old.came.items }
@@ -116,7 +124,12 @@ pub(crate) fn begin_section(staged: &mut Staged, device: u32, version: u32)
     staged.images[device as usize].set_version(version);
 }
 
-/// Takes the configuration at this place, which names an accepted machine, and answers the place after it.
+/// Accepts the configuration at offset `at` if its machine is accepted, and returns what may
+/// follow.
+///
+/// # Errors
+///
+/// - [`LoadFault::Refused`]: `WrongMachine`.
 pub(crate) fn configure(
     set: &DescSet,
     only: Option<u32>,
@@ -150,7 +163,7 @@ pub(crate) fn configure(
     }
 }
 
-// The number of the accepted machine of this name.
+// Returns the number of the accepted machine `name`, if there is one.
 fn machine_of(machines: &[Text], only: Option<u32>, name: &[u8]) -> Option<u32>
     requires few { length machines.now < 2 ^ 32 }
     requires machine { IsMachine machines.now only }
@@ -163,7 +176,12 @@ fn machine_of(machines: &[Text], only: Option<u32>, name: &[u8]) -> Option<u32>
     }
 }
 
-/// Takes the end mark at this place, before which each device's section must have come: no place is after it.
+/// Accepts the end mark at offset `at` if each device's section has come. Returns none: no section
+/// may follow.
+///
+/// # Errors
+///
+/// - [`LoadFault::Refused`]: `MissingSection`, for the first device that hasn't come.
 pub(crate) fn take_end_mark(staged: &Staged, at: u64) -> Result<Option<Between>, LoadFault>
     ensures next { IfOk result (λ next. next ≡ None) }
     ensures refused { IfErr result IsRefused }
@@ -177,7 +195,7 @@ pub(crate) fn take_end_mark(staged: &Staged, at: u64) -> Result<Option<Between>,
     }
 }
 
-// The first device that has not come.
+// Returns the first device that hasn't come, if there is one.
 fn first_missing(came: &[bool]) -> Option<u32>
     requires { length came.now < 2 ^ 32 }
     ensures { result ≡ position not 0 came.now }

@@ -22,7 +22,12 @@ use vms_frames::{Between, Cursor, Step};
 use vms_io::Source;
 use vms_marks::Head;
 
-/// Reads a stream from its first byte on, and answers how many bytes it has.
+/// Reads a stream from its first byte on, and returns its number of bytes.
+///
+/// # Errors
+///
+/// - [`LoadFault::Refused`]: the input isn't a stream of the set.
+/// - [`LoadFault::ReadFault`]: the source failed.
 pub(crate) fn stream<S: Source>(
     set: &DescSet,
     only: Option<u32>,
@@ -67,7 +72,7 @@ fn read_head<S: Source>(cursor: &mut Cursor, source: &mut S) -> Result<(), LoadF
     }
 }
 
-// Reads the sections, with a configuration before them or without one, up to the end mark.
+// Reads a configuration, if there is one, then the sections up to the end mark.
 fn sections<S: Source>(
     set: &DescSet,
     only: Option<u32>,
@@ -96,8 +101,8 @@ fn sections<S: Source>(
     Ok(())
 }
 
-// Reads what stands at a place between sections, a section up to its footer: the place after it, or none
-// after the end mark.
+// Reads a unit between sections, and after a section head the whole section. Returns what may
+// follow, or none after the end mark.
 fn read_between<S: Source>(
     set: &DescSet,
     only: Option<u32>,
@@ -132,7 +137,7 @@ fn read_between<S: Source>(
     }
 }
 
-// Reads the section of a head that stood at this place.
+// Reads the section whose head was at offset `at`.
 fn stage_section<S: Source>(
     set: &DescSet,
     staged: &mut Staged,

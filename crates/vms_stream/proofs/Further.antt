@@ -1,4 +1,4 @@
--- A fault stays whatever follows the input, but for one at which the input ends.
+-- A fault stays whatever follows the input, unless the input ends there.
 use Rattle.std.proofs.Common.{◌≡◌, ℕ, List, ◌++◌, Option, refl, ap, ◌∙◌, append_assoc}
 use Rattle.vms_spec.specs.declared.Reason.{Reason}
 use Rattle.vms_spec.specs.declared.Reason.TheVariants as reasons

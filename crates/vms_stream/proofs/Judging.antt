@@ -1,4 +1,4 @@
--- What the judge refuses is at fault, and what is at fault it refuses; likewise what it accepts.
+-- The judge refuses exactly the inputs that have a fault, and likewise for those that it accepts.
 pub mod Verdicts
 pub mod Mirrors
 pub mod Once

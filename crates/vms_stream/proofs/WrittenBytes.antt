@@ -199,7 +199,7 @@ module _ (set : Set) (well : WellFormed set) where
   machine_bytes None h = tt
   machine_bytes (Some name) h = (is_named 64 name (omega arith) (every_one (is_name 64) set.machines name set_true.0 h)).octets
 
-  -- with a machine's name and a description, where there are any
+  -- with a machine's name and a description, if there are any
   pub written_are_bytes : (machine : Option (List ℕ)) (images : List Image) (text : Option (List ℕ)) → IfSome machine AreBytes → IfSome text AreBytes
       → AreBytes (written set machine images text)
   written_are_bytes machine images text named told =

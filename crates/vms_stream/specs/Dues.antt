@@ -1,4 +1,5 @@
--- The units that may come next, and whether the validations of what has ended hold.
+-- Which units may come next, and whether the validations of what has ended hold (docs/format.md, "Units,
+-- offsets and refusals").
 use Rattle.std.specs.Prelude.{◌≡◌, ℕ, zero, ◌<◌, ◌≤◌, Bool, true, false, not, ◌&&◌, ◌||◌, ◌==◌, List, [], ◌∷◌, length, get_or, drop, Option, Some, None, ℤ}
 use Rattle.vms_kinds.specs.declared.Kind.{Kind}
 use Rattle.vms_kinds.specs.Codes.{InRange}
@@ -11,15 +12,22 @@ use Rattle.vms_spec.specs.Units.{Piece, spell, Magic, Version, Configuration, Lo
 use Rattle.vms_stream.specs.SoFar.{Tail, Unknown, Footed, Bare, tail, passed}
 use Rattle.vms_spec.specs.SoFar.{opened, slots}
 
--- whether the rules that stand before the next unit hold
+-- `rules_hold slots` is whether all validations before the next unit in `slots` hold.
 abbrev pub rules_hold : List Slot → Bool
 rules_hold (RuleSlot b ∷ slots) = b && rules_hold slots
 rules_hold (FillerSlot zero ∷ slots) = rules_hold slots
 rules_hold _ = true
 
--- What is due: the magic; the stream's version; what may stand between sections, directly after the stream head or not,
--- directly after a configuration or not; a unit for a slot of a device; what may stand after the fields of a device or of
--- its subsection; what may stand after the end mark; or nothing.
+-- What is due after some units:
+--
+-- - `AMagic`: the magic.
+-- - `AVersion`: the stream's version.
+-- - `Between first after`: a unit between sections; `first` directly after the stream head, `after` directly
+--   after a configuration.
+-- - `Field k slot`: a unit for `slot` of device k.
+-- - `AfterFields k tail`: what may follow the fields of device k or of one of its subsections.
+-- - `AfterEnd`: what may follow the end mark.
+-- - `Nothing`: no unit.
 pub data Due : Type 0 where
   AMagic : Due
   AVersion : Due
@@ -29,7 +37,8 @@ pub data Due : Type 0 where
   AfterEnd : Due
   Nothing : Due
 
--- the first slot that is a unit
+-- `due_field tail open slots` is what is due for the first slot that is a unit. If there is none, the fields
+-- have ended.
 abbrev pub due_field : Tail → Option ℕ → List Slot → Due
 due_field tail None slots = Nothing
 due_field tail (Some k) [] = AfterFields k tail
@@ -38,7 +47,7 @@ due_field tail (Some k) (FillerSlot zero ∷ slots) = due_field tail (Some k) sl
 due_field tail (Some k) (slot ∷ slots) = Field k slot
 
 module _ (set : Set) where
-  -- what is due after these units
+  -- `due set u` is what is due after the units `u`. The latest unit is first in the list.
   abbrev pub due : List Piece → Due
   due [] = AMagic
   due (Magic bytes ∷ u) = AVersion
@@ -48,36 +57,39 @@ module _ (set : Set) where
   due (End ∷ u) = AfterEnd
   due u = due_field (tail set u) (opened set u) (drop (passed set u) (slots set u))
 
-  -- whether the validations hold of each description whose fields end with these units
+  -- `holds set u` is whether the validations hold of each description whose fields end with `u`.
   abbrev pub holds : List Piece → Bool
   holds u = rules_hold (drop (passed set u) (slots set u))
 
+-- `fits_four n`: `n` fits the four bytes of a be32.
 abbrev pub fits_four : ℕ → Type 0
 fits_four n = n < 4294967296
 
--- the marks that are the end mark or begin a longer unit
+-- `is_start first b` is whether mark `b` is the end mark or begins a longer unit; `first` is as in `Between`.
 abbrev pub is_start : Bool → ℕ → Bool
 is_start first b = b == 0x00 || b == 0x01 || b == 0x04 || (b == 0x07 && first)
 
--- whether a byte behind the fields is one of a footer unit
+-- `is_foot tail b` is whether byte `b` after the fields belongs to a footer unit (docs/format.md, "A stream
+-- without footers").
 abbrev pub is_foot : Tail → ℕ → Bool
 is_foot Unknown b = b == 0x7e
 is_foot Footed b = not (b == 0x05)
 is_foot Bare b = false
 
--- whether a byte behind the fields begins a unit between sections
+-- `is_next tail b` is whether byte `b` after the fields begins a unit between sections.
 abbrev pub is_next : Tail → ℕ → Bool
 is_next tail b = not (b == 0x05 || is_foot tail b)
 
--- whether what is left begins a unit between sections behind the fields
+-- `begins_next tail rest` is whether `rest`, after the fields, begins with a unit between sections.
 abbrev pub begins_next : Tail → List ℕ → Bool
 begins_next tail [] = false
 begins_next tail (b ∷ rest) = is_next tail b
 
+-- The first byte of the unit `x`.
 abbrev pub first_byte : Piece → ℕ
 first_byte x = get_or (spell x) 0 0
 
--- the units that may come where something is due: a line for each
+-- `May d x`: the unit `x` may come if `d` is due. There is a line for each kind of unit.
 pub data May : Due → Piece → Type 0 where
   AtMagic : (bytes : List ℕ) → length bytes ≡ 4 → May AMagic (Magic bytes)
   AtVersion : (v : ℕ) → fits_four v → May AVersion (Version v)

@@ -1,5 +1,5 @@
--- The state of the units so far, which a loader can hold: the machine that was named, the images so far, which devices came,
--- whether sections have footers, and where the reading stands.
+-- The state of the units so far that a loader holds: the named machine, the images so far, which devices
+-- came, whether sections have footers, and how far the reading is.
 use Rattle.std.specs.Prelude.{ℕ, Bool, true, false, List, [], map, drop, slice_set, Option, Some, None}
 use Rattle.std.specs.List.{slice_get}
 use Rattle.vms_spec.specs.Lists.{at_option}
@@ -14,9 +14,16 @@ use Rattle.vms_stream.specs.Table.{first_of, sub_at}
 use Rattle.vms_stream.specs.Judge.{Grammar}
 use Rattle.vms_stream.specs.SoFar.{Footed, Known, Tail, Unknown, behind, beyond}
 
--- Where a reading stands: before the magic; before the version; between sections, directly after the stream head or not,
--- directly after a configuration or not; in a section, by its device, its id, the subsection whose fields are read (none: the
--- device's own) and the number of slots passed; after the end mark; or where nothing is due
+-- How far a reading is:
+--
+-- - `Before`: before the magic.
+-- - `Headed`: before the version.
+-- - `Free first after`: between sections; `first` directly after the stream head, `after` directly after a
+--   configuration.
+-- - `Inside k id part n`: in the section of device k with this id. Its subsection `part` is read, or its own
+--   fields if there is none, and `n` slots are passed.
+-- - `Ended`: after the end mark.
+-- - `Over`: nothing is due.
 pub data Spot : Type 0 where
   Before : Spot
   Headed : Spot
@@ -25,6 +32,7 @@ pub data Spot : Type 0 where
   Ended : Spot
   Over : Spot
 
+-- The state of a reading.
 pub record State : Type 0 where
   pub machine : Option (List ℕ)
   pub images : List Image
@@ -32,6 +40,7 @@ pub record State : Type 0 where
   pub tail : Tail
   pub spot : Spot
 
+-- The state before the first byte: each image at its defaults, and no device has come.
 abbrev pub at_start : Set → State
 at_start set = record {
   machine = None;
@@ -41,40 +50,47 @@ at_start set = record {
   spot = Before;
 }
 
--- between sections, of which these devices' came
+-- The state between sections, if the devices marked in `came` have come.
 abbrev pub between : Option (List ℕ) → List Image → List Bool → Tail → Bool → Bool → State
 between machine images came tail first after = record { machine = machine; images = images; came = came; tail = tail; spot = Free first after }
 
+-- The image, or an empty one.
 abbrev pub or_none : Option Image → Image
 or_none None = no_image
 or_none (Some image) = image
 
+-- The device whose section is open.
 abbrev pub open_at : Spot → Option ℕ
 open_at (Inside k id part n) = Some k
 open_at _ = None
 
+-- The id of the open section, 0 if none is open.
 abbrev pub id_at : Spot → ℕ
 id_at (Inside k id part n) = id
 id_at _ = 0
 
--- the image of the open device
+-- The image of the open device.
 abbrev pub image_at : State → Image
 image_at s = or_none (at_option s.images (open_at s.spot))
 
--- the spot after one more unit of a section
+-- `onward spot f g` is the spot after one more unit of a section; `f` gives the part, `g` the number of slots
+-- passed.
 abbrev pub onward : Spot → (Option ℕ → ℕ → Option ℕ) → (ℕ → ℕ) → Spot
 onward (Inside k id part n) f g = Inside k id (f part n) (g n)
 onward _ f g = Over
 
+-- `inside k id part n` is the spot in the section of device `k`, if there is one.
 abbrev pub inside : Option ℕ → ℕ → Option ℕ → ℕ → Spot
 inside None id part n = Over
 inside (Some k) id part n = Inside k id part n
 
 module _ (set : Set) where
+  -- The slots that the part being read still has.
   abbrev pub slots_at : State → Spot → List Slot
   slots_at s (Inside k id part n) = drop n (part_slots set (slice_get set.devices k) (image_at s) part)
   slots_at s _ = []
 
+  -- What is due at a spot.
   abbrev pub due_by : State → Spot → Due
   due_by s Before = AMagic
   due_by s Headed = AVersion
@@ -83,20 +99,24 @@ module _ (set : Set) where
   due_by s Ended = AfterEnd
   due_by s Over = Nothing
 
+  -- What the rows need of a state.
   abbrev pub known_at : State → Known
   known_at s = record { came = s.came; section = open_at s.spot; id = id_at s.spot; image = image_at s }
 
-  -- all slots of the part whose fields come
+  -- All slots of the part whose fields are read.
   abbrev pub part_at : State → Spot → List Slot
   part_at s (Inside k id part n) = part_slots set (slice_get set.devices k) (image_at s) part
   part_at s _ = []
 
+  -- The spot after the next unit of the part.
   abbrev pub next_spot : State → Spot
   next_spot s = onward s.spot (λ part n. part) (λ n. beyond n (part_at s s.spot))
 
+  -- The state after a unit that changes no number.
   abbrev pub next_field : State → State
   next_field s = record s { spot = next_spot s }
 
+  -- `after s x` is the state after the unit `x`.
   abbrev pub after : State → Piece → State
   after s (Magic bytes) = record s { spot = Headed }
   after s (Version v) = record s { spot = Free true false }
@@ -123,6 +143,7 @@ module _ (set : Set) where
   after s End = record s { tail = behind set (open_at s.spot) s.tail; spot = Ended }
   after s _ = record s { spot = Over }
 
+-- The grammar whose state is the one that a loader holds.
 abbrev pub by_state : Set → List (List ℕ) → Grammar State
 by_state set names = record {
   due = λ s. due_by set s s.spot;

@@ -1,4 +1,5 @@
--- Streams with and without footers: which bytes are a stream of a set, and what an input takes.
+-- Streams with and without footers: which bytes are a stream of a set, and what an input takes
+-- (docs/format.md, "The parts of a stream").
 use Rattle.std.specs.Prelude.{◌≡◌, ℕ, ◌<◌, Bool, false, if◌then◌else◌, List, [], ◌∷◌, ◌++◌, length, Option, Some, None, map}
 use Rattle.std.specs.List.{slice_get}
 use Rattle.vms_spec.specs.Sets.{Device, Set}
@@ -7,7 +8,8 @@ use Rattle.vms_spec.specs.Streams.{section_head, foot, stream_head, end_mark, Co
 
 -- ---- sections
 
--- a section of a device: its head, its fields, the subsections that came in some order, and, where it is footed, its footer
+-- `IsSection set d image id footed bytes`: `bytes` are a section of the device `d`. It has a head, fields,
+-- the subsections that came in some order, and, if it is footed, a footer.
 pub record IsSection (set : Set) (d : Device) (image : Image) (id : ℕ) (footed : Bool) (bytes : List ℕ) : Type 0 where
   pub fits : id < 4294967296
   pub normal : IsNormal set d image
@@ -22,19 +24,21 @@ pub record IsSection (set : Set) (d : Device) (image : Image) (id : ℕ) (footed
 
 -- ---- whole streams
 
--- these bytes are a section of device k, with some id
+-- `HasSection set footed k d image bytes`: `bytes` are a section of device k, with some id.
 abbrev pub HasSection : Set → Bool → ℕ → Option Device → Option Image → List ℕ → Type 0
 HasSection set footed k (Some d) (Some image) bytes = (id : ℕ) × IsSection set d image id footed bytes
 HasSection set footed k _ _ bytes = ⊥
 
--- the devices of these numbers, in this order, have these bytes
+-- `SectionsSpell set footed images order bytes`: `bytes` are the sections of the devices `order`, one after
+-- the other.
 abbrev pub SectionsSpell : Set → Bool → List Image → List ℕ → List ℕ → Type 0
 SectionsSpell set footed images [] bytes = bytes ≡ []
 SectionsSpell set footed images (k ∷ order) bytes =
     (front rest : List ℕ) × HasSection set footed k (slice_get set.devices k) (slice_get images k) front × SectionsSpell set footed images order rest × (bytes ≡ front ++ rest)
 
--- a stream of the set: one that names a machine of these or none, has a section for each device in any order, and ends with
--- a description or without one
+-- `IsStream set names bytes machine images text`: `bytes` are a stream of the set. It names a machine of
+-- `names` or none, has a section for each device in any order, and ends with a description section or without
+-- one.
 pub record IsStream (set : Set) (names : List (List ℕ)) (bytes : List ℕ) (machine : Option (List ℕ)) (images : List Image) (text : Option (List ℕ)) : Type 0 where
   pub named : List ℕ
   pub configured : IsConfiguration names machine named
@@ -50,7 +54,8 @@ pub record IsStream (set : Set) (names : List (List ℕ)) (bytes : List ℕ) (ma
   pub described : IsTrailer text tail
   pub whole : bytes ≡ stream_head ++ named ++ sections ++ end_mark ++ tail
 
--- an input takes the stream at its front: one with a description, or one that is all of the input
+-- `Takes set names input taken machine images`: the first `taken` bytes of `input` are a stream, with a
+-- description section or with nothing after it.
 pub record Takes (set : Set) (names : List (List ℕ)) (input : List ℕ) (taken : ℕ) (machine : Option (List ℕ)) (images : List Image) : Type 0 where
   pub bytes : List ℕ
   pub text : Option (List ℕ)

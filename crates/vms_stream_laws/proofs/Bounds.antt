@@ -1,4 +1,4 @@
--- A part has no more slots than a number says, whatever its numbers are.
+-- A bound on the slots of a part, whatever its numbers are.
 use Rattle.std.proofs.Common.{◌≡◌, ℕ, zero, suc, ◌+◌, ◌*◌, ◌≤◌, Bool, true, false, if◌then◌else◌, List, [], ◌∷◌, length, length-append, map, get_or, Option, Some, None, ℤ, arith}
 use Rattle.std.specs.List.{slice_get}
 use Rattle.std.proofs.Math.Nat.{mul-le-mul_right}
@@ -12,7 +12,7 @@ use Rattle.vms_spec.specs.Tests.{is_there}
 use Rattle.vms_spec.proofs.Sizes.{elements_fit}
 use Rattle.vms_spec.proofs.Tables.{one_more}
 
--- a structure has at most so many
+-- a structure has at most this many
 abbrev IsWithin : ℕ → Meaning → Type 0
 IsWithin b m = (numbers : List ℤ) (at : ℕ) → length (m.slots numbers at) ≤ b
 
@@ -80,7 +80,7 @@ structs_within ds (suc k) =
           (λ numbers at. let h = desc_within ms r.0 r.1 d d.version numbers at in omega (arith, h)),
     )
 
--- so many slots the part has at most
+-- the most slots of the part
 pub record Bounded (set : Set) (o : Option Device) (p : Option ℕ) : Type 0 where
   pub most : ℕ
   pub fits : (i : Image) → length (part_slots set o i p) ≤ most

@@ -24,7 +24,7 @@ module _ {X Y : Type 0} (f : X → Y) where
   at_map xs None = refl
   at_map xs (Some k) = slice_get-map f xs k
 
-  -- what stands in the other list came from the first
+  -- what is in the other list came from the first
   pub record CameFrom (xs : List X) (k : ℕ) (y : Y) : Type 0 where
     pub first : X
     pub there : slice_get xs k ≡ Some first
@@ -35,7 +35,7 @@ module _ {X Y : Type 0} (f : X → Y) where
   came_from (x ∷ xs) zero y e = record { first = x; there = refl; is = cc }
   came_from (x ∷ xs) (suc k) y e = let r = came_from xs k y e in record { first = r.first; there = r.there; is = r.is }
 
-  -- where nothing answers for the first list, nothing answers for the other
+  -- if nothing is found in the first list, nothing is found in the other
   pub none_after : {Z : Type 0} (a : ℕ → X → Option Z) (b : ℕ → Y → Option Z) → ((i : ℕ) (x : X) → a i x ≡ None → b i (f x) ≡ None) → (i : ℕ) (xs : List X)
       → first_answer a i xs ≡ None → first_answer b i (map f xs) ≡ None
   none_after a b h i [] e = refl

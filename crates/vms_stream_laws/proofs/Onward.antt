@@ -1,5 +1,6 @@
--- Units without a fault go on to an end, where every validation holds: the open section's fields come with the number 0, its
--- constants and unused bytes, then its footer, then a section of each device that has not come, and the end mark.
+-- Units without a fault go on to an end, if every validation holds. The open section's fields come with the
+-- number 0, its constants and unused bytes. Then come its footer, a section of each device that hasn't come,
+-- and the end mark.
 use Rattle.std.proofs.Common.{◌≡◌, ℕ, zero, suc, ◌+◌, ◌<◌, ◌≤◌, Bool, true, false, List, [], ◌∷◌, ◌++◌, append_assoc, length, length-drop, length-set, drop, slice_set, ℤ, pos, Option, Some, None, refl, sym, ap, ◌∙◌, subst, arith}
 use Rattle.std.specs.Prelude.{replicate}
 use Rattle.std.specs.List.{slice_get}
@@ -35,7 +36,7 @@ use Rattle.vms_stream_laws.proofs.Units.{AllPassed, ANumber, AConstant, AFiller,
 
 -- ---- units go on
 
--- with these behind them they are units without a fault after which none must come
+-- followed by these, they are units without a fault after which none must come
 pub record Ending (set : Set) (names : List (List ℕ)) (u : List Piece) : Type 0 where
   pub more : List Piece
   pub front : Front set names (more ++ u)
@@ -87,7 +88,7 @@ module _ (set : Set) (names : List (List ℕ)) (well : WellFormed set) (heads : 
   abbrev left : List Piece → List Slot
   left u = drop (passed set u) (slots set u)
 
-  -- the due unit of the open part, or what comes behind its fields
+  -- the due unit of the open part, or what comes after its fields
   one_field : (u : List Piece) (k : ℕ) → Fine u → due set u ≡ due_field (tail set u) (Some k) (left u) → Next (tail set u) k (left u)
       → ((c : ℕ) (kind : Kind) → skipped (left u) < length (left u) → Fine (Number c kind (pos 0) ∷ u) → Goes (Number c kind (pos 0) ∷ u))
       → ((kind : Kind) (z : ℤ) → skipped (left u) < length (left u) → Fine (Constant kind z ∷ u) → Goes (Constant kind z ∷ u))
@@ -116,7 +117,7 @@ module _ (set : Set) (names : List (List ℕ)) (well : WellFormed set) (heads : 
   abbrev Fits : List Piece → ℕ → Type 0
   Fits u most = (i : Image) → length (part_slots set (device set u) i (part set u)) ≤ most
 
-  -- what behind the fields is told of the units that came so far
+  -- what the units so far say after the fields
   abbrev Behind : ℕ → List Bool → Type 0
   Behind k came = (w : List Piece) → Fine w → due set w ≡ AfterFields k (tail set w) → come set w ≡ came → Goes w
 
@@ -204,7 +205,7 @@ module _ (set : Set) (names : List (List ℕ)) (well : WellFormed set) (heads : 
       on u x front (subst (λ (d : Due). May d x) (sym is) (AtFoot k t (id_of u) may (id_fits u front)))
       (foot_passes set names (due set u) (known set u) (id_of u) refl) (foot_bytes (id_of u)) (λ f. next (x ∷ u) f (opens_between (x ∷ u) false false refl) refl)
 
-  -- behind the fields of a section comes its footer, or, where sections have none, what may come between sections
+  -- after the fields of a section comes its footer, or, if sections have none, what may come between sections
   close_on : (u : List Piece) (k : ℕ) (t : Tail) → Fine u → due set u ≡ AfterFields k t → Open (come set u) → Goes u
   close_on u k Unknown front is next = foot_on u k Unknown refl front is next
   close_on u k Footed front is next = foot_on u k Footed refl front is next
@@ -239,7 +240,7 @@ module _ (set : Set) (names : List (List ℕ)) (well : WellFormed set) (heads : 
       by (Some k) = length-set (come set u) k true
   come_long (x ∷ u) = come_long u
 
-  -- the sections of all devices that have not come, at most so many, and the end mark
+  -- the sections of all devices that haven't come, at most this many, and the end mark
   devices_on : (n : ℕ) (u : List Piece) → Fine u → Opens u → waiting (come set u) ≤ n → Goes u
   devices_on zero u front opens few = by (waits (come set u))
     where

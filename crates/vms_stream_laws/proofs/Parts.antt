@@ -1,4 +1,4 @@
--- The slots of a set without its validations are those of the set, where every rule holds.
+-- The slots of a set without its validations are those of the set, with every rule true.
 use Rattle.std.proofs.Common.{◌≡◌, ℕ, zero, suc, ◌+◌, Bool, true, false, if◌then◌else◌, List, [], ◌∷◌, ◌++◌, length, map, get_or, drop, Option, Some, None, ℤ, refl, sym, ap, ◌∙◌}
 use mathlib.Core.Path.{fun_ext}
 use Rattle.std.specs.List.{flat_map, slice_get}
@@ -123,7 +123,7 @@ desc_at [] k = refl
 desc_at (d ∷ ds) zero = refl
 desc_at (d ∷ ds) (suc k) = desc_at ds k
 
--- what doesn't ask for validations is the same of each structure
+-- what doesn't depend on validations is the same for each structure
 pub first_unruled : {B : Type 0} (f : List B → Desc → B) → ((bs : List B) (d : Desc) → f bs (unruled_desc d) ≡ f bs d) → (ds : List Desc) (k : ℕ) → first f (map unruled_desc ds) k ≡ first f ds k
 unfolding first
 first_unruled f h ds zero = refl

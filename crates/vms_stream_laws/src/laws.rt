@@ -1,13 +1,17 @@
 // The laws of fronts.
 ghost use Rattle.vms_stream_laws.specs.Laws.{BeginningLaw, RefusedLaw};
 
-/// Units of which none is at fault are those with which some stream of the set begins, validations aside, where each validation
-/// holds of the descriptions that ended before them; and the other way round.
+/// States that units have no fault (`Front`) exactly if some stream begins with them (`Begins`) and
+/// the validations hold.
+///
+/// `Begins` leaves the set's validations out. They must hold of the descriptions that ended before
+/// the last unit.
 pub fn beginning_law()
     ensures { BeginningLaw }
 {}
 
-/// So the units before the fault of an input are those with which some stream of the set begins, validations aside.
+/// States that the units before the fault of an input begin some stream (`Begins`), without the
+/// set's validations.
 pub fn refused_law()
     ensures { RefusedLaw }
 {}

@@ -1,4 +1,5 @@
-//! What the units without a fault at the front of an input are: those with which some stream begins, validations aside.
+//! What the units before a fault are: those with which some stream begins, without the set's
+//! validations.
 #![tactic(auto)]
 
 pub mod laws;

@@ -1,4 +1,4 @@
--- A line that grows behind the front that it keeps.
+-- A line that grows after the front that it keeps.
 use Rattle.std.proofs.Common.{◌≡◌, ℕ, zero, suc, ◌+◌, ◌*◌, ◌<◌, ◌≤◌, List, [], ◌∷◌, ◌++◌, length, take, codes, refl, sym, ap, ◌∙◌, subst, arith, true, take_all, length-take}
 use Rattle.std.proofs.lemmas.Bool.{ltb-true}
 use lib.Seq.{take-append-le}
@@ -51,7 +51,7 @@ stays_element line digits new e =
     subst (Stays line) (sym e)
     (stays_then line begun _ (stays_more line (codes "[")) (stays_then begun (begun ++ digits) _ (stays_more begun digits) (stays_more (begun ++ digits) (codes "]"))))
 
--- what may still come behind the items of a part's fields
+-- what may still come after the items of a part's fields
 pub below_uses : (r : ℕ) (item : Item) → uses_below r item ≡ true → below item ≤ PART_ROOM * r
 below_uses r (Num kind) e = omega arith
 below_uses r (Equal kind z) e = omega arith

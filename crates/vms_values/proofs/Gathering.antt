@@ -60,7 +60,7 @@ long_take (x ∷ xs) (suc n) le = ap suc (long_take xs n (omega (arith, le)))
 
 -- ---- all devices
 
--- the first n devices have these images and this first bad line of the second pass, and then what is left is the whole reading
+-- the first n devices have these images and this first bad line of the second pass; the rest is the whole reading
 pub record Gathered (set : Set) (n : ℕ) (start : Result ReadAll BadLine) (first judged : Option BadLine) (images : List Image) (left : Result ReadAll BadLine) : Type 0 where
   pub done : List ReadDevice
   pub count : length done ≡ n
@@ -79,7 +79,7 @@ module _ (set : Set) (i : ℕ) (lt : i < length set.devices) where
       ap (λ (l : List Device). read_devices set l old.lines.line old.lines.rest.now) (drop_more set.devices i _ lt)
       ∙ one_device set (device_at set i) (start_of set (device_at set i) old) (λ line rest. read_devices set (drop (i + 1) set.devices) line rest)
 
-  -- the answer for one device
+  -- the result for one device
   record Given (old new : Reading) (image : Image) : Type 0 where
     r : ReadDevice
     p : Standing

@@ -51,7 +51,7 @@ at_more P [] y h p (suc k) z e = cc
 at_more P (x ∷ xs) y h p zero z e = h zero z e
 at_more {X} P (x ∷ xs) y h p (suc k) z e = at_more (λ (j : ℕ) (w : X). P (suc j) w) xs y (λ j w f. h (suc j) w f) p k z e
 
--- so many images, each of its device
+-- this many images, each of its device
 pub record AreFirstImages (set : Set) (n : ℕ) (images : List Typed) : Type 0 where
   pub count : length images ≡ n
   pub each : (k : ℕ) (image : Typed) → slice_get images k ≡ Some image → IsImageOf set k image

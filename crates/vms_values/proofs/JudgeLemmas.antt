@@ -24,7 +24,7 @@ use Rattle.vms_walk.specs.Steps.{steps_of}
 use Rattle.vms_write.specs.Fine.{no_form, settle}
 use Rattle.vms_values.specs.Judging.{steps_hold, sub_judged, sub_defaults}
 
--- at the steps of slots, just where the slots' rules are true
+-- at the steps of slots, exactly if the slots' rules are true
 pub steps_true : (xs : List Slot) → steps_hold (steps_of xs) ≡ rules_are_true xs
 steps_true [] = refl
 steps_true (slots.Number c kind capacities ∷ xs) = steps_true xs

@@ -60,7 +60,7 @@ module _ (set : Set) where
   walked_in : (part : Part) → HasPart set part → AreWalked (usable set part)
   walked_in part h = rw (usable_is part h) (are_walked set.structs (reach set part))
 
-  -- as many names as cells
+  -- a name for each cell
   long_in : (ss : List Shape) → AreWalked ss → (item : Item) → length (names_of (item_elements ss item [] (pos 0) [] 0)) ≡ item_size (cells_in ss) item
   long_in ss walked item = names_long (item_elements ss item [] (pos 0) [] 0) ∙ ap length (item_walks ss walked item [] (pos 0) [] [] 0 0).cells_are
 
@@ -196,7 +196,7 @@ module _ (set : Set) where
           ap length (sym (first_at desc_cells set.structs [] (length set.structs) j lt))
           ∙ ap (λ (cs : List (List Cell)). length (get_or cs j [])) (sym (cells_table set)) ∙ struct_size set well j lt
 
-  -- a field's path and what stands behind it
+  -- a field's path and what comes after it
   pub single_is : (f : Field) → f.count ≡ One → (path name : List ℕ) (step cell : ℕ) → name ≡ f.name → step ≡ size_in set f.item
       → (path ++ name) ++ get_or (item_names set f.item) (cell % step) [] ≡ path ++ field_name set f cell
   single_is f one path name step cell n s =

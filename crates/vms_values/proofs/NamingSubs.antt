@@ -99,7 +99,7 @@ module _ (set : Set) (well : is_well_formed set ≡ true) (i : ℕ) (lt : i < le
   subs_longer j lt' =
       ap length (split j lt') ∙ length-append (desc_names_of set (sub_at (device_at set i) j).desc) (names_of_subs set i (j + 1)) ∙ ap (λ (n : ℕ). n + length (names_of_subs set i (j + 1))) (sub_long j lt')
 
-  -- as many names as cells
+  -- a name for each cell
   subs_all : (subs : List Sub) → ((j : ℕ) → j < length subs → length (desc_names_of set (get_or subs j (record { desc = no_desc; needed = AtLeast 0 })).desc) ≡ length (desc_cells (struct_cells set) (get_or subs j (record { desc = no_desc; needed = AtLeast 0 })).desc))
       → length (subs_names set subs) ≡ length (flat_map (λ s. desc_cells (struct_cells set) s.desc) subs)
   subs_all [] h = refl

@@ -26,7 +26,7 @@ none_if : (a : Bool) (n : ℕ) → (if a && false then Some n else None) ≡ Non
 none_if true n = refl
 none_if false n = refl
 
--- one digit more, where those after it are read so
+-- one more digit, if those after it are read so
 read_more : (n b m : ℕ) (bs : List ℕ) → m ≡ n * 10 + (b - 48) → (d s : Bool) → is_digit b ≡ d → nat_lt m (2 ^ 64) ≡ s
     → (m < 2 ^ 64 → read_from m bs ≡ bounded (list_all is_digit bs) (natural_from m bs))
     → option_and_then (λ k. read_from k bs) (if is_digit b && nat_lt m (2 ^ 64) then Some m else None) ≡ bounded (is_digit b && list_all is_digit bs) (natural_from m bs)

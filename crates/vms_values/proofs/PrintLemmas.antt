@@ -12,7 +12,7 @@ use Rattle.vms_spec.specs.Images.{Image}
 use Rattle.vms_spec.specs.Values.{device_lines, devices_lines}
 use Rattle.vms_values.specs.Printing.{IsOf, AreOf}
 
--- an element's path, of three pieces behind that of its array
+-- an element's path, of three pieces after that of its array
 pub element_text : {T E : Type 0} {a b : Outlet} (path digits piece : List ℕ) (c : Outlet) (result : Result T E) → Puts a b path → piece ≡ digits
     → Wrote b c (codes "[" ++ (piece ++ (codes "]" ++ []))) result → Wrote a c (path ++ codes "[" ++ digits ++ codes "]") result
 element_text {a = a} path digits piece c result p e w =
@@ -27,7 +27,7 @@ wrote_mapped a b text (Ok x) (Err f) e w = cc
 wrote_mapped a b text (Err e) (Ok y) v w = cc
 wrote_mapped a b text (Err e) (Err f) v w = w
 
--- ---- what is left of a list
+-- ---- the rest of a list
 
 pub device_left : (set : Set) (k : ℕ) → k < length set.devices → drop k set.devices ≡ device_at set k ∷ drop (k + 1) set.devices
 device_left set k lt = drop_more set.devices k (record { instance = 0; desc = no_desc; subs = [] }) lt

@@ -28,7 +28,7 @@ pub strip_is : (front line : List ℕ) (result : Option (Bor (List ℕ)))
 strip_is front line None h = h
 strip_is front line (Some r) h = (h.0, h.1)
 
--- ---- where a reading stands
+-- ---- the state of a reading
 
 pub reached : (r : Read) (now : Standing) → Reaches r now (Ok tt) → r ≡ Ok now
 reached (Ok p) now e = ap (λ (x : Standing). Ok x) e

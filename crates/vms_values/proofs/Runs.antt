@@ -1,4 +1,4 @@
--- What is left of the elements of an array and of the fields of a part.
+-- The rest of the elements of an array and of the fields of a part.
 use Rattle.std.proofs.Common.{◌≡◌, ℕ, suc, ◌+◌, ◌-◌, ◌*◌, ◌<◌, ◌≤◌, List, [], ◌∷◌, ◌++◌, length, get_or, drop, ℤ, refl, sym, ap, ◌∙◌, subst, arith, true, codes}
 use Rattle.std.proofs.lemmas.List.{drop_all}
 use Rattle.std.specs.Fmt.{decimal}
@@ -128,7 +128,7 @@ module _ (set : Set) where
       let count_is = there ∙ ap (λ (x : Field). elements_of x.count (own_numbers set spot.part n spot.base)) (sym found) in
       record { found = found; next = next_run well spot path n h k cell count (field_of f) lt found count_is room }
 
-  -- the code's width of it
+  -- its width in the code
   pub found_width : (spot : PartAt) (path : List ℕ) (n : List ℤ) (k cell count width : ℕ) (f : CodeField) → FoundRun spot path n k cell count f → length n ≤ MOST_ITEMS
       → width ≡ in_u32 (capacity_of (field_at set spot.part k).count * item_size (struct_cells set) (field_at set spot.part k).item) → width ≡ capacity_of f.count * size_in set f.item
   found_width spot path n k cell count width f r few e =

@@ -15,7 +15,7 @@ use Rattle.vms_desc.proofs.AskLaws.{sub_next, sub_inside, own_inside_device, few
 use Rattle.vms_walk.specs.Steps.{HasSpot}
 use Rattle.vms_values.specs.Printing.{IsOf, section_text, whole_sub}
 
--- what is left of the subsections, at one of them
+-- the rest of the subsections, at one of them
 pub subs_left : (set : Set) (i : ℕ) (n : List ℤ) (came : List (Option ℕ)) (j : ℕ) → j < length (device_at set i).subs → j < length came
     → sub_lines set n (first_cell set (parts.Sub i j)) (drop j (device_at set i).subs) (drop j came)
     ≡ whole_sub set i j n (get_or came j None) ++ sub_lines set n (first_cell set (parts.Sub i (j + 1))) (drop (j + 1) (device_at set i).subs) (drop (j + 1) came)

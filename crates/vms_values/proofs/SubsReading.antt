@@ -51,7 +51,7 @@ abbrev pub with_subs : List (Option ℕ) → List ℕ → Result ReadSubs BadLin
 with_subs came lines (Err b) = Err b
 with_subs came lines (Ok r) = Ok (record { place = r.place; came = came ++ r.came; lines = lines ++ r.lines })
 
--- the first n subsections came so and have these lines, and then what is left is the whole reading
+-- the first n subsections came so and have these lines; the rest of the reading is the whole reading
 pub record Follows (start : Result ReadSubs BadLine) (n : ℕ) (came : List (Option ℕ)) (lines : List ℕ) (left : Result ReadSubs BadLine) : Type 0 where
   pub whole : with_subs (take n came) lines left ≡ start
 
@@ -93,7 +93,7 @@ module _ (set : Set) (i j : ℕ) (lt : j < length (device_at set i).subs) where
       let rest = λ (p : Standing). read_subs set (first_cell set (parts.Sub i (j + 1))) (drop (j + 1) (device_at set i).subs) p in
       sym f.whole ∙ ap (with_subs (take j old.image.came) lines) (next_sub set i j (place_of old) lt ∙ ap (after_sub old.lines.line rest) r)
 
--- ---- answers
+-- ---- results
 
 pub record Came (r : Result (Option ℕ × Standing) BadLine) (j : ℕ) (old new : Taken) : Type 0 where
   pub o : Option ℕ

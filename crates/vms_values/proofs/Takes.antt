@@ -1,4 +1,4 @@
--- What is left to read of the elements of an array and of the fields of a part.
+-- The elements of an array and the fields of a part that remain to be read.
 use Rattle.std.proofs.Common.{◌≡◌, ℕ, zero, suc, ◌+◌, ◌-◌, ◌*◌, ◌<◌, Bool, not, ◌&&◌, ◌||◌, if◌then◌else◌, List, ◌++◌, length, get_or, drop, slice_set, Option, Some, None, Ok, Err, ℤ, refl, sym, ap, ◌∙◌, arith, codes}
 use Rattle.std.specs.Fmt.{decimal}
 use Rattle.vms_kinds.specs.declared.Item.{Item}
@@ -23,7 +23,7 @@ use Rattle.vms_walk.proofs.Least.{exceeds_least}
 use Rattle.vms_values.proofs.Readers.{then_same}
 use Rattle.vms_spec.proofs.Prefixes.{readers_cells}
 
--- ---- of the capacities that a number counts, the least is enough
+-- ---- the least of the capacities that a number counts is enough
 
 put_least : (path : List ℕ) (cell : ℕ) (spot : CellLine) (p : Standing) (o : Option (List ℕ × List ℕ)) → put_line path (record spot { capacities = capacities_of (least_of spot.capacities) }) p o ≡ put_line path spot p o
 put_least path cell spot p None = refl
@@ -103,7 +103,7 @@ module _ (set : Set) where
       by_count (Fixed k) other = ap (λ (s : ℕ). read_elements (readers set) f caps (path ++ f.name) present at s 0 count p) (sym (read_size f.item))
       by_count (Counted by most) other = ap (λ (s : ℕ). read_elements (readers set) f caps (path ++ f.name) present at s 0 count p) (sym (read_size f.item))
 
-  -- field k of a description, by the numbers so far: so many of its elements are read, of a number that counts so many at most
+  -- field k of a description, by the numbers so far: how many of its elements are read, and the most that its number counts
   pub record IsNext (d : Desc) (v : ℕ) (present : Bool) (base k count : ℕ) (most : Option ℕ) (now : Bool) (f : Field) (p : Standing) : Type 0 where
     pub inside : k < length d.fields
     pub found : f ≡ get_or d.fields k no_field

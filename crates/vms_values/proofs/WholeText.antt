@@ -16,7 +16,7 @@ use Rattle.vms_values.specs.Reading.{ReadsBy}
 use Rattle.vms_values.specs.Judging.{bad_of}
 use Rattle.vms_values.specs.DevicesRead.{AllRead, ToldAs}
 
--- what follows where the whole text was read
+-- what follows if the whole text was read
 whole : (set : Set) (m : Option (List ℕ)) (all : ReadAll) (old new : Reading) (images : List Image) → AllRead set (Ok all) old new (Ok images) → new.lines.rest.now ≡ [] → old.judged ≡ None
     → ended set m (Ok all) ≡ answer_of m all.devices (bad_of new.judged)
 whole set m all old new images h none first =

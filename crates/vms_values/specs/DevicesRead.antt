@@ -13,23 +13,25 @@ use Rattle.vms_values.specs.declared.judge.BadLine.{BadLine as Found}
 use Rattle.vms_values.specs.Reading.{IsBad}
 use Rattle.vms_values.specs.Judging.{bad_of}
 
--- what was read of a device, and where the reading stands after it
+-- What was read of a device, and the reading's state after it.
 abbrev pub found : Device → ℕ → Result ReadSubs BadLine → Result (ReadDevice × Standing) BadLine
 found d line (Err b) = Err b
 found d line (Ok r) =
     Ok (record { image = record { version = d.desc.version; came = r.came; numbers = r.place.numbers }; line = line; sub_lines = r.lines }, r.place)
 
+-- What is read of the section of the device `d` at `p`, with its subsections.
 abbrev pub device_read : Set → Device → Standing → Result (ReadDevice × Standing) BadLine
 device_read set d p =
     if is_line (section_line d) (first_line p.rest)
     then found d p.line (then_subs (read_desc (readers set) d.desc d.desc.version [] true 0 (next_line p)) (read_subs set (own_cells set d) d.subs))
     else Err (record { line = p.line; reason = reasons.Form })
 
--- where the reading of a device begins
+-- The state in which the reading of a device begins.
 abbrev pub start_of : Set → Device → Reading → Standing
 start_of set d reading = record { numbers = (default_image set d).numbers; line = reading.lines.line; rest = reading.lines.rest.now }
 
--- its image, and the first bad line of the second pass so far, or the bad line; memory may be wanting in any case
+-- The image, and the first bad line of the second pass so far; or the bad line. Memory may run out in any
+-- case.
 abbrev pub DeviceRead : Set → Device → Result (ReadDevice × Standing) BadLine → Reading → Reading → Result Image LineFault → Type 0
 DeviceRead set d (Ok (r, p)) old new (Ok image) =
     (image ≡ r.image) × (new.lines.line ≡ p.line) × (new.lines.rest.now ≡ p.rest) × (bad_of new.judged ≡ or_bad (bad_of old.judged) (judge_device set d r))
@@ -38,7 +40,7 @@ DeviceRead set d (Ok (r, p)) old new (Err (faults.Bad line reason)) = ⊥
 DeviceRead set d (Err b) old new (Err (faults.Bad line reason)) = IsBad b (faults.Bad line reason)
 DeviceRead set d r old new (Err faults.NoMemory) = Unit {0}
 
--- the same for all devices
+-- The same for all devices.
 abbrev pub AllRead : Set → Result ReadAll BadLine → Reading → Reading → Result (List Image) LineFault → Type 0
 AllRead set (Ok all) old new (Ok images) =
     (map (λ r. r.image) all.devices ≡ images) × (all.line ≡ new.lines.line) × (all.rest ≡ new.lines.rest.now)
@@ -48,11 +50,12 @@ AllRead set (Ok all) old new (Err (faults.Bad line reason)) = ⊥
 AllRead set (Err b) old new (Err (faults.Bad line reason)) = IsBad b (faults.Bad line reason)
 AllRead set r old new (Err faults.NoMemory) = Unit {0}
 
+-- `f` of what is Ok.
 abbrev pub map_ok : {V W E : Type 0} → (V → W) → Result V E → Result W E
 map_ok f (Ok v) = Ok (f v)
 map_ok f (Err e) = Err e
 
--- the values, unless there is a bad line
+-- The result is the values, unless there is a bad line.
 abbrev pub ToldAs : Option Found → Given → Result Given LineFault → Type 0
 ToldAs None v result = result ≡ Ok v
 ToldAs (Some b) v result = result ≡ Err (faults.Bad b.line b.reason)

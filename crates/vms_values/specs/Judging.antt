@@ -15,16 +15,16 @@ use Rattle.vms_walk.specs.declared.step.WalkStep.{WalkStep}
 use Rattle.vms_walk.specs.declared.step.WalkStep.TheVariants.{Number, Constant, Filler, Rule}
 use Rattle.vms_values.specs.declared.judge.BadLine.{BadLine as Found}
 
--- a bad line, as the definitions have it
+-- A bad line as the definitions have it.
 abbrev pub bad_of : Option Found → Option BadLine
 bad_of None = None
 bad_of (Some b) = Some (record { line = b.line; reason = b.reason })
 
--- what was read of a device
+-- What was read of a device.
 abbrev pub read_of : Image → ℕ → List ℕ → ReadDevice
 read_of image line sub_lines = record { image = image; line = line; sub_lines = sub_lines }
 
--- why subsection j of device i is refused, if so
+-- Why subsection j of device i is refused, if it is.
 abbrev pub sub_judged : Set → ℕ → ℕ → Image → Option ValuesReason
 sub_judged set i j image =
     let d = device_at set i in
@@ -35,7 +35,7 @@ sub_judged set i j image =
     else if not (is_said_well set d image j s came at) then Some reasons.Needed
     else None
 
--- whether its cells are at their defaults
+-- Whether the cells of subsection j of device i are at their defaults.
 abbrev pub sub_defaults : Set → ℕ → ℕ → List ℤ → Bool
 sub_defaults set i j numbers =
     let s = sub_at (device_at set i) j in
@@ -43,7 +43,7 @@ sub_defaults set i j numbers =
 
 -- ---- steps
 
--- whether the validations hold at each end among them
+-- Whether the validations among the steps hold.
 abbrev pub steps_hold : List WalkStep → Bool
 steps_hold [] = true
 steps_hold (Number cell kind most ∷ xs) = steps_hold xs
@@ -62,7 +62,7 @@ hold_append (Constant kind value ∷ xs) ys = hold_append xs ys
 hold_append (Filler bytes ∷ xs) ys = hold_append xs ys
 hold_append (Rule holds ∷ xs) ys = ap (λ (b : Bool). holds && b) (hold_append xs ys) ∙ sym (and_assoc holds (steps_hold xs) (steps_hold ys))
 
--- steps after steps at which they hold, and steps after others
+-- If they hold among the first steps, the later ones decide.
 pub hold_then : (xs ys : List WalkStep) (b : Bool) → steps_hold xs ≡ true → steps_hold ys ≡ b → steps_hold (xs ++ ys) ≡ b
 hold_then xs ys b e f = hold_append xs ys ∙ ap (λ (c : Bool). c && steps_hold ys) e ∙ f
 

@@ -14,25 +14,25 @@ use Rattle.vms_spec.specs.Places.{own_cell_count}
 use Rattle.vms_desc.specs.Described.{device_at}
 use Rattle.vms_values.specs.declared.name.Own.{Own}
 
--- the structures that a part may use: a structure those before it, the others all
+-- The structures that a part may use: a structure those before it, the other parts all.
 abbrev pub usable : Set → Part → List Shape
 usable set (parts.Struct j) = first shape set.structs j
 usable set part = shapes set
 
--- the paths of the cells of a part; no state matters
+-- The paths of the cells of a part. They are the same in every state.
 abbrev pub part_names : Set → Part → List (List ℕ)
 part_names set part = names_of (desc_elements (usable set part) (desc_at set part) 0 [] 0)
 
--- those of one element, behind its own path
+-- The paths of the cells of one element, after its own path.
 abbrev pub item_names : Set → Item → List (List ℕ)
 item_names set item = names_of (item_elements (shapes set) item [] (pos 0) [] 0)
 
--- the path of a cell of a field
+-- The path of a cell of a field.
 abbrev pub field_name : Set → Field → ℕ → List ℕ
 field_name set f cell =
     (f.name ++ index_text f.count (cell / size_in set f.item)) ++ get_or (item_names set f.item) (cell % size_in set f.item) []
 
--- the part of a device in which a cell stands, and which of the part's cells it is
+-- The part that a cell of a device is in, and the cell's number in the part.
 pub record IsInPart (set : Set) (device cell : ℕ) (own : Own) : Type 0 where
   pub part : HasPart set own.part
   pub small : own_cell_count set (desc_at set own.part) ≤ MOST_ITEMS

@@ -3,6 +3,7 @@ use Rattle.std.specs.Prelude.{ℕ, List, [], ◌++◌, codes}
 use Rattle.std.specs.Fmt.{decimal}
 use Rattle.vms_values.specs.declared.path.Path.{Path, Top, Field', Element', Inside'}
 
+-- The text of a path: names joined by dots, the number of an element in brackets.
 abbrev pub path_text : Path → List ℕ
 path_text Top = []
 path_text (Field' p before name) = path_text before ++ name.now

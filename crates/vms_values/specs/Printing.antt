@@ -19,24 +19,25 @@ use Rattle.vms_walk.specs.Steps.{size_in}
 use Rattle.vms_spec.specs.Images.{Image}
 use Rattle.vms_spec.specs.Values.{line_end, version_text, desc_lines, printers, Printer, item_lines, element_lines}
 
--- the name of the machine of a number
+-- The name of the machine with this number.
 abbrev pub machine_of : Set → Option ℕ → Option (List ℕ)
 machine_of set machine = option_map (λ m. get_or set.machines m []) machine
 
--- an image of the device: as many numbers as it has cells, and something for each subsection
+-- An image of the device: it has a number for each cell, and an entry for each subsection.
 pub record IsOf (set : Set) (d : Device) (image : Image) : Type 0 where
   pub cells : length image.numbers ≡ length (device_cells set d)
   pub subs : length image.came ≡ length d.subs
   pub few : length image.numbers < 2 ^ 32
 
--- one for each device
+-- There is one image for each device.
 abbrev pub AreOf : Set → List Device → List Image → Type 0
 AreOf set [] [] = Unit {0}
 AreOf set [] (image ∷ images) = ⊥
 AreOf set (d ∷ devices) [] = ⊥
 AreOf set (d ∷ devices) (image ∷ images) = IsOf set d image × AreOf set devices images
 
--- so many elements of a field from a cell on are among the numbers; one is one
+-- The cells of `count` elements of a field, from cell `first` on, are among the numbers. A field that isn't
+-- an array has one.
 pub record IsRun (set : Set) (f : Field) (first count : ℕ) (numbers : List ℤ) : Type 0 where
   pub reaches : uses_below (length set.structs) f.item ≡ true
   pub small : size_in set f.item ≤ MOST_ITEMS
@@ -46,38 +47,39 @@ pub record IsRun (set : Set) (f : Field) (first count : ℕ) (numbers : List ℤ
 
 -- ---- how long lines grow
 
--- so many bytes at most come behind the path of an item, besides those of its own: 128 for each structure that it may go into
+-- The most bytes after the path of an item, besides those of its own line: 128 for each structure that it may
+-- go into.
 abbrev pub below : Item → ℕ
 below (Struct j) = 128 * (j + 1)
 below item = 0
 
--- so many come behind the path of a part's fields
+-- The most bytes after the path of a part's fields.
 abbrev pub below_part : Set → Part → ℕ
 below_part set (parts.Struct j) = 128 * (j + 1)
 below_part set part = 128 * (length set.structs + 1)
 
--- a line still begins with another
+-- The line still begins with `front`.
 abbrev pub Stays : List ℕ → List ℕ → Type 0
 Stays front line = take (length front) line ≡ front
 
 -- ---- lines
 
--- the lines of so many elements of a field, under the path before it
+-- The lines of `count` elements of a field, under the path before it.
 abbrev pub run_lines : List Printer → Field → Count → ℕ → List ℕ → List ℤ → ℕ → List ℕ
 run_lines ps f One count path numbers first = item_lines ps f.item (path ++ f.name) numbers first
 run_lines ps f c count path numbers first =
     element_lines ps f.item (path ++ f.name) numbers first (item_size (map (λ p. p.cells) ps) f.item) 0 count
 
--- the line of a section
+-- The line of a section.
 abbrev pub section_text : Device → ℕ → List ℕ
 section_text d version =
     codes "section " ++ (d.desc.name ++ (codes " " ++ (decimal d.instance ++ (codes " v" ++ (decimal version ++ line_end)))))
 
--- the line of a subsection
+-- The line of a subsection.
 abbrev pub sub_text : List ℕ → Option ℕ → List ℕ
 sub_text name came = codes "sub " ++ (name ++ (codes " " ++ (version_text came ++ line_end)))
 
--- the lines of subsection j of device i
+-- The lines of subsection j of device i.
 abbrev pub whole_sub : Set → ℕ → ℕ → List ℤ → Option ℕ → List ℕ
 whole_sub set i j numbers came =
     let d = (sub_at (device_at set i) j).desc in

@@ -1,4 +1,4 @@
--- What a reading says of the definition's reading.
+-- What a call reads, compared with the definition's reading.
 use Rattle.std.specs.Prelude.{◌≡◌, ℕ, suc, ◌<◌, Bool, true, false, List, length, map, Option, Result, Ok, Err, ℤ}
 use Rattle.std.specs.Option.{ForSome}
 use Rattle.vms_spec.specs.declared.ValuesReason.TheVariants as reasons
@@ -16,34 +16,34 @@ use Rattle.vms_values.specs.declared.fault.ValuesFault.TheVariants as outer
 use Rattle.vms_values.specs.declared.fault.Values.{Values as Given}
 use Rattle.vms_values.specs.declared.cursor.Lines.{Lines}
 
--- where a reading stands: the numbers so far, and what is left of the text
+-- The state of a reading: the numbers so far, and the rest of the text.
 abbrev pub standing : List ℤ → Lines → Standing
 standing numbers lines = record { numbers = numbers; line = lines.line; rest = lines.rest.now }
 
--- refused at that line and for that reason
+-- The text is refused at that line and for that reason.
 abbrev pub IsBad : BadLine → LineFault → Type 0
 IsBad b (faults.Bad line reason) = (line ≡ b.line) × (reason ≡ b.reason)
 IsBad b faults.NoMemory = ⊥
 
--- goes on from there, or is refused
+-- The reading reaches that state, or is refused.
 abbrev pub Reaches : Read → Standing → Result (Unit {0}) LineFault → Type 0
 Reaches (Ok p) now (Ok u) = p ≡ now
 Reaches (Ok p) now (Err e) = ⊥
 Reaches (Err b) now (Ok u) = ⊥
 Reaches (Err b) now (Err e) = IsBad b e
 
--- the line that must stand there was passed, or it is refused
+-- The required line was read, or it is refused.
 abbrev pub Passed : Bool → Lines → Lines → Result (Unit {0}) LineFault → Type 0
 Passed true old new (Ok u) = (new.line ≡ suc old.line) × (new.rest.now ≡ rest_of (first_line old.rest.now))
 Passed true old new (Err e) = ⊥
 Passed false old new (Ok u) = ⊥
 Passed false old new (Err e) = IsBad (record { line = old.line; reason = reasons.Form }) e
 
--- these values: of images in these states, with this machine
+-- The values are images in these states, with this machine.
 abbrev pub AreValues : Set → Option (List ℕ) → List Image → Given → Type 0
 AreValues set machine images v = (map state_of v.images.items ≡ images) × (machine_of set v.machine ≡ machine) × ForSome v.machine (λ m. m < length set.machines)
 
--- the values, or the bad line; memory may be wanting in any case
+-- The values, or the bad line. Memory may run out in any case.
 abbrev pub ReadsBy : Set → ValuesRead → Result Given LineFault → Type 0
 ReadsBy set (Values machine images) (Ok v) = AreValues set machine images v
 ReadsBy set (Bad line reason) (Ok v) = ⊥
@@ -51,7 +51,7 @@ ReadsBy set (Values machine images) (Err (faults.Bad line reason)) = ⊥
 ReadsBy set (Bad line reason) (Err (faults.Bad l r)) = (l ≡ line) × (r ≡ reason)
 ReadsBy set read (Err faults.NoMemory) = Unit {0}
 
--- the same, for every text
+-- The same, for every text.
 abbrev pub ReadsAs : Set → ValuesRead → Result Given ValuesFault → Type 0
 ReadsAs set (Values machine images) (Ok v) = AreValues set machine images v
 ReadsAs set (Bad line reason) (Ok v) = ⊥
@@ -59,8 +59,8 @@ ReadsAs set (Values machine images) (Err (outer.Bad line reason)) = ⊥
 ReadsAs set (Bad line reason) (Err (outer.Bad l r)) = (l ≡ line) × (r ≡ reason)
 ReadsAs set read (Err outer.NoMemory) = Unit {0}
 
--- what the text means by the lines and elements of the set: the values that it is printed of, which may be written, or its first
--- bad line
+-- What the text means, by the lines and elements of the set: the values whose text it is, which may be
+-- written, or its first bad line.
 abbrev pub MeansAs : Set → List ℕ → Result Given ValuesFault → Type 0
 MeansAs set text (Ok v) = IsText set text (machine_of set v.machine) (map state_of v.images.items)
 MeansAs set text (Err (outer.Bad line reason)) = Refused set text line reason

@@ -18,47 +18,47 @@ use Rattle.vms_spec.specs.ValuesReading.{Standing, Read, Reader, put_line, cells
 use Rattle.vms_values.specs.Reading.{standing}
 use Rattle.vms_values.specs.declared.taken.Taken.{Taken}
 
--- where a reading stands
+-- The state of a reading.
 abbrev pub place_of : Taken → Standing
 place_of taken = standing taken.image.numbers taken.lines
 
--- only numbers changed
+-- Only numbers have changed.
 pub record IsKept (old new : Typed) : Type 0 where
   pub version : new.version ≡ old.version
   pub came : new.came ≡ old.came
   pub long : length new.numbers ≡ length old.numbers
   pub kinds : new.kinds ≡ old.kinds
 
--- from a cell on, an image's kinds are those of these cells
+-- From cell `at` on, an image has the kinds of these cells.
 pub record AreKinds (kinds : List Kind) (at : ℕ) (cells : List Cell) : Type 0 where
   pub more : List Kind
   pub is : drop at kinds ≡ map (λ c. c.kind) cells ++ more
 
--- the cells of a part of a set
+-- The cells of a part of a set.
 abbrev pub part_cells : Set → Part → List Cell
 part_cells set part = desc_cells (cells_in (table set)) (desc_at set part)
 
--- those of one element
+-- The cells of one element.
 abbrev pub element_cells : List (List Cell) → Item → List Cell
 element_cells structs item = item_cells structs item [] (pos 0)
 
--- from a cell on, an image's kinds are those of so many elements
+-- From cell `at` on, an image has the kinds of `count` elements.
 abbrev pub ElementKinds : List (List Cell) → Item → List Kind → ℕ → ℕ → Type 0
 ElementKinds structs item kinds at count =
     (i : ℕ) → i < count → AreKinds kinds (at + i * item_size structs item) (element_cells structs item)
 
--- the line of a cell
+-- What is read of the line of a cell.
 abbrev pub line_read : List ℕ → Kind → List ℕ → ℕ → ℤ → Bool → Standing → Read
 line_read path kind capacities cell default present p =
     put_line path (record { cell = cell; kind = kind; capacities = capacities; default = default; present = present }) p (first_line p.rest)
 
--- the lines of so many elements of a field, under the path before it
+-- What is read of the lines of `count` elements of a field, under the path before it.
 abbrev pub run_read : List Reader → Field → Count → List ℕ → List ℕ → Bool → ℕ → ℕ → Standing → Read
 run_read rs f One capacities path present at count p = read_item rs f capacities (path ++ f.name) present at f.item p
 run_read rs f c capacities path present at count p =
     read_elements rs f capacities (path ++ f.name) present at (item_size (cells_of rs) f.item) 0 count p
 
--- a number that its kind holds, if it is spelled, or why it may not stand
+-- The number, if it is spelled and its cell may hold it, or why not.
 abbrev pub number_judged : List ℕ → ℤ → Bool → Option ℤ → Result ℤ ValuesReason
 number_judged capacities default present None = Err reasons.Number
 number_judged capacities default present (Some z) =

@@ -2,7 +2,7 @@
 use Rattle.std.specs.Prelude.{ℕ, List, [], ◌++◌, ◌∷◌}
 use Rattle.std.specs.Borrow.{Bor}
 
--- pieces, one after the other
+-- The pieces, one after the other.
 abbrev pub joined : List (Bor (List ℕ)) → List ℕ
 joined [] = []
 joined (piece ∷ pieces) = piece.now ++ joined pieces

@@ -1,7 +1,7 @@
-// A place in a text.
+// An offset in a text.
 ghost use Rattle.std.specs.Prelude.{◌+◌, ◌<◌, ◌^◌, length};
 
-/// What is left of a text, and the number of its first line, counted from 1. Each line before it had a
+/// The rest of a text, and the number of its first line, counted from 1. Each line before it had a
 /// line feed.
 #[derive(Clone, Copy)]
 pub(crate) struct Lines<'a> {

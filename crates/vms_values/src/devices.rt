@@ -20,14 +20,19 @@ use vms_image::Image;
 use vms_spec::ValuesReason;
 use vms_walk::PartAt;
 
-/// What is left of a text, and the first bad line of the second pass so far.
+/// The rest of a text, and the first bad line of the second pass so far.
 #[derive(Clone, Copy, Drop)]
 struct Reading<'a> {
     lines: Lines<'a>,
     judged: Option<BadLine>,
 }
 
-/// Reads the lines of a values text of a set, in both passes.
+/// Reads the lines of a values text of `set`, in both passes.
+///
+/// # Errors
+///
+/// - [`LineFault::Bad`]: the first line that is refused, and why.
+/// - [`LineFault::NoMemory`]: out of memory.
 pub(crate) fn read_lines(alloc: Global, set: &DescSet, text: &[u8]) -> Result<Values, LineFault>
     ensures read { ReadsBy (described set.now) (values_read (described set.now) text.now) result }
     ensures of { IfOk result (λ v. AreImagesOf (described set.now) v.images.items) }
@@ -50,7 +55,7 @@ pub(crate) fn read_lines(alloc: Global, set: &DescSet, text: &[u8]) -> Result<Va
     )
 }
 
-// These values, unless a line is bad in the second pass.
+// Returns `values`, unless a line was bad in the second pass.
 fn told(judged: Option<BadLine>, values: Values) -> Result<Values, LineFault>
     ensures { ToldAs judged values result }
 {
@@ -60,7 +65,7 @@ fn told(judged: Option<BadLine>, values: Values) -> Result<Values, LineFault>
     }
 }
 
-// The images of all devices.
+// Reads the images of all devices.
 fn read_images(alloc: Global, set: &DescSet, reading: &mut Reading) -> Result<Vec<Image>, LineFault>
     requires few { length (described set.now).devices < 4294967296 }
     ensures read { let set = described set.now in
@@ -77,7 +82,7 @@ fn read_images(alloc: Global, set: &DescSet, reading: &mut Reading) -> Result<Ve
     Ok(images)
 }
 
-// The image of the device of this number, by the lines of its section and its subsections.
+// Reads the image of `device` from the lines of its section and its subsections.
 fn read_image(
     alloc: Global,
     set: &DescSet,
@@ -99,8 +104,8 @@ fn read_image(
     Ok(taken.image)
 }
 
-// Reads the lines of a device over its defaults, and judges them. `sub_lines` takes the numbers of the
-// lines of its subsections.
+// Reads the lines of `device` over its defaults, and judges them. `sub_lines` gets the line numbers
+// of its subsections.
 fn read_device<'a>(
     set: &DescSet,
     device: u32,

@@ -1,4 +1,4 @@
-// Judges the sections and subsections of what was read.
+// Judges the sections and subsections that were read.
 ghost use Rattle.std.specs.Prelude.{◌≡◌, ◌<◌, ◌==◌, not, length};
 ghost use Rattle.std.specs.List.{list_all};
 ghost use Rattle.vms_spec.specs.declared.Part.TheVariants as parts;
@@ -24,8 +24,9 @@ pub(crate) struct BadLine {
     pub(crate) reason: ValuesReason,
 }
 
-/// The first bad line of a device, by all its numbers, where its section and its subsections have
-/// these lines.
+/// Returns the first bad line of `device`, if there is one.
+///
+/// Its section is at `line`, its subsections at `sub_lines`. All its numbers are in `image`.
 pub(crate) fn judge_device(
     set: &DescSet,
     device: u32,
@@ -57,7 +58,7 @@ pub(crate) fn judge_device(
     None
 }
 
-// Why the line of a subsection is refused, if so.
+// Returns why the line of a subsection is refused, if it is.
 fn judge_sub(set: &DescSet, device: u32, sub: u32, image: &Image) -> Option<ValuesReason>
     requires device { IsOfDevice (described set.now) device (state_of image.now) }
     requires is_sub { sub < length (device_at (described set.now) device).subs }
@@ -79,7 +80,7 @@ fn judge_sub(set: &DescSet, device: u32, sub: u32, image: &Image) -> Option<Valu
     }
 }
 
-// Whether the validations of a subsection hold, if it came.
+// Returns whether the validations of a subsection hold, if it came.
 fn holds_sub(set: &DescSet, device: u32, sub: u32, image: &Image, came: Option<u32>) -> bool
     requires device { IsOfDevice (described set.now) device (state_of image.now) }
     requires is_sub { sub < length (device_at (described set.now) device).subs }
@@ -102,7 +103,7 @@ fn holds_sub(set: &DescSet, device: u32, sub: u32, image: &Image, came: Option<u
     }
 }
 
-// Whether all cells of a subsection are at their defaults.
+// Returns whether all cells of a subsection are at their defaults.
 fn has_defaults(set: &DescSet, device: u32, sub: u32, image: &Image) -> bool
     requires device { IsOfDevice (described set.now) device (state_of image.now) }
     requires is_sub { sub < length (device_at (described set.now) device).subs }
@@ -111,8 +112,8 @@ fn has_defaults(set: &DescSet, device: u32, sub: u32, image: &Image) -> bool
     is_bare(set, device, image, sub)
 }
 
-// Whether the validations hold of a part and of the structures that are sent in it. Where no structure
-// has any, the part's own are asked, and its cells aren't walked over.
+// Returns whether the validations of a part hold, and those of the structures that are sent in it.
+// If no structure has any, only the part's own are checked, without a walk over its cells.
 fn hold_rules(set: &DescSet, spot: PartAt, image: &Image) -> bool
     requires spot { HasSpot (described set.now) spot image.now.numbers }
     ensures { let slots = spot_slots (described set.now) spot image.now.numbers in
@@ -125,7 +126,7 @@ fn hold_rules(set: &DescSet, spot: PartAt, image: &Image) -> bool
     }
 }
 
-// Whether none of these has validations.
+// Returns whether none of `structs` has validations.
 fn are_unruled(structs: &[Desc]) -> bool
     ensures { result ≡ list_all (λ d. length d.validate == 0) structs.now }
 {
@@ -146,13 +147,13 @@ fn walk_rules(set: &DescSet, spot: PartAt, image: &Image) -> bool
     }
 }
 
-// Goes on where validations hold.
+// Stops at the first validation that doesn't hold.
 #[derive(Clone, Copy, Drop)]
 struct Rules<'a> {
     image: &'a Image,
 }
 
-// Validations don't hold.
+// A validation doesn't hold.
 #[derive(Clone, Copy, Drop)]
 struct Broken;
 

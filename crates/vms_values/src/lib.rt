@@ -1,4 +1,4 @@
-//! The values text of a set's images: printed, and read back.
+//! The values text of a set's images: printed, and read back (docs/values.md).
 #![tactic(auto)]
 
 mod cursor;

@@ -1,4 +1,4 @@
-// The line that is printed next, or the path with which the line begins that is read next.
+// The line that is printed next, or the path that the next line to be read begins with.
 ghost use Rattle.std.specs.Prelude.{◌≡◌, ◌+◌, ◌≤◌, ◌++◌, [], take, length, codes};
 ghost use Rattle.std.specs.Fmt.{decimal};
 ghost use Rattle.vms_values.specs.declared.line.TheConstants.{INDEX_ROOM};
@@ -6,19 +6,20 @@ ghost use Rattle.vms_values.specs.declared.line.TheConstants.{INDEX_ROOM};
 use itoa::Buffer;
 use std::marker::Model;
 
-/// A line has no more bytes: the names of 65 fields, one in the other, their elements and a number.
+/// The most bytes of a line: the names of 65 fields, one in the other, their elements and a number.
 const LONGEST: usize = 8320;
 
-/// What comes behind a path takes no more bytes: a number of 128 bits with its sign, and what stands around it.
+/// The most bytes after a path: a number of 128 bits with its sign, and what is around it.
 pub(crate) const NUMBER_ROOM: usize = 54;
 
-/// The number of an element takes no more, with its brackets.
+/// The most bytes of an element's number with its brackets.
 pub(crate) const INDEX_ROOM: usize = 42;
 
-/// A field in a structure takes no more before what comes behind its path: its name, an element's number and the dots.
+/// The most bytes of a field in a structure before what follows its path: its name, an element's
+/// number and the dots.
 pub(crate) const PART_ROOM: usize = 128;
 
-/// A line, from its first byte on. What comes next keeps of it the front that the lines share.
+/// A line, from its first byte on. The next line keeps the front that both share.
 #[derive(Drop)]
 pub(crate) struct Line {
     bytes: [u8; LONGEST],
@@ -37,7 +38,7 @@ impl Model for Line {
 }
 
 impl Line {
-    /// An empty line.
+    /// Creates an empty line.
     pub(crate) fn new() -> Line
         ensures { result ≡ [] }
     {
@@ -47,14 +48,14 @@ impl Line {
         }
     }
 
-    /// How many bytes it has.
+    /// Returns the number of bytes.
     pub(crate) fn len(&self) -> usize
         ensures { result ≡ length self.now }
     {
         self.len
     }
 
-    /// Its bytes.
+    /// Returns the bytes.
     pub(crate) fn text(&self) -> &[u8]
         ensures { result.now ≡ self.now }
     {
@@ -62,7 +63,7 @@ impl Line {
         &bytes[..self.len]
     }
 
-    /// Appends a piece.
+    /// Appends `piece`.
     pub(crate) fn push(&mut self, piece: &[u8])
         requires { length self.old + length piece.now ≤ LONGEST }
         ensures { self.new ≡ self.old ++ piece.now }
@@ -73,7 +74,7 @@ impl Line {
         self.len = end;
     }
 
-    /// Appends the number of an element in brackets.
+    /// Appends the element number `index` in brackets.
     pub(crate) fn push_index(&mut self, index: u32)
         requires { length self.old + INDEX_ROOM ≤ LONGEST }
         ensures text { self.new ≡ self.old ++ codes "[" ++ decimal index ++ codes "]" }
@@ -85,7 +86,7 @@ impl Line {
         self.push(b"]");
     }
 
-    /// Keeps the first `len` bytes.
+    /// Keeps only the first `len` bytes.
     pub(crate) fn cut(&mut self, len: usize)
         ensures { self.new ≡ take len self.old }
     {

@@ -1,11 +1,15 @@
-// Pieces of text, written one after the other.
+// Writes pieces of text one after the other.
 ghost use Rattle.vms_io.specs.Told.{outlet};
 ghost use Rattle.vms_io.specs.Writing.{Wrote};
 ghost use Rattle.vms_values.specs.Written.{joined};
 
 use vms_io::{Failed, Sink, write_all_of};
 
-/// Appends these pieces.
+/// Writes `pieces` to `sink`.
+///
+/// # Errors
+///
+/// - [`Failed`]: the sink failed.
 pub(crate) fn write_pieces<K: Sink>(sink: &mut K, pieces: &[&[u8]]) -> Result<(), Failed>
     ensures { Wrote (outlet K.Sink sink.old) (outlet K.Sink sink.new) (joined pieces.now) result }
 {

@@ -15,7 +15,7 @@ pub(crate) struct Start<'a> {
     pub(crate) lines: Lines<'a>,
 }
 
-/// Reads the line of a machine, if the text begins with one that names a machine of these.
+/// Reads the machine's line, if `text` begins with one that names a machine of `machines`.
 pub(crate) fn read_machine<'a>(machines: &[Text], text: &'a [u8]) -> Start<'a>
     requires { length machines.now < 4294967296 }
     ensures { StartsAt machines.now text.now
@@ -42,7 +42,7 @@ pub(crate) fn read_machine<'a>(machines: &[Text], text: &'a [u8]) -> Start<'a>
     }
 }
 
-/// The number of the machine that a line names, if it does.
+/// Returns the number of the machine that `line` names, if it names one.
 fn machine_in(machines: &[Text], line: &[u8]) -> Option<u32>
     requires { length machines.now < 4294967296 }
     ensures { IsMachineLine machines.now line.now result }

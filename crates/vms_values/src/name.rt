@@ -19,9 +19,18 @@ use vms_desc::{Count, DescSet, Field, Part};
 use vms_io::{Failed, Sink, WriteFault};
 use vms_kinds::Item;
 
-/// Appends the path of a cell of the device of this number, as it stands in the values text: the names of
-/// fields joined by dots, an element of an array with its number in brackets. After an error some first
-/// bytes of it were appended.
+/// Writes the path of cell `cell` of device `device` to `sink`, as it is in the values text.
+///
+/// A path is the names of fields joined by dots; an element of an array has its number in brackets.
+/// After an error only a beginning of it has been written.
+///
+/// # Errors
+///
+/// - [`WriteFault`]: the sink failed.
+///
+/// # Requires
+///
+/// The set has the device, and the device has the cell.
 pub fn print_path<K: Sink>(
     set: &DescSet,
     device: u32,
@@ -42,14 +51,14 @@ pub fn print_path<K: Sink>(
     }
 }
 
-/// A part of a device, and a cell of that part's fields.
+/// A part of a device, and the number of one of its cells.
 #[derive(Clone, Copy)]
 struct Own {
     part: Part,
     cell: u32,
 }
 
-// The part in which a cell of a device stands: the device's own fields, or a subsection.
+// Returns the part that cell `cell` of `device` is in: the device's own fields, or a subsection.
 fn part_of(set: &DescSet, device: u32, cell: u32) -> Own
     requires is_device { device < length (described set.now).devices }
     requires is_cell { let d = device_at (described set.now) device in
@@ -73,7 +82,7 @@ fn part_of(set: &DescSet, device: u32, cell: u32) -> Own
     unreachable!()
 }
 
-// The path of a cell of a part, after what stands before it.
+// Prints the path of a cell of a part, after `path`.
 #[cycle(name)]
 fn print_name<K: Sink>(
     set: &DescSet,
@@ -103,7 +112,7 @@ fn print_name<K: Sink>(
     unreachable!()
 }
 
-// The path of a cell of a field.
+// Prints the path of a cell of a field.
 #[cycle(name)]
 fn print_element<K: Sink>(
     set: &DescSet,
@@ -138,7 +147,7 @@ fn print_element<K: Sink>(
     }
 }
 
-// The path of a cell of one element.
+// Prints the path of a cell of one element.
 #[cycle(name)]
 fn print_inside<K: Sink>(
     set: &DescSet,

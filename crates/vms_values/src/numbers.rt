@@ -5,7 +5,8 @@ ghost use Rattle.vms_values.specs.Spelled.{natural_spelled, read_from, with_digi
 
 use vms_kinds::Kind;
 
-/// The number that a text spells, or `None` exactly where it spells none or one that the kind doesn't hold.
+/// Returns the number that `text` spells. Returns none exactly if it spells none, or one that
+/// `kind` doesn't hold.
 #[inline(always)]
 pub(crate) fn read_number(kind: Kind, text: &[u8]) -> Option<i128>
     ensures { result ≡ held kind (number_spelled text.now) }
@@ -22,7 +23,7 @@ pub(crate) fn read_number(kind: Kind, text: &[u8]) -> Option<i128>
     }
 }
 
-/// The number, if the kind holds it.
+/// Returns `number`, if `kind` holds it.
 fn if_held(kind: Kind, number: i128) -> Option<i128>
     ensures { result ≡ held kind (Some number) }
 {
@@ -33,11 +34,11 @@ fn if_held(kind: Kind, number: i128) -> Option<i128>
     }
 }
 
-/// So few digits spell a number below 2^64, whatever they are.
+/// This many digits spell a number below 2^64, whatever they are.
 const FEW: usize = 19;
 
-/// The number of these digits, or `None` exactly where they are no digits, have a leading zero, or spell
-/// 2^64 or more.
+/// Returns the number that `digits` spell. Returns none exactly if they aren't digits, have a
+/// leading zero, or spell 2^64 or more.
 fn read_natural(digits: &[u8]) -> Option<u64>
     ensures { result ≡ natural_spelled digits.now }
 {
@@ -53,7 +54,7 @@ fn read_natural(digits: &[u8]) -> Option<u64>
     Some(value)
 }
 
-/// The number of a few digits, or `None` exactly where one is no digit.
+/// Returns the number of a few digits. Returns none exactly if one isn't a digit.
 fn read_few(digits: &[u8]) -> Option<u64>
     requires { length digits.now ≤ 19 }
     ensures { result ≡ read_from 0 digits.now }
@@ -65,7 +66,8 @@ fn read_few(digits: &[u8]) -> Option<u64>
     Some(value)
 }
 
-/// A number with one more digit, for which there is room, or `None` exactly where that is no digit.
+/// Returns `value` with one more digit, for which there is room. Returns none exactly if `digit`
+/// isn't one.
 fn next_of_few(value: u64, digit: u8) -> Option<u64>
     requires { value * 10 + 9 < 2 ^ 64 }
     ensures { result ≡ with_digit value digit }
@@ -77,7 +79,7 @@ fn next_of_few(value: u64, digit: u8) -> Option<u64>
     }
 }
 
-/// Tells whether there is a digit, and no zero before others.
+/// Returns whether there is a digit, and no zero before others.
 fn is_unpadded(digits: &[u8]) -> bool
     ensures { result ≡ (length digits.now == 1
         || (nat_le 2 (length digits.now) && not (get_or digits.now 0 48 == 48))) }
@@ -85,7 +87,8 @@ fn is_unpadded(digits: &[u8]) -> bool
     digits.len() == 1 || digits.len() >= 2 && digits[0] != b'0'
 }
 
-/// A number with one more digit, or `None` exactly where that is no digit, or the number is 2^64 or more.
+/// Returns `value` with one more digit. Returns none exactly if `digit` isn't one, or the number is
+/// 2^64 or more.
 fn next_value(value: u64, digit: u8) -> Option<u64>
     ensures { result ≡ with_digit value digit }
 {

@@ -1,4 +1,4 @@
-// Where a cell stands in a device.
+// The path of a cell in a device.
 ghost use Rattle.vms_io.specs.Told.{outlet};
 ghost use Rattle.vms_io.specs.Writing.{Wrote};
 ghost use Rattle.vms_values.specs.Paths.{path_text};
@@ -7,17 +7,17 @@ use crate::lines::write_pieces;
 use itoa::Buffer;
 use vms_io::{Failed, Sink, write_all_of};
 
-/// The path of a field or of an element: its last part, and what stands before it.
+/// The path of a field or of an element: its last part, and what comes before it.
 #[derive(Clone, Copy)]
 pub(crate) enum Path<'a> {
-    /// Nothing: the fields of a device or a subsection stand by their names alone.
+    /// Nothing: the fields of a device or a subsection have only their names.
     Top,
-    /// A field of this name.
+    /// A field, `name`.
     Field {
         before: &'a Path<'a>,
         name: &'a [u8],
     },
-    /// An element of an array.
+    /// The element `index` of an array.
     Element {
         array: &'a Path<'a>,
         index: u32,
@@ -26,7 +26,7 @@ pub(crate) enum Path<'a> {
     Inside(&'a Path<'a>),
 }
 
-/// Appends the text of a path.
+/// Writes the text of `path` to `sink`.
 pub(crate) fn write_path<K: Sink>(sink: &mut K, path: &Path) -> Result<(), Failed>
     ensures { Wrote (outlet K.Sink sink.old) (outlet K.Sink sink.new) (path_text path.now) result }
 {

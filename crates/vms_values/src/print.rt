@@ -18,9 +18,19 @@ use vms_image::Image;
 use vms_io::{Failed, Sink, WriteFault};
 use vms_walk::PartAt;
 
-/// Appends the values text of these images, one for each device of the set, with a line for the machine of
-/// this number of the set if one is named. The images are to be normal. After an error some first bytes of
-/// the text were appended.
+/// Writes the values text of `images` to `sink`, with a line for the machine if `machine` is given.
+///
+/// `machine` is a machine's number in the set. After an error only a beginning of the text has been
+/// written.
+///
+/// # Errors
+///
+/// - [`WriteFault`]: the sink failed.
+///
+/// # Requires
+///
+/// The set has the machine, and there is one image for each device of the set, with the number of
+/// cells and subsections that the device has.
 pub fn print_values<K: Sink>(
     set: &DescSet,
     machine: Option<u32>,
@@ -86,7 +96,7 @@ fn print_device<K: Sink>(shown: Shown, device: u32, sink: &mut K) -> Result<(), 
     print_subs(shown, device, sink)
 }
 
-// The line of a section.
+// Prints the line of a section.
 fn print_section<K: Sink>(device: &Device, version: u32, sink: &mut K) -> Result<(), Failed>
     ensures { let text = section_text (device_of device.now) version in
         Wrote (outlet K.Sink sink.old) (outlet K.Sink sink.new) text result }
@@ -101,7 +111,7 @@ fn print_section<K: Sink>(device: &Device, version: u32, sink: &mut K) -> Result
     )
 }
 
-// The subsections, whether or not they came.
+// Prints the subsections, whether or not they came.
 fn print_subs<K: Sink>(shown: Shown, device: u32, sink: &mut K) -> Result<(), Failed>
     requires is_device { device < length (described shown.set.now).devices }
     requires of { let set = described shown.set.now in
@@ -140,7 +150,7 @@ fn print_sub<K: Sink>(shown: Shown, device: u32, sub: u32, sink: &mut K) -> Resu
     print_lines(shown, spot, sink)
 }
 
-// The line of a subsection: the version at which it came, or a dash.
+// Prints the line of a subsection: the version at which it came, or a dash.
 fn print_sub_line<K: Sink>(name: &[u8], came: Option<u32>, sink: &mut K) -> Result<(), Failed>
     ensures { let text = sub_text name.now came in
         Wrote (outlet K.Sink sink.old) (outlet K.Sink sink.new) text result }

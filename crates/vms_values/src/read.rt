@@ -1,4 +1,4 @@
-// Reads the lines of sections, and what all readings share.
+// Reads the lines of sections; also what all readings share.
 ghost use Rattle.std.specs.Prelude.{◌≡◌, ◌+◌, ◌<◌, ◌++◌, ◌∷◌, [], length, codes, OnOk};
 ghost use Rattle.std.specs.Str.{bytes_eq};
 ghost use Rattle.vms_spec.specs.Spelling.{first_line};
@@ -18,7 +18,7 @@ use vms_io::NoMemory;
 use vms_spec::ValuesReason;
 use vms_words::{NextLine, next_line};
 
-/// The fault at the next line.
+/// Returns the fault at the next line.
 pub(crate) fn bad(lines: &Lines, reason: ValuesReason) -> LineFault
     ensures { result ≡ LineFault.Bad lines.now.line reason }
 {
@@ -28,7 +28,11 @@ pub(crate) fn bad(lines: &Lines, reason: ValuesReason) -> LineFault
     }
 }
 
-/// Appends an image.
+/// Appends `image`.
+///
+/// # Errors
+///
+/// - [`NoMemory`]: out of memory.
 pub(crate) fn push_image(images: &mut Vec<Image>, image: Image) -> Result<(), NoMemory>
     ensures { OnOk result (images.new.items ≡ images.old.items ++ image ∷ []) }
 {
@@ -36,7 +40,11 @@ pub(crate) fn push_image(images: &mut Vec<Image>, image: Image) -> Result<(), No
     Ok(())
 }
 
-/// The line of a section.
+/// Reads the line of a section.
+///
+/// # Errors
+///
+/// - [`LineFault::Bad`]: the line isn't that of the device's section.
 pub(crate) fn read_section(device: &Device, lines: &mut Lines) -> Result<(), LineFault>
     ensures { Passed (is_line (section_line (device_of device.now)) (first_line lines.old.rest.now))
         lines.old lines.new result }
@@ -54,7 +62,7 @@ pub(crate) fn read_section(device: &Device, lines: &mut Lines) -> Result<(), Lin
     }
 }
 
-/// Tells whether a line is that of the device's section.
+/// Returns whether `line` is that of the device's section.
 fn is_section(device: &Device, line: &[u8]) -> bool
     ensures { result ≡ bytes_eq line.now (section_line (device_of device.now)) }
 {
@@ -65,7 +73,7 @@ fn is_section(device: &Device, line: &[u8]) -> bool
     is_joined(line, &[b"section ", name, b" ", instance, b" v", version])
 }
 
-/// Goes on after a line.
+/// Moves on after a line.
 pub(crate) fn pass<'a>(lines: &mut Lines<'a>, next: NextLine<'a>)
     requires { length next.text.now + length next.after.now + 1 ≡ length lines.old.rest.now }
     ensures number { lines.new.line ≡ lines.old.line + 1 }
@@ -75,7 +83,7 @@ pub(crate) fn pass<'a>(lines: &mut Lines<'a>, next: NextLine<'a>)
     lines.rest = next.after;
 }
 
-/// What stands for the number in the line of a cell, if the line begins as it must.
+/// Returns the text of the number in the line of a cell, if the line begins with `path` and ` = `.
 pub(crate) fn number_text<'a>(path: &Line, line: &'a [u8]) -> Option<&'a [u8]>
     ensures { Strips (path.now ++ codes " = ") line.now result }
 {

@@ -1,4 +1,4 @@
-// Prints the lines of a description: arrays to their counts, and structures.
+// Prints the lines of a description: arrays up to their counts, and structures.
 ghost use Rattle.vms_values.specs.declared.line.TheConstants.{LONGEST, NUMBER_ROOM, INDEX_ROOM, PART_ROOM};
 ghost use Rattle.vms_spec.specs.declared.TheConstants.{MOST_ITEMS};
 ghost use Rattle.std.specs.Prelude.{◌≡◌, ◌+◌, ◌*◌, ◌<◌, ◌≤◌, ◌++◌, [], true, codes, length};
@@ -29,14 +29,14 @@ pub(crate) struct Shown<'a> {
     pub(crate) image: &'a Image,
 }
 
-/// Elements of a field, one after the other: so many, of which the first has the first cell `first`.
+/// Consecutive elements of a field: `count` of them, the first of which starts at cell `first`.
 #[derive(Clone, Copy)]
 struct Run {
     first: u32,
     count: u32,
 }
 
-/// Appends the lines of a part.
+/// Prints the lines of a part.
 pub(crate) fn print_lines<K: Sink>(shown: Shown, spot: PartAt, sink: &mut K) -> Result<(), Failed>
     requires spot { HasSpot (described shown.set.now) spot shown.image.now.numbers }
     ensures { let set = described shown.entry.set.now in
@@ -47,7 +47,7 @@ pub(crate) fn print_lines<K: Sink>(shown: Shown, spot: PartAt, sink: &mut K) -> 
     print_part(shown, spot, &mut Line::new(), sink)
 }
 
-// The lines of a part, or of one element of a structure, under the path that stands in the line.
+// Prints the lines of a part, or of one element of a structure, whose path is in `line`.
 #[cycle(print)]
 #[inline(always)]
 fn print_part<K: Sink>(
@@ -81,7 +81,7 @@ fn print_part<K: Sink>(
     Ok(())
 }
 
-// The lines of a field's elements.
+// Prints the lines of a field's elements.
 #[cycle(print)]
 #[inline(always)]
 fn print_field<K: Sink>(
@@ -109,7 +109,7 @@ fn print_field<K: Sink>(
     }
 }
 
-// The lines of the elements of an array.
+// Prints the lines of the elements of an array.
 #[cycle(print)]
 #[inline(always)]
 fn print_elements<K: Sink>(
@@ -144,7 +144,7 @@ fn print_elements<K: Sink>(
     Ok(())
 }
 
-// The lines of one element, whose first cell is `cell`.
+// Prints the lines of one element, which starts at cell `cell`.
 #[cycle(print)]
 #[inline(always)]
 fn print_item<K: Sink>(
@@ -173,8 +173,8 @@ fn print_item<K: Sink>(
     }
 }
 
-// The lines of an element of the structure of this number, under the path that stands in the line. The cycle closes here
-// alone, so all else is laid into its callers, where it is known what kind of part is printed.
+// Prints the lines of an element of structure `number`, whose path is in `line`. Only this function
+// of the recursion isn't inlined: its callers know what kind of part they print.
 #[cycle(print)]
 fn print_struct<K: Sink>(
     shown: Shown,
@@ -204,7 +204,7 @@ fn print_struct<K: Sink>(
     print_part(shown, spot, line, sink)
 }
 
-// The line of a cell, of which the path is there.
+// Prints the line of a cell, whose path is in `line`.
 #[inline(always)]
 fn print_number<K: Sink>(number: i128, line: &mut Line, sink: &mut K) -> Result<(), Failed>
     requires short { length line.old + NUMBER_ROOM ≤ LONGEST }

@@ -28,7 +28,12 @@ use vms_spec::ValuesReason;
 use vms_walk::PartAt;
 use vms_words::next_line;
 
-/// Reads the subsections of a device, and puts the numbers of their lines behind one another.
+/// Reads the subsections of `device`, and appends their line numbers to `lines`.
+///
+/// # Errors
+///
+/// - [`LineFault::Bad`]: the first line that is refused, and why.
+/// - [`LineFault::NoMemory`]: out of memory.
 pub(crate) fn read_subs(
     set: &DescSet,
     device: u32,
@@ -59,7 +64,7 @@ fn push_line(lines: &mut Vec<usize>, line: usize) -> Result<(), NoMemory>
     Ok(())
 }
 
-// The line and the numbers of a subsection.
+// Reads the line and the numbers of a subsection.
 fn read_sub(set: &DescSet, device: u32, sub: u32, taken: &mut Taken) -> Result<(), LineFault>
     requires device { IsOfDevice (described set.now) device (state_of taken.old.image) }
     requires kinds { taken.old.image.kinds ≡ kinds_at (described set.now) device }
@@ -81,7 +86,7 @@ fn read_sub(set: &DescSet, device: u32, sub: u32, taken: &mut Taken) -> Result<(
     read_part(set, spot, taken)
 }
 
-// The version at which a subsection came by its line, if it did.
+// Reads the line of a subsection, and returns the version at which it came, if it did.
 fn read_sub_line(sub: &Sub, lines: &mut Lines) -> Result<Option<u32>, LineFault>
     ensures { let o = said (sub_of sub.now) (first_line lines.old.rest.now) in
         SubPassed o lines.old lines.new result }
@@ -98,7 +103,7 @@ fn read_sub_line(sub: &Sub, lines: &mut Lines) -> Result<Option<u32>, LineFault>
     }
 }
 
-// What a line says of a subsection: its version, a dash, or nothing of it.
+// Returns what `line` says about a subsection: its version, a dash, or nothing.
 fn sub_said(sub: &Sub, line: &[u8]) -> Option<Option<u32>>
     ensures { result ≡ line_said (sub_of sub.now) line.now }
 {

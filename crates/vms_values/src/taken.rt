@@ -1,4 +1,4 @@
-// Reads the lines of a description: arrays to their counts, and structures.
+// Reads the lines of a description: arrays up to their counts, and structures.
 ghost use Rattle.vms_values.specs.declared.line.TheConstants.{LONGEST, NUMBER_ROOM, INDEX_ROOM, PART_ROOM};
 ghost use Rattle.vms_spec.specs.declared.TheConstants.{MOST_ITEMS};
 ghost use Rattle.std.specs.Prelude.{[], ◌≡◌, ◌+◌, ◌*◌, ◌<◌, ◌≤◌, ◌&&◌, true, length, get_or, slice_set};
@@ -33,15 +33,15 @@ use vms_spec::ValuesReason;
 use vms_walk::{PartAt, is_above};
 use vms_words::next_line;
 
-/// What is read of a device so far, and what is left of the text.
+/// What has been read of a device so far, and the rest of the text.
 #[derive(Drop)]
 pub(crate) struct Taken<'a> {
     pub(crate) image: Image,
     pub(crate) lines: Lines<'a>,
 }
 
-/// Elements of a field, one after the other: so many, of which the first has the first cell `first`.
-/// A number counts `most` at most, and is its default where the elements aren't `present`.
+/// Consecutive elements of a field: `count` of them, the first of which starts at cell `first`. A
+/// number may be at most `most`, and it must be its default if the elements aren't `present`.
 #[derive(Clone, Copy)]
 struct Run<'a> {
     field: &'a Field,
@@ -51,7 +51,11 @@ struct Run<'a> {
     present: bool,
 }
 
-/// Reads the lines of a part.
+/// Reads the lines of the part at `spot`.
+///
+/// # Errors
+///
+/// - [`LineFault::Bad`]: the first line that is refused, and why.
 pub(crate) fn read_part(set: &DescSet, spot: PartAt, taken: &mut Taken) -> Result<(), LineFault>
     requires spot { HasSpot (described set.now) spot taken.old.image.numbers }
     requires kinds { let cells = part_cells (described set.now) spot.part in
@@ -65,7 +69,8 @@ pub(crate) fn read_part(set: &DescSet, spot: PartAt, taken: &mut Taken) -> Resul
     read_under(set, spot, &mut Line::new(), true, taken)
 }
 
-// The lines of a part, or of one element of a structure, which is `present` or not, under a path.
+// Reads the lines of a part, or of one element of a structure, under `path`. `present` is whether
+// it is in the bytes.
 #[cycle(read)]
 fn read_under(
     set: &DescSet,
@@ -102,7 +107,7 @@ fn read_under(
     Ok(())
 }
 
-// Whether a field is there, of a part that is present or not.
+// Returns whether a field is in the bytes; `present` is whether its part is.
 fn is_present(set: &DescSet, spot: PartAt, field: u32, present: bool, image: &Image) -> bool
     requires spot { HasSpot (described set.now) spot image.now.numbers }
     requires field { field < length (desc_at (described set.now) spot.part).fields }
@@ -114,7 +119,7 @@ fn is_present(set: &DescSet, spot: PartAt, field: u32, present: bool, image: &Im
     present && set.is_there(spot.part, spot.base, field, spot.version, image)
 }
 
-// The lines of a field's elements.
+// Reads the lines of a field's elements.
 #[cycle(read)]
 fn read_field(set: &DescSet, run: Run, path: &mut Line, taken: &mut Taken) -> Result<(), LineFault>
     requires fits { let numbers = taken.old.image.numbers in
@@ -140,7 +145,7 @@ fn read_field(set: &DescSet, run: Run, path: &mut Line, taken: &mut Taken) -> Re
     }
 }
 
-// The lines of the elements of an array.
+// Reads the lines of the elements of an array.
 #[cycle(read)]
 fn read_elements(
     set: &DescSet,
@@ -179,7 +184,7 @@ fn read_elements(
     Ok(())
 }
 
-// The lines of one element, the first of the run.
+// Reads the lines of one element, the first of the run.
 #[cycle(read)]
 #[inline(always)]
 fn read_item(set: &DescSet, run: Run, path: &mut Line, taken: &mut Taken) -> Result<(), LineFault>
@@ -216,7 +221,7 @@ fn read_item(set: &DescSet, run: Run, path: &mut Line, taken: &mut Taken) -> Res
     }
 }
 
-// The line of a cell, the first of the run.
+// Reads the line of a cell, the first of the run.
 #[inline(always)]
 fn read_number_line(kind: Kind, run: Run, path: &Line, taken: &mut Taken) -> Result<(), LineFault>
     requires room { run.first < length taken.old.image.numbers }
@@ -254,7 +259,7 @@ fn put(taken: &mut Taken, cell: u32, number: i128)
     taken.image.set(cell, number);
 }
 
-// The number that a text spells, or why it may not stand for the first cell of the run.
+// Returns the number that `text` spells, or why the first cell of the run may not hold it.
 #[inline(always)]
 fn judge_number(kind: Kind, run: Run, text: &[u8]) -> Result<i128, ValuesReason>
     ensures { let caps = capacities_of run.entry.most in

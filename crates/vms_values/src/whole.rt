@@ -1,4 +1,4 @@
-// Reads values texts of every set.
+// Reads values texts of any set.
 ghost use Rattle.std.specs.Prelude.{IfOk};
 ghost use Rattle.vms_spec.specs.ValuesReading.{values_read};
 ghost use Rattle.vms_desc.specs.Described.{described};
@@ -11,10 +11,16 @@ use crate::{Values, ValuesFault};
 use std::alloc::Global;
 use vms_desc::DescSet;
 
-/// Reads a values text of a set: the machine that it names and an image for each device, or the first
-/// line at which it isn't one, and why. A line that no text of the set has there goes before a section
-/// or subsection whose validations fail or that isn't sent as it is needed. The text is read once, and
-/// may have any length. What is accepted may be written.
+/// Reads a values text of `set`: the machine that it names, and an image for each device.
+///
+/// The text is read once, and may have any length. The images that are returned may be written.
+///
+/// # Errors
+///
+/// - [`ValuesFault::Bad`]: the first bad line, and why. A line that no text of the set has there is
+///   reported first. Then comes a section or subsection whose validations fail, or a subsection
+///   that came without being needed, or is needed and didn't come.
+/// - [`ValuesFault::NoMemory`]: out of memory.
 pub fn read_values(alloc: Global, set: &DescSet, text: &[u8]) -> Result<Values, ValuesFault>
     ensures read { ReadsAs (described set.now) (values_read (described set.now) text.now) result }
     ensures of { IfOk result (λ v. AreImagesOf (described set.now) v.images.items) }

@@ -92,7 +92,7 @@ all_short set (d ∷ devices) (image ∷ images) h = (short_are image.numbers h.
 
 -- ---- devices
 
--- what reading wants of the devices
+-- what reading requires of the devices
 abbrev pub AreGoodDevices : Set → List Device → Type 0
 AreGoodDevices set [] = Unit {0}
 AreGoodDevices set (d ∷ devices) = IsSound d.desc × AreSoundSubs set d d.subs × AreShort (default_numbers set d) × AreGoodDevices set devices
@@ -126,7 +126,7 @@ abbrev pub AllCome : Set → List Device → ℕ → List ℕ → Result ReadAll
 AllCome set devices line text (Ok all) = AllRead set devices line text all
 AllCome set devices line text (Err e) = AllStop set devices line text e
 
--- entries that have the lines that were taken are as many
+-- entries that have the lines that were taken are of the same number
 along_long : (taken : List Taken) (es : List Entry) → Along taken (λ es. es ≡ []) es → length es ≡ length taken
 along_long [] es h = ap (λ (l : List Entry). length l) h
 along_long (t ∷ taken) [] h = absurd h
@@ -190,7 +190,7 @@ module _ (set : Set) (d : Device) (devices : List Device) (line : ℕ) (text : L
         along_then x.taken taken (λ es. es ≡ devices_entries set devices images) P (device_entries set d image ++ devices_entries set devices images)
         (x.along (devices_entries set devices images)) (λ es is. subst (λ (l : List Entry). Along taken P l) (sym is) h)
 
-    -- a number of which nothing was said is its default
+    -- a number about which nothing was said is its default
     image_unsaid : AreUnsaid set d image
     image_unsaid c lt bare =
         let room : c < length (device_cells set d) = omega (arith, x.told.long, length-map (device_cells set d) (λ c. c.default)) in

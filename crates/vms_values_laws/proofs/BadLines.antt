@@ -121,7 +121,7 @@ parts_machine set None line images e = ap (λ (l : ℕ). parts_from set l (devic
 parts_machine set (Some name) line images e = ap (λ (l : ℕ). parts_from set l (devices_entries set set.devices images)) e
 
 module _ (set : Set) (text : List ℕ) (machine : Option (List ℕ)) (line : ℕ) (after : List ℕ) (head : Headed set text machine line after) where
-  -- a line that is bad behind what was taken, where the entries to come are so
+  -- a line that is bad after what was taken, if these entries are to come
   first_bad : (images : List Image) (taken : List Taken) (at : ℕ) (rest : List ℕ) (reason : ValuesReason) (Q : List Entry → Type 0) → AreShaped set set.devices images → AllShort images
       → ((images : List Image) → AreShaped set set.devices images → AllShort images → Follows taken Q (devices_entries set set.devices images)) → Along taken Q (devices_entries set set.devices images)
       → Moved line after taken at rest → ((es : List Entry) → Q es → front_reason es rest ≡ Some reason) → FirstBad set text at reason
@@ -159,7 +159,7 @@ module _ (set : Set) (text : List ℕ) (machine : Option (List ℕ)) (line : ℕ
   stopped_first e a =
       first_bad a.images a.taken e.line a.rest e.reason (λ es. Begins a.demand es) a.shaped a.short a.follows a.along a.moved (λ es b. front_of a.demand a.rest e.reason es a.wrong b)
 
-  -- something stands after the last line
+  -- something comes after the last line
   pub more_first : (all : ReadAll) (b : ℕ) (rest : List ℕ) → all.rest ≡ b ∷ rest → AllRead set set.devices line after all → FirstBad set text all.line reasons.Form
   more_first all b rest e a =
       first_bad (images_of all.devices) a.taken all.line all.rest reasons.Form (λ es. es ≡ []) a.shaped a.short a.follows a.along a.moved

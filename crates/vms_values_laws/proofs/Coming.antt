@@ -53,7 +53,7 @@ module _ (total : List ℤ → List Element) (start : Standing) (low : ℕ) wher
     pub long : length p.numbers ≡ length start.numbers
     pub ran : Ran start said p
 
-  -- a line was refused that stood where an element must
+  -- a line was refused where an element must be
   pub record Stopped (e : BadLine) : Type 0 where
     pub cell : ℕ
     pub place : Standing

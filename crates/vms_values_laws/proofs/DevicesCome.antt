@@ -222,7 +222,7 @@ module _ (set : Set) (d : Device) (line : ℕ) (text : List ℕ) where
       length-map (device_cells set d) (λ c. c.default)
       ∙ length-append (desc_cells (struct_cells set) d.desc) (flat_map (λ s. desc_cells (struct_cells set) s.desc) d.subs)
 
-  -- the device's lines, where the first is its own
+  -- the device's lines, of which the first is its own
   pub inside_comes : AreSound set.structs → IsSound d.desc → AreSoundSubs set d d.subs → Moved line text (head ∷ []) (suc line) start.rest
       → DeviceComes set d line text (then_subs (read_desc (readers set) d.desc d.desc.version [] true 0 start) (read_subs set own d.subs))
   inside_comes structs sound subs headed =

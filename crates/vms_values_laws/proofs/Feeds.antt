@@ -1,4 +1,4 @@
--- Lines without a line feed, and which lines are fine where something is demanded.
+-- Lines without a line feed, and which lines meet a demand.
 use Rattle.std.proofs.Common.{◌≡◌, ℕ, zero, suc, ◌+◌, ◌%◌, ◌/◌, Bool, true, false, ◌==◌, nat_lt, if◌then◌else◌, List, ◌∷◌, ◌++◌, length, drop, Option, Some, None, ℤ, pos, negsuc, refl, sym, ap, ◌∙◌, subst, arith, codes, ◌||◌, []}
 use Rattle.std.proofs.lemmas.Bool.{ne_eqb}
 use Rattle.std.specs.Fmt.{decimal, signed_decimal, digits, digits_onto, digit_glyph}

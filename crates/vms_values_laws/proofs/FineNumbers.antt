@@ -20,7 +20,7 @@ use Rattle.vms_elements.specs.Elements.{Number, Element, What}
 use Rattle.vms_elements.specs.Lines.{number_line}
 use Rattle.vms_elements.specs.Entries.{OfNumber, if_not, number_reason, spelled_reason, element_reason, line_reason}
 
--- ---- the text behind a front
+-- ---- the text after a front
 
 pub begins_itself : (front text : List ℕ) → begins_with front (front ++ text) ≡ true
 begins_itself [] text = refl
@@ -44,7 +44,7 @@ line_number x n cell e short =
 
 -- ---- the three reasons
 
--- a number that fits its cell, and is the default where it is not there
+-- a number that fits its cell, and is the default if it is absent
 pub record IsFitting (cell : Cell) (present : Bool) (z : ℤ) : Type 0 where
   pub fits : FitsCell cell z
   pub absent : present ≡ false → z ≡ cell.default

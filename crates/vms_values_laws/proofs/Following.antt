@@ -6,7 +6,7 @@ use Rattle.vms_elements.specs.Entries.{Entry, OfMachine, OfSection, OfSub, OfNum
 use Rattle.vms_elements.proofs.LinesOf.{text_append}
 use Rattle.vms_values_laws.specs.Taken.{demand_of, reason_for, Taken, lines_of, AreFineTaken, Follows, Along, Moved}
 
--- no state matters for what may stand somewhere
+-- what may be somewhere doesn't depend on the state
 pub reason_same : (e : Entry) (o : Option (List ℕ × List ℕ)) → wanted_reason e o ≡ reason_for (demand_of e) o
 reason_same (OfMachine name) o = refl
 reason_same (OfSection d image) None = refl

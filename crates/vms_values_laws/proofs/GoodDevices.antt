@@ -1,4 +1,4 @@
--- What reading wants of the devices follows from what the laws want of a set.
+-- What reading requires of the devices follows from what the laws require of a set.
 use Rattle.std.proofs.Common.{◌≡◌, ℕ, suc, ◌<◌, ◌≤◌, List, [], ◌∷◌, length, get_or, map, Bool, true, false, nat_lt, Some, ℤ, pos, refl, sym, subst, arith}
 use Rattle.std.specs.List.{slice_get}
 use Rattle.std.proofs.lemmas.Bool.{ltb-true, ltb-false}

@@ -1,4 +1,4 @@
--- Two states that have the same lines, and their defaults where there is none, are the same.
+-- Two states with the same lines, and with defaults where there is no line, are the same.
 use Rattle.std.proofs.Common.{◌≡◌, ℕ, suc, ◌+◌, ◌<◌, Bool, true, false, ◌||◌, ◌==◌, List, [], ◌∷◌, ◌++◌, length, get_or, map, Option, Some, None, ℤ, pos, refl, sym, ap, ◌∙◌, subst, arith, codes}
 use Rattle.std.specs.List.{AllByRecursion}
 use Rattle.std.proofs.lemmas.Bool.{eqb-true}
@@ -16,7 +16,7 @@ use Rattle.vms_values_laws.proofs.Numbers.{AreShort, of_numbers, cancel, number_
 use Rattle.vms_values_laws.proofs.DevicesCome.{AllShort}
 use Rattle.std.proofs.lemmas.List.{ext_get_or}
 
--- the same is demanded, and it has the same line, one after the other
+-- the same is required, with the same line, one after the other
 abbrev pub Match : List Entry → List Entry → Type 0
 Match [] [] = Unit {0}
 Match [] (f ∷ fs) = ⊥
@@ -83,11 +83,11 @@ parted (e ∷ es) fs [] [] i i' n n' m = absurd m
 parted (e ∷ es) fs [] (f' ∷ fs') i i' n n' m = absurd (other e f' i.0 n' m.0)
 parted (e ∷ es) fs (e' ∷ es') fs' i i' n n' m = let p = parted es fs es' fs' i.1 i'.1 n n' m.2 in record { inside = (m.0, m.1, p.inside); rest = p.rest }
 
--- the entries of a device behind its section's
+-- the entries of a device after its section's
 abbrev pub inside_of : Set → Device → Image → List Entry
 inside_of set d image = number_entries set d.desc image.numbers 0 ++ subs_entries set d image 0 (own_cells set d) d.subs image.came
 
--- of entries of which each is so
+-- for entries that all satisfy it
 module _ (P : Entry → Type 0) where
   all_both : (es fs : List Entry) → AllByRecursion P es → AllByRecursion P fs → AllByRecursion P (es ++ fs)
   all_both [] fs a b = b

@@ -14,7 +14,7 @@ abbrev pub AreClean : List Entry → Type 0
 AreClean [] = Unit {0}
 AreClean (e ∷ es) = IsClean (demand_of e) × AreClean es
 
--- how a list of entries ends before what is left of a text: with the reason of the first bad line, or both with nothing
+-- how a list of entries ends before the rest of a text: with the reason of the first bad line, or both with nothing
 abbrev pub Ends : Option ValuesReason → List ℕ → List Entry → Type 0
 Ends None rest es = (es ≡ []) × (rest ≡ [])
 Ends (Some reason) rest es = front_reason es rest ≡ Some reason

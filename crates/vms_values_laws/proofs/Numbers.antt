@@ -90,7 +90,7 @@ ran_moved p q said r =
 
 -- ---- a description that was read, or not
 
--- what its lines said, of cells from one on
+-- what its lines said, about cells from one on
 pub record Told (low : ℕ) (before : List ℤ) (said : List Said) (after : List ℤ) : Type 0 where
   pub agrees : Agrees said after
   pub from : AreFrom low said
@@ -102,7 +102,7 @@ pub record NumbersRead (set : Set) (d : Desc) (at : ℕ) (p q : Standing) : Type
   pub said : List Said
   pub told : Told at p.numbers said q.numbers
   pub below : AreBelow (at + length (desc_cells (struct_cells set) d)) said
-  -- the elements that are printed are those of which something was said
+  -- the elements that are printed are those about which something was said
   pub heard : (n : List ℤ) → Agrees said n → printed (elements_in set d d.version n at) ≡ map (λ (s : Said). s.element) said
   pub follows : (n : List ℤ) (more : List Entry) → AreShort n → Follows (all_taken said) (λ es. es ≡ more) (number_entries set d n at ++ more)
   pub along : (n : List ℤ) (more : List Entry) → Agrees said n → Along (all_taken said) (λ es. es ≡ more) (number_entries set d n at ++ more)

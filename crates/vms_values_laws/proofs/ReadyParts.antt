@@ -1,4 +1,4 @@
--- A state of which a text speaks, whose parts are good, is ready.
+-- A state that a text says, with good parts, is ready.
 use Rattle.std.proofs.Common.{◌≡◌, ℕ, suc, ◌+◌, ◌<◌, ◌≤◌, Bool, true, false, List, ◌∷◌, ◌++◌, length, get_or, Option, Some, None, ℤ, refl, sym, ap, ◌∙◌, subst, arith, []}
 use Rattle.std.specs.List.{flat_map, slice_get}
 use Rattle.std.proofs.lemmas.Bool.{or_from}
@@ -69,7 +69,7 @@ module _ (set : Set) (n : List ℤ) (short : AreShort n) where
   desc_bare d at h =
       subst (λ (l : List Cell). AreBare n at l (λ k. false)) (walks set d d.version d.version n n at at).cells_are (have_each n at (elements_in set d d.version n at) (walks set d d.version d.version n n at at).up h)
 
-  -- what is at its default is right, whatever stands in the bytes
+  -- what is at its default is right, whatever is in the bytes
   pub default_right : (at : ℕ) (cs : List Cell) (ss : List Slot) → DefaultsFit cs → AreBare n at cs (λ k. false) → AreRight n at cs ss
   default_right at cs ss defaults bare =
       record { right = λ c k lt e. let is = bare c k lt e refl in record { fits = subst (λ (z : ℤ). FitsCell (get_or cs c no_cell) z) (sym is) (defaults c lt); absent = λ h. is } }
@@ -101,7 +101,7 @@ module _ (set : Set) (d : Device) (image : Image) (short : AreShort image.number
       lines_both (number_entries set s.desc n at) others k
       ∙ or_from (has_line (number_entries set s.desc n at) k) (has_line others k) (below_desc set n short s.desc at k lt) (below_subs (suc j) next subs came k (omega arith))
 
-  -- what is so of the subsections
+  -- what holds of the subsections
   pub record SubsReady (j at : ℕ) (subs : List Sub) (came : List (Option ℕ)) : Type 0 where
     pub right : AreRight n at (sub_cells set subs) (came_slots set d n at subs came)
     pub valid : RulesHold (came_slots set d n at subs came)

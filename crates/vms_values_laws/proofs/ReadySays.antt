@@ -20,7 +20,7 @@ use Rattle.vms_values_laws.proofs.Rights.{IsRight, AreRight, AreBare, IsNumberOf
 
 -- ---- cells in the bytes
 
--- a cell without a line stands in no byte
+-- a cell without a line has no byte
 pub bare_bytes : (n : List ℤ) (xs : List Element) → AreCounted xs → (k : ℕ) → has_line (of_numbers n (printed xs)) k ≡ false → has_cell (slots_of xs) k ≡ false
 bare_bytes n [] h k e = refl
 bare_bytes n (x ∷ xs) h k e = go (view x xs) (bare_bytes n xs h.1 k)

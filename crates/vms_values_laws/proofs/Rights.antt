@@ -1,4 +1,4 @@
--- When the numbers of a part of a state are right: each fits its cell, and is the default where no byte stands for it.
+-- When the numbers of a part of a state are right: each fits its cell, and is the default if it has no byte.
 use Rattle.std.proofs.Common.{◌≡◌, ◌⊎◌, inl, inr, ℕ, zero, suc, ◌+◌, ◌-◌, ◌<◌, ◌≤◌, Bool, true, false, ◌&&◌, ◌==◌, nat_lt, List, ◌∷◌, ◌++◌, length, get_or, ℤ, pos, None, refl, sym, ap, ◌∙◌, subst, arith, if◌then◌else◌, ◌||◌, []}
 use Rattle.std.proofs.lemmas.Bool.{ltb-true, ltb-false, eq-eqb, ne_eqb, and_parts, or_parts}
 use Rattle.std.proofs.lemmas.List.{get_or_append_left, get_or-append-add, length-append}
@@ -22,7 +22,7 @@ pub record IsRight (n : List ℤ) (ss : List Slot) (k : ℕ) (cell : Cell) : Typ
   pub fits : FitsCell cell (get_or n k (pos 0))
   pub absent : has_cell ss k ≡ false → get_or n k (pos 0) ≡ cell.default
 
--- those of these cells, the first of which has this place
+-- the same for these cells, from this one on
 pub record AreRight (n : List ℤ) (at : ℕ) (cells : List Cell) (ss : List Slot) : Type 0 where
   pub right : (c k : ℕ) → c < length cells → k ≡ at + c → IsRight n ss k (get_or cells c no_cell)
 

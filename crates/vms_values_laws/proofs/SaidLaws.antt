@@ -20,7 +20,7 @@ meets_more [] s left n (x ∷ xs) h = let e : x ≡ s.element = cc in let f : xs
 meets_more (t ∷ said) s left n [] h = h
 meets_more (t ∷ said) s left n (x ∷ xs) h = (h.0, λ a. meets_more said s left n xs (h.1 a))
 
--- where all agrees, that is the list
+-- if all agrees, that is the list
 pub meets_all : (said : List Said) (left : List Element) (n : List ℤ) (xs : List Element) → Agrees said n → Meets said left n xs → xs ≡ map (λ (s : Said). s.element) said ++ left
 meets_all [] left n xs a h = h
 meets_all (s ∷ said) left n [] a h = absurd h

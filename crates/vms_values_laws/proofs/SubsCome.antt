@@ -26,7 +26,7 @@ use Rattle.vms_values_laws.proofs.Unsaid.{has_said, said_both, lines_both, lines
 use Rattle.vms_values_laws.proofs.SecondPass.{sub_numbers, subs_past}
 use Rattle.vms_values_laws.proofs.Numbers.{AreShort, taken_of, all_taken, Told, NumbersRead, NumbersStop, NumbersCome, numbers_come}
 
--- ---- what was told in two parts
+-- ---- what was said in two parts
 
 agrees_both : (said more : List Said) (n : List ℤ) → Agrees said n → Agrees more n → Agrees (said ++ more) n
 agrees_both [] more n a b = b
@@ -107,7 +107,7 @@ sub_taken : (s : Sub) (o : Option (List ℕ × List ℕ)) (came : Option ℕ) �
 sub_taken s None came e = cc
 sub_taken s (Some (line, rest)) came e = one_way s line rest came (bytes_eq line (sub_line s (Some s.desc.version))) (bytes_eq line (sub_line s None)) refl refl e
 
--- what was told and taken up to a bad line, where the entries follow on it and have its lines
+-- what was said and taken up to a bad line, if the entries follow it and have its lines
 pub record Stopped (subs : List Sub) (at : ℕ) (p : Standing) (e : BadLine) (Behind : Demand → List Taken → Type 0) (Lined : Demand → List Taken → List Said → List (Option ℕ) → List ℤ → Type 0) : Type 0 where
   pub said : List Said
   pub taken : List Taken
@@ -129,7 +129,7 @@ module _ (set : Set) (d : Device) where
   abbrev pub cells_long : List Sub → ℕ
   cells_long subs = length (flat_map (λ s. desc_cells (struct_cells set) s.desc) subs)
 
-  -- the entries of subsections follow on what was taken, whichever of them have come and whatever is behind them
+  -- the entries of subsections follow on what was taken, whichever of them have come and whatever comes after them
   abbrev pub FollowSubs : List Sub → ℕ → ℕ → List Taken → (List Entry → List Entry → Type 0) → Type 0
   FollowSubs subs j at taken Then = (image : Image) (came : List (Option ℕ)) (more : List Entry) → length came ≡ length subs → AreShort image.numbers
       → Follows taken (Then more) (subs_entries set d image j at subs came ++ more)
@@ -201,7 +201,7 @@ module _ (set : Set) (d : Device) where
       head_moved : Moved p.line p.rest (taken_head ∷ []) (suc p.line) (next_line p).rest
       head_moved = moved_one p.line p.rest taken_head (rest_of (first_line p.rest)) (line_taken p.rest (sub_line s came) head.rest head.is) head.fine
 
-      -- behind the line of the subsection come its numbers, and then the other subsections
+      -- after the line of the subsection come its numbers, and then the other subsections
       abbrev behind_head : Image → List (Option ℕ) → List Entry → List Entry
       behind_head image others more = number_entries set s.desc image.numbers at ++ (subs_entries set d image (suc j) (at + size) subs others ++ more)
 

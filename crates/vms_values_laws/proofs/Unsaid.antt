@@ -1,4 +1,4 @@
--- Which cells have a line, by what was said; a cell of which nothing was said stays as it was.
+-- Which cells have a line, by what was said. A cell about which nothing was said is unchanged.
 use Rattle.std.proofs.Common.{◌≡◌, ℕ, Bool, true, false, ◌==◌, List, ◌∷◌, ◌++◌, get_or, map, slice_set, ℤ, pos, refl, sym, ap, ◌∙◌, get_or-set_other, ◌||◌, []}
 use Rattle.std.proofs.lemmas.Bool.{eq-eqb, or_parts}
 use Rattle.std.proofs.Math.Bool.{or_assoc}

@@ -99,7 +99,7 @@ known_next cs d base i at f fs said more is here grows known k j x false ge =
     subst (λ (c : ℕ). Knows more c) (here ∙ ap (λ (k : ℕ). place_of cs d.fields 0 base d.fields k) same) (is_known f.count f.item at more number one k)
 
 module _ (total : List ℤ → List Element) (start : Standing) (low : ℕ) where
-  -- a structure's lines are those of its elements, wherever it stands
+  -- a structure's lines are those of its elements, at any cell
   pub record ReadsShape (r : Reader) (s : Shape) : Type 0 where
     pub shape_comes : (steps : List (ℕ × ℕ)) (path : List ℕ) (present : Bool) (at : ℕ) (p : Standing) (said : List Said) (left : List ℤ → List Element)
         → at + length r.cells ≤ length start.numbers → At total start low at p said (λ m. wrapped steps path present (s.elements m at) ++ left m)
@@ -186,7 +186,7 @@ module _ (total : List ℤ → List Element) (start : Standing) (low : ℕ) wher
         ∙ append-nil (wrapped steps' (path ++ (f.name ++ index_text f.count 0)) b (part n at))
         ∙ ap (λ (l : List ℕ). wrapped steps' (path ++ l) b (part n at)) (ap (λ l. f.name ++ l) (one 0) ∙ append-nil f.name))) a)
 
-    -- all elements of a field, where it stands so
+    -- all elements of such a field
     array_comes : (f : Field) (stand : Stand) (own : ℕ → ℕ) (caps : List ℕ) (count : Count) → f.count ≡ count → stand.count ≡ elements_of count own
         → (steps : List (ℕ × ℕ)) (path : List ℕ) (present : Bool) (at : ℕ) (p : Standing) (said : List Said) (left : List ℤ → List Element)
         → at + capacity_of count * item_size (cells_of rs) f.item ≤ length start.numbers
@@ -207,7 +207,7 @@ module _ (total : List ℤ → List Element) (start : Standing) (low : ℕ) wher
         items_comes f stand caps (λ e. ap (λ (c : Count). index_text c e) is) steps path present 0 (capacity_of (Counted by most)) (elements_of (Counted by most) own) at p said left
         (c ∙ omega arith) (elements_fit (Counted by most) own) room a
 
-    -- a field is there or not, and has so many elements, by what was said before it
+    -- whether a field is there, and how many elements it has, by what was said before it
     field_comes : (d : Desc) (v : ℕ) (steps : List (ℕ × ℕ)) (path : List ℕ) (present : Bool) (base i at : ℕ) (f : Field) (p : Standing) (said : List Said) (left : List ℤ → List Element)
         → IsSoundField d.fields i f → ((j : ℕ) → IsEarlier d.fields i j → Knows said (place_of (cells_of rs) d.fields 0 base d.fields j))
         → at + length (field_cells (cells_of rs) d.fields i f) ≤ length start.numbers
@@ -293,7 +293,7 @@ module _ (total : List ℤ → List Element) (start : Standing) (low : ℕ) wher
       (record { shape_comes = λ steps path present at p said left room a. desc_comes rs ss (same_cells ds k) (all_read ds sound k (omega arith)) d d.version steps path present at p said left (sound k (omega arith)) room a })
       j
 
-  -- the description of a part of a set, whose first cell stands at a place
+  -- the description of a part of a set, which starts at a cell
   pub part_comes : (set : Set) (d : Desc) (at : ℕ) (p : Standing) (said : List Said) (left : List ℤ → List Element) → AreSound set.structs → IsSound d
       → at + length (desc_cells (struct_cells set) d) ≤ length start.numbers
       → At total start low at p said (λ m. wrapped [] [] true (desc_elements (shapes set) d d.version m at) ++ left m)

@@ -7,7 +7,7 @@ use Rattle.vms_elements.specs.Parts.{is_number}
 use Rattle.vms_elements.specs.Lines.{printed}
 use Rattle.vms_elements.proofs.LinesOf.{printed_append}
 
--- an element behind these steps, of this text
+-- an element after these steps, of this text
 abbrev pub under : List (ℕ × ℕ) → List ℕ → Bool → Element → Element
 under steps text present x = record x { path = steps ++ x.path; name = text ++ x.name; present = present && x.present }
 

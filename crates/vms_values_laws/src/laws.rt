@@ -1,50 +1,61 @@
-//! Each law is the contract of a function without a body. The statements stand in `specs/Laws.antt` and `specs/Rounds.antt`.
+//! The laws of values texts, each the contract of a function without a body. The statements are in
+//! `specs/Laws.antt` and `specs/Rounds.antt`. They hold for every well-formed set.
 ghost use Rattle.vms_values_laws.specs.Laws.{ReadLaw, OnlyLaw, AcceptedLaw, PrintedLaw, LineLaw};
 ghost use Rattle.vms_values_laws.specs.Rounds.{WrittenLaw, PackedLaw, ShownLaw};
 
-/// What is read of a text, for every well-formed set, is what its lines mean: the machine and the ready images of which it is
-/// printed; else the first line that may not stand where it does, with its reason; else the first section or subsection that is
-/// bad, with its reason.
+/// States that what is read of a text (`values_read`) is what its lines mean (`Reads`).
+///
+/// That is the machine and the ready images whose text it is; else the first line that may not be
+/// where it is, with its reason; else the first bad section or subsection, with its reason.
 #[tactic(auto, using(crate::proofs::Stated::read_holds))]
 pub fn read_law()
     ensures { ReadLaw }
 {}
 
-/// Of what its lines mean nothing else is read: a text has one machine and one list of images, or one first bad line.
+/// States that nothing but what its lines mean is read of a text: one machine and one list of
+/// images, or one first bad line.
 pub fn only_law()
     ensures { OnlyLaw }
 {}
 
-/// What is accepted under a well-formed set is a machine of the set or none and images that may be written, and the text is the
-/// one that is printed of them.
+/// States that an accepted text is the one printed for its machine and images (`IsText`).
+///
+/// The machine is one of the set or none, and the images may be written.
 pub fn accepted_law()
     ensures { AcceptedLaw }
 {}
 
-/// What is printed of a machine of the set or none and of images that may be written is read back as these.
+/// States that the `values_text` of a machine of the set or none, and of images that may be
+/// written, is read back as these.
 pub fn printed_law()
     ensures { PrintedLaw }
 {}
 
-/// A text of any length is refused at a line that a text of the set may have, or at the one behind them.
+/// States that a text of any length is refused at line `most_lines` + 1 at the latest.
+///
+/// `most_lines` is the number of lines that a text of the set may have.
 pub fn line_law()
     ensures { LineLaw }
 {}
 
-/// A stream that is written under a well-formed set of a machine of the set or none and of images that may be written, with a
-/// description that fits or none, is taken whole, with these and with nothing else.
+/// States that an input takes a stream that is `written` whole, with its machine and images and
+/// with nothing else.
+///
+/// The machine is one of the set or none, the images may be written, and the description fits or
+/// there is none.
 pub fn written_law()
     ensures { WrittenLaw }
 {}
 
-/// The stream that is written of what a text says under a well-formed set, with a description that fits or none, shows as that
-/// text.
+/// States that the stream written for what a text says shows as that text (`ShowsAs`).
+///
+/// The description fits or there is none.
 pub fn packed_law()
     ensures { PackedLaw }
 {}
 
-/// Of the text that a written stream shows as, its machine and its images are read again, so that the same stream is written of
-/// them.
+/// States that the text as which a written stream shows (`ShowsAs`) is read as its machine and
+/// images. So the same stream is written for it.
 pub fn shown_law()
     ensures { ShownLaw }
 {}

@@ -1,4 +1,5 @@
-//! Laws of reading values texts: what a text says under a set is what the lines and elements of the set mean by it.
+//! The laws of reading values texts: what is read of a text under a set is what the set's lines and
+//! elements mean by it.
 #![tactic(auto)]
 
 pub mod laws;

@@ -80,7 +80,7 @@ module _ {S F : Type 0} (N : S → List ℤ) (goes : List WalkStep → S → S �
     -- ---- fields
 
     module _ (spot : PartAt) (has : HasPart set spot.part) (i cell : ℕ) (here : cell ≡ cell_of set spot i) where
-      -- the slots of a field are those of its elements, so many as there are by the numbers below it
+      -- the slots of a field are those of its elements, whose number the numbers below it say
       pub field_slots_are : (well : is_well_formed set ≡ true) (n m : List ℤ) → length m ≡ length n → HasSpot set spot n → (count : ℕ) (item : Item) (most : Option ℕ) → i < length (desc_at set spot.part).fields
           → item ≡ (field_at set spot.part i).item → count ≡ present_of (field_at set spot.part i) spot.version (spot_numbers set spot n) → most ≡ least_of (counted i (desc_at set spot.part).fields)
           → cell + capacity_of (field_at set spot.part i).count * size_in set (field_at set spot.part i).item ≤ length n → SameBelow cell n m
@@ -146,7 +146,7 @@ module _ {S F : Type 0} (N : S → List ℤ) (goes : List WalkStep → S → S �
             let past = slots_from (table set) (desc_at set spot.part).fields spot.version (spot_numbers set spot (N d)) (N d) 0 spot.base (take i (desc_at set spot.part).fields) in
             all (steps_of past ++ ys) ws (zs ++ steps_of parts.0) x d (laws.more _ ys a b d (fields_way (N d) s) h) (part_left past (slots_at set spot (N d) i cell) parts.0 (spot_slots set spot (N d)) ys ws zs x parts.1 e)
 
-        -- the end of the part, where all its fields are behind
+        -- the end of the part, when all its fields are done
         whole_past : i ≡ length (desc_at set spot.part).fields → (n : List ℤ)
             → spot_slots set spot n ≡ slots_from (table set) (desc_at set spot.part).fields spot.version (spot_numbers set spot n) n 0 spot.base (take i (desc_at set spot.part).fields)
             ++ (Rule (all_hold (desc_at set spot.part).validate spot.version (spot_numbers set spot n)) ∷ [])

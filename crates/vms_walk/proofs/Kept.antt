@@ -26,7 +26,7 @@ keeps_more xs ys n m k p q = record {
   same = λ c e. let none = or_parts (has_step xs c) (has_step ys c) (sym (has_append xs ys c) ∙ e) in q.same c none.1 ∙ p.same c none.0;
 }
 
--- some first of the steps
+-- the first few steps
 pub keeps_front : (xs ys : List WalkStep) (n m : List ℤ) → Keeps xs n m → Keeps (xs ++ ys) n m
 keeps_front xs ys n m p = record {
   long = p.long;

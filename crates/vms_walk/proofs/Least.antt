@@ -1,4 +1,4 @@
--- A number that counts arrays is within the capacities of all where it is within the least of them.
+-- A number that counts arrays is within all capacities if it is within the least of them.
 use Rattle.std.proofs.Common.{◌≡◌, ℕ, ◌<◌, ◌≤◌, min, List, ◌∷◌, Option, Some, None, ℤ, pos, negsuc, refl, sym, ap, ◌∙◌, arith, Bool, true, false, nat_lt, [], ◌||◌}
 use Rattle.std.proofs.lemmas.Bool.{ltb-true, ltb-false, lt-ltb}
 use Rattle.std.proofs.Math.Bool.{or-false, or_assoc}
@@ -38,6 +38,6 @@ exceeds_from o [] z = sym (or-false (exceeds (capacities_of o) z))
 exceeds_from o (m ∷ caps) z =
     exceeds_from (lesser o m) caps z ∙ ap (λ (b : Bool). b || exceeds caps z) (exceeds_lesser o m z) ∙ or_assoc (exceeds (capacities_of o) z) (is_above z m) (exceeds caps z)
 
--- a number is above the least of these capacities where it is above one of them
+-- a number is above the least of these capacities if it is above one of them
 pub exceeds_least : (caps : List ℕ) (z : ℤ) → exceeds (capacities_of (least_of caps)) z ≡ exceeds caps z
 exceeds_least caps z = exceeds_from None caps z

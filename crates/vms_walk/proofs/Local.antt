@@ -1,4 +1,4 @@
--- The slots up to a place depend on the cells below it alone.
+-- The slots up to a place depend only on the cells below it.
 use Rattle.std.proofs.Common.{◌≡◌, ℕ, zero, suc, ◌+◌, ◌*◌, ◌<◌, ◌≤◌, List, ◌∷◌, ◌++◌, length, get_or, take, drop, ℤ, refl, sym, ap, ◌∙◌, subst, arith, Bool, if◌then◌else◌, ◌==◌, [], ◌||◌}
 use Rattle.std.proofs.lemmas.List.{drop_more}
 use Rattle.std.proofs.lemmas.Bool.{or_parts}
@@ -35,7 +35,7 @@ has_step_of (Rule b ∷ xs) c = has_step_of xs c
 pub keeps_below : (cell : ℕ) (xs : List Slot) (n m : List ℤ) → IsAbove cell xs → Keeps (steps_of xs) n m → SameBelow cell n m
 keeps_below cell xs n m above k = record { same = λ c lt. k.same c (has_step_of xs c ∙ above.below c lt) }
 
--- the same, after some first of the steps
+-- the same, after the first few steps
 pub keeps_first : (cell : ℕ) (xs : List Slot) (ys zs : List WalkStep) (n m : List ℤ) → steps_of xs ≡ ys ++ zs → IsAbove cell xs → Keeps ys n m → SameBelow cell n m
 keeps_first cell xs ys zs n m e above k = record {
   same = λ c lt. k.same c (or_parts (has_step ys c) (has_step zs c) (sym (has_append ys zs c) ∙ ap (λ (l : List WalkStep). has_step l c) (sym e) ∙ has_step_of xs c ∙ above.below c lt)).0;

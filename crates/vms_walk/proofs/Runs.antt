@@ -27,7 +27,7 @@ run_split first count n kind lt =
     let parts = times_split count n (λ cell. Number cell kind None ∷ []) first 1 lt in
     (parts.0, parts.1 ∙ ap (λ (k : ℕ). run_of first n kind ++ (Number k kind None ∷ parts.0)) e)
 
--- what is so of each step is so of each of their cells
+-- what holds of each step holds of each of their cells
 pub run_each : (P : WalkStep → Type 0) (first count : ℕ) (kind : Kind) → ((ys rest : List WalkStep) (x : WalkStep) → run_of first count kind ≡ ys ++ (x ∷ rest) → P x)
     → (k : ℕ) → first ≤ k → k < first + count → P (Number k kind None)
 run_each P first count kind each k from below =
@@ -36,7 +36,7 @@ run_each P first count kind each k from below =
     let here : first + n ≡ k = omega (arith, from) in
     subst (λ (cell : ℕ). P (Number cell kind None)) here (each (run_of first n kind) parts.0 (Number (first + n) kind None) parts.1)
 
--- some first of them, and the others
+-- the first few of them, and the others
 pub run_both : (first n m : ℕ) (kind : Kind) → run_of first (n + m) kind ≡ run_of first n kind ++ run_of (first + n) m kind
 run_both first zero m kind =
     let e : first ≡ first + 0 = omega arith in
@@ -48,7 +48,7 @@ run_both first (suc n) m kind =
     ap (λ (k : ℕ). run_of first k kind) one
     ∙ ap (λ (l : List WalkStep). Number first kind None ∷ l) (run_both (first + 1) n m kind ∙ ap (λ (k : ℕ). run_of (first + 1) n kind ++ run_of k m kind) e)
 
--- some of them behind those before them
+-- some of them after those before them
 pub run_parts : (first n m count : ℕ) (kind : Kind) → n + m ≤ count → run_of first count kind ≡ run_of first n kind ++ (run_of (first + n) m kind ++ run_of (first + (n + m)) (count - (n + m)) kind)
 run_parts first n m count kind le =
     let all : count ≡ (n + m) + (count - (n + m)) = omega (arith, le) in

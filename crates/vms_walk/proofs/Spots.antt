@@ -1,4 +1,4 @@
--- The spots of a walk: where fields and structures stand, and what they have.
+-- The spots of a walk: where fields and structures are, and what they have.
 use Rattle.std.proofs.Common.{◌≡◌, ℕ, suc, ◌+◌, ◌*◌, ◌<◌, ◌≤◌, List, ◌++◌, length, get_or, drop, ℤ, refl, sym, ap, ◌∙◌, subst, arith, Bool, true, if◌then◌else◌, Option}
 use Rattle.vms_kinds.specs.declared.Item.{Item}
 use Rattle.vms_kinds.specs.declared.Item.TheVariants.{Struct}
@@ -93,7 +93,7 @@ next_field set well spot n h k cell lt room =
 
 -- ---- what the calls of the walk need
 
--- one field: its elements are of this item, and so many stand in the bytes
+-- one field: its elements are of this item, and this many are in the bytes
 pub record FieldNeeds (set : Set) (spot : PartAt) (n : List ℤ) (k cell count : ℕ) (item : Item) (most : Option ℕ) : Type 0 where
   pub uses : uses_below (length set.structs) item ≡ true
   pub lower : item_rank item + 1 < part_rank set spot.part + 2

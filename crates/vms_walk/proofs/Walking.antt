@@ -16,7 +16,7 @@ pub steps_append : (xs ys : List Slot) → steps_of (xs ++ ys) ≡ steps_of xs +
 steps_append [] ys = refl
 steps_append (x ∷ xs) ys = ap (λ (l : List WalkStep). step_of x ∷ l) (steps_append xs ys)
 
--- what is left within some of the steps is left within all
+-- what remains of some of the steps remains of all
 pub left_within : (before here rest whole ys ws zs : List WalkStep) (x : WalkStep) → whole ≡ before ++ (here ++ rest) → here ≡ ys ++ (ws ++ (x ∷ zs)) → whole ≡ (before ++ ys) ++ (ws ++ (x ∷ (zs ++ rest)))
 left_within before here rest whole ys ws zs x e f =
     let behind = append_assoc ys (ws ++ (x ∷ zs)) rest ∙ ap (λ (l : List WalkStep). ys ++ l) (append_assoc ws (x ∷ zs) rest) in
@@ -33,7 +33,7 @@ part_left before here rest whole ys ws zs x e f =
 pub times_next : {B : Type 0} (part : ℕ → List B) (n m at step : ℕ) → n ≡ suc m → times n part at step ≡ part at ++ times m part (at + step) step
 times_next part n m at step e = ap (λ (k : ℕ). times k part at step) e
 
--- ---- of the capacities that a number counts the least is enough
+-- ---- the least of the capacities that a number counts is enough
 
 pub least_again : (o : Option ℕ) → least_of (capacities_of o) ≡ o
 least_again None = refl
@@ -89,7 +89,7 @@ present_fits f v own = by_test (is_there f.test f.since v own no_parent)
     by_test true = elements_fit f.count own
     by_test false = omega arith
 
--- what is left of the fields, at a field
+-- the rest of the fields, at a field
 pub fields_at : (all : List Field) (i : ℕ) → i < length all → drop i all ≡ get_or all i no_field ∷ drop (i + 1) all
 fields_at all i lt = drop_more all i no_field lt
 

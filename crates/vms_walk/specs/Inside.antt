@@ -1,16 +1,16 @@
--- Which cells steps have.
+-- The cells of steps.
 use Rattle.std.specs.Prelude.{◌≡◌, ℕ, ◌<◌, Bool, false, ◌||◌, ◌==◌, List, [], ◌∷◌, length, get_or, ℤ, pos}
 use Rattle.vms_walk.specs.declared.step.WalkStep.{WalkStep}
 use Rattle.vms_walk.specs.declared.step.WalkStep.TheVariants.{Number, Constant, Filler, Rule}
 
--- the cell of a number is there
+-- The cell of a number is among `numbers`.
 abbrev pub IsInside : List ℤ → WalkStep → Type 0
 IsInside numbers (Number cell kind most) = cell < length numbers
 IsInside numbers (Constant kind value) = Unit {0}
 IsInside numbers (Filler bytes) = Unit {0}
 IsInside numbers (Rule holds) = Unit {0}
 
--- whether the number of this cell is one of the steps
+-- Whether one of the steps is for cell `c`.
 abbrev pub has_step : List WalkStep → ℕ → Bool
 has_step [] c = false
 has_step (Number cell kind most ∷ xs) c = cell == c || has_step xs c
@@ -18,7 +18,7 @@ has_step (Constant kind value ∷ xs) c = has_step xs c
 has_step (Filler bytes ∷ xs) c = has_step xs c
 has_step (Rule holds ∷ xs) c = has_step xs c
 
--- the numbers of all other cells stay
+-- The numbers of all other cells stay.
 pub record Keeps (xs : List WalkStep) (old new : List ℤ) : Type 0 where
   pub long : length new ≡ length old
   pub same : (c : ℕ) → has_step xs c ≡ false → get_or new c (pos 0) ≡ get_or old c (pos 0)

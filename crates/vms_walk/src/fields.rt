@@ -16,20 +16,22 @@ use crate::{LONGEST_RUN, WalkStep, Walker};
 use vms_desc::{Cells, DescSet, Part};
 use vms_kinds::{Item, Kind};
 
-// Fewer numbers are taken one by one.
+// Runs shorter than this are handled number by number.
 const SHORTEST_RUN: u32 = 4;
 
 /// A part of a set at a version, or one element of a structure, and its first cell.
 #[derive(Clone, Copy, Drop)]
 pub struct PartAt {
+    /// The part: a device's own fields, a subsection or a structure.
     pub part: Part,
-    /// The version at which the part's fields are there.
+    /// The version that decides which of the part's fields are in the bytes.
     pub version: u32,
     /// The number of its first cell in the device.
     pub base: u32,
 }
 
-// Elements in a row, of which the first has the first cell `first`. A number counts `most` at most.
+// Consecutive elements; the first starts at cell `first`. `most` is the capacity that a count may
+// not exceed.
 #[derive(Clone, Copy)]
 struct Elements<'a> {
     item: &'a Item,
@@ -38,7 +40,7 @@ struct Elements<'a> {
     first: u32,
 }
 
-// How many elements of a field stand in the bytes: none where the field isn't there.
+// Returns how many elements of a field are in the bytes: none if the field is absent.
 #[inline(always)]
 fn present<C: Cells>(set: &DescSet, spot: PartAt, field: u32, cells: &C) -> u32
     requires spot { HasSpot (described set.now) spot (C.numbers cells.now) }
@@ -53,7 +55,8 @@ fn present<C: Cells>(set: &DescSet, spot: PartAt, field: u32, cells: &C) -> u32
     }
 }
 
-// One element of a field, whose first cell is `cell`. A number counts `most` at most.
+// Walks one element of a field, which starts at cell `cell`. `most` is the capacity that a count
+// may not exceed.
 #[cycle(walk)]
 #[inline(always)]
 fn walk_item<W: Walker>(
@@ -90,8 +93,8 @@ fn walk_item<W: Walker>(
     }
 }
 
-// One element of the structure of this number. The cycle closes here alone, so all else is laid into its callers, where
-// it is known what kind of part is walked over.
+// Walks one element of structure `number`. Only this function of the recursion isn't inlined: its
+// callers know what kind of part they walk.
 #[cycle(walk)]
 fn walk_struct<W: Walker>(
     set: &DescSet,
@@ -122,7 +125,7 @@ fn walk_struct<W: Walker>(
     walk(set, spot, walker)
 }
 
-// All elements of a row.
+// Walks all elements of a row.
 #[cycle(walk)]
 #[inline(always)]
 fn walk_items<W: Walker>(set: &DescSet, row: Elements<'_>, walker: &mut W) -> Result<(), W::Fault>
@@ -155,7 +158,8 @@ fn walk_items<W: Walker>(set: &DescSet, row: Elements<'_>, walker: &mut W) -> Re
     Ok(())
 }
 
-// The kind of elements that are taken in runs: some numbers which count nothing and have any code of their width.
+// Returns the kind of elements that are taken in runs: several numbers that count nothing, of a
+// kind for which any code is valid.
 #[inline(always)]
 fn run_kind(row: Elements<'_>) -> Option<Kind>
     ensures number { IfSome result (λ kind. row.entry.item.now ≡ items.Num kind) }
@@ -171,7 +175,7 @@ fn run_kind(row: Elements<'_>) -> Option<Kind>
     }
 }
 
-// Numbers of one kind that count nothing, whose cells follow one another from `first` on.
+// Walks `count` numbers of one kind that count nothing, in consecutive cells from `first` on.
 #[inline(always)]
 fn walk_run<W: Walker>(first: u32, count: u32, kind: Kind, walker: &mut W) -> Result<(), W::Fault>
     requires number { kind ≡ Kind.Bool → ⊥ }
@@ -192,7 +196,7 @@ fn walk_run<W: Walker>(first: u32, count: u32, kind: Kind, walker: &mut W) -> Re
     Ok(())
 }
 
-// One field, whose first cell is `cell`.
+// Walks one field, which starts at cell `cell`.
 #[cycle(walk)]
 #[inline(always)]
 fn walk_field<W: Walker>(
@@ -227,7 +231,19 @@ fn walk_field<W: Walker>(
     walk_items(set, row, walker)
 }
 
-/// Goes through what stands in the bytes of a part, in order, and then to the end of it.
+/// Calls `walker` for each thing that the part at `spot` has in the bytes, in order, and then for
+/// the part's end.
+///
+/// Arrays and structures are expanded. The end of each structure element is a step too.
+///
+/// # Errors
+///
+/// The walker's [`Walker::Fault`], if it stops at one of the steps.
+///
+/// # Requires
+///
+/// The set has the part, its cells are among the walker's numbers, and the walker may take each
+/// step that comes.
 #[cycle(walk)]
 #[inline(always)]
 pub fn walk<W: Walker>(set: &DescSet, spot: PartAt, walker: &mut W) -> Result<(), W::Fault>

@@ -1,4 +1,4 @@
-// What a walk comes to, and what is done there.
+// The steps of a walk, and what is done at each.
 ghost use Rattle.std.specs.Prelude.{◌≡◌, OnOk, IfErr};
 ghost use Rattle.vms_spec.specs.Numbers.{exceeds};
 ghost use Rattle.vms_walk.specs.Steps.{capacities_of};
@@ -7,10 +7,10 @@ use crate::PartAt;
 use vms_desc::{Cells, DescSet};
 use vms_kinds::Kind;
 
-/// One thing that stands in the bytes of a description, or the end of its fields.
+/// One thing that a part has in the bytes, or the end of its fields.
 #[derive(Clone, Copy, Drop)]
 pub enum WalkStep {
-    /// The number of a cell, which is at most `most`, if it counts elements.
+    /// The number of cell `cell`, which is at most `most` if it counts elements.
     Number {
         cell: u32,
         kind: Kind,
@@ -21,18 +21,20 @@ pub enum WalkStep {
         kind: Kind,
         value: i128,
     },
-    /// Unused bytes.
+    /// Unused bytes: their number, `bytes`.
     Filler {
         bytes: u16,
     },
-    /// The end of a description, or of a structure element: whether its validations hold.
+    /// The end of a description, or of a structure element; `holds` is whether its validations
+    /// hold.
     Rule {
         holds: bool,
     },
 }
 
-/// Tells whether `number` is above `most`, the least capacity of the arrays that it counts. If `most` is `None`, it counts
-/// no array, and the result is false.
+/// Returns whether `number` is above `most`, the least capacity of the arrays that it counts.
+///
+/// If `most` is `None`, it counts no array, and the result is false.
 pub fn is_above(number: i128, most: Option<u32>) -> bool
     ensures { result ≡ exceeds (capacities_of most) number }
 {
@@ -42,10 +44,12 @@ pub fn is_above(number: i128, most: Option<u32>) -> bool
     }
 }
 
-/// So many numbers at most are taken by one call of [`Walker::run`].
+/// The most numbers that one call of [`Walker::run`] takes.
 pub const LONGEST_RUN: u32 = 128;
 
-/// What is done at each step. It may change numbers, but of the cells alone at which it is called.
+/// What is done at each step of a walk.
+///
+/// A walker may change numbers, but only those of the cells at which it is called.
 pub trait Walker: Cells {
     ghost use Rattle.std.specs.Prelude.{List, [], ◌∷◌, ◌++◌, ◌+◌, ◌<◌, ◌≤◌, ◌≡◌, length};
     ghost use Rattle.vms_spec.specs.declared.TheConstants.{MOST_ITEMS};
@@ -57,27 +61,46 @@ pub trait Walker: Cells {
     ghost use Rattle.vms_walk.specs.Inside.{IsInside, Keeps};
     ghost use Rattle.vms_walk.specs.Steps.{HasSpot, holds_at};
 
-    /// Why it stops.
+    /// Why the walker stops.
     type Fault: Drop;
 
-    /// These steps lead from a state to another.
+    /// These steps lead from one state to another.
     ghost goes: { List OneStep → Self → Self → Type 0 };
 
-    /// Within these steps it stops.
+    /// The walker stops within these steps.
     ghost stops: { List OneStep → Self → Self.Fault → Self → Type 0 };
 
     /// A step may come in this state.
     ghost may: { Self → OneStep → Type 0 };
 
-    /// Takes a step, or stops at it with a fault.
+    /// Takes `step`, or stops at it.
+    ///
+    /// # Errors
+    ///
+    /// [`Walker::Fault`] if it stops.
+    ///
+    /// # Requires
+    ///
+    /// The cell of a number is among the walker's numbers, and the step may come.
     fn step(&mut self, step: WalkStep) -> Result<(), Self::Fault>
         requires inside { IsInside (Self.numbers self.old) step }
         requires may { may self.old step }
         ensures ok { OnOk result (goes (step ∷ []) self.old self.new) }
         ensures err { IfErr result (λ fault. stops (step ∷ []) self.old fault self.new) };
 
-    /// Comes to the end of a part, or of one element of a structure, and takes the step that says whether its
-    /// validations hold. Who does the same either way need not ask them.
+    /// Takes the step at the end of a part or of one structure element, which says whether its
+    /// validations hold.
+    ///
+    /// Override this if the outcome doesn't depend on the validations.
+    ///
+    /// # Errors
+    ///
+    /// [`Walker::Fault`] if it stops.
+    ///
+    /// # Requires
+    ///
+    /// The set has the part at `spot`, its cells are among the walker's numbers, and the step may
+    /// come.
     #[inline(always)]
     fn rules(&mut self, set: &DescSet, spot: PartAt) -> Result<(), Self::Fault>
         requires spot { HasSpot (described set.now) spot (Self.numbers self.old) }
@@ -92,8 +115,19 @@ pub trait Walker: Cells {
         self.step(WalkStep::Rule { holds })
     }
 
-    /// Takes the steps at so many numbers of one kind, which isn't `Bool`: they count nothing, and their cells follow
-    /// one another from `first` on. Or stops at one of them.
+    /// Takes `count` steps for numbers of one kind in consecutive cells from `first` on, or stops
+    /// at one of them.
+    ///
+    /// The numbers count nothing.
+    ///
+    /// # Errors
+    ///
+    /// [`Walker::Fault`] if it stops.
+    ///
+    /// # Requires
+    ///
+    /// `count` is 1 to [`LONGEST_RUN`], `kind` isn't `Bool`, the cells are among the walker's
+    /// numbers, and the steps may come.
     fn run(&mut self, first: u32, count: u32, kind: Kind) -> Result<(), Self::Fault>
         requires some { 0 < count }
         requires short { count ≤ LONGEST_RUN }
@@ -119,22 +153,22 @@ pub trait Walker: Cells {
     ghost keeps: { (xs : List OneStep) (a b : Self)
         → goes xs a b → Keeps xs (Self.numbers a) (Self.numbers b) };
 
-    /// The same where it stops.
+    /// The same if the walker stops.
     ghost keeps_stopped: { (xs : List OneStep) (a b : Self) (fault : Self.Fault)
         → stops xs a fault b → Keeps xs (Self.numbers a) (Self.numbers b) };
 
-    /// No steps leave it as it is.
+    /// Taking no steps leaves the walker unchanged.
     ghost none: { (a : Self) → goes [] a a };
 
-    /// Steps after steps lead on.
+    /// Steps from `a` to `b` and further steps from `b` to `c` lead from `a` to `c`.
     ghost more: { (xs ys : List OneStep) (a b c : Self)
         → goes xs a b → goes ys b c → goes (xs ++ ys) a c };
 
-    /// Where it stops after other steps, it stops within all.
+    /// If the walker stops after other steps, it stops within all of them.
     ghost stops_after: { (xs ys : List OneStep) (a b c : Self) (fault : Self.Fault)
         → goes xs a b → stops ys b fault c → stops (xs ++ ys) a fault c };
 
-    /// Where it stops, further steps change nothing.
+    /// If the walker stops, further steps change nothing.
     ghost stops_before: { (xs ys : List OneStep) (a b : Self) (fault : Self.Fault)
         → stops xs a fault b → stops (xs ++ ys) a fault b };
 }

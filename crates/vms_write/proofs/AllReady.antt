@@ -29,7 +29,7 @@ module _ (set : Set) (images : List Image) (n : ℕ) (image : Image) (sofar : Ar
   pub one_more : IsReady set (device_at set n) image → AreSoFar set images (n + 1)
   one_more r = record { long = sofar.long; ready = λ k d other less e f. ready_by r k d other less e f (nat_lt k n) refl }
 
-  -- one that isn't ready is missing from all
+  -- if one isn't ready, not all are
   pub not_all : (IsReady set (device_at set n) image → ⊥) → AreReady set images → ⊥
   not_all r all =
       let here : slice_get images n ≡ Some image = slice_get-get_or images n image lt ∙ ap (λ (x : Image). Some x) (sym is) in

@@ -60,7 +60,7 @@ fit_all n (Constant kind z ∷ slots) f r = fit_all n slots f.1 r
 fit_all n (Filler m ∷ slots) f r = fit_all n slots f r
 fit_all n (Rule b ∷ slots) f r = and_from b (are_fit n slots) r.0 (fit_all n slots f r.1)
 
--- ---- cells that stand in the slots or are at their defaults
+-- ---- cells that are in the slots or at their defaults
 
 settle_at : (slots : List Slot) (forms : List CellForm) (n : List ℤ) (from k : ℕ) → settle slots forms n from k ≡ true
     → (c : ℕ) → c < k → has_cell slots (from + c) ≡ false → get_or n (from + c) (pos 0) ≡ (get_or forms (from + c) no_form).default
@@ -141,7 +141,7 @@ came_fine set d forms image j at (s ∷ subs) (Some v ∷ came) e =
     ∙ and_swap needed later (is_fine forms n here at (sub_size set s)) (is_fine forms n rest (at + sub_size set s) (subs_size set subs))
     ∙ ap (λ (b : Bool). (needed && is_fine forms n here at (sub_size set s)) && b) (came_fine set d forms image (suc j) (at + sub_size set s) subs came (omega arith))
 
--- what the walk answers for a device
+-- what the walk returns for a device
 abbrev pub device_fine : Set → Device → List CellForm → Image → Bool
 device_fine set d forms image =
     (image.version == d.desc.version && is_fine forms image.numbers (own_slots set d image.version image.numbers) 0 (own_cells set d)) && subs_fine set d forms image 0 (own_cells set d) d.subs image.came

@@ -16,7 +16,7 @@ run_bytes numbers kind first (suc count) room =
     ap (λ (l : List ℤ). codes_of kind (take (suc count) l)) (drop_more numbers first (pos 0) (omega (arith, room)))
     ∙ ap (λ (l : List ℕ). code kind (get_or numbers first (pos 0)) ++ l) (run_bytes numbers kind (first + 1) count (omega (arith, room)))
 
--- what a call that writes comes to
+-- the result of a call that writes
 pub wrote_ok : {T E P : Type 0} (a b : Outlet) (xs : List ℕ) (r : Result T E) → (Puts a b xs → P) → Wrote a b xs r → OnOk r P
 wrote_ok a b xs (Ok x) f h = f h
 wrote_ok a b xs (Err e) f h = tt

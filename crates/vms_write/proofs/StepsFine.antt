@@ -1,4 +1,4 @@
--- The steps of a part are fine, and the cells behind them at their defaults, exactly where its slots are fine.
+-- The steps of a part are fine, and the cells after them at their defaults, exactly if its slots are fine.
 use Rattle.std.proofs.Common.{◌≡◌, ℕ, suc, ◌+◌, ◌-◌, ◌<◌, ◌≤◌, List, [], ◌∷◌, length, get_or, Option, Some, None, ℤ, pos, negsuc, refl, sym, ap, ◌∙◌, subst, arith, Bool, true, false, ◌&&◌, ◌||◌, ◌==◌}
 use Rattle.std.proofs.lemmas.Bool.{eq-eqb, ne_eqb}
 use Rattle.std.proofs.Math.Bool.{and-true, and_assoc}
@@ -41,7 +41,7 @@ number_fine kind caps z = ap (λ (b : Bool). in_range kind z && b) (least_within
 or_right : (a b : Bool) → a ≡ false → (a || b) ≡ b
 or_right a b e = ap (λ (x : Bool). x || b) e
 
--- the cells before a number, and those behind it
+-- the cells before a number, and those after it
 settle_number : (forms : List CellForm) (n : List ℤ) (at end c : ℕ) (kind : Kind) (caps : List ℕ) (xs : List Slot) → at ≤ c → Ascends (c + 1) end xs
     → settle (Number c kind caps ∷ xs) forms n at (end - at) ≡ (settle [] forms n at (c - at) && settle xs forms n (c + 1) (end - (c + 1)))
 settle_number forms n at end c kind caps xs le asc =
@@ -101,7 +101,7 @@ part_ascends set spot n =
     subst (λ (cs : List (List Cell)). Ascends spot.base (spot.base + length (desc_cells cs (desc_at set spot.part))) (spot_slots set spot n)) (cells_first set.structs (length set.structs))
     (desc_ascends (table set) (meanings_ascend set.structs (length set.structs)) (desc_at set spot.part) spot.version n spot.base)
 
--- the walk over a part comes to its end
+-- the walk over a part reaches its end
 pub part_fine : (set : Set) (spot : PartAt) (forms : List CellForm) (n : List ℤ) (end : ℕ) → end ≡ spot.base + own_cell_count set (desc_at set spot.part)
     → are_steps_fine forms n spot.base (steps_of (spot_slots set spot n)) ≡ true
     → settle [] forms n (behind spot.base (steps_of (spot_slots set spot n))) (end - behind spot.base (steps_of (spot_slots set spot n)))
@@ -127,7 +127,7 @@ part_unfit set spot forms n fine =
     ∙ slots_fine forms n spot.base end (spot_slots set spot n) (part_ascends set spot n)
     ∙ ap (is_fine forms n (spot_slots set spot n) spot.base) long
 
--- no cell behind a part's steps is past its end
+-- no cell after a part's steps is past its end
 pub behind_end : (set : Set) (spot : PartAt) (n : List ℤ) → behind spot.base (steps_of (spot_slots set spot n)) ≤ spot.base + own_cell_count set (desc_at set spot.part)
 behind_end set spot n = go spot.base _ (spot_slots set spot n) (part_ascends set spot n)
   where

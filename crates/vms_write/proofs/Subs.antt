@@ -14,7 +14,7 @@ use Rattle.vms_parts.specs.declared.types.CellForm.{CellForm}
 use Rattle.vms_write.specs.Fine.{sub_fine, subs_fine, sub_size}
 use Rattle.vms_write.specs.Writing.{written_sub}
 
--- what is left of the subsections, at one of them
+-- the rest of the subsections, at one of them
 pub subs_next : (set : Set) (i : ℕ) (image : Image) (j : ℕ) → j < length (device_at set i).subs → j < length image.came
     → written_subs set (device_at set i) image (first_cell set (parts.Sub i j)) (drop j (device_at set i).subs) (drop j image.came)
     ≡ written_sub set i image j (get_or image.came j None)
@@ -34,7 +34,7 @@ subs_next set i image j lt lt' =
     one None = refl
     one (Some v) = refl
 
--- where none is left
+-- if none is left
 pub subs_none : (set : Set) (d : Device) (image : Image) (at : ℕ) (subs : List Sub) (came : List (Option ℕ)) → subs ≡ [] → written_subs set d image at subs came ≡ []
 subs_none set d image at subs came e = ap (λ (xs : List Sub). written_subs set d image at xs came) e
 

@@ -1,4 +1,4 @@
--- The bytes of steps, and which of them can be written.
+-- The bytes of steps, and which steps can be written.
 use Rattle.std.specs.Prelude.{◌≡◌, ℕ, List, [], ◌∷◌, ◌++◌, get_or, replicate, ℤ, pos}
 use Rattle.vms_kinds.specs.declared.Kind.{Kind}
 use Rattle.vms_kinds.specs.declared.Kind.TheVariants.{U8}
@@ -7,14 +7,14 @@ use Rattle.vms_spec.specs.Layout as slots
 use Rattle.vms_walk.specs.declared.step.WalkStep.{WalkStep}
 use Rattle.vms_walk.specs.declared.step.WalkStep.TheVariants.{Number, Constant, Filler, Rule}
 
--- the number of a step is of the kind of its cell, and its constant in the range of its kind
+-- The number of a step has the kind of its cell, and its constant is in the range of its kind.
 abbrev pub CanStep : List Kind → WalkStep → Type 0
 CanStep kinds (Number cell kind most) = get_or kinds cell U8 ≡ kind
 CanStep kinds (Constant kind value) = InRange kind value
 CanStep kinds (Filler bytes) = Unit {0}
 CanStep kinds (Rule holds) = Unit {0}
 
--- each number of the slots is of the kind of its cell, and each constant in the range of its kind
+-- The same for each slot.
 abbrev pub CanWrite : List Kind → List slots.Slot → Type 0
 CanWrite kinds [] = Unit {0}
 CanWrite kinds (slots.Number c kind capacities ∷ xs) = (get_or kinds c U8 ≡ kind) × CanWrite kinds xs
@@ -22,12 +22,14 @@ CanWrite kinds (slots.Constant kind z ∷ xs) = InRange kind z × CanWrite kinds
 CanWrite kinds (slots.Filler n ∷ xs) = CanWrite kinds xs
 CanWrite kinds (slots.Rule b ∷ xs) = CanWrite kinds xs
 
+-- The bytes of a step; unused ones are 0.
 abbrev pub step_bytes : List ℤ → WalkStep → List ℕ
 step_bytes numbers (Number cell kind most) = code kind (get_or numbers cell (pos 0))
 step_bytes numbers (Constant kind value) = code kind value
 step_bytes numbers (Filler bytes) = replicate bytes 0
 step_bytes numbers (Rule holds) = []
 
+-- The bytes of steps.
 abbrev pub bytes_of : List ℤ → List WalkStep → List ℕ
 bytes_of numbers [] = []
 bytes_of numbers (x ∷ xs) = step_bytes numbers x ++ bytes_of numbers xs

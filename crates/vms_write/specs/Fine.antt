@@ -1,4 +1,5 @@
--- What the walk answers that judges whether an image may be written. Forms are those of the device's cells.
+-- Whether an image may be written, as the walk computes it (docs/format.md, "Which images may be written").
+-- `forms` are those of the device's cells.
 use Rattle.std.specs.Prelude.{ℕ, suc, zero, ◌+◌, Bool, true, false, not, ◌&&◌, ◌||◌, ◌==◌, List, [], ◌∷◌, length, get_or, Option, Some, None, ℤ, pos}
 use Rattle.vms_kinds.specs.declared.Kind.{Kind}
 use Rattle.vms_kinds.specs.declared.Kind.TheVariants.{U8}
@@ -11,23 +12,27 @@ use Rattle.vms_spec.specs.Streams.{is_needed}
 use Rattle.vms_parts.specs.declared.types.CellForm.{CellForm}
 use Rattle.vms_spots.specs.Spots.{Held}
 
+-- A form for a cell that doesn't exist.
 abbrev pub no_form : CellForm
 no_form = record { kind = U8; default = pos 0 }
 
--- the forms of cells, by their kinds and their numbers at their defaults
+-- The forms of cells with these kinds and defaults.
 abbrev pub formed_of : List Kind → List ℤ → List CellForm
 formed_of [] numbers = []
 formed_of (kind ∷ kinds) [] = []
 formed_of (kind ∷ kinds) (z ∷ numbers) = record { kind = kind; default = z } ∷ formed_of kinds numbers
 
+-- The forms of the cells of a device, by its numbers at their defaults.
 abbrev pub formed : Held → List CellForm
 formed defaults = formed_of defaults.kinds defaults.numbers
 
+-- Whether a number is at most `most`, if that is given.
 abbrev pub is_within : Option ℕ → ℤ → Bool
 is_within None z = true
 is_within (Some most) z = int_le z (pos most)
 
--- each number of the slots is in its kind's range and within the capacities that it counts, and each rule is true
+-- Whether each number of the slots is in its kind's range and within the capacities that it counts, and each
+-- rule is true.
 abbrev pub are_fit : List ℤ → List Slot → Bool
 are_fit numbers [] = true
 are_fit numbers (Number c kind capacities ∷ slots) = (in_range kind (get_or numbers c (pos 0)) && counts_well capacities (get_or numbers c (pos 0))) && are_fit numbers slots
@@ -35,25 +40,26 @@ are_fit numbers (Constant kind z ∷ slots) = are_fit numbers slots
 are_fit numbers (Filler n ∷ slots) = are_fit numbers slots
 are_fit numbers (Rule b ∷ slots) = b && are_fit numbers slots
 
--- n cells from one on stand in the slots or are at their defaults
+-- Whether each of the `n` cells from `at` on is in the slots or at its default.
 abbrev pub settle : List Slot → List CellForm → List ℤ → ℕ → ℕ → Bool
 settle slots forms numbers at zero = true
 settle slots forms numbers at (suc n) = (has_cell slots at || same_number (get_or numbers at (pos 0)) (get_or forms at no_form).default) && settle slots forms numbers (at + 1) n
 
--- both, where the slots are those of these cells
+-- Whether both hold, for the slots of these cells.
 abbrev pub is_fine : List CellForm → List ℤ → List Slot → ℕ → ℕ → Bool
 is_fine forms numbers slots at n = are_fit numbers slots && settle slots forms numbers at n
 
+-- The number of cells of a subsection.
 abbrev pub sub_size : Set → Sub → ℕ
 sub_size set s = length (desc_cells (struct_cells set) s.desc)
 
--- subsection j, whose cells begin at a place: it came at its version and is fine where it is needed, and else all its cells
--- are at their defaults
+-- Whether subsection j, which starts at cell `at`, may be written. If it is needed, it came at its version
+-- and is fine; else all its cells are at their defaults.
 abbrev pub sub_fine : Set → Device → List CellForm → Image → ℕ → ℕ → Sub → Option ℕ → Bool
 sub_fine set d forms image j at s None = not (is_needed set d image s j) && settle [] forms image.numbers at (sub_size set s)
 sub_fine set d forms image j at s (Some v) = (is_needed set d image s j && v == s.desc.version) && is_fine forms image.numbers (sub_slots set s v image.numbers at) at (sub_size set s)
 
--- those from subsection j on
+-- The same for the subsections from j on.
 abbrev pub subs_fine : Set → Device → List CellForm → Image → ℕ → ℕ → List Sub → List (Option ℕ) → Bool
 subs_fine set d forms image j at [] came = true
 subs_fine set d forms image j at (s ∷ subs) [] = false

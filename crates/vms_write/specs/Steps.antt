@@ -1,4 +1,4 @@
--- Steps that are fine: what readiness asks of them, one after the other.
+-- Steps that are fine: what readiness checks of them, one after the other.
 use Rattle.std.specs.Prelude.{◌≡◌, ℕ, ◌+◌, ◌-◌, Bool, true, false, ◌&&◌, List, [], ◌∷◌, ◌++◌, get_or, Option, ℤ, pos}
 use Rattle.std.proofs.Common.{refl, sym, ap, ◌∙◌}
 use Rattle.vms_kinds.specs.declared.Kind.{Kind}
@@ -8,30 +8,31 @@ use Rattle.vms_walk.specs.declared.step.WalkStep.{WalkStep}
 use Rattle.vms_walk.specs.declared.step.WalkStep.TheVariants.{Number, Constant, Filler, Rule}
 use Rattle.vms_write.specs.Fine.{is_within, settle}
 
--- a number is in its kind's range and counts no more than there is room for
+-- Whether a number is in its kind's range and at most `most`.
 abbrev pub is_number_fine : Kind → Option ℕ → ℤ → Bool
 is_number_fine kind most z = in_range kind z && is_within most z
 
--- A step is fine, where the cells from one on are still to be judged: those before a number are at their defaults, the
--- number is fine, and a rule holds.
+-- Whether a step is fine, if the cells from `at` on haven't been judged yet. Those before a number are at
+-- their defaults, the number is fine, and a rule holds.
 abbrev pub is_step_fine : List CellForm → List ℤ → ℕ → WalkStep → Bool
 is_step_fine forms numbers at (Number cell kind most) = is_number_fine kind most (get_or numbers cell (pos 0)) && settle [] forms numbers at (cell - at)
 is_step_fine forms numbers at (Constant kind value) = true
 is_step_fine forms numbers at (Filler bytes) = true
 is_step_fine forms numbers at (Rule holds) = holds
 
--- the first cell that is still to be judged after a step
+-- The first cell that hasn't been judged after a step.
 abbrev pub after : ℕ → WalkStep → ℕ
 after at (Number cell kind most) = cell + 1
 after at (Constant kind value) = at
 after at (Filler bytes) = at
 after at (Rule holds) = at
 
--- the same of steps
+-- The same after steps.
 abbrev pub behind : ℕ → List WalkStep → ℕ
 behind at [] = at
 behind at (x ∷ xs) = behind (after at x) xs
 
+-- Whether all steps are fine.
 abbrev pub are_steps_fine : List CellForm → List ℤ → ℕ → List WalkStep → Bool
 are_steps_fine forms numbers at [] = true
 are_steps_fine forms numbers at (x ∷ xs) = is_step_fine forms numbers at x && are_steps_fine forms numbers (after at x) xs
@@ -52,7 +53,7 @@ fine_append f n at (x ∷ xs) ys =
     let next = after at x in
     ap (λ (b : Bool). is_step_fine f n at x && b) (fine_append f n next xs ys) ∙ and_assoc (is_step_fine f n at x) (are_steps_fine f n next xs) (are_steps_fine f n (behind next xs) ys)
 
--- what is fine up to a cell, and from there on
+-- What is fine up to a cell, and from there on.
 pub fine_then : (f g : List CellForm) (n m : List ℤ) (at next : ℕ) (xs ys : List WalkStep) (b : Bool) → g ≡ f → m ≡ n → next ≡ behind at xs → are_steps_fine f n at xs ≡ true → are_steps_fine g m next ys ≡ b
     → are_steps_fine f n at (xs ++ ys) ≡ b
 fine_then f g n m at next xs ys b forms numbers here e h =

@@ -1,4 +1,4 @@
--- What the calls that write answer, and what they need.
+-- What the calls that write return, and what they require.
 use Rattle.std.specs.Prelude.{ℕ, List, [], ◌++◌, Option, Some, None}
 use Rattle.vms_spec.specs.declared.Part.TheVariants as parts
 use Rattle.vms_spec.specs.Sets.{Set}
@@ -8,7 +8,7 @@ use Rattle.vms_desc.specs.Asks.{first_cell}
 use Rattle.vms_desc.specs.Described.{device_at}
 use Rattle.vms_desc.specs.Parts.{sub_at}
 
--- subsection j of device i, if it came at a version: its head and its fields
+-- The bytes of subsection j of device i, if it came at a version: its head and its fields.
 abbrev pub written_sub : Set → ℕ → Image → ℕ → Option ℕ → List ℕ
 written_sub set i image j None = []
 written_sub set i image j (Some v) =

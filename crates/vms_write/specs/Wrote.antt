@@ -11,7 +11,7 @@ bytes_append : (n : List ℤ) (xs ys : List WalkStep) → bytes_of n xs ++ bytes
 bytes_append n [] ys = refl
 bytes_append n (x ∷ xs) ys = append_assoc (step_bytes n x) (bytes_of n xs) (bytes_of n ys) ∙ ap (λ (l : List ℕ). step_bytes n x ++ l) (bytes_append n xs ys)
 
--- the numbers are told twice
+-- `n` and `m` are the same numbers.
 pub puts_then : {a b c : Outlet} (n m : List ℤ) (xs ys : List WalkStep) → m ≡ n → Puts a b (bytes_of n xs) → Puts b c (bytes_of m ys) → Puts a c (bytes_of n (xs ++ ys))
 puts_then n m xs ys e h k = puts_as (bytes_append n xs ys) (puts_both h (puts_as (ap (λ (l : List ℤ). bytes_of l ys) e) k))
 

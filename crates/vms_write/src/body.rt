@@ -16,7 +16,7 @@ use vms_io::Sink;
 use vms_kinds::Kind;
 use vms_walk::{PartAt, WalkStep, Walker, walk};
 
-// Appends the bytes of a part.
+// Writes the bytes of the part at `spot` to `sink`.
 pub(crate) fn write_fields<K: Sink>(
     set: &DescSet,
     spot: PartAt,
@@ -37,7 +37,7 @@ pub(crate) fn write_fields<K: Sink>(
     }
 }
 
-// Writes each step that stands in the bytes.
+// Writes each step that is in the bytes.
 #[derive(Drop)]
 struct Writer<'a, K> {
     image: &'a Image,
@@ -102,7 +102,7 @@ impl<K: Sink> Walker for Writer<'_, K> {
         append(self.sink, self.image.codes(first, count, kind))
     }
 
-    // What is written doesn't depend on them.
+    // Whether validations hold doesn't change what is written.
     #[inline(always)]
     fn rules(&mut self, _: &DescSet, _: PartAt) -> Result<(), WriteFault> {
         Ok(())

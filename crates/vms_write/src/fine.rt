@@ -1,4 +1,4 @@
-// Whether a part of an image is fine, step by step.
+// Whether a part of an image may be written, step by step.
 ghost use Rattle.vms_spec.specs.declared.TheConstants.{MOST_ITEMS};
 ghost use Rattle.std.specs.Prelude.{◌≡◌, ◌<◌, ◌≤◌, ◌-◌, [], length, get_or, pos};
 ghost use Rattle.vms_spec.specs.Places.{own_cell_count};
@@ -16,8 +16,9 @@ use vms_kinds::Kind;
 use vms_spots::Buffer;
 use vms_walk::{PartAt, WalkStep, Walker, walk};
 
-// Whether each number of a part is in range and counts no more than there is room for, each of its cells that
-// doesn't stand in the bytes is at its default, and its validations hold, those of its structures among them.
+// Returns whether the numbers of a part may be written. Each is in range and at most the capacity
+// that it counts. Each cell without a byte is at its default. The validations hold, those of
+// structures included.
 pub(crate) fn is_part_fine(set: &DescSet, spot: PartAt, image: &Image, defaults: &Buffer) -> bool
     requires spot { HasSpot (described set.now) spot image.now.numbers }
     requires forms { length (formed defaults.now) ≡ length image.now.numbers }
@@ -39,7 +40,7 @@ pub(crate) fn is_part_fine(set: &DescSet, spot: PartAt, image: &Image, defaults:
     }
 }
 
-// Judges each step: the cells from `next` on are still to be judged.
+// Judges each step. The cells from `next` on haven't been judged yet.
 #[derive(Clone, Copy, Drop)]
 struct Judge<'a> {
     image: &'a Image,
@@ -121,7 +122,7 @@ impl Walker for Judge<'_> {
     }
 }
 
-// A number is in its kind's range and counts `most` at most.
+// Returns whether a number is in its kind's range and at most `most`.
 fn is_number_fine(kind: Kind, most: Option<u32>, number: i128) -> bool
     ensures { result ≡ is_number_fine kind most number }
 {
@@ -143,7 +144,7 @@ fn is_within(most: Option<u32>, number: i128) -> bool
     }
 }
 
-// The cells from one up to another are at their defaults.
+// Returns whether the cells from `first` up to `end` are at their defaults.
 pub(crate) fn are_default(image: &Image, defaults: &Buffer, first: u32, end: u32) -> bool
     requires forms { length (formed defaults.now) ≡ length image.now.numbers }
     requires end { end ≤ length image.now.numbers }

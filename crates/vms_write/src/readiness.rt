@@ -12,9 +12,18 @@ use vms_desc::{DescSet, Part};
 use vms_image::Image;
 use vms_walk::PartAt;
 
-/// Tells whether the image of a device may be written: it is at the set's version, each number is in range
-/// and counts no more than there is room for, what doesn't stand in the bytes is at its default, the
-/// validations hold, and exactly the needed subsections came. It goes once over the device's cells.
+/// Returns whether `image`, of device `device`, may be written.
+///
+/// - It is at the set's version, and exactly the needed subsections came.
+/// - Each number is in range and at most the capacity that it counts.
+/// - Each cell without a byte is at its default.
+/// - The validations hold.
+///
+/// The call walks once over the device's cells.
+///
+/// # Requires
+///
+/// The set has the device, and the image has the device's number of cells and subsections.
 pub fn ready(set: &DescSet, device: u32, image: &Image) -> bool
     requires is_device { device < length (described set.now).devices }
     requires subs { let d = device_at (described set.now) device in
@@ -29,8 +38,10 @@ pub fn ready(set: &DescSet, device: u32, image: &Image) -> bool
     is_own_fine(set, device, image) && are_subs_fine(set, device, image)
 }
 
-/// Tells whether these are one image for each device of the set, in its order, with its cells and their kinds,
-/// each of which may be written.
+/// Returns whether `images` are one image for each device of the set, in its order, each of which
+/// may be written.
+///
+/// Each must have the device's cells and their kinds.
 pub fn are_ready(set: &DescSet, images: &[Image]) -> bool
     ensures ready { OnTrue result (AreReady (described set.now) (map state_of images.now)) }
     ensures of { OnTrue result (AreImagesOf (described set.now) images.now) }
@@ -48,7 +59,7 @@ pub fn are_ready(set: &DescSet, images: &[Image]) -> bool
     true
 }
 
-// Whether an image is one of a device, and may be written.
+// Returns whether `image` is one of the device, and may be written.
 fn may_be_written(set: &DescSet, device: u32, image: &Image) -> bool
     requires { device < length (described set.now).devices }
     ensures ready { let d = device_at (described set.now) device in
@@ -61,7 +72,7 @@ fn may_be_written(set: &DescSet, device: u32, image: &Image) -> bool
     image.is_of(set, device) && ready(set, device, image)
 }
 
-// The device's own fields.
+// Returns whether the device's own fields may be written.
 fn is_own_fine(set: &DescSet, device: u32, image: &Image) -> bool
     requires device { IsOfDevice (described set.now) device (state_of image.now) }
     ensures { let d = device_at (described set.now) device in
@@ -77,7 +88,7 @@ fn is_own_fine(set: &DescSet, device: u32, image: &Image) -> bool
         && is_part_fine(set, own, image, set.defaults(device))
 }
 
-// The subsections, those that came and the others.
+// Returns whether the subsections may be written, those that came and the others.
 fn are_subs_fine(set: &DescSet, device: u32, image: &Image) -> bool
     requires device { IsOfDevice (described set.now) device (state_of image.now) }
     ensures { let d = device_at (described set.now) device in
@@ -103,7 +114,12 @@ fn is_sub_fine(set: &DescSet, device: u32, image: &Image, sub: u32) -> bool
     }
 }
 
-/// Tells whether all cells of a subsection are at their defaults, as they are where it didn't come.
+/// Returns whether all cells of subsection `sub` are at their defaults, as they must be if it
+/// didn't come.
+///
+/// # Requires
+///
+/// The set has the device and the subsection, and `image` is of the device.
 pub fn is_bare(set: &DescSet, device: u32, image: &Image, sub: u32) -> bool
     requires device { IsOfDevice (described set.now) device (state_of image.now) }
     requires is_sub { sub < length (device_at (described set.now) device).subs }
@@ -115,7 +131,7 @@ pub fn is_bare(set: &DescSet, device: u32, image: &Image, sub: u32) -> bool
     are_default(image, set.defaults(device), first, end)
 }
 
-// One that came.
+// Returns whether a subsection that came at `version` may be written.
 fn is_sent_fine(set: &DescSet, device: u32, image: &Image, sub: u32, version: u32) -> bool
     requires device { IsOfDevice (described set.now) device (state_of image.now) }
     requires is_sub { sub < length (device_at (described set.now) device).subs }

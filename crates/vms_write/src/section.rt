@@ -1,4 +1,4 @@
-// Sections.
+// Writes sections.
 ghost use Rattle.std.specs.Prelude.{◌≡◌, ◌<◌, None, length, get_or};
 ghost use Rattle.vms_io.specs.Told.{outlet};
 ghost use Rattle.vms_io.specs.Writing.{Wrote};
@@ -19,8 +19,18 @@ use vms_io::Sink;
 use vms_marks::Foot;
 use vms_walk::PartAt;
 
-/// Appends the section of a device that is ready, with the device's number as its id. After a fault a
-/// prefix of it was appended.
+/// Writes the section of device `device` to `sink`, with the device's number as its id.
+///
+/// After an error a prefix of it has been written.
+///
+/// # Errors
+///
+/// - [`WriteFault`]: the sink failed.
+///
+/// # Requires
+///
+/// The set has the device, and `image` is one of it that may be written (see
+/// [`ready`](crate::ready)).
 pub fn write_section<K: Sink>(
     set: &DescSet,
     device: u32,
@@ -46,7 +56,7 @@ pub fn write_section<K: Sink>(
     append(sink, &Foot { id: device }.bytes())
 }
 
-// The head of a device's section, at the version of its image.
+// Writes the head of a device's section, at the version of its image.
 fn write_head<K: Sink>(
     set: &DescSet,
     device: u32,
@@ -68,7 +78,7 @@ fn write_head<K: Sink>(
     append(sink, head.as_slice())
 }
 
-// The subsections that came, in the description's order.
+// Writes the subsections that came, in the description's order.
 fn write_subs<K: Sink>(
     set: &DescSet,
     device: u32,
@@ -91,7 +101,7 @@ fn write_subs<K: Sink>(
     Ok(())
 }
 
-// A subsection, if it came.
+// Writes a subsection, if it came.
 fn write_sub<K: Sink>(
     set: &DescSet,
     device: u32,

@@ -1,4 +1,4 @@
-// Whole streams.
+// Writes whole streams.
 ghost use Rattle.std.specs.Prelude.{◌<◌, ◌≤◌, length, map, IfSome};
 ghost use Rattle.std.specs.Option.{option_copied};
 ghost use Rattle.vms_io.specs.Told.{outlet};
@@ -17,9 +17,19 @@ use vms_image::Image;
 use vms_io::Sink;
 use vms_marks::{Mark, STREAM_HEAD, marked};
 
-/// Appends the stream of these images, one for each device in the set's order: with a configuration where a
-/// machine of the set is named by its number, and with a description section where its text is given, of at
-/// most 16,777,216 bytes. After a fault a prefix of it was appended.
+/// Writes the stream of `images`, one for each device in the set's order, to `sink`.
+///
+/// If `machine` is given, a machine's number in the set, the stream has a configuration. If `text`
+/// is given, it has a description section. After an error a prefix of the stream has been written.
+///
+/// # Errors
+///
+/// - [`WriteFault`]: the sink failed.
+///
+/// # Requires
+///
+/// The set has the machine, the images may be written (see [`are_ready`](crate::are_ready)), and
+/// `text` has at most 16,777,216 bytes.
 pub fn write_stream<K: Sink>(
     set: &DescSet,
     machine: Option<u32>,
@@ -43,7 +53,7 @@ pub fn write_stream<K: Sink>(
     write_text(text, sink)
 }
 
-// A configuration, where a machine is named.
+// Writes a configuration, if a machine is named.
 fn write_configuration<K: Sink>(
     set: &DescSet,
     machine: Option<u32>,
@@ -76,7 +86,7 @@ fn write_sections<K: Sink>(set: &DescSet, images: &[Image], sink: &mut K) -> Res
     Ok(())
 }
 
-// A description section, where there is a text.
+// Writes a description section, if there is a text.
 fn write_text<K: Sink>(text: Option<&str>, sink: &mut K) -> Result<(), WriteFault>
     requires { IfSome text (λ t. length t.now ≤ longest_text) }
     ensures { let bytes = optional trailer (option_copied text.entry) in

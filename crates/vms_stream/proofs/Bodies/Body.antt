@@ -1,4 +1,4 @@
--- In the fields of a part the judge goes slot by slot as the structural reader does.
+-- In the fields of a part the judge reads slot by slot, as the structural reader does.
 use Rattle.std.proofs.Common.{◌≡◌, ℕ, zero, suc, ◌+◌, ◌<◌, List, [], ◌∷◌, length, get_or, take, drop, slice_set, Option, Some, ℤ, Ok, Err, refl, sym, ap, ◌∙◌, arith, Bool, true, false, not, nat_lt, ◌==◌, ◌&&◌, if◌then◌else◌}
 use Rattle.std.specs.List.{slice_get}
 use Rattle.vms_kinds.specs.declared.Kind.{Kind}
@@ -69,7 +69,7 @@ module _ (set : Set) (names : List (List ℕ)) (state : State) (d : Device) (ima
     part_now : (numbers : List ℤ) (i : ℕ) → part_slots set (slice_get set.devices k) (image_at (in_body numbers i)) part ≡ total numbers
     part_now numbers i = ap (λ (o : Option Device). part_slots set o (image_at (in_body numbers i)) part) e ∙ ap (λ (y : Image). part_slots set (Some d) y part) (image_now numbers i)
 
-    -- the verdict, where this is what is due
+    -- the verdict, if this is due
     abbrev verdict : ℕ → Progress → Due → Found → Verdict State
     verdict i p due (Whole x n) = by_row g (first_of set names due (known_at set (in_body p.numbers i)) x) n (after set (in_body p.numbers i) x)
     verdict i p due Cut = if owes due p.rest then Faulty (cut_in due p.rest (Some k)) reasons.Truncated (length p.rest) else IsOver (in_body p.numbers i)
@@ -92,13 +92,13 @@ module _ (set : Set) (names : List (List ℕ)) (state : State) (d : Device) (ima
     so : (i : ℕ) (p : Progress) (slots : List Slot) → drop i (total p.numbers) ≡ slots → goes_on i p ≡ reads p (judged i p slots)
     so i p slots h = one i p ∙ ap (reads p) (by_slots i p slots h)
 
-    -- with the next unit, where no slot is skipped, one slot more is passed
+    -- if no slot is skipped, one more slot is passed with the next unit
     counted : (numbers : List ℤ) (i : ℕ) (slots : List Slot) → drop i (total numbers) ≡ slots → skipped slots ≡ 0 → beyond i (part_at set (in_body numbers i) (Inside k id part i)) ≡ suc i
     counted numbers i slots h z =
         let f : skipped (drop i (part_slots set (slice_get set.devices k) (image_at (in_body numbers i)) part)) ≡ 0 = ap (λ (l : List Slot). skipped (drop i l)) (part_now numbers i) ∙ ap skipped h ∙ z in
         omega arith
 
-    -- what is taken, as the judge goes on from there
+    -- what is taken, as the judge resumes from there
     abbrev goes : ℕ → Taken → Option (Reading State)
     goes i t = step_after total goes_on goes_on is_refused i t
 
@@ -209,7 +209,7 @@ module _ (set : Set) (names : List (List ℕ)) (state : State) (d : Device) (ima
 
     -- ---- a whole body
 
-    -- where the fields are done, the reading goes on with all slots passed
+    -- when the fields are done, the reading goes on with all slots passed
     abbrev pub Reads : ℕ → Progress → Taken → Type 0
     Reads i p (Ok q) = (done : ℕ) × (drop done (total q.numbers) ≡ []) × (goes_on i p ≡ goes_on done q)
     Reads i p (Err e) = goes_on i p ≡ is_refused e
@@ -230,7 +230,7 @@ module _ (set : Set) (names : List (List ℕ)) (state : State) (d : Device) (ima
 
     -- ---- what follows the fields
 
-    -- a unit that is none of a slot
+    -- a unit that belongs to no slot
     abbrev Outer : Found → Type 0
     Outer (Whole (Number c kind z) n) = ⊥
     Outer (Whole (Constant kind z) n) = ⊥
@@ -271,6 +271,6 @@ module _ (set : Set) (names : List (List ℕ)) (state : State) (d : Device) (ima
     outer_same i j p (Whole (Start its name) n) o = refl
     outer_same i j p (Whole (Mark b) n) o = refl
 
-    -- where all slots are passed, what may follow the fields is found, whatever their number
+    -- if all slots are passed, what may follow the fields is found, whatever their number
     pub after_read : (i : ℕ) (p : Progress) → drop i (total p.numbers) ≡ [] → goes_on i p ≡ reads p (verdict 0 p (AfterFields k state.tail) (unit_at (AfterFields k state.tail) p.rest))
     after_read i p h = so i p [] h ∙ ap (reads p) (outer_same i 0 p (unit_at (AfterFields k state.tail) p.rest) (behind_outer state.tail (get_or p.rest 0 0) p.rest))

@@ -1,4 +1,4 @@
--- Taking a slot is what is seen of the unit that stands there.
+-- Taking a slot is what is seen of its unit.
 use Rattle.std.proofs.Common.{◌≡◌, ℕ, length, take, Option, Some, None, ℤ, refl, ap, ◌∙◌, Bool, true, false, not, nat_lt, ◌&&◌, if◌then◌else◌}
 use Rattle.vms_kinds.specs.declared.Kind.{Kind}
 use Rattle.vms_kinds.specs.Codes.{width, value_of}
@@ -22,11 +22,11 @@ abbrev pub IsUnit : Slot → Type 0
 IsUnit (RuleSlot b) = ⊥
 IsUnit slot = Unit {0}
 
--- the rows of a slot's unit: a bad bool, and what the slot asks
+-- the rows for a slot's unit: a bad bool, and what the slot requires
 abbrev pub two_rows : Option ℕ → Bool → Bool → Reason → Option (Option ℕ × Reason)
 two_rows section bad other reason = if bad then Some (section, reasons.BadBool) else if other then Some (section, reason) else None
 
--- what is seen by these tests: whether the input ends, a bad bool, and what the slot asks
+-- what is seen by these tests: whether the input ends, a bad bool, and what the slot requires
 abbrev pub by_tests : Bool → Bool → Bool → Piece → ℕ → Reason → Seen
 by_tests cut bad other x n reason = if cut then Short else if bad then Bad n reasons.BadBool else if other then Bad n reason else Good x n
 

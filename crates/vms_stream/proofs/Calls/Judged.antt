@@ -83,7 +83,7 @@ never : {A : Type 0} (p : Bool) (x y : A) → (if p && false then x else y) ≡ 
 never true x y = refl
 never false x y = refl
 
--- where no section may begin, no mark is one of those that may not begin one
+-- if no section may begin, no mark is one of those that may not begin one
 pub not_between : (bad : Line) (p q r : Bool)
     → (if p && false then Some (None, reasons.Iterative) else if q && false then Some (None, reasons.Command) else if r && false then Some (None, reasons.ConfigurationExtra) else bad) ≡ bad
 not_between bad p q r =
@@ -151,7 +151,7 @@ in_due t k (FillerSlot (suc n) ∷ slots) = inr (FillerSlot (suc n), refl)
 in_due t k (NumberSlot c kind caps ∷ slots) = inr (NumberSlot c kind caps, refl)
 in_due t k (ConstantSlot kind z ∷ slots) = inr (ConstantSlot kind z, refl)
 
--- a unit at fault by itself, and a cut one, belong to the open section
+-- a unit that is invalid by itself, and a cut one, belong to the open section
 record Concerned (d : Due) (k : Known) (rest : List ℕ) : Type 0 where
   bad : (x : Piece) (n : ℕ) (section : Option ℕ) (reason : Reason) → unit_at d rest ≡ Whole x n → first_row (alone d k x) ≡ Some (section, reason) → section ≡ k.section
   cut : cut_in d rest k.section ≡ k.section

@@ -1,4 +1,4 @@
--- What the judge says, by what a cursor answers: the rest is asked of the set.
+-- The judge's verdict by what a cursor returns; the other rows need the set.
 use Rattle.std.proofs.Common.{◌≡◌, ℕ, List, [], ◌∷◌, ◌++◌, Option, Some, None, refl, ap, ◌∙◌, Bool, true, false, if◌then◌else◌}
 use Rattle.vms_spec.specs.declared.Reason.{Reason}
 use Rattle.vms_spec.specs.Sets.{Set}
@@ -35,14 +35,14 @@ module _ (set : Set) (names : List (List ℕ)) (s : State) (rest : List ℕ) whe
   abbrev k : Known
   k = known_at set s
 
-  -- a whole unit that no row of its own takes is judged by the rows that ask
+  -- a whole unit that no row of its own takes is judged by the rows of `asking`
   pub good : (x : Piece) (n : ℕ) → unit_at d rest ≡ Whole x n → first_row (alone d k x) ≡ None
       → judge_found (by_state set names) s rest (unit_at d rest) ≡ by_row (by_state set names) (first_row (asking set names k x)) n (after set s x)
   good x n e f =
       ap (judge_found (by_state set names) s rest) e
       ∙ ap (λ (o : Option (Option ℕ × Reason)). by_row (by_state set names) o n (after set s x)) (append_first (alone d k x) (asking set names k x) f)
 
-  -- a unit at fault by itself is at fault for the same reason
+  -- a unit that is invalid by itself has the same reason
   pub bad : (x : Piece) (n : ℕ) (section : Option ℕ) (reason : Reason) → unit_at d rest ≡ Whole x n → first_row (alone d k x) ≡ Some (section, reason)
       → judge_found (by_state set names) s rest (unit_at d rest) ≡ Faulty section reason n
   bad x n section reason e f =

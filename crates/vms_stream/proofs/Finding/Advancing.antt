@@ -1,4 +1,4 @@
--- A unit that is found has a byte at least, and all its bytes are there; so a reading advances.
+-- A unit that is found has at least one byte, and all its bytes are there. So a reading advances.
 use Rattle.std.proofs.Common.{◌≡◌, ℕ, zero, suc, ◌+◌, ◌<◌, ◌≤◌, List, [], ◌∷◌, length, get_or, take, drop, Option, Some, None, refl, subst, arith, Bool, true, false, nat_lt, ◌==◌, ◌&&◌, if◌then◌else◌}
 use Rattle.std.proofs.lemmas.Bool.{ltb-false}
 use Rattle.vms_kinds.specs.Codes.{width, value_of}

@@ -151,7 +151,7 @@ between_shown first after m rest ok e =
     named_shown true t mark = text_shown (Between true after) rest 0x07 LONGEST_NAME Configuration ok mark (λ name. refl) (λ name le. AtConfiguration after name le) (λ n lt f. AtLongName after n lt f)
     named_shown false t mark = cc
 
--- a unit between sections behind the fields
+-- a unit between sections after the fields
 next_shown : (k : ℕ) (tail : Tail) (rest : List ℕ) (f : Found) → is_next tail (get_or rest 0 0) ≡ true → IsBytes rest → Shows (Between false false) rest f → Shows (AfterFields k tail) rest f
 next_shown k tail rest Cut n ok s = tt
 next_shown k tail rest (Whole x m) n ok s =

@@ -32,7 +32,7 @@ by_kind Timer z r = value_code Timer z r
 raw_value : (kind : Kind) (z : ℤ) (more : List ℕ) → InRange (raw kind) z → value_of (raw kind) (take (width kind) (code kind z ++ more)) ≡ z
 raw_value kind z more r = ap (value_of (raw kind)) (front_take (width kind) (code kind z) more (code kind z ++ more) refl (length-code kind z)) ∙ by_kind kind z r
 
--- the unit y of n bytes is there, where y is x and n its length
+-- the unit y of n bytes is there, if y is x and n its length
 there : (n : ℕ) (x y : Piece) (more : List ℕ) → y ≡ x → n ≡ length (spell x) → needs n (spell x ++ more) y ≡ Whole x (length (spell x))
 there n x y more e long =
     let r = spell x ++ more in

@@ -1,4 +1,4 @@
--- The state that a loader holds stands for the units so far.
+-- The state that a loader holds mirrors the units so far.
 use Rattle.std.proofs.Common.{◌≡◌, ℕ, zero, suc, ◌+◌, ◌<◌, List, [], ◌∷◌, length, drop, slice_set, Option, Some, None, refl, sym, ap, ◌∙◌, subst, arith, Bool, true, false}
 use Rattle.std.specs.List.{slice_get}
 use Rattle.std.specs.Str.{bytes_eq}
@@ -51,7 +51,7 @@ module _ (set : Set) where
   spot_of (End ∷ u) = Ended
   spot_of u = inside (opened set u) (id_of u) (part set u) (passed set u)
 
-  -- what is so of each spot that is said by the open section, and of the others, where none is open
+  -- what holds for each spot in a section, and for the others
   by_spot : (P : List Piece → Spot → Type 0) → P [] Before → ((bytes : List ℕ) (u : List Piece) → P (Magic bytes ∷ u) Headed) → ((v : ℕ) (u : List Piece) → P (Version v ∷ u) (Free true false))
       → ((name : List ℕ) (u : List Piece) → P (Configuration name ∷ u) (Free false true)) → ((id : ℕ) (u : List Piece) → P (Foot id ∷ u) (Free false false)) → ((u : List Piece) → P (End ∷ u) Ended)
       → ((u : List Piece) → due set u ≡ due_field (tail set u) (opened set u) (drop (passed set u) (slots set u)) → P u (inside (opened set u) (id_of u) (part set u) (passed set u))) → (u : List Piece) → P u (spot_of u)
@@ -155,7 +155,7 @@ module _ (set : Set) where
       by_spot (λ u p. IsInside (due set u) → (k : ℕ) × (opened set u ≡ Some k)) (λ i. absurd i) (λ b u i. absurd i) (λ v u i. absurd i) (λ n u i. absurd i) (λ j u i. absurd i) (λ u i. absurd i)
       (λ u e i. field_open (tail set u) (opened set u) (drop (passed set u) (slots set u)) (subst IsInside e i)) u
 
-  -- of a unit between sections the rows ask which devices came, and no more
+  -- the rows for a unit between sections need only which devices came
   rows_so : (names : List (List ℕ)) (d : Due) (x : Piece) → May d x → (k l : Known) → k.came ≡ l.came → (IsInside d → k ≡ l) → first_of set names d k x ≡ first_of set names d l x
   rows_so names _ _ (AtMagic bytes e) k l c f = refl
   rows_so names _ _ (AtVersion v e) k l c f = refl

@@ -1,4 +1,4 @@
--- What a unit is depends on its bytes alone; an input ends well or is at fault, and never both.
+-- What a unit is depends only on its bytes. An input ends well or has a fault, and never both.
 use Rattle.std.proofs.Common.{◌≡◌, ℕ, zero, suc, ◌+◌, ◌<◌, ◌≤◌, List, [], ◌++◌, length, take, drop, length-drop, Option, Some, refl, sym, ap, ◌∙◌, subst, arith}
 use Rattle.std.proofs.lemmas.List.{take-append-drop}
 use Rattle.vms_kinds.specs.Bytes.{IsBytes}
@@ -45,7 +45,7 @@ pub data Answer (set : Set) (names : List (List ℕ)) (input : List ℕ) : Type 
   Well : (n : ℕ) (u : List Piece) → Ends set names input n u → Answer set names input
   Ill : (place : ℕ) (section : Option ℕ) (reason : Reason) (size : ℕ) → Fault set names input place section reason size → Answer set names input
 
--- each input ends well or is at fault
+-- each input ends well or has a fault
 pub either : (set : Set) (names : List (List ℕ)) (input : List ℕ) → IsBytes input → Answer set names input
 unfolding reading
 either set names input ok =

@@ -1,4 +1,4 @@
--- Behind the fields of a section without a footer a unit between sections is judged as between sections.
+-- After the fields of a section without a footer a unit between sections is judged as between sections.
 use Rattle.std.proofs.Common.{◌≡◌, ℕ, ◌+◌, List, ◌∷◌, length, get_or, Option, Some, None, refl, ap, ◌∙◌, Bool, true, false, not, nat_lt, ◌==◌, ◌&&◌, if◌then◌else◌, [], ◌||◌}
 use Rattle.std.proofs.lemmas.Bool.{both_ways, not-true}
 use Rattle.std.proofs.Math.Bool.{or-not_self}
@@ -28,7 +28,7 @@ module _ (set : Set) (names : List (List ℕ)) (machine : Option (List ℕ)) (im
   abbrev pub outer : State
   outer = record { machine = machine; images = images; came = came; tail = Bare; spot = Free false false }
 
-  -- the verdict behind the fields, by what is found there
+  -- the verdict after the fields, by what is found there
   abbrev verdict : Tail → List ℕ → Due → Found → Verdict State
   verdict t rest d (Whole x m) = by_row (by_state set names) (first_of set names d (known_at set (inner t)) x) m (after set (inner t) x)
   verdict t rest d Cut = if owes d rest then Faulty (cut_in d rest (Some k)) reasons.Truncated (length rest) else Over (inner t)
@@ -71,7 +71,7 @@ module _ (set : Set) (names : List (List ℕ)) (machine : Option (List ℕ)) (im
       by true = refl
       by false = refl
 
-  -- a mark alone is at fault
+  -- a lone mark is invalid
   mark_by : (s u : State) (m : ℕ) (p q r w : Bool) → (let row : Option (Option ℕ × Reason) =
       if true && not (p || q || r || (w && false)) then Some (None, reasons.BadMark)
       else if (p || q) && true then Some (None, reasons.Iterative)

@@ -1,4 +1,4 @@
--- Refused is at fault, and at fault is refused, for each state that stands for the units so far.
+-- The judge refuses exactly the inputs that have a fault, for each state that mirrors the units so far.
 use Rattle.std.proofs.Common.{◌≡◌, ℕ, zero, suc, ◌+◌, List, ◌∷◌, ◌++◌, length, drop, Option, Some, None, refl, sym, ap, ◌∙◌, subst, length-append, append_assoc, Bool, true, false, if◌then◌else◌, []}
 use Rattle.vms_kinds.specs.Bytes.{IsBytes}
 use Rattle.vms_spec.specs.declared.Reason.{Reason}

@@ -1,4 +1,4 @@
--- How many bytes a unit that is due has at least, and that a cut description is no unit.
+-- The fewest bytes of a unit that is due; a cut description is no unit.
 use Rattle.std.proofs.Common.{◌≡◌, ℕ, ◌+◌, ◌<◌, ◌≤◌, List, length, ap, ◌∙◌, arith, length-append, false}
 use Rattle.vms_kinds.specs.Codes.{width, code}
 use Rattle.vms_spec.specs.Sets.{Set}
@@ -46,7 +46,7 @@ is_least _ _ (AtDescription text le) = omega arith
 is_least _ _ (AtLongText n lt f) = omega arith
 is_least _ _ (AtTrailing b e) = omega arith
 
--- where fewer bytes are left, no unit is whole
+-- if fewer bytes are left, no unit is whole
 pub too_few : (set : Set) (u : List Piece) (rest : List ℕ) (x : Piece) → length rest < least (due set u) → IsWhole set u rest x → ⊥
 too_few set u rest x lt w =
     let a : least (due set u) ≤ length (spell x) = is_least (due set u) x w.may in

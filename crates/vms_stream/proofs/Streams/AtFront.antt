@@ -1,4 +1,4 @@
--- A section at the front of what is left, whatever follows it.
+-- A section at the front of the rest, whatever follows it.
 use Rattle.std.proofs.Common.{◌≡◌, ℕ, ◌+◌, List, length, get_or, slice_set, Bool, true, false, Option, refl, sym, ap, ◌∙◌, arith}
 use Rattle.vms_spec.specs.Images.{Image}
 use Rattle.vms_bodies.specs.Whole.{reading_on}

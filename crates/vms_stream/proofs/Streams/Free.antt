@@ -1,4 +1,4 @@
--- Between sections, and behind the fields of a section without a footer: what an accepted reading finds there.
+-- Between sections, and after the fields of a section without a footer: what an accepted reading finds there.
 use Rattle.std.proofs.Common.{◌≡◌, ℕ, ◌+◌, ◌<◌, ◌≤◌, List, ◌∷◌, ◌++◌, length, slice_set, Option, Some, None, refl, sym, ap, ◌∙◌, Bool, true, false, not, arith}
 use Rattle.std.specs.List.{slice_get}
 use Rattle.vms_kinds.specs.Bytes.{IsBytes}
@@ -34,7 +34,7 @@ opened set machine images came t k id d v = record {
 abbrev pub ended : Option (List ℕ) → List Image → List Bool → Tail → State
 ended machine images came t = record { machine = machine; images = images; came = came; tail = t; spot = Ended }
 
--- what stands between sections, where a section head leaves this tail: the end mark, a section head, or, directly after the
+-- a unit between sections, where a section head leaves this tail: the end mark, a section head, or, directly after the
 -- stream head, a configuration
 pub data Opening (set : Set) (names : List (List ℕ)) (first : Bool) (s : State) (t : Tail) (place : ℕ) (rest : List ℕ) (n : ℕ) (end : State) : Type 0 where
   Closes : (more : List ℕ) → rest ≡ 0x00 ∷ more → position not 0 s.came ≡ None
@@ -61,7 +61,7 @@ head_after set s id name instance v k d named there =
     ap (λ (o : Option ℕ). next o (at_option set.devices o)) named ∙ ap (next (Some k)) there
 
 module _ (set : Set) (names : List (List ℕ)) where
-  -- by the unit that stands there
+  -- by the unit that is there
   pub opening : (first c : Bool) (d : Due) (s : State) (place : ℕ) (rest more : List ℕ) (n : ℕ) (end : State) → length s.came ≡ length set.devices → is_between d ≡ true
       → (x : Piece) → May (Between first c) x → first_of set names d (known_at set s) x ≡ None → rest ≡ spell x ++ more
       → reading_on (judge (by_state set names)) (after set s x) (place + length (spell x)) more ≡ Some (Accepted n end) → Opening set names first s (behind set (open_at s.spot) s.tail) place rest n end
@@ -93,7 +93,7 @@ module _ (set : Set) (names : List (List ℕ)) where
       let u = steps set names s place rest n end ok refl h in
       opening first c (Between first c) s place rest u.more n end long refl u.unit u.may u.none u.there u.goes
 
--- the same, where no configuration may come
+-- the same, if no configuration may come
 pub data OpensAt (set : Set) (names : List (List ℕ)) (machine : Option (List ℕ)) (images : List Image) (came : List Bool) (t : Tail) (place : ℕ) (rest : List ℕ) (n : ℕ) (end : State) : Type 0 where
   Closed : (more : List ℕ) → rest ≡ 0x00 ∷ more → position not 0 came ≡ None → reading_on (judge (by_state set names)) (ended machine images came t) (place + 1) more ≡ Some (Accepted n end)
       → OpensAt set names machine images came t place rest n end

@@ -1,4 +1,4 @@
--- In a section, where all slots are passed: what an accepted reading finds behind the fields.
+-- In a section whose slots are all passed: what an accepted reading finds after the fields.
 use Rattle.std.proofs.Common.{◌≡◌, ℕ, ◌+◌, ◌<◌, List, ◌++◌, length, drop, slice_set, Option, Some, None, refl, sym, ap, ◌∙◌, subst, arith, Bool, true, false, ◌==◌, []}
 use Rattle.std.specs.List.{slice_get}
 use Rattle.vms_kinds.specs.Bytes.{IsBytes}
@@ -24,7 +24,7 @@ use Rattle.vms_stream.proofs.Streams.UnitRows.{foot_is, foot_mark_never, sub_is_
 use Rattle.vms_stream.proofs.Streams.Steps.{steps}
 use Rattle.vms_stream.proofs.Streams.Free.{Opening, opening}
 
--- whether sections have footers, where a tail is known already
+-- whether sections have footers, if the tail is known already
 abbrev pub Agrees : Tail → Bool → Type 0
 Agrees Unknown footed = Unit {0}
 Agrees Footed footed = footed ≡ true
@@ -61,7 +61,7 @@ module _ (set : Set) (names : List (List ℕ)) (machine : Option (List ℕ)) (im
   pub known_is : (image : Image) (part : Option ℕ) (n : ℕ) → known_at set (stands image part n) ≡ knows image
   known_is image part n = ap knows (image_is image part n)
 
-  -- where all slots are passed, what is due comes after the fields
+  -- if all slots are passed, what is due comes after the fields
   pub due_is : (image : Image) (part : Option ℕ) (n : ℕ) → drop n (part_slots set (Some d) image part) ≡ [] → due_by set (stands image part n) (Inside k id part n) ≡ AfterFields k t
   due_is image part n done = ap (due_field t (Some k)) (slots_are image part n ∙ done)
 
@@ -81,7 +81,7 @@ module _ (set : Set) (names : List (List ℕ)) (machine : Option (List ℕ)) (im
       ∙ ap (λ (i : Image). next i (Some j)) (image_is image part n)
       ∙ ap (λ (l : List Image). to l (Some j)) (set_twice images k image (record image { came = slice_set image.came j (Some v) }))
 
-  -- what stands behind the fields: a subsection head, the footer, or what stands between sections
+  -- what comes after the fields: a subsection head, the footer, or a unit between sections
   pub data Behind (image : Image) (part : Option ℕ) (n place : ℕ) (rest : List ℕ) (taken : ℕ) (end : State) : Type 0 where
     ASub : (j v : ℕ) (s : Sub) (more : List ℕ) → rest ≡ sub_head s.desc.name v ++ more → slice_get d.subs j ≡ Some s → slice_get image.came j ≡ Some None → IsVersionOf s.desc v
         → reading_on (judge (by_state set names)) (stands (record image { came = slice_set image.came j (Some v) }) (Some j) 0) (place + length (sub_head s.desc.name v)) more ≡ Some (Accepted taken end)
@@ -139,7 +139,7 @@ module _ (set : Set) (names : List (List ℕ)) (machine : Option (List ℕ)) (im
               ANext (next_agrees t (first_byte x) f')
               (opening set names false false (AfterFields k t) (stands image part n) place rest more taken end long (next_between t (first_byte x) f') x m none2 e goes)
 
-  -- behind the fields of a part an accepted reading goes on so
+  -- how an accepted reading goes on after the fields of a part
   pub behind_found : (image : Image) (part : Option ℕ) (n place : ℕ) (rest : List ℕ) (taken : ℕ) (end : State) → length came ≡ length set.devices → length image.came ≡ length d.subs
       → drop n (part_slots set (Some d) image part) ≡ [] → IsBytes rest → reading_on (judge (by_state set names)) (stands image part n) place rest ≡ Some (Accepted taken end) → Behind image part n place rest taken end
   behind_found image part n place rest taken end long subs_long done ok h =

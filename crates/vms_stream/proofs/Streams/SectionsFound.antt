@@ -30,7 +30,7 @@ use Rattle.vms_stream.proofs.Streams.Inside.{Agrees, tail_of}
 use Rattle.vms_stream.proofs.Streams.Subs.{image_so, closing, subs_found}
 use Rattle.vms_kinds.proofs.ByteLemmas.{bytes_rest}
 
--- device k's section stands at the front, and the reading goes on after it
+-- device k's section is at the front, and the reading goes on after it
 pub record HasRead (set : Set) (names : List (List ℕ)) (machine : Option (List ℕ)) (images : List Image) (came : List Bool) (t : Tail) (k : ℕ) (d : Device) (place : ℕ) (rest : List ℕ) (n : ℕ) (end : State) : Type 0 where
   pub id : ℕ
   pub image : Image

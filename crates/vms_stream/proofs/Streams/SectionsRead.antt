@@ -36,7 +36,7 @@ IsOpening (Head id name instance v) = Unit {0}
 IsOpening End = Unit {0}
 IsOpening _ = ⊥
 
--- where a section may begin, and the end mark may come
+-- a section may begin, and the end mark may come
 pub record IsFree (set : Set) (names : List (List ℕ)) (s : State) : Type 0 where
   pub held : (g set names).holds s ≡ true
   pub may : (x : Piece) → May (Between false false) x → IsOpening x → May ((g set names).due s) x
@@ -50,7 +50,7 @@ free_is set names first c s e = subst (IsFree set names) (ap (λ (p : Spot). rec
     may _ (AtStart _ _ id name f) o = absurd o
     may _ (AtMark _ _ b f) o = absurd o
 
--- behind the fields of a section, where the stream isn't footed
+-- after the fields of a section, if the stream isn't footed
 next_may : (k : ℕ) (t : Tail) → Agrees t false → (x : Piece) → May (Between false false) x → IsOpening x → May (AfterFields k t) x
 next_may k Unknown a _ (AtHead p q id name instance v f g h) o = AtNext k Unknown (Head id name instance v) refl (AtHead p q id name instance v f g h)
 next_may k Unknown a _ (AtEnd p q) o = AtNext k Unknown End refl (AtEnd p q)
@@ -75,7 +75,7 @@ pub record ReadsTo (set : Set) (names : List (List ℕ)) (s : State) (machine : 
   pub images_are : state.images ≡ images
   pub came_is : state.came ≡ came
   pub tail_is : behind set (open_at state.spot) state.tail ≡ t
-  -- behind a footer the next section may begin
+  -- after a footer the next section may begin
   pub free_spot : t ≡ Footed → state.spot ≡ Free false false
   pub reads : reading_on (judge (by_state set names)) s place (bytes ++ rest) ≡ reading_on (judge (by_state set names)) state (place + length bytes) rest
 
@@ -198,7 +198,7 @@ module _ (set : Set) (names : List (List ℕ)) (good : IsGood set) (machine : Op
       ∙ ap (λ (x : ℕ). reading_on J r.state x rest)
       (omega (arith, ap length spell.4, length-append front later, ap length s.is, length-append head s.body, length-append tail (closing footed id), length-append later (closing footed id))))
 
-  -- a section behind its head
+  -- a section after its head
   section_read : (place : ℕ) (body tail rest : List ℕ) (order : List ℕ) → Spells image.numbers (own_slots set d image.version image.numbers) body → ComesOnce image.came order → SubsSpell set d image order tail
       → To (st (record (default_image set d) { version = image.version }) None 0) place (body ++ (tail ++ closing footed id)) rest
   section_read place body tail rest order spells once spell =

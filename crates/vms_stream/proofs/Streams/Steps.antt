@@ -84,7 +84,7 @@ module _ (set : Set) (names : List (List ℕ)) where
       by_holds true h = by_found (unit_at (g.due s) rest) (shows (g.due s) rest ok) h
       by_holds false h = cc
 
-  -- where a unit must come, by a unit
+  -- if a unit must come, it goes on by one
   pub steps : (s : State) (place : ℕ) (rest : List ℕ) (n : ℕ) (end : State) → IsBytes rest → owes (g.due s) rest ≡ true → reading_on (judge (by_state set names)) s place rest ≡ Some (Accepted n end)
       → Steps s place rest n end
   steps s place rest n end ok o h = elim (next s place rest n end ok h) [

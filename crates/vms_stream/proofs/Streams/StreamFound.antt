@@ -35,7 +35,7 @@ record Ending (machine : Option (List ℕ)) (images : List Image) (place : ℕ) 
   machine_is : end.machine ≡ machine
   images_are : end.images ≡ images
 
--- what stands from the first section on
+-- what comes from the first section on
 record Rest (set : Set) (images : List Image) (came : List Bool) (t : Tail) (machine : Option (List ℕ)) (place : ℕ) (rest : List ℕ) (n : ℕ) (end : State) : Type 0 where
   order : List ℕ
   each_once : EachOnce came order
@@ -57,7 +57,7 @@ module _ (set : Set) (names : List (List ℕ)) where
   nothing_may : (x : Piece) → May Nothing x → ⊥
   nothing_may x m = elim m [ ]
 
-  -- where nothing is due, a reading has ended
+  -- if nothing is due, a reading has ended
   over_is : (s : State) → s.spot ≡ Over → (place : ℕ) (rest : List ℕ) (n : ℕ) (end : State) → IsBytes rest → reading_on (judge (by_state set names)) s place rest ≡ Some (Accepted n end) → (place ≡ n) × (s ≡ end)
   over_is s over place rest n end ok h = elim (next set names s place rest n end ok h) [
     | inl t ↦ absurd (nothing_may t.unit (subst (λ (p : Spot). May (due_by set s p) t.unit) over t.may))

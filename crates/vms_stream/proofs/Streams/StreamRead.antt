@@ -1,4 +1,4 @@
--- What an input takes is accepted; so it takes one stream at most.
+-- What an input takes is accepted, so it takes at most one stream.
 use Rattle.std.proofs.Common.{◌≡◌, ℕ, ◌+◌, List, [], ◌∷◌, ◌++◌, length, map, Option, Some, None, refl, sym, ap, ◌∙◌, arith, append_assoc, length-append, Bool, true, false}
 use Rattle.vms_spec.specs.Sets.{Device, Set}
 use Rattle.vms_spec.specs.Images.{Image, default_image}

@@ -1,4 +1,4 @@
--- The subsections that an accepted reading finds behind a body are spelled, in any order and each once; the image stays
+-- The subsections that an accepted reading finds after a body are spelled, in any order and each once; the image stays
 -- normal and valid.
 use Rattle.std.proofs.Common.{◌≡◌, ℕ, zero, suc, ◌+◌, ◌<◌, List, ◌∷◌, ◌++◌, length, drop, slice_set, Option, Some, None, Ok, Err, ℤ, refl, sym, ap, ◌∙◌, subst, arith, append_assoc, length-append, Bool, true, false, if◌then◌else◌, []}
 use Rattle.std.specs.List.{slice_get}
@@ -33,7 +33,7 @@ use Rattle.vms_kinds.proofs.ByteLemmas.{bytes_rest}
 abbrev pub image_so : ℕ → List (Option ℕ) → List ℤ → Image
 image_so v came n = record { version = v; came = came; numbers = n }
 
--- what closes a section
+-- what ends a section
 abbrev pub closing : Bool → ℕ → List ℕ
 closing footed id = if footed then foot id else []
 

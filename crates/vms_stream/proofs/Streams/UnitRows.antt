@@ -1,4 +1,4 @@
--- What it says of a unit that no row of the table takes it.
+-- What it means for a unit that no row of the table takes it.
 use Rattle.std.proofs.Common.{◌≡◌, ℕ, zero, suc, ◌<◌, List, ◌∷◌, length, Option, Some, None, refl, sym, ap, ◌∙◌, arith, Bool, true, false, not, ◌==◌, ◌&&◌, nat_lt, if◌then◌else◌, [], ◌||◌}
 use Rattle.std.specs.List.{slice_get}
 use Rattle.std.specs.Str.{bytes_eq}
@@ -108,7 +108,7 @@ module _ (set : Set) (names : List (List ℕ)) (d : Due) (so_far : Known) where
       between_taken (is_after_configuration d) (wants_foot d) (is_after_end d) (b == 2) (b == 3) (b == 8) (b == 5)
       (ap (λ (a : Bool). mark_line a (is_after_configuration d) (wants_foot d) (is_after_end d) (b == 2) (b == 3) (b == 8) (b == 5)) (sym s) ∙ e)
 
-  -- a mark that no row takes comes neither where a foot is due nor behind the end
+  -- a mark that no row takes comes neither where a foot is due nor after the end
   mark_free : (b : ℕ) → row_of (Mark b) ≡ None → (wants_foot d ≡ false) × (is_after_end d ≡ false)
   mark_free b e =
       let trailing = row_or (is_after_end d) None reasons.Trailing None in
@@ -245,13 +245,13 @@ module _ (set : Set) (names : List (List ℕ)) (d : Due) (so_far : Known) where
       ∙ passed_by (nat_lt v sub.desc.minimum) so_far.section reasons.TooOld _ (le-ltb v sub.desc.minimum version.0)
       ∙ ap last new
 
--- what has not come, of as many as there are
+-- what hasn't come, of all that there are
 pub false_from : (came : List Bool) (k : ℕ) → k < length came → test_some (λ (b : Bool). b) (slice_get came k) ≡ false → slice_get came k ≡ Some false
 false_from [] k lt e = absurd (omega arith)
 false_from (b ∷ came) zero lt e = ap Some e
 false_from (b ∷ came) (suc k) lt e = false_from came k (omega arith) e
 
--- of as many subsections as there are
+-- the same for subsections
 pub none_from : (came : List (Option ℕ)) (j : ℕ) → j < length came → test_some (λ (o : Option ℕ). not (is_none o)) (slice_get came j) ≡ false → slice_get came j ≡ Some None
 none_from [] j lt e = absurd (omega arith)
 none_from (None ∷ came) zero lt e = refl

@@ -14,7 +14,7 @@ those_come j [] = []
 those_come j (None ∷ came) = those_come (suc j) came
 those_come j (Some v ∷ came) = j ∷ those_come (suc j) came
 
--- as many numbers as there are elements, from k on
+-- a number for each element, from k on
 abbrev count_from : {X : Type 0} → ℕ → List X → List ℕ
 count_from k [] = []
 count_from k (x ∷ xs) = k ∷ count_from (suc k) xs

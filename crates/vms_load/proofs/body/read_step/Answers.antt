@@ -17,7 +17,7 @@ use Rattle.vms_load.specs.Reading.{slot_of, step_long}
 use Rattle.vms_load.proofs.BodyLemmas.{number_ok, number_err, constant_taken, filler_taken}
 use Rattle.vms_load.proofs.body.read_step.Goals as goal
 
--- all bytes of an item, which moves the cursor by so many
+-- all bytes of an item, by which the cursor moves
 moved : (most at to : ℕ) (result : Result (Unit {0}) FrameFault) (n : ℕ) → OnOk result (to ≡ at + most) → IsLong (λ _. most) most result n → HasMoved most at to result n
 moved most at to (Ok x) n far l = (omega (arith, l), omega (arith, l, far))
 moved most at to (Err e) n far l = (l, tt)

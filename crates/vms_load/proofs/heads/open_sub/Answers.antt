@@ -11,7 +11,7 @@ use Rattle.vms_load.proofs.HeadLemmas.{unknown_sub, opens_sub, sub_below}
 use Rattle.vms_load.proofs.heads.open_sub.Goals as goal
 use Rattle.vms_load.proofs.heads.open_sub.Goals.{After-against_sub, In-Some}
 
--- the subsection that is found by its name
+-- the subsection found by its name
 found_sub : (subs : List CodeSub) (there name wanted : _) (found : Option ℕ) (j : ℕ) → there ≡ subs → name ≡ wanted → found ≡ find_sub 0 (map sub_of there) name → found ≡ Some j
     → find_sub 0 (map sub_of subs) wanted ≡ Some j
 found_sub subs there name wanted found j e f h is =

@@ -24,7 +24,7 @@ use Rattle.vms_image.specs.Typed.{Typed, state_of as untyped}
 use Rattle.vms_marks.specs.declared.sub_head.TheConstants.{LONGEST_SUB_HEAD}
 use Rattle.vms_load.proofs.parts.read_after_fields.Goals as goal
 
--- what a subsection head opens, as the call tells it
+-- what a subsection head opens, as the call returns it
 opened : (k place : ℕ) (came : List (Option ℕ)) (name : List ℕ) (v : ℕ) (d there : Device) (result is : Result ℕ Reason) → there ≡ d → in_section k result ≡ sub_opened k there came name v → result ≡ is
     → opened_at place (in_section k is) ≡ opened_at place (sub_opened k d came name v)
 opened k place came name v d there result is same e r =

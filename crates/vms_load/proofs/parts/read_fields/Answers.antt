@@ -24,7 +24,7 @@ use Rattle.vms_load.proofs.parts.read_fields.Given.{Over}
 use Rattle.vms_load.proofs.parts.read_fields.Goals as goal
 use Rattle.vms_load.proofs.parts.read_fields.Goals.{Start, After-first_cell-base, After-read_part}
 
--- what is told before the part is read and behind it
+-- what is known before the part is read and after it
 abbrev old : (g : Over) (c : goal.Start g) → Told
 old g c = told c.args.image.now c.args.cursor.now.at (intake g.S.Source c.args.source.now)
 

@@ -14,7 +14,7 @@ holds c =
     ap (λ (v : ℕ). rules_are_true (own_slots (described c.args.set.now) (device_at (described c.args.set.now) c.args.device) v (state_of c.args.image.now).numbers)) (sym c.version.ensures)
     ∙ sym c.hold_rules.ensures ∙ c.if-not-hold_rules.false
 
--- the subsection whose turn it is is one of the device's, and there is something for it
+-- the next subsection is one of the device's, and has an entry
 inside : (c : goal.In-loop-sub) → (let j = c.loop-sub.sub in (j < length (device_at (described c.args.set.now) c.args.device).subs) × (j < length (state_of c.args.image.now).came) × (j < length c.args.sub_lines.now))
 inside c =
     let lt : c.loop-sub.sub < length (device_at (described c.args.set.now) c.args.device).subs = omega (arith, c.sub_count-sub-end.ensures, c.loop-sub-test.true) in

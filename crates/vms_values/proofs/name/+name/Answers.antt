@@ -104,7 +104,7 @@ print_name-loop-field-init g t c =
       untouched = refl;
     }
 
--- the field whose turn it is, and its width in the code
+-- the next field, and its width in the code
 record Turn (g : Over) (t : ℕ) (c : goal.print_name-After-field_cells-size g t) : Type 0 where
   inside : c.loop-field.field < length (desc_at (described c.args.set.now) c.args.part).fields
   next : NextNames (described c.args.set.now) c.args.part c.loop-field.field c.loop-field.left (field_at (described c.args.set.now) c.args.part c.loop-field.field)

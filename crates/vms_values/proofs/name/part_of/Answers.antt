@@ -11,7 +11,7 @@ own_size : (c : goal.After-cells_of-size) → c.cells_of-size.result ≡ own_cel
 own_size c =
     omega (arith, c.cells_of-size.ensures, own_inside_device (described c.args.set.now) c.args.device, few_cells (described c.args.set.now) c.args.set.now.well_formed c.args.device)
 
--- the subsection whose turn it is is one of the device's, and the code has its size
+-- the next subsection is one of the device's, and the code has its size
 sub_size : (c : goal.After-cells_of-size-in-loop-sub) → (let d = device_at (described c.args.set.now) c.args.device in
     (c.loop-sub.sub < length d.subs) × (c.cells_of-size-in-loop-sub.result ≡ own_cell_count (described c.args.set.now) (sub_at d c.loop-sub.sub).desc))
 sub_size c =

@@ -21,7 +21,7 @@ bounds-images-device g c =
     let lt : c.loop-device.device < length set.devices = omega (arith, long, c.loop-device-test.true) in
     omega (arith, of_room set c.loop-device.device set.devices (map state_of c.args.images.now) c.loop-device.invariant.of lt, states_long c.args.images.now)
 
--- the image of the device whose turn it is, and its lines
+-- the image of the next device, and its lines
 here : (g : Over) (c : goal.After-print_device-arg-1 g) → (let set = described c.args.set.now in let k = c.loop-device.device in let states = map state_of c.args.images.now in
     (IsOf set (device_at set k) (state_of c.index-images-device.result) × AreOf set (drop (k + 1) set.devices) (drop (k + 1) states))
     × (devices_lines set (drop k set.devices) (drop k states) ≡ device_lines set (device_at set k) (state_of c.index-images-device.result) ++ devices_lines set (drop (k + 1) set.devices) (drop (k + 1) states)))

@@ -16,7 +16,7 @@ loop-sub-init g c =
     let image = state_of c.args.shown.image.now in
     leaves_all _ _ _ (first_sub set c.args.device image.numbers image.came)
 
--- the subsection whose turn it is is one of the device's, and the image says whether it came
+-- the next subsection is one of the device's, and the image says whether it came
 inside : (g : Over) (c : goal.In-loop-sub g) → (c.loop-sub.sub < length (device_at (described c.args.shown.set.now) c.args.device).subs) × (c.loop-sub.sub < length (state_of c.args.shown.image.now).came)
 inside g c =
     let lt : c.loop-sub.sub < length (device_at (described c.args.shown.set.now) c.args.device).subs = omega (arith, c.sub_count-sub-end.ensures, c.loop-sub-test.true) in

@@ -33,7 +33,7 @@ print_elements-loop-index-init g t c =
       here = grind arith;
     }
 
--- the path of the element whose turn it is
+-- the path of the next element
 element : (g : Over) (t : ℕ) (c : goal.print_elements-After-print_item-arg-in-loop-index-1 g t) → (c.push_index.new.self ≡ c.args.line.now ++ codes "[" ++ decimal c.loop-index.index ++ codes "]") × (length c.push_index.new.self ≤ length c.args.line.now + INDEX_ROOM)
 element g t c =
     let kept = cut_is c.args.line.now c.loop-index.line c.cut.new.self c.len-kept.result c.cut.ensures c.len-kept.ensures c.loop-index.invariant.line in
@@ -187,7 +187,7 @@ print_part-loop-field-init g t c =
       room = spot_room (described c.args.shown.set.now) c.args.spot c.args.shown.image.now.numbers c.requires.spot;
     }
 
--- the field whose turn it is
+-- the next field
 record Turn (g : Over) (t : ℕ) (c : goal.print_part-After-print_field-arg-in-loop-field-1 g t) : Type 0 where
   inside : c.loop-field.field < length (desc_at (described c.args.shown.set.now) c.args.spot.part).fields
   run : FoundRun (described c.args.shown.set.now) c.args.spot c.args.line.now c.args.shown.image.now.numbers c.loop-field.field c.loop-field.cell c.elements.result c.index-as_slice-field.result

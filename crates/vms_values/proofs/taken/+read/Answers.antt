@@ -34,7 +34,7 @@ use Rattle.vms_values.proofs.taken.+read.Goals.{read_elements-After-read_item-ar
 
 -- ---- the elements of an array
 
--- the path of the element whose turn it is
+-- the path of the next element
 element : (t : ℕ) (c : goal.read_elements-After-read_item-arg-in-loop-index-1 t) → (c.push_index.new.self ≡ c.args.path.now ++ codes "[" ++ decimal c.loop-index.index ++ codes "]") × (length c.push_index.new.self ≤ length c.args.path.now + INDEX_ROOM)
 element t c =
     let front = cut_is c.args.path.now c.loop-index.path c.cut.new.self c.len-kept.result c.cut.ensures c.len-kept.ensures c.loop-index.invariant.path in
@@ -189,7 +189,7 @@ read_under-loop-field-init t c =
       path = stays c.args.path.now;
     }
 
--- the field whose turn it is, with the numbers so far
+-- the next field, with the numbers so far
 record Turn (t : ℕ) (c : goal.read_under-After-read_field-arg-in-loop-field-1 t) : Type 0 where
   run : FoundRun (described c.args.set.now) c.args.spot c.args.path.now c.loop-field.taken.image.numbers c.loop-field.field c.loop-field.cell c.elements.result c.index-as_slice-field.result
   comes : IsNext (described c.args.set.now) (desc_at (described c.args.set.now) c.args.spot.part) c.args.spot.version c.args.present c.args.spot.base c.loop-field.field c.elements.result c.most.result c.is_present.result (field_of c.index-as_slice-field.result)

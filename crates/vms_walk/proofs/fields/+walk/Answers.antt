@@ -142,7 +142,7 @@ steps_are g t c m long s =
     field_slots_are _ _ _ g.W.Walker.may (laws_of g) set (good_of set c.args.set.now.well_formed c.args.set.now.heads) c.args.spot c.requires.spot.part c.args.field c.args.cell c.requires.here c.args.set.now.well_formed
     (g.W.Cells.numbers c.args.walker.now) m long c.requires.spot c.present-count.result c.index-as_slice-field.result.item c.most-most.result c.requires.field (item_is g t c) c.present-count.ensures c.most-most.ensures c.requires.room s
 
--- they begin no cell below the field
+-- they have no cell below the field
 above : (g : Over) (t : ℕ) (c : goal.walk_field-After-walk_items-arg-1 g t) (m : List ℤ) → IsAbove c.args.cell (elements_slots (described c.args.set.now) c.index-as_slice-field.result.item c.most-most.result m c.present-count.result c.args.cell)
 above g t c m =
     let set = described c.args.set.now in
@@ -201,7 +201,7 @@ walk-loop-field-init g t c =
       room = spot_room set spot (g.W.Cells.numbers c.args.walker.now) c.requires.spot;
     }
 
--- the field whose turn it is, with the numbers so far
+-- the next field, with the numbers so far
 record Turn (g : Over) (t : ℕ) (c : goal.walk-After-walk_field-arg-1 g t) : Type 0 where
   inside : c.loop-field.field < length (desc_at (described c.args.set.now) c.args.spot.part).fields
   behind : c.loop-field.field ≤ length (desc_at (described c.args.set.now) c.args.spot.part).fields
@@ -221,7 +221,7 @@ turn g t c =
     } in
     record { inside = lt; behind = omega (arith, lt); has = has; next = next_field set c.args.set.now.well_formed spot (g.W.Cells.numbers c.loop-field.walker) has c.loop-field.field c.loop-field.cell lt inv.room }
 
--- the code's width of it
+-- its width in the code
 wide : (g : Over) (t : ℕ) (c : goal.walk-After-field_cells-cell g t)
     → (let f = field_at (described c.args.set.now) c.args.spot.part c.loop-field.field in c.field_cells-cell.result ≡ capacity_of f.count * size_in (described c.args.set.now) f.item)
 wide g t c =
@@ -275,7 +275,7 @@ walk-overflow_add-cell g t c =
     let s = turn g t (goal.at.walk-overflow_add-cell g t c).After-walk_field-arg-1 in
     omega (arith, wide g t c, s.next.room, s.has.few)
 
--- behind the last field
+-- after the last field
 end_of : (g : Over) (t : ℕ) (c : goal.walk-After-rules-arg-1 g t) → c.loop-field.field ≡ length (desc_at (described c.args.set.now) c.args.spot.part).fields
 end_of g t c = omega (arith, c.field_count-field-end.ensures)
 

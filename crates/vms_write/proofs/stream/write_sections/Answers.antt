@@ -15,7 +15,7 @@ use Rattle.vms_write.proofs.stream.write_sections.Goals.{After-write_section-arg
 pub loop-device-init : goal.loop-device-init
 loop-device-init g c = leaves_all _ _ _ refl
 
--- the section of the device whose turn it is, and those after it
+-- the section of the next device, and those after it
 next_section : (g : Over) (c : goal.After-write_section-arg-1 g) → (let set = described c.args.set.now in let i = c.loop-device.device in let images = map state_of c.args.images.now in
     written_sections set i (drop i set.devices) (drop i images) ≡ written_section set (device_at set i) (state_of c.index-images-device.result) i ++ written_sections set (i + 1) (drop (i + 1) set.devices) (drop (i + 1) images))
 next_section g c =

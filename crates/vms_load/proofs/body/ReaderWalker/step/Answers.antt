@@ -7,7 +7,7 @@ use Rattle.vms_load.proofs.body.ReaderWalker.step.Given.{Over}
 use Rattle.vms_load.proofs.body.ReaderWalker.step.Goals as goal
 use Rattle.vms_load.proofs.body.ReaderWalker.step.Goals.{Start, After-read_step}
 
--- what is told before the step and behind it
+-- what is known before the step and after it
 abbrev old : (g : Over) (c : goal.Start g) → Told
 old g c = let self = c.args.self.now in told self.image.now self.cursor.now.at (intake g.S.Source self.source.now)
 
