@@ -33,7 +33,7 @@ pub enum Ending {
     TooLarge(String),
     /// Out of memory (status 10).
     NoMemory,
-    /// The other set has no room for something in the stream (status 11). Holds the line.
+    /// The other set would lose something in the stream (status 11). Holds the line.
     WouldLose(NoteLine),
 }
 

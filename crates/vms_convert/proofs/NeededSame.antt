@@ -1,4 +1,4 @@
--- Whether a subsection is needed goes by its own cells and by those of its device.
+-- Whether a subsection is needed depends on its own cells and on those of its device.
 use Rattle.std.proofs.Common.{◌≡◌, ℕ, ◌+◌, List, length, get_or, Option, Some, None, ℤ, refl, ap, ◌∙◌, arith, Bool, true, not, ◌&&◌, ◌||◌, bit_and}
 use Rattle.std.specs.List.{slice_get}
 use Rattle.std.proofs.lemmas.Bool.{and_parts}
