@@ -61,7 +61,7 @@ record OneShown (step : Step Set) (input : List ℕ) (held : Held) : Type 0 wher
   is : ShowsBy step (Some input) (Some held) outcome
   only : (other : Outcome) → ShowsBy step (Some input) (Some held) other → other ≡ outcome
 
--- whether the input takes a stream or is at fault
+-- whether the input begins with a stream or is invalid
 one_answered : (set : Set) → IsFit set → (input : List ℕ) (held : Held) → IsBytes input → Answer set set.machines input → OneShown (Gives set) input held
 one_answered set fit input held ok (Taken n machine images takes) = record {
   outcome = done (values_text set machine images) (Some held) n;

@@ -1,4 +1,4 @@
-// The command `analyze`: the values text of a stream by its own description.
+// The command `analyze`: the values text of a stream by the stream's own description.
 ghost use Rattle.std.specs.Prelude.{◌≡◌, Err, Some};
 ghost use Rattle.vms_io.specs.Told.{Stock, intake, outlet};
 ghost use Rattle.vms_commands.specs.Endings.{ending_of};
@@ -25,7 +25,7 @@ pub(crate) fn analyze_input<I: Source, O: Sink>(
     analyze(alloc, input, out).map_err(fault_ending)
 }
 
-// How the command ends by a fault.
+// Returns the ending for a fault.
 fn fault_ending(fault: AnalyzeFault) -> Ending
     ensures { EndsLike (Err fault) result }
 {
@@ -37,7 +37,7 @@ fn fault_ending(fault: AnalyzeFault) -> Ending
     }
 }
 
-// The line of an input that isn't listed: the place and the reason.
+// Returns the line of an input that can't be listed: the offset and the reason.
 fn unlisted_line(at: u64, reason: AnalyzeReason) -> NoteLine
     ensures { result.items ≡ unlisted_line at reason }
 {

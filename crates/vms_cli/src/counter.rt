@@ -96,7 +96,7 @@ fn no_state_text(alloc: Global, mismatch: Mismatch) -> Result<String, NoMemory>
     Ok(format!(in alloc; "{line}no state\n")?)
 }
 
-// The lines before a state's values: the rule that fails, and where the stream is refused.
+// Returns the lines before a state's values: the rule that fails, and where the stream is refused.
 fn head_of(
     alloc: Global,
     new: &DescSet,
@@ -112,7 +112,7 @@ fn head_of(
     Ok(head)
 }
 
-// What stands before a state's values, and the values.
+// Writes the lines before a state's values, and the values.
 fn write_state<O: Sink>(
     head: &[u8],
     set: &DescSet,

@@ -31,7 +31,7 @@ pub(crate) fn show<I: Source, O: Sink, H: Shelf>(
     show_stream(&mut loader, input, out)
 }
 
-// Once the set is there.
+// Shows once the set is known.
 fn show_stream<I: Source, O: Sink>(
     loader: &mut LeanLoader,
     input: &mut I,
