@@ -9,7 +9,7 @@ use Rattle.vms_script.specs.Lines.{Happens, line_read, line_split}
 use Rattle.vms_script.specs.Words.{first_word, longer_word}
 use Rattle.vms_script.specs.declared.line.ScriptReason.TheVariants as reasons
 
--- a byte stands at a place, and not before it
+-- a byte is at an offset, and not before it
 abbrev pub NotBefore : ℕ → List ℕ → ℕ → Type 0
 NotBefore byte xs i = (k : ℕ) → k < i → get_or xs k 0 ≡ byte → ⊥
 
