@@ -9,7 +9,7 @@ pub record Split : Type 0 where
   pub lines : List (List ℕ)
   pub tail : List ℕ
 
--- The split text with one byte more at its front that begins a line.
+-- The split text with one byte more at its front, which isn't a line feed.
 abbrev pub begun : ℕ → List (List ℕ) → List ℕ → Split
 begun b [] tail = record { lines = []; tail = b ∷ tail }
 begun b (line ∷ lines) tail = record { lines = (b ∷ line) ∷ lines; tail = tail }
