@@ -32,7 +32,7 @@ use Rattle.vms_check.proofs.ReducedLaws.{reduced_holds}
 use Rattle.vms_check.proofs.ListLaws.{passes}
 use Rattle.vms_spec.specs.Images.{zeroed}
 
--- what is covered is one filler, as long as the slots that it stands over
+-- what is covered is one filler, as long as the slots that it covers
 module _ (ms ns : List Meaning) (numbers numbers' : List ℤ) (own own' : ℕ → ℕ) where
   pub covered_slots : (i : Item) (c : Count) (j : Item) (d : Count) (caps caps' : List ℕ) (x y step step' : ℕ) → is_covered i c j ≡ true → IsSingle i c → IsSingle j d
       → (r : ℕ) × (times (elements_of d own') (item_slots ns j caps' numbers') y step' ≡ Filler r ∷ []) × (length (zeroed numbers (times (elements_of c own) (item_slots ms i caps numbers) x step)) ≡ r)

@@ -1,5 +1,5 @@
--- Fields: the numbers that tests and counts may name agree on both sides, and what doesn't stand in the newer set's bytes is
--- at its default.
+-- Fields: the numbers that tests and counts may name agree on both sides, and what isn't in the newer set's bytes
+-- is at its default.
 use Rattle.std.proofs.Common.{◌≡◌, inl, inr, ℕ, zero, suc, ◌+◌, ◌*◌, ◌<◌, ◌≤◌, Bool, true, false, List, [], ◌∷◌, ◌++◌, length, get_or, Option, Some, None, refl, sym, ap, ◌∙◌, subst, arith, ℤ, pos, if◌then◌else◌, ◌==◌}
 use Rattle.vms_kinds.specs.declared.Kind.{Kind}
 use Rattle.vms_kinds.specs.declared.Item.{Item}

@@ -1,4 +1,4 @@
--- What is carried of a run of cells, cell by cell: the older number where it stands in the bytes, else the default.
+-- What is carried of a run of cells, cell by cell: the older number if it is in the bytes, else the default.
 use Rattle.std.proofs.Common.{◌≡◌, ◌⊎◌, inl, inr, ℕ, ◌+◌, ◌<◌, ◌≤◌, Bool, true, false, ◌||◌, List, [], ◌++◌, length, length-append, get_or, replicate, Option, Some, None, ℤ, pos, refl, sym, ap, ◌∙◌, subst, arith}
 use Rattle.std.specs.List.{slice_get}
 use Rattle.std.proofs.lemmas.List.{get_or_append_left, get_or-append-add}
@@ -28,7 +28,7 @@ pub record Goes (cells others : List Cell) (numbers : List ℤ) (slots : List Sl
 pub none_within : (at size : ℕ) → IsWithin at size []
 none_within at size = record { in_range = λ c h. absurd (cc) }
 
--- where none of the cells stands in the bytes, all is default
+-- if none of the cells is in the bytes, all is default
 pub goes_absent : (cells others : List Cell) (numbers : List ℤ) (at at' : ℕ) (partners : List (Option ℕ)) → AreFrom cells others at' partners → Goes cells others numbers [] at at' partners (defaults others)
 goes_absent cells others numbers at at' partners h = record {
   paired = h;

@@ -28,7 +28,7 @@ use Rattle.vms_check_laws.proofs.PairLists.{AreFrom, paired_none}
 use Rattle.vms_check_laws.proofs.PairFields.{Structs, item_paired, array_paired}
 use Rattle.vms_check_laws.proofs.Goes.{Goes, IsWithin, goes_absent, goes_alone, goes_append}
 
--- ---- slots stand within their cells
+-- ---- slots are within their cells
 
 within_of : (at : ℕ) (cells : List Cell) (slots : List Slot) → IsAbove at slots → AreCells (replicate at no_cell ++ cells) slots → IsWithin at (length cells) slots
 within_of at cells slots above are = record {
@@ -64,7 +64,7 @@ module _ (structs : List Pairer) (cs : List Carrier) (ms : List Meaning) (y : Li
         within_of at (item_cells x a caps d) (item_slots ms a caps numbers at) (item_above ms above a caps numbers at)
         (item_are ms means a caps d (replicate at no_cell ++ item_cells x a caps d) at numbers (stands_behind at (item_cells x a caps d)))
 
-    -- ---- one element that stands in the bytes
+    -- ---- one element that is in the bytes
 
     -- a pair of numbers
     one_goes : (l m : Kind) (caps caps' : List ℕ) (d d' : ℤ) (at at' : ℕ) (b : Bool) → same_kind l m ≡ b
@@ -114,7 +114,7 @@ module _ (structs : List Pairer) (cs : List Carrier) (ms : List Meaning) (y : Li
     item_goes (Struct i) (Equal m u) caps caps' d d' at at' lt lt' = goes_alone _ _ numbers _ at at' (length (get_or x i [])) refl (item_within (Struct i) caps d at) (paired_none _ _ at' (length (get_or x i [])) refl)
     item_goes (Struct i) (Unused n) caps caps' d d' at at' lt lt' = goes_alone _ _ numbers _ at at' (length (get_or x i [])) refl (item_within (Struct i) caps d at) (paired_none _ _ at' (length (get_or x i [])) refl)
 
-    -- ---- so many elements, of which the first n stand in the bytes
+    -- ---- a number of elements, of which the first n are in the bytes
 
     carry_none : (a b : Item) (caps' : List ℕ) (d' : ℤ) (step m at q t : ℕ) → carry_items cs x y numbers a b (defaults (item_cells y b [] d')) step 0 m at ≡ defaults (times m (λ _. item_cells y b caps' d') q t)
     carry_none a b caps' d' step zero at q t = refl

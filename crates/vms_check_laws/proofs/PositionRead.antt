@@ -1,4 +1,4 @@
--- One position, and the first positions, of two descriptions that stand anywhere in two sets, with the sets' own cells.
+-- One position, and the first positions, of two descriptions anywhere in two sets, with the sets' own cells.
 use Rattle.std.proofs.Common.{◌≡◌, inl, inr, ℕ, zero, suc, ◌+◌, Bool, List, [], ◌∷◌, length, Option, Some, subst, arith, ℤ, ◌++◌, take, refl, ap}
 use Rattle.std.specs.List.{slice_get, flat_map}
 use Rattle.vms_spec.specs.declared.Part.{Part}

@@ -1,5 +1,5 @@
--- What is answered of an older set and a newer one: that they are compatible; a state that the older set writes and the newer
--- one refuses; or that no candidate is such a state.
+-- The answer to an older and a newer set: they are compatible; or a state that the older set writes and the newer
+-- one refuses; or no candidate is such a state.
 use Rattle.std.specs.Prelude.{◌≡◌, ℕ, List, [], ◌∷◌, Option, Some, None}
 use Rattle.vms_spec.specs.declared.Reason.{Reason}
 use Rattle.vms_spec.specs.Sets.{Set}
@@ -11,23 +11,24 @@ use Rattle.vms_check.specs.declared.mismatch.Mismatch.{Mismatch}
 use Rattle.vms_check.specs.Comparing.{Compatible, first_mismatch}
 use Rattle.vms_counter_laws.specs.Candidates.{candidates, machine_for}
 
--- where and why a stream is refused
+-- Where and why a stream is refused.
 pub record Refusal : Type 0 where
   pub place : ℕ
   pub section : Option ℕ
   pub reason : Reason
 
+-- The answer.
 pub data Answer : Type 0 where
   AreCompatible : Answer
   NoState : Mismatch → Answer
   State : Mismatch → Option (List ℕ) → List Image → Refusal → Answer
 
 module _ (old new : Set) where
-  -- what the older set writes of images
+  -- the stream that the older set writes of images
   abbrev pub stream_of : Mismatch → List Image → List ℕ
   stream_of m images = written old (machine_for old new m) images None
 
-  -- the older set may write it, and the newer one takes no stream of it
+  -- the older set may write it, and the newer one accepts no stream of it
   pub record Shows (m : Mismatch) (images : List Image) : Type 0 where
     pub ready : AreReady old images
     pub untaken : (n : ℕ) (machine : Option (List ℕ)) (states : List Image) → Takes new new.machines (stream_of m images) n machine states → ⊥

@@ -242,7 +242,7 @@ module _ (ds : List Desc) (most : ℕ) (sound : (j : ℕ) → j < most → AreSo
   abbrev made : ℕ → Type 0
   made j = Fits (shape (first shape ds j) (get_or ds j no_desc)) (items_of_desc (first items_of_desc ds j) (get_or ds j no_desc)) (depth_of_desc (first depth_of_desc ds j) (get_or ds j no_desc))
 
-  -- what stands in the first k, where each of them fits
+  -- what is in the first k, where each of them fits
   at_number : (k : ℕ) → ((j : ℕ) → j < k → made j) → FitTables (first shape ds k) (first items_of_desc ds k) (first depth_of_desc ds k)
   at_number k each j = by_place (nat_lt j k) refl
     where
