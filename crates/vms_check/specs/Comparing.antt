@@ -203,6 +203,7 @@ no_comparer j = None
 
 -- a and b at versions v and w, with the comparers of new's structures given
 module _ (structs : List Comparer) (a b : Desc) (v w : ℕ) (in_a in_b : Part) (o n : ℕ → Option ℕ) where
+  -- Rules 7 to 12 for two fields of the same position.
   abbrev pub uncovered_rules : Entry → Entry → List (ℕ × Bool)
   uncovered_rules e f =
       (7, same_count o n e.field.count f.field.count)
@@ -213,15 +214,16 @@ module _ (structs : List Comparer) (a b : Desc) (v w : ℕ) (in_a in_b : Part) (
       ∷ (12, same_constant e.field.item f.field.item)
       ∷ []
 
-  -- where new's unused bytes cover old's item, only the rests of the tests are compared
+  -- Where new's unused bytes cover old's item, only the rests of the tests are compared.
   abbrev pub pair_rules : Entry → Entry → List (ℕ × Bool)
   pair_rules e f = if is_covered e.field.item e.field.count f.field.item then (9, same_rest o n e.rest f.rest) ∷ [] else uncovered_rules e f
 
+  -- The first mismatch of two items' structures.
   abbrev pub pair_structs : Item → Item → Option Mismatch
   pair_structs (Struct i) (Struct j) = get_or structs j no_comparer i
   pair_structs _ _ = None
 
-  -- position by position, structures before the next position
+  -- Position by position, structures before the next position.
   abbrev pub compare_fields : List Entry → List Entry → Option Mismatch
   compare_fields [] [] = None
   compare_fields (e ∷ es) [] = Some (record { rule = 5; in_old = in_field in_a e.index; in_new = here in_b })
@@ -231,10 +233,12 @@ module _ (structs : List Comparer) (a b : Desc) (v w : ℕ) (in_a in_b : Part) (
       (or_else (pair_structs e.field.item f.field.item)
       (compare_fields es fs))
 
+  -- A reduced validation of new is true, or an old one.
   abbrev pub is_kept : Reduced → Bool
   is_kept (Known true) = true
   is_kept r = list_any (λ s. same_reduced o n (reduced v s) r) a.validate
 
+  -- Rule 15 for the validations.
   abbrev pub compare_validations : Option Mismatch
   compare_validations = failing_pair ((15, list_all (λ t. is_kept (reduced w t)) b.validate) ∷ []) (here in_a) (here in_b)
 
@@ -266,22 +270,24 @@ abbrev pub is_in : Set → Device → Bool
 is_in set d = is_found (find_device 0 set.devices d.desc.name d.instance)
 
 module _ (old new : Set) where
+  -- The first mismatch of two descriptions, both at version v.
   abbrev pub comparing : (a b : Desc) (v : ℕ) → Part → Part → Option Mismatch
   comparing a b v in_a in_b = compare_desc (comparers (struct_cells old) (struct_cells new) old.structs new.structs (length new.structs)) (struct_cells old) (struct_cells new) a b v v in_a in_b
 
-  -- subsection j of device i of old, with one of device k of new
+  -- Subsection j of device i of old, with one of device k of new.
   abbrev pub compare_sub : ℕ → ℕ → ℕ → Sub → Option ℕ → Option Sub → Option Mismatch
   compare_sub i k j s (Some l) (Some t) =
       or_else (failing_pair ((14, is_version_of t.desc s.desc.version) ∷ []) (here (parts.Sub i j)) (here (parts.Sub k l)))
       (comparing s.desc t.desc s.desc.version (parts.Sub i j) (parts.Sub k l))
   compare_sub i k j s _ _ = Some (record { rule = 13; in_old = here (parts.Sub i j); in_new = here (parts.Device k) })
 
+  -- Subsection j of device i of old, with the one of its name in device k of new.
   abbrev pub compare_subs : ℕ → ℕ → Device → ℕ → Sub → Option Mismatch
   compare_subs i k e j s =
       let found = find_sub 0 e.subs s.desc.name in
       compare_sub i k j s found (slice_get e.subs (index found))
 
-  -- a device and its subsections, at old's versions on both sides
+  -- A device and its subsections, at old's versions on both sides.
   abbrev pub compare_device : ℕ → Device → Option ℕ → Option Device → Option Mismatch
   compare_device i d (Some k) (Some e) =
       or_else (failing_pair ((4, is_version_of e.desc d.desc.version) ∷ []) (here (parts.Device i)) (here (parts.Device k)))
@@ -289,10 +295,11 @@ module _ (old new : Set) where
       (first_answer (compare_subs i k e) 0 d.subs))
   compare_device i d _ _ = None
 
+  -- The device of new with this name and instance.
   abbrev pub paired_device : Device → Option ℕ
   paired_device d = find_device 0 new.devices d.desc.name d.instance
 
-  -- machines, devices of old in new, devices of new in old, and then device by device
+  -- Machines, devices of old in new, devices of new in old, and then device by device.
   unfoldable pub first_mismatch : Option Mismatch
   first_mismatch =
       or_else (failing_pair ((1, list_all (is_one_of new.machines) old.machines) ∷ []) (here parts.Set) (here parts.Set))

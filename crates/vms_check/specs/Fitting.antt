@@ -19,13 +19,15 @@ fields_at d v = fields_from v 0 d.fields
 
 -- `same` says which structures of old and new are alike: structure i of old and structure j of new
 module _ (same : ℕ → ℕ → Bool) (a b : Desc) (v w : ℕ) where
+  -- The position of a field of the older description.
   abbrev pub in_old : ℕ → Option ℕ
   in_old = position_in v a.fields
 
+  -- The position of a field of the newer description.
   abbrev pub in_new : ℕ → Option ℕ
   in_new = position_in w b.fields
 
-  -- two fields of the same position
+  -- Two fields of the same position.
   pub record AreAlike (e f : Entry) : Type 0 where
     -- rules 7 to 10
     pub counts : same_count in_old in_new e.field.count f.field.count ≡ true
@@ -40,16 +42,16 @@ module _ (same : ℕ → ℕ → Bool) (a b : Desc) (v w : ℕ) where
     -- their structures
     pub structs : (i j : ℕ) → e.field.item ≡ Struct i → f.field.item ≡ Struct j → same i j ≡ true
 
-  -- under unused bytes of new only the tests are compared
+  -- Under unused bytes of new only the tests are compared.
   pub record ArePaired (e f : Entry) : Type 0 where
     pub covered : is_covered e.field.item e.field.count f.field.item ≡ true → same_rest in_old in_new e.rest f.rest ≡ true
     pub alike : is_covered e.field.item e.field.count f.field.item ≡ false → AreAlike e f
 
-  -- a reduced validation of new is true, or an old one
+  -- A reduced validation of new is true, or an old one.
   abbrev pub IsKept : Reduced → Type 0
   IsKept r = (r ≡ Known true) ⊎ (list_any (λ s. same_reduced in_old in_new (reduced v s) r) a.validate ≡ true)
 
-  -- two descriptions: rules 5 and 6, 7 to 12, and 15
+  -- Two descriptions: rules 5 and 6, 7 to 12, and 15.
   pub record DescsFit : Type 0 where
     pub as_many : length (fields_at a v) ≡ length (fields_at b w)
     pub pairs : (p : ℕ) (e f : Entry) → slice_get (fields_at a v) p ≡ Some e → slice_get (fields_at b w) p ≡ Some f → ArePaired e f

@@ -59,39 +59,47 @@ abbrev pub table : Set → Set → List Comparer
 table old new = comparers (struct_cells old) (struct_cells new) old.structs new.structs (length new.structs)
 
 module _ (s t : Side) where
+  -- The comparers of the structures of both sides.
   abbrev pub table_on : List Comparer
   table_on = table (described s.set.now) (described t.set.now)
 
+  -- The rules for two fields of the same position.
   abbrev pub rules_on : Present → Present → List (ℕ × Bool)
   rules_on p q = pair_rules table_on (desc_on s) (desc_on t) s.version t.version s.part t.part (position_on s) (position_on t) (entry s.version p) (entry t.version q)
 
+  -- Rules 7 to 12 for two fields of the same position.
   abbrev pub uncovered_on : Present → Present → List (ℕ × Bool)
   uncovered_on p q = uncovered_rules table_on (desc_on s) (desc_on t) s.version t.version s.part t.part (position_on s) (position_on t) (entry s.version p) (entry t.version q)
 
+  -- The first mismatch of two fields' structures.
   abbrev pub structs_on : Present → Present → Option Mismatch
   structs_on p q = pair_structs table_on (desc_on s) (desc_on t) s.version t.version s.part t.part (position_on s) (position_on t) p.field.now.item q.field.now.item
 
+  -- The first mismatch of present fields.
   abbrev pub fields_on : List Entry → List Entry → Option Mismatch
   fields_on es fs = compare_fields table_on (desc_on s) (desc_on t) s.version t.version s.part t.part (position_on s) (position_on t) es fs
 
-  -- all present fields of both sides
+  -- All present fields of both sides.
   abbrev pub all_fields_on : Option Mismatch
   all_fields_on = fields_on (fields_from s.version 0 (desc_on s).fields) (fields_from t.version 0 (desc_on t).fields)
 
-  -- two fields of the same position, and their structures
+  -- Two fields of the same position, and their structures.
   abbrev pub pair_mismatch : Present → Present → Option Mismatch
   pair_mismatch p q = or_else (failing_pair (rules_on p q) (in_field s.part p.number) (in_field t.part q.number)) (structs_on p q)
 
-  -- a validation of the older set has become this
+  -- A validation of the older set has become this.
   abbrev pub is_left : Reduced → Formula → Bool
   is_left r u = same_reduced (position_on s) (position_on t) (reduced s.version u) r
 
+  -- A validation of the newer set is always true, or an old one.
   abbrev pub is_kept_test : Formula → Bool
   is_kept_test u = is_kept table_on (desc_on s) (desc_on t) s.version t.version s.part t.part (position_on s) (position_on t) (reduced t.version u)
 
+  -- Rule 15 for the validations.
   abbrev pub validations_on : Option Mismatch
   validations_on = compare_validations table_on (desc_on s) (desc_on t) s.version t.version s.part t.part (position_on s) (position_on t)
 
+  -- The first mismatch of two descriptions.
   abbrev pub desc_mismatch : Option Mismatch
   desc_mismatch =
       compare_desc table_on (struct_cells (described s.set.now)) (struct_cells (described t.set.now)) (desc_on s) (desc_on t) s.version t.version s.part t.part

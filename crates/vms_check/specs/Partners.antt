@@ -27,33 +27,36 @@ unpaired n = replicate n None
 
 -- with the pairers of the older structures, and the cells of the structures on each side
 module _ (structs : List Pairer) (x y : List (List Cell)) where
-  -- one element with one of the newer, whose first cell is given
+  -- One element with one of the newer, whose first cell is given.
   abbrev pub item_partners : Item → Item → ℕ → List (Option ℕ)
   item_partners (Num k) (Num l) at = (if same_kind k l then Some at else None) ∷ []
   item_partners (Struct i) (Struct j) at = get_or structs i no_pairer j at
   item_partners a b at = unpaired (item_size x a)
 
-  -- n elements with m of the newer
+  -- n elements with m of the newer.
   abbrev pub array_partners : Item → Item → ℕ → ℕ → ℕ → List (Option ℕ)
   array_partners a b zero m at = []
   array_partners a b (suc n) zero at = unpaired (item_size x a) ++ array_partners a b n zero at
   array_partners a b (suc n) (suc m) at = item_partners a b at ++ array_partners a b n m (at + item_size y b)
 
-  -- a field, by whether it is present, with the first of the rest of the newer one's present fields
+  -- A field, by whether it is present, with the first of the rest of the newer one's present fields.
   abbrev pub field_partners : Field → Option (Option Formula) → List Entry → ℕ → List (Option ℕ)
   field_partners f (Some rest) (e ∷ es) at =
       array_partners f.item e.field.item (capacity_of f.count) (capacity_of e.field.count) (at + e.place)
   field_partners f _ es at = unpaired (capacity_of f.count * item_size x f.item)
 
+  -- The rest of the newer one's present fields after a field, by whether that is present.
   abbrev pub fields_left : Option (Option Formula) → List Entry → List Entry
   fields_left (Some rest) (e ∷ es) = es
   fields_left _ es = es
 
+  -- The partners of fields, at version v, with present fields of the newer one.
   abbrev pub partners_from : (v at : ℕ) → List Field → List Entry → List (Option ℕ)
   partners_from v at [] es = []
   partners_from v at (f ∷ fs) es =
       field_partners f (presence v f.test f.since) es at ++ partners_from v at fs (fields_left (presence v f.test f.since) es)
 
+  -- Two descriptions, at versions v and w.
   abbrev pub desc_partners : (v w : ℕ) → (a b : Desc) → ℕ → List (Option ℕ)
   desc_partners v w a b at = partners_from v at a.fields (present y b w)
 
@@ -67,18 +70,20 @@ abbrev pub pairers : (x y : List (List Cell)) → (olds news : List Desc) → �
 pairers x y olds news k = first (λ earlier d. pairer_of earlier x y news d) olds k
 
 module _ (old new : Set) where
-  -- two descriptions at one version
+  -- Two descriptions at one version.
   abbrev pub part_partners : ℕ → (a b : Desc) → ℕ → List (Option ℕ)
   part_partners v a b at =
       desc_partners (pairers (struct_cells old) (struct_cells new) old.structs new.structs (length old.structs)) (struct_cells old) (struct_cells new) v v a b at
 
+  -- A subsection, with one of the newer set, if there is one.
   abbrev pub sub_partners : Device → Sub → Option ℕ → Option Sub → List (Option ℕ)
   sub_partners e s (Some l) (Some t) = part_partners s.desc.version s.desc t.desc (sub_place new (own_cells new e) e.subs l)
   sub_partners e s _ _ = unpaired (length (desc_cells (struct_cells old) s.desc))
 
+  -- A subsection, with the one of the same name.
   abbrev pub named_partners : Device → Sub → List (Option ℕ)
   named_partners e s = let l = find_sub 0 e.subs s.desc.name in sub_partners e s l (at_option e.subs l)
 
-  -- the partners of all cells of a device, at the older set's versions
+  -- The partners of all cells of a device, at the older set's versions.
   unfoldable pub device_partners : Device → Device → List (Option ℕ)
   device_partners d e = part_partners d.desc.version d.desc e.desc 0 ++ flat_map (named_partners e) d.subs

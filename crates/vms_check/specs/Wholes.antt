@@ -30,16 +30,17 @@ abbrev pub is_missing : Set → Device → Bool
 is_missing set d = not (is_in set d)
 
 module _ (old new : Set) where
+  -- Rule 1: machines of the older set that the newer one doesn't have.
   abbrev pub machines_mismatch : Option Mismatch
   machines_mismatch = failing_pair ((1, list_all (is_one_of new.machines) old.machines) ∷ []) (here parts.Set) (here parts.Set)
 
-  -- devices that one of the sets doesn't have
+  -- Devices that one of the sets doesn't have.
   abbrev pub lost_mismatch : Option Mismatch
   lost_mismatch =
       or_else (first_answer (λ i d. failing_pair ((2, is_in new d) ∷ []) (here (parts.Device i)) (here parts.Set)) 0 old.devices)
       (first_answer (λ i d. failing_pair ((3, is_in old d) ∷ []) (here parts.Set) (here (parts.Device i))) 0 new.devices)
 
-  -- device i of the older set, with the newer one of the same name and instance
+  -- Device i of the older set, with the newer one of the same name and instance.
   abbrev pub device_mismatch : ℕ → Device → Option Mismatch
   device_mismatch i d = compare_device old new i d (paired_device old new d) (slice_get new.devices (index (paired_device old new d)))
 

@@ -35,19 +35,23 @@ IsPartOf set d = IsDevicePart set d ⊎ IsSubPart set d
 -- a and b at one version, where x and y are the cells of the structures on each side: numbers of a begin at a cell,
 -- those of b at another
 module _ (old new : Set) (a b : Desc) (v : ℕ) (part part' : Part) (numbers numbers' : List ℤ) (at at' : ℕ) (x y : List (List Cell)) where
+  -- The comparers of new's structures.
   abbrev pub comparers_on : List Comparer
   comparers_on = comparers x y old.structs new.structs (length new.structs)
 
+  -- The carriers of new's structures.
   abbrev pub carriers_on : List Carrier
   carriers_on = carriers x y old.structs new.structs (length new.structs)
 
+  -- The position of a field of a.
   abbrev pub in_old : ℕ → Option ℕ
   in_old k = position_from 0 (present x a v) k
 
+  -- The position of a field of b.
   abbrev pub in_new : ℕ → Option ℕ
   in_new k = position_from 0 (present y b v) k
 
-  -- position p, where the rules hold and the newer numbers of the field are the carried ones
+  -- Position p, where the rules hold and the newer numbers of the field are the carried ones.
   pub record IsPosition (p : ℕ) (e f : Entry) : Type 0 where
     pub on_old : slice_get (present x a v) p ≡ Some e
     pub on_new : slice_get (present y b v) p ≡ Some f
@@ -59,12 +63,15 @@ module _ (old new : Set) (a b : Desc) (v : ℕ) (part part' : Part) (numbers num
     pub agree : (i j : ℕ) → is_earlier_in b f.index j ≡ true → same_place (in_old i) (in_new j) ≡ true → numbers_of x a numbers at i ≡ numbers_of y b numbers' at' j
     pub held : Holds numbers' (at' + f.place) (carry_field carriers_on x y numbers (numbers_of x a numbers at) v at e f.field)
 
+  -- The slots of the older field.
   abbrev pub old_field : Entry → List Slot
   old_field e = field_slots (meanings old.structs (length old.structs)) a.fields v (numbers_of x a numbers at) numbers e.index (at + e.place) e.field
 
+  -- The slots of the newer field.
   abbrev pub new_field : Entry → List Slot
   new_field f = field_slots (meanings new.structs (length new.structs)) b.fields v (numbers_of y b numbers' at') numbers' f.index (at' + f.place) f.field
 
+  -- At each position the newer field reads the bytes of the older one.
   abbrev pub IsRead : Type 0
   IsRead = (p : ℕ) (e f : Entry) → IsPosition p e f → Carries numbers (old_field e) numbers' (new_field f)
 

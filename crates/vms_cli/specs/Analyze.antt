@@ -41,7 +41,7 @@ pub record IsListing (held : Option Held) (input : List ℕ) (o : Outcome) : Typ
 
 -- ---- how it ends, and why, also where the contents are unknown
 
--- the ending of each answer of the call
+-- The ending of each answer of the call.
 pub data EndsLike : Result (Unit {0}) AnalyzeFault → Ending → Type 0 where
   IsDone : (u : Unit {0}) → EndsLike (Ok u) endings.Done
   IsRefused : (at : ℕ) (reason : AnalyzeReason) (line : ArrayVec ℕ) → line.items ≡ unlisted_line at reason

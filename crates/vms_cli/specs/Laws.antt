@@ -109,7 +109,7 @@ pub record CanBeRead (play : Option ℕ) (name : List ℕ) (map : Held) : Type 0
 -- - `save`: a script
 -- - `load`: a script, and a stream of a board at the front of the input
 -- - `play`: a script of a session
--- - `drill`: nothing
+-- - `drill`: nothing.
 abbrev pub CanBeDone : Option Asked → Option (List ℕ) → Option Held → Type 0
 CanBeDone None input held = ⊥
 CanBeDone (Some (Show word)) input held =

@@ -53,6 +53,7 @@ module _ (i i' : Intake) (o o' : Outlet) (s s' : Stock) where
   Risen ShelfFault = Rose s.faults s'.faults
   Risen ending = Unit {0}
 
+  -- A command with this course ended so, and touched no more than the course allows.
   pub record EndsSo (course : Course) (e : Ending) : Type 0 where
     pub can : is_among course.statuses (status_of e) ≡ true
     pub risen : Risen e

@@ -115,6 +115,7 @@ Quiet out out' ending = Keeps out.written out'.written
 
 -- ---- what writing a text guarantees
 
+-- The text has been written, or a prefix of it if standard output failed.
 abbrev pub WritesAs : List ℕ → Outlet → Outlet → Ending → Type 0
 WritesAs text out out' Done = Puts out out' text
 WritesAs text out out' WriteFault = Stops out out' text

@@ -79,6 +79,7 @@ module _ (to new : Set) where
   ConvertsInto before after empty full (Err faults.NoMemory) = WantsMemory before after empty full
   ConvertsInto before after empty full (Err (faults.NotCompatible m)) = ⊥
 
+  -- What a call of `convert` guarantees: its result, what has been read, and what has been written.
   abbrev pub Converts : Intake → Intake → Outlet → Outlet → Result Unit ConvertFault → Type 0
   Converts before after empty full (Err (faults.NotCompatible m)) = (first_mismatch to new ≡ Some m) × (after ≡ before) × (full ≡ empty)
   Converts before after empty full (Err faults.NoMemory) = WantsMemory before after empty full

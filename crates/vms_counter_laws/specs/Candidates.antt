@@ -75,30 +75,36 @@ with_image images i None = None
 with_image images i (Some image) = Some (slice_set images i image)
 
 module _ (old : Set) (i : ℕ) where
+  -- The defaults of all devices, but with one number of device i raised.
   abbrev pub raised_by : Device → Option Excess → Option (List Image)
   raised_by d None = None
   raised_by d (Some x) = with_image (default_images old) i (raised_image old i d x)
 
+  -- The same for fields j and l, if they exist.
   abbrev pub raised_counts : Device → ℕ → Option Field → Device → ℕ → Option Field → Option (List Image)
   raised_counts d j (Some f) e l (Some g) = raised_by d (excess d.desc.version e.desc.fields j f.count l g.count)
   raised_counts d j _ e l _ = None
 
+  -- The same for the fields of these numbers of two devices, if they exist.
   abbrev pub raised_fields : Option Device → ℕ → Option Device → ℕ → Option (List Image)
   raised_fields (Some d) j (Some e) l = raised_counts d j (slice_get d.desc.fields j) e l (slice_get e.desc.fields l)
   raised_fields _ j _ l = None
 
 module _ (old new : Set) where
-  -- at two fields of a device, and not in a subsection or a structure
+  -- At two fields of a device, and not in a subsection or a structure.
   abbrev pub raised_at : Part → Option ℕ → Part → Option ℕ → Option (List Image)
   raised_at (parts.Device i) (Some j) (parts.Device k) (Some l) = raised_fields old i (slice_get old.devices i) j (slice_get new.devices k) l
   raised_at _ _ _ _ = None
 
+  -- The second candidate, if rule 11, the one on capacities, is the mismatch.
   abbrev pub raised : Mismatch → Option (List Image)
   raised m = if m.rule == 11 then raised_at m.in_old.part m.in_old.field m.in_new.part m.in_new.field else None
 
+  -- A list of the second candidate, if there is one.
   abbrev pub and_raised : Option (List Image) → List (List Image)
   and_raised None = []
   and_raised (Some images) = images ∷ []
 
+  -- Both candidates.
   abbrev pub candidates : Mismatch → List (List Image)
   candidates m = default_images old ∷ and_raised (raised m)

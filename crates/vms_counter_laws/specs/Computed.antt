@@ -23,14 +23,16 @@ refusal_of (Some (Refused place section reason size)) = Some (record { place = p
 refusal_of _ = None
 
 module _ (old new : Set) (m : Mismatch) where
-  -- where the newer set refuses what the older one may write of these images
+  -- Where the newer set refuses what the older one may write of these images.
   abbrev pub refused : List Image → Option Refusal
   refused images = if all_ready old old.devices images then refusal_of (reading (by_state new new.machines) (at_start new) (stream_of old new m images)) else None
 
+  -- The state with its refusal, or else another answer.
   abbrev pub or_next : List Image → Option Refusal → Answer → Answer
   or_next images None other = other
   or_next images (Some refusal) other = State m (machine_for old new m) images refusal
 
+  -- The first state that is refused, or none.
   abbrev pub first_refused : List (List Image) → Answer
   first_refused [] = NoState m
   first_refused (images ∷ more) = or_next images (refused images) (first_refused more)

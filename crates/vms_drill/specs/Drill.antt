@@ -23,9 +23,11 @@ drill_begun level seed = record { progress = begun level seed; bytes = 0; taken 
 abbrev pub stream_long : ℕ → State → ℕ
 stream_long events m = length (saved_stream isa (set_of m.level (saves_of events - 1)) m)
 
+-- The bytes of all streams after an event.
 unfoldable pub bytes_after : ℕ → State → ℕ → ℕ
 bytes_after events m bytes = if is_save_due events then bytes + stream_long events m else bytes
 
+-- The bytes of the last stream after an event.
 unfoldable pub taken_after : ℕ → State → ℕ → ℕ
 taken_after events m taken = if is_save_due events then stream_long events m else taken
 
@@ -48,6 +50,8 @@ drilled_on (suc count) drill = drilled_on count (with_drill_event drill)
 
 -- ---- the summary of a drill
 
+-- The summary of a drill: events, bytes sent, events with the interrupt output high, saves, and bytes of all
+-- streams.
 pub record Summary : Type 0 where
   pub events : ℕ
   pub sent : ℕ

@@ -4,7 +4,7 @@ use Rattle.dev_board.specs.declared.event.Event.{Event}
 use Rattle.dev_board.specs.declared.event.Event.TheVariants.{Read, Write, Byte, Wait, Wire, Ack}
 use Rattle.vms_drill.specs.declared.events.TheConstants.{WAIT}
 
--- the number after a number
+-- The number after a number.
 unfoldable pub next_number : ℕ → ℕ
 next_number x = (x * 6364136223846793005 + 1442695040888963407) % 2 ^ 64
 
@@ -31,10 +31,11 @@ event_by (suc (suc (suc (suc (suc (suc zero)))))) value place = Ack
 event_by (suc (suc (suc (suc (suc (suc (suc what))))))) value place =
     Wire (get_or wires (place % 13) 0) (value % 2 == 1)
 
--- The event of a number. Its lower half has no effect.
+-- The event that `h`, the upper half of a number, chooses.
 abbrev pub chosen_by : ℕ → Event
 chosen_by h = event_by (h % 8) (h / 8 % 256) (h / 2048 % 64)
 
+-- The event of a number, which its upper half chooses.
 unfoldable pub event_of : ℕ → Event
 event_of x = chosen_by (x / 2 ^ 32)
 

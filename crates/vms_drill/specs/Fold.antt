@@ -23,7 +23,7 @@ nothing = record { sent = 0; raised = 0 }
 abbrev pub high : Bool → ℕ
 high int = if int then 1 else 0
 
--- the counts with one answer more
+-- The counts with one answer more.
 unfoldable pub counted : Answer → Counts → Counts
 counted answer counts = record {
   sent = counts.sent + length answer.sent.items;
@@ -35,11 +35,11 @@ abbrev pub counted_all : List Answer → Counts → Counts
 counted_all [] counts = counts
 counted_all (answer ∷ answers) counts = counted_all answers (counted answer counts)
 
--- the board is saved after every thousandth event
+-- The board is saved after every thousandth event.
 unfoldable pub is_save_due : ℕ → Bool
 is_save_due events = events % BETWEEN_SAVES == 0
 
--- after `saves` saves the next set is one from the level to the newest, in turn
+-- After `saves` saves the next set is one from the level to the newest, in turn.
 unfoldable pub set_of : ℕ → ℕ → ℕ
 set_of level saves = level + saves % (NEWEST - level + 1)
 
@@ -48,6 +48,7 @@ abbrev pub back_of : State → Result State Misfit → State
 back_of m (Ok back) = back
 back_of m (Err misfit) = m
 
+-- The board that is restored from what a board saves under a set, or the board itself if that is refused.
 unfoldable pub came_back : ℕ → State → State
 came_back set m = back_of m (restored m.level (carried set (saved set m)))
 
@@ -67,7 +68,7 @@ begun level seed = record { events = 0; number = seed; board = power_on level; c
 abbrev pub saves_of : ℕ → ℕ
 saves_of events = events / BETWEEN_SAVES
 
--- the board after event number `events`: the restored one if a save is due, and else the same
+-- The board after event number `events`: the restored one if a save is due, and else the same.
 unfoldable pub after_save : ℕ → State → State
 after_save events m =
     if is_save_due events then came_back (set_of m.level (saves_of events - 1)) m else m

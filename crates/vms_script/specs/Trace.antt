@@ -22,7 +22,7 @@ abbrev pub sent_text : List ℕ → List ℕ
 sent_text [] = []
 sent_text (b ∷ bytes) = codes " " ++ bytes_text (b ∷ bytes)
 
--- the value, a space, the interrupt output, the sent bytes, and the line feed
+-- The value, a space, the interrupt output, the sent bytes, and the line feed.
 unfoldable pub trace_line : Answer → List ℕ
 trace_line answer =
     value_text answer.value ++ codes " " ++ level_text answer.int
