@@ -13,7 +13,7 @@ use Rattle.vms_check.specs.Carrying.{defaults}
 use Rattle.vms_check_laws.proofs.PairLists.{AreFrom, IsBehind, at_left, at_right, at_none, before_or_behind, paired_append}
 use Rattle.std.proofs.lemmas.Option.{slice_get_within}
 
--- slots of cells between a place and its end alone
+-- slots only of cells between a place and its end
 pub record IsWithin (at size : ℕ) (slots : List Slot) : Type 0 where
   pub in_range : (c : ℕ) → has_cell slots c ≡ true → (at ≤ c) × (c < at + size)
 
@@ -64,7 +64,7 @@ module _ (cells_a cells_b others_a others_b : List Cell) (numbers : List ℤ) (x
   abbrev next : ℕ
   next = at + length cells_a
 
-  -- before the seam the second slots have none, behind it the first
+  -- before the seam the second slots have none, and after it the first
   second_none : (c : ℕ) → c < next → has_cell ys c ≡ false
   second_none c lt = false_from_ne_true (has_cell ys c) (λ e. let r = (g.within.in_range c e).0 in omega (arith, lt, r))
 

@@ -121,7 +121,7 @@ module _ (old new : Set) (good_old : WellFormed old) (good_new : WellFormed new)
           once = p.once;
         }))
 
-  -- of its older cell a pair says the kind alone
+  -- a pair says only the kind of its older cell
   at_kind : (cells cells' : List Cell) (name : List ℕ) (c c' k : ℕ) → IsSubPair cells name c k → (get_or cells' c' no_cell).kind ≡ (get_or cells c no_cell).kind → IsSubPair cells' name c' k
   at_kind cells cells' name c c' k x same =
       record { l = x.l; t = x.t; there = x.there; name_is = x.name_is; r = x.r; is = x.is; inside = x.inside; kind = same ∙ x.kind }

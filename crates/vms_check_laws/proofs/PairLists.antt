@@ -57,7 +57,7 @@ before_or_behind n c = go (cases_lt c n) where
   go (inl lt) = inl lt
   go (inr le) = inr (record { more = c - n; is = omega (arith, le) })
 
--- no number is the partner of one before and of one behind
+-- no number is the partner of one before and of one after
 abbrev pub Apart : List (Option ℕ) → List (Option ℕ) → Type 0
 Apart p q = (b c k : ℕ) → b < length p → IsBehind (length p) c → slice_get (p ++ q) b ≡ Some (Some k) → slice_get (p ++ q) c ≡ Some (Some k) → ⊥
 

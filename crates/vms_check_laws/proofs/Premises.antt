@@ -49,7 +49,7 @@ below_suc P k at_k before j lt =
     ] in
     go (eq-or-lt_of_le le)
 
--- what is known of the structures below so many: their cells, slots, comparers and carriers
+-- what is known of the structures below a number: their cells, slots, comparers and carriers
 pub record Table (ks : List Comparer) (cs : List Carrier) (ms ns : List Meaning) (numbers numbers' : List ℤ) (below below' : ℕ) : Type 0 where
   pub sized : (j i k : ℕ) → j < below' → length (get_or cs j no_carrier i numbers k) ≡ length (get_or (cells_in ns) j [])
   pub carried : (i j : ℕ) → i < below → j < below' → get_or ks j no_comparer i ≡ None → (x y : ℕ) → FitsAt (get_or (cells_in ms) i []) numbers x

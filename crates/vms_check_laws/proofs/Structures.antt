@@ -87,7 +87,7 @@ module _ (x y : List (List Cell)) (olds news : List Desc) where
       let row = λ (earlier : List Carrier) (d : Desc). carrier_of earlier x y olds d in
       first_at row news no_carrier (suc k) j (omega arith) ∙ sym (first_at row news no_carrier k j h)
 
--- structure i of old beside structure k of new, the next, where no rule fails at them
+-- structure i of old with structure k of new, the next one, if no rule fails at them
 module _ (olds news : List Desc) (numbers : List ℤ) (k i p : ℕ) where
   abbrev old_one : Desc
   old_one = get_or olds i no_desc

@@ -52,7 +52,7 @@ only_listing input held a b p q =
 
 -- ---- what is taken
 
--- bytes with this listing, and as many as are taken of an input with it
+-- bytes with this listing, and the number that is read of an input with it
 abbrev HasListed : Listing → List ℕ → ℕ → Type 0
 HasListed listing input n = Lists input listing × (bytes_taken input ≡ n)
 

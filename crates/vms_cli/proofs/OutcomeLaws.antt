@@ -260,7 +260,7 @@ room_kept (Some most) p' (Some old) (Some new) faults n text room short appends 
 never_rose : (before now : ℕ) → now ≡ 0 → Rose before now → ⊥
 never_rose before now none rose = omega (arith, none, rose)
 
--- a line of at most so many bytes
+-- a line of at most a number of bytes
 line_short : (line : List ℕ) (k n : ℕ) → length line ≤ n → length (take k line) ≤ n
 line_short line k n short = omega (arith, short, length-take k line)
 

@@ -12,7 +12,7 @@ use Rattle.vms_commands.specs.Endings.{Caused, EndsAs, EndsWith, Quiet, Tells, W
 use Rattle.vms_commands.specs.Lines.{bad_words}
 use Rattle.vms_commands.specs.Outcomes.{Part, Outcome, Outside, ComesTo, ComesToFault, FailsToStore, TellsShelfFault, DoesOrStops, TakesBytes, done, ended, text_of, held_after}
 
--- what stays grows by nothing
+-- what is unchanged grows by nothing
 pub kept_none : (old new : Option (List ℕ)) → Keeps old new → Appends old new []
 kept_none None new h = tt
 kept_none (Some xs) None h = absurd h

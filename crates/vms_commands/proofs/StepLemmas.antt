@@ -118,7 +118,7 @@ ended_ends status line i o o' s s' ShelfFault few same quiet h = inl (comes_to_n
 ended_ends status line i o o' s s' NoMemory few same quiet h = comes_to_nothing o o' s s' _ quiet same
 ended_ends status line i o o' s s' e few same quiet h = absurd h
 
--- what an ending says beside the outcome of a command whose steps give the text for out
+-- what an ending says about the outcome of a command whose steps give the text for standard output
 pub text_ends : (step : Step (List ℕ)) (i : Intake) (o o' : Outlet) (s s' : Stock) (e : Ending) (x : Outcome) → i.given < 2 ^ 64 → s'.held ≡ s.held
     → Quiet o o' e → TextEnds step o o' e → HasText s.held step x → EndsAs i i o o' s s' e x
 text_ends Untold i o o' s s' e x few same quiet h has = absurd has

@@ -1,4 +1,4 @@
--- Devices of the older set beside those of the newer, and the sections before the one that a mismatch concerns.
+-- Devices of the older set and of the newer one, and the sections before the one that a mismatch concerns.
 use Rattle.std.proofs.Common.{◌≡◌, ℕ, zero, suc, ◌+◌, ◌<◌, ◌≤◌, Bool, true, false, List, [], ◌∷◌, ◌++◌, length, slice_set, Some, None, refl, sym, ap, ◌∙◌, subst, arith, append_assoc}
 use Rattle.std.specs.List.{slice_get}
 use Rattle.std.proofs.lemmas.List.{length-set}

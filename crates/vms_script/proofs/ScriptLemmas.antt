@@ -105,7 +105,7 @@ line_put before play number text line after all first put = by (line_read play l
       ∙ line_goes before play number text line after said first good
   by (Err reason) bad h = absurd h
 
--- a last line that says something lacks its end alone
+-- a last line that says something lacks only its end
 pub put_unended : (before all : List ScriptLine) (read : Read) → IsPut read before all → tail_reason read ≡ reasons.NoEnd
 put_unended before all (Ok line) h = refl
 put_unended before all (Err reason) h = absurd h

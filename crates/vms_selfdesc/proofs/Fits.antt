@@ -1,5 +1,5 @@
--- How long the entries of fields are, and how many: of a path that begins with so many bytes, by the depth of structures and the
--- number of items.
+-- The length and the number of the entries of fields, for a path that begins with a number of bytes. They depend on
+-- the depth of structures and the number of items.
 use Rattle.std.proofs.Common.{◌≡◌, ℕ, zero, suc, ◌+◌, ◌*◌, ◌<◌, ◌≤◌, List, ◌∷◌, ◌++◌, length, length-append, get_or, ℤ, Bool, true, false, ◌&&◌, refl, sym, ap, arith, subst, nat_lt, codes, []}
 use Rattle.std.proofs.lemmas.Bool.{ltb-true, ltb-false}
 use Rattle.std.proofs.Math.ListN.{get_or-eq_default}

@@ -74,7 +74,7 @@ pub in_course : (lines : List ScriptLine) (parts : List Part) (new : Session) (b
 in_course lines parts new board held out shelf told plays =
     record { holds = held; told = told; rest = plays; text = Appends-nil out.written; held = refl }
 
--- one part came to nothing, or so much of it was written once the shelf was as after it
+-- nothing of a part was done, or some of it was written once the shelf was as after it
 one_part : (out out' : Outlet) (shelf shelf' : Stock) (part : Part) → ComesTo out out' shelf shelf' (part ∷ [])
     → (Appends out.written out'.written [] × (shelf'.held ≡ shelf.held)) ⊎ ((n : ℕ) × Appends out.written out'.written (take n part.text) × (shelf'.held ≡ part.held))
 one_part out out' shelf shelf' part comes = by comes.begun comes.text comes.held

@@ -144,7 +144,7 @@ line-ends (Loads name) old good s held = held-end name old (old.held name) refl 
 
 -- ---- scripts
 
--- at a level that stays
+-- at an unchanged level
 lines-end : (level : ℕ) (lines : List ScriptLine) (old : Session) → old.board.level ≡ level → AreLines (Some level) lines → IsSound old.board → still level old.held → HasAnEnd lines old
 lines-end level [] old at good s held = record { parts = []; new = old; plays = (refl, refl) }
 lines-end level (line ∷ lines) old at good s held =
