@@ -34,8 +34,9 @@ DeviceLaw = (old new : Set) → WellFormed old → WellFormed new → (i k : ℕ
     → (image : Image) (id : ℕ) → IsSaved old d image → id < 4294967296
     → IsSection new e (carried_device old new d e image) id true (written_section old d image id)
 
--- Whole streams of compatible sets: what the older set writes of ready images, with any machine of its own or none
--- and any description or none, is a stream of the newer set with the carried images, which reads all of it.
+-- Whole streams of compatible sets: what the older set writes of ready images is a stream of the newer set, with the
+-- carried images. The newer set reads all of it. The stream may name any machine of the older set or none, and have
+-- any description or none.
 abbrev pub UpgradeLaw : Type 0
 UpgradeLaw = (old new : Set) → WellFormed old → WellFormed new → Compatible old new → (machine text : Option (List ℕ)) (images : List Image)
     → IfSome machine (λ m. is_one_of old.machines m ≡ true) → IfSome text (λ t. length t ≤ longest_text) → AreReady old images

@@ -5,20 +5,20 @@ ghost use Rattle.vms_check_laws.specs.Fronts.{AlignedLaw};
 ghost use Rattle.vms_check_laws.specs.Laws.{DeviceLaw, UpgradeLaw};
 ghost use Rattle.vms_check_laws.specs.Positions.{PositionLaw};
 
-/// States that the newer set reads, as carried, what the older set writes for a field, if the two
-/// are paired and no rule fails at them.
+/// States that the newer set reads, as carried, what the older set writes for a field.
 ///
-/// The field may be a number, an array, a structure, or anything that unused bytes of the newer set
-/// cover.
+/// The two fields are paired and no rule fails at them. They may be a number, an array, a
+/// structure, or anything that unused bytes of the newer set cover.
 #[tactic(auto)]
 pub fn position_law()
     ensures { PositionLaw }
 {}
 
-/// States that the newer set's fields at the first positions of two descriptions take exactly the
-/// bytes that the older set wrote for its own there, if no rule fails at these positions.
+/// States that the newer set's fields at the first positions take exactly the bytes that the older
+/// set wrote for its own.
 ///
-/// This is so whatever the numbers are and whatever rule fails at later positions.
+/// No rule fails at these positions. The statement holds whatever the numbers are and whatever rule
+/// fails at later positions.
 #[tactic(auto)]
 pub fn aligned_law()
     ensures { AlignedLaw }
@@ -34,17 +34,20 @@ pub fn device_law()
     ensures { DeviceLaw }
 {}
 
-/// States that what the older of two compatible well-formed sets writes of ready images is a stream
-/// of the newer set with the carried images, which reads all of it.
+/// States that the newer of two compatible sets reads every stream that the older one writes, with
+/// the carried images.
 ///
-/// The stream may name any machine of the older set or none, and have any description or none.
+/// The sets are well formed and the images ready. The stream may name any machine of the older set
+/// or none, and have any description or none. The newer set reads all of it.
 #[tactic(auto)]
 pub fn upgrade_law()
     ensures { UpgradeLaw }
 {}
 
-/// States that each cell of an older device has at most one partner in a newer device, which is of
-/// its kind, and that no two cells have the same partner. The sets are well formed.
+/// States that each cell of an older device has at most one partner in a newer device.
+///
+/// The partner is of the cell's kind, and no two cells have the same partner. The sets are well
+/// formed.
 #[tactic(auto)]
 pub fn partners_law()
     ensures { PartnersLaw }

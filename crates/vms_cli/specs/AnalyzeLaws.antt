@@ -19,8 +19,8 @@ PackThenAnalyzeLaw = (word : SetWord) (name text stream : List ℕ) (input : Opt
     → HasOutcome (Some (Pack word name)) input (Some map) (done stream (Some map) 0)
     → HasOutcome (Some Analyze) (Some stream) (Some map) (done text (Some map) (length stream))
 
--- If `show` prints a text for a stream that was written under the set of its word, with a machine of the set or
--- none and with its description, `analyze` prints that text too.
+-- Take a stream that was written under a set, with a machine of the set or none and with its description. If `show`
+-- with the set prints a text for it, `analyze` prints that text too.
 abbrev pub ShowThenAnalyzeLaw : Type 0
 ShowThenAnalyzeLaw = (word : SetWord) (set : Set) (machine : Option (List ℕ)) (images : List Image) (text : List ℕ) (held : Option Held)
     → word_set held word ≡ Gives set → AreReady set images → IfSome machine (λ m. is_one_of set.machines m ≡ true)

@@ -43,8 +43,8 @@ abbrev pub ConvertAgainLaw : Type 0
 ConvertAgainLaw = (word : SetWord) (input stream : List ℕ) (held : Option Held) (n : ℕ)
     → HasOutcome (Some (Convert word)) (Some input) held (done stream held n) → StandsFor word input stream held n
 
--- If `convert` writes a stream, and `load` on a board isa-1 to isa-4 has a trace for the input, it has the same
--- trace for the stream, and reads all of it.
+-- Suppose that `convert` writes a stream, and that `load` on a board isa-1 to isa-4 has a trace for the input. Then
+-- it has the same trace for the stream, and reads all of it.
 abbrev pub ConvertThenLoadLaw : Type 0
 ConvertThenLoadLaw = (word : SetWord) (level : ℕ) (input stream script trace : List ℕ) (held : Option Held) (n k : ℕ) → IsLevel level
     → HasOutcome (Some (Convert word)) (Some input) held (done stream held n)

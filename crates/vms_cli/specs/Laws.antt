@@ -83,8 +83,8 @@ pub record CanBePacked (word : SetWord) (name : List ℕ) (map : Held) : Type 0 
   pub images : List Image
   pub reads : values_read set text ≡ Values machine images
 
--- A set that a word names and whose streams the newest set reads, and a stream of the newest set at the front of
--- the input, of which nothing would be lost.
+-- A word names a set whose streams the newest set reads. A stream of the newest set is at the front of the input, and
+-- nothing of it would be lost.
 abbrev pub CanBeConverted : SetWord → Option (List ℕ) → Option Held → Type 0
 CanBeConverted word input held =
     (to : Set) × (word_set held word ≡ Gives to) × Compatible to newest × IsSomeAnd input (λ bytes. (taken : ℕ) × (machine : Option (List ℕ))
@@ -173,9 +173,9 @@ AmpleLaw = (words : List (List ℕ)) (status : ℕ) (old new : Outside) (o : Out
 
 -- ---- check, and then show
 
--- If `check` of two words succeeded, and the shelf holds the same when `show` is called with the second, and the
--- input is what the first's set writes, then `show` prints the values text of the carried images and reads all of
--- the stream, or it stops early.
+-- Suppose that `check` of two words succeeded, that `show` is called with the second one and a shelf that holds the
+-- same, and that the input is a stream of the first one's set. Then `show` prints the values text of the carried
+-- images and reads all of the stream, or it stops early.
 abbrev pub CheckThenShowLaw : Type 0
 CheckThenShowLaw = (one other : List (List ℕ)) (old new : SetWord) (sets : Both Set) (a b c d : Outside) (status : ℕ)
     → asked_of one ≡ Some (Check old new) → asked_of other ≡ Some (Show new) → named_sets a.shelf.held old new ≡ Gives sets

@@ -51,8 +51,8 @@ abbrev pub StateLaw : Type 0
 StateLaw = (old new : SetWord) (sets : Both Set) (held : Option Held) (m : Mismatch) (machine : Option (List ℕ)) (images : List Image) (r : Refusal)
     → named_sets held old new ≡ Gives sets → Counters sets.old sets.new (State m machine images r) → StateStands old new sets held m machine images r
 
--- If the mismatch is a machine, a version, or a constant of a device's field that is always present, and the older
--- set's defaults are ready, `counter` prints them as the state.
+-- Suppose that the mismatch is a machine, a version, or a constant of a device's field that is always present. If the
+-- older set's defaults are ready, `counter` prints them as the state.
 abbrev pub AlwaysNamedLaw : Type 0
 AlwaysNamedLaw = (old new : SetWord) (sets : Both Set) (held : Option Held) (m : Mismatch) → named_sets held old new ≡ Gives sets
     → first_mismatch sets.old sets.new ≡ Some m → AlwaysShown sets.old m → AreReady sets.old (default_images sets.old)

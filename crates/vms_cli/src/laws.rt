@@ -25,16 +25,22 @@ pub fn asked_law()
     ensures { AskedLaw }
 {}
 
-/// States that a call ends with status 0, or with 10 if memory runs out, if the arguments name a
-/// command, everything that it reads is there and in its grammar, and no object counts a failure in
-/// the call.
+/// States that a call ends with status 0, or with 10 if memory runs out, under these conditions:
+///
+/// - the arguments name a command;
+/// - everything that it reads is there and in its grammar;
+/// - no object counts a failure in the call.
 #[tactic(auto, using(crate::proofs::OutcomeLaws::complete_holds))]
 pub fn complete_law()
     ensures { CompleteLaw }
 {}
 
-/// States when no object counts a failure: none lists failing calls, standard output has room for
-/// the outcome's text, and standard error has room for its line and for that of a failure.
+/// States that no object counts a failure in a call under these conditions, if the outcome is
+/// known:
+///
+/// - no object lists failing calls;
+/// - standard output has room for the outcome's text;
+/// - standard error has room for its line and for that of a failure.
 #[tactic(auto, using(crate::proofs::OutcomeLaws::ample_holds))]
 pub fn ample_law()
     ensures { AmpleLaw }

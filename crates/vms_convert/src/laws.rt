@@ -43,7 +43,9 @@ pub fn answer_law()
 {}
 
 /// States that a converted stream is one of the newer set, with the same machine and the recast
-/// cells, and that converting it again gives the same bytes and no others.
+/// cells.
+///
+/// Converting it again gives the same bytes and no others.
 #[tactic(auto)]
 pub fn converts_law()
     ensures { ConvertsLaw }

@@ -2,8 +2,10 @@
 //! statements are in `specs/Laws.antt`.
 ghost use Rattle.vms_counter_laws.specs.Laws.{NamedLaw, AlwaysLaw, ComputedLaw, OneAnswerLaw};
 
-/// States that a state that is the answer is ready under the older set, and that the newer set
-/// refuses its stream at the given place and for the given reason.
+/// States that the newer set refuses the stream of a state that is the answer, at the given place
+/// and for the given reason.
+///
+/// The state is ready under the older set.
 #[tactic(auto, using(crate::proofs::Stated::named_holds))]
 pub fn named_law()
     ensures { NamedLaw }

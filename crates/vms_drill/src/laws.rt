@@ -2,8 +2,9 @@
 ghost use Rattle.vms_drill.specs.EventLaws.{EventsAreGood, SavesLeaveCounts};
 ghost use Rattle.vms_drill.specs.Laws.{ProgressIsSame, SizesAreSmall, NumbersAre};
 
-/// States that a drill's board, bytes sent and interrupts don't depend on the sizes of its streams,
-/// and that its counts are those of the same events without any save.
+/// States that a drill's progress doesn't depend on the sizes of its streams.
+///
+/// Its events, bytes sent and interrupts are those of the same events without any save.
 #[tactic(auto, using(crate::proofs::DrillLaws::progress_is_same))]
 pub fn progress_law()
     ensures { ProgressIsSame }
