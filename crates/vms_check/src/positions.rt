@@ -55,6 +55,7 @@ fn positions_on(side: Side) -> Positions
     positions(fields_of(side), side.version)
 }
 
+/// Returns the positions of the fields of both sides.
 pub(crate) fn places_on(old: Side, new: Side) -> Places
     requires old { IsSide old }
     requires new { IsSide new }

@@ -12,11 +12,13 @@ use vms_desc::{Field, Test};
 // A test at a known version: a truth value, or the rest of the test.
 #[derive(Clone, Copy)]
 pub(crate) enum Left<'a> {
+    // The test is always true, or always false.
     Known(bool),
     // The rest of the test. Its root can't be folded.
     Open(&'a Test),
 }
 
+// Returns what `test` becomes at `version`.
 pub(crate) fn reduce(test: &Test, version: u32) -> Left<'_>
     ensures same { as_reduced version result ≡ reduced version (formula test.now) }
     ensures whole { is_whole_left version result ≡ true }

@@ -32,6 +32,7 @@ pub fn at_own_version(set: &DescSet, part: Part) -> Side<'_>
     Side { set, part, version }
 }
 
+/// Returns the description of `side`.
 pub(crate) fn desc_of(side: Side<'_>) -> &Desc
     requires { IsSide side }
     ensures { desc_of result.now ≡ desc_on side.entry }
@@ -51,6 +52,7 @@ pub fn fields_of(side: Side<'_>) -> &[Field]
     desc_of(side).fields.as_slice()
 }
 
+/// Returns the validations of `side`.
 pub(crate) fn validations_of(side: Side<'_>) -> &[Test]
     requires { IsSide side }
     ensures { map formula result.now ≡ (desc_on side.entry).validate }

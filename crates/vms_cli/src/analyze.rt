@@ -13,6 +13,11 @@ use vms_commands::{Ending, NoteLine, append_number};
 use vms_io::{Sink, Source};
 use vms_words::append;
 
+/// Writes the values text of the stream in `input` to `out`, by the stream's own description.
+///
+/// # Errors
+///
+/// An [`Ending`] if the stream can't be listed, `input` or `out` fails, or memory runs out.
 pub(crate) fn analyze_input<I: Source, O: Sink>(
     alloc: Global,
     input: &mut I,

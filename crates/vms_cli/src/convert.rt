@@ -25,6 +25,12 @@ use vms_words::append;
 /// A bound above the length of each path of a cell in the newest set, in bytes.
 const PATH_ROOM: u32 = 64;
 
+/// Writes the state of the stream in `input` to `out`, as a stream of the set `set`.
+///
+/// # Errors
+///
+/// An [`Ending`] if the set can't be obtained or isn't compatible with the newest one, the stream
+/// is refused or something would be lost, `input` or `out` fails, or memory runs out.
 pub(crate) fn convert<I: Source, O: Sink, H: Shelf>(
     alloc: Global,
     set: SetWord,

@@ -30,6 +30,11 @@ use vms_io::{NoMemory, Shelf, Sink, WriteFault, write_all_of};
 use vms_load::{Loader, Refusal};
 use vms_values::print_values;
 
+/// Writes a state to `out` that shows why the set `new` doesn't read what the set `old` writes.
+///
+/// # Errors
+///
+/// An [`Ending`] if a set can't be obtained, `out` fails, or memory runs out.
 pub(crate) fn counter<O: Sink, H: Shelf>(
     alloc: Global,
     old: SetWord,

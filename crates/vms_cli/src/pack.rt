@@ -23,6 +23,12 @@ use vms_selfdesc::describe;
 use vms_values::{Values, ValuesFault, read_values};
 use vms_write::write_stream;
 
+/// Writes the stream of the values text `values` under the set `set` to `out`.
+///
+/// # Errors
+///
+/// An [`Ending`] if the set or the text can't be obtained, the text is refused, `out` fails, or
+/// memory runs out.
 pub(crate) fn pack<O: Sink, H: Shelf>(
     alloc: Global,
     set: SetWord,

@@ -26,7 +26,9 @@ pub enum ConvertFault {
     /// - else the machine, with neither section nor cell.
     #[error("the conversion would lose something")]
     WouldLose {
+        /// The device, by its number in the newest set, or none for the machine.
         section: Option<u32>,
+        /// The cell of the device, if there is one.
         cell: Option<u32>,
     },
     /// The source failed and has counted a failure. Nothing has been written.

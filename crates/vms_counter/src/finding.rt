@@ -28,14 +28,14 @@ pub enum Finding {
     /// No candidate shows the mismatch. Holds the first rule that fails.
     NoState(Mismatch),
     /// A state that the older set writes and the newer one refuses.
-    ///
-    /// It has the first rule that fails; the machine that the stream names, by its number in the
-    /// older set; one image for each of the older set's devices; and where and why the newer set
-    /// refuses the stream, with a device of the newer set.
     State {
+        /// The first rule that fails.
         mismatch: Mismatch,
+        /// The machine that the state's stream names, by its number in the older set.
         machine: Option<u32>,
+        /// One image for each of the older set's devices.
         images: Vec<Image>,
+        /// Where and why the newer set refuses the stream. The device is one of the newer set.
         refusal: Refusal,
     },
 }

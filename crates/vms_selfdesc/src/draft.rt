@@ -36,6 +36,7 @@ fn put_key(text: &mut String, key: &str) -> Result<(), AllocError>
     text.push_str("\":")
 }
 
+/// Appends a member with a text.
 pub(crate) fn put_text(text: &mut String, key: &str, value: &str) -> Result<(), AllocError>
     requires key { IsPlain key.now }
     requires value { IsPlain value.now }
@@ -53,6 +54,7 @@ fn flag_word(flag: bool) -> &'static str
     if flag { "true" } else { "false" }
 }
 
+/// Appends a member with a truth value.
 pub(crate) fn put_flag(text: &mut String, key: &str, flag: bool) -> Result<(), AllocError>
     requires { IsPlain key.now }
     ensures { OnOk result (Puts text.old text.new key.now (boolean flag)) }
@@ -61,6 +63,7 @@ pub(crate) fn put_flag(text: &mut String, key: &str, flag: bool) -> Result<(), A
     text.push_str(flag_word(flag))
 }
 
+/// Appends a member with a natural number.
 pub(crate) fn put_natural(text: &mut String, key: &str, number: u64) -> Result<(), AllocError>
     requires { IsPlain key.now }
     ensures { OnOk result (Puts text.old text.new key.now (natural number)) }
