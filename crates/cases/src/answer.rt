@@ -4,19 +4,23 @@ use crate::bytes::Named;
 use std::alloc::{AllocError, Global};
 use std::collections::BTreeMap;
 
-/// What stands outside after a call, and its status.
+/// The status of a call, and what is outside after it.
 #[derive(Drop)]
 pub(crate) struct Answer {
+    /// The exit status.
     pub status: u8,
+    /// Standard output.
     pub out: Vec<u8>,
+    /// Standard error.
     pub notes: Vec<u8>,
-    /// How many bytes were taken of the input; none where it isn't asked.
+    /// The number of input bytes that were read, or none if it isn't compared.
     pub taken: Option<usize>,
+    /// The files on the shelf.
     pub shelf: Named,
 }
 
 impl Answer {
-    /// No bytes anywhere, and status 0.
+    /// Returns an answer with status 0 and no bytes anywhere.
     pub(crate) fn new(alloc: Global) -> Answer {
         Answer {
             status: 0,
@@ -27,7 +31,8 @@ impl Answer {
         }
     }
 
-    /// Tells whether this is the wanted answer, of which out and notes may be a beginning alone where that is allowed.
+    /// Checks whether this is the `wanted` answer. If `may_be_begun`, output and notes may be
+    /// prefixes of the wanted ones.
     pub(crate) fn fits(&self, wanted: &Answer, may_be_begun: bool) -> bool {
         self.status == wanted.status
             && is_text(&self.out, &wanted.out, may_be_begun)
@@ -36,7 +41,11 @@ impl Answer {
             && self.shelf == wanted.shelf
     }
 
-    /// Tells the answer in a line, after what it is.
+    /// Appends the answer to `text` in a line, after `what`.
+    ///
+    /// # Errors
+    ///
+    /// [`AllocError`] if memory runs out.
     pub(crate) fn tell(
         &self,
         alloc: Global,
@@ -82,7 +91,7 @@ fn is_text(came: &[u8], wanted: &[u8], may_be_begun: bool) -> bool {
 
 const LONGEST: usize = 400;
 
-// A text in quotes, and other bytes in hexadecimal; of many bytes their number.
+// Returns a text in quotes, other bytes in hexadecimal, and for many bytes their number.
 fn printed(alloc: Global, bytes: &[u8]) -> Result<String, AllocError> {
     if bytes.len() > LONGEST {
         return format!(in alloc; "{} bytes", bytes.len());

@@ -1,4 +1,5 @@
-// Rows of bytes: hexadecimal, `$NAME` for a row of the topic, `@NAME` for a file or for what an earlier case has put out, and parts of these.
+// Rows of bytes: hexadecimal; `$NAME` for a row of the topic; `@NAME` for a file, or for the output of an earlier
+// case; and parts of these.
 
 use crate::entry::Entry;
 use anyhow::{Context, Result};
@@ -13,12 +14,12 @@ pub(crate) type Named = BTreeMap<String, Vec<u8>>;
 pub(crate) struct Known<'a> {
     /// The rows of the topic.
     pub rows: Option<Entry<'a>>,
-    /// The files of the topic, and what the cases so far have put out.
+    /// The files of the topic, and the outputs of the cases so far.
     pub outs: Named,
 }
 
 impl Known<'_> {
-    /// Adds the bytes of a row to others.
+    /// Appends the bytes of `row` to `bytes`.
     pub(crate) fn add(&self, alloc: Global, row: &str, bytes: &mut Vec<u8>) -> Result<()> {
         for part in row.split_ascii_whitespace() {
             self.add_part(alloc, part, bytes)?;
@@ -56,7 +57,7 @@ impl Known<'_> {
     }
 }
 
-// Adds the bytes of hexadecimal digits with blanks.
+// Appends the bytes of hexadecimal digits with spaces.
 fn add_digits(alloc: Global, row: &str, bytes: &mut Vec<u8>) -> Result<()> {
     for digits in row.split_ascii_whitespace() {
         bytes.extend_from_slice(hex::decode(alloc, digits)?.as_slice())?;
@@ -64,7 +65,7 @@ fn add_digits(alloc: Global, row: &str, bytes: &mut Vec<u8>) -> Result<()> {
     Ok(())
 }
 
-// The part of the bytes from the first number up to the second, as in `2..5]`; all of them where no range is given.
+// Returns the bytes from the first number to before the second, as in `2..5]`, or all of them if no range is given.
 fn within<'a>(bytes: &'a [u8], range: &str) -> Result<&'a [u8]> {
     if range.is_empty() {
         return Ok(bytes);

@@ -1,4 +1,4 @@
-// A case: a call of the program with the answer that must come.
+// A case: a call of the program, and its wanted answer.
 
 use crate::answer::Answer;
 use crate::bytes::{Known, Named};
@@ -12,54 +12,68 @@ use std::collections::BTreeMap;
 /// What the cases of a topic share.
 #[derive(Drop)]
 pub(crate) struct Shared<'a> {
+    /// The arguments of cases that have none.
     pub words: Vec<&'a str>,
+    /// The files on the shelf.
     pub shelf: Named,
+    /// What rows of bytes may name.
     pub known: Known<'a>,
 }
 
-/// From this length on a shorter input is refused with this line, or is whole where the line is empty.
+/// From this length on, a shorter input is refused with this line. If the line is empty, the input
+/// is complete.
 #[derive(Clone, Copy)]
 pub(crate) struct Cut<'a> {
+    /// The least length.
     pub from: usize,
+    /// The line, or nothing.
     pub line: &'a str,
 }
 
 #[derive(Drop)]
 pub(crate) struct Case<'a> {
+    /// The name.
     pub name: &'a str,
+    /// The call.
     pub call: Call<'a>,
+    /// What the call must do.
     pub wanted: Wanted<'a>,
 }
 
 /// A call of the program.
 #[derive(Drop)]
 pub(crate) struct Call<'a> {
+    /// The arguments.
     pub words: Vec<&'a str>,
+    /// The input.
     pub input: Vec<u8>,
-    /// The sizes in which the input is read.
+    /// The sizes of the pieces in which the input is read.
     pub pieces: Vec<u32>,
+    /// The calls that fail.
     pub faults: Faults,
-    /// The bytes for which out and notes have room.
+    /// The room for standard output and for standard error, in bytes.
     pub rooms: (u32, u32),
+    /// The files on the shelf.
     pub shelf: Named,
 }
 
-/// The calls of objects that fail, by their numbers from 1 on.
+/// The calls of objects that fail, by their numbers, from 1.
 #[derive(Drop)]
 pub(crate) struct Faults {
-    /// Those that fail in every run.
+    /// The calls that fail in every run.
     pub fails: Vec<(Object, u32)>,
     /// The number up to which each call of an object fails alone, in a run of its own.
     pub each: Vec<(Object, u32)>,
 }
 
-/// What must come of a call.
+/// What a call must do.
 #[derive(Drop)]
 pub(crate) struct Wanted<'a> {
+    /// The answer.
     pub answer: Answer,
-    /// Whether out and notes may end before their wanted end.
+    /// Whether standard output and standard error may be prefixes of the wanted ones.
     pub may_be_begun: bool,
-    /// What comes where the input ends early, by the least length.
+    /// The lines for inputs that end early, by their least length.
     pub cuts: Vec<Cut<'a>>,
 }
 
@@ -90,7 +104,7 @@ const ALL_OBJECTS: [Object; 4] = [Object::Reads, Object::Writes, Object::Notes, 
 const ROOM: u32 = 65_536;
 
 impl<'a> Case<'a> {
-    /// A case before it is read.
+    /// Returns a case before it is read.
     pub(crate) fn new(alloc: Global) -> Case<'a> {
         Case {
             name: "",
@@ -99,7 +113,7 @@ impl<'a> Case<'a> {
         }
     }
 
-    /// Reads a case.
+    /// Reads the case `entry`.
     pub(crate) fn read(
         &mut self,
         alloc: Global,
@@ -141,14 +155,14 @@ impl<'a> Call<'a> {
     }
 }
 
-// The bytes for which out and notes have room.
+// Returns the room for standard output and for standard error, in bytes.
 fn rooms(entry: Entry) -> Result<(u32, u32)> {
     let room = entry.number("room")?.unwrap_or(ROOM);
     let notes_room = entry.number("notes_room")?.unwrap_or(ROOM);
     Ok((room, notes_room))
 }
 
-// Adds the words of a case, or those that the cases share where it has none.
+// Appends the arguments of a case, or the shared ones if it has none.
 fn add_words<'a>(entry: Entry<'a>, shared: &[&'a str], words: &mut Vec<&'a str>) -> Result<()> {
     if entry.has("words") {
         return entry.add_texts("words", words);
@@ -157,7 +171,7 @@ fn add_words<'a>(entry: Entry<'a>, shared: &[&'a str], words: &mut Vec<&'a str>)
     Ok(())
 }
 
-// Adds the sizes of pieces, or 0, for any size, where none is given.
+// Appends the sizes of pieces, or 0 for any size, if none is given.
 fn add_pieces(entry: Entry, pieces: &mut Vec<u32>) -> Result<()> {
     for piece in entry.list("pieces")? {
         pieces.push(number(piece)?)?;
@@ -209,7 +223,7 @@ impl<'a> Wanted<'a> {
         }
     }
 
-    // Reads what a case wants, with what lay on the shelf before.
+    // Reads what a case wants, given what was on the shelf before.
     fn read(
         &mut self,
         alloc: Global,
@@ -239,7 +253,7 @@ fn cut_of<'a>(entry: Entry<'a>) -> Result<Cut<'a>> {
     Ok(Cut { from, line })
 }
 
-// Reads the answer but for the shelf.
+// Reads the answer except for the shelf.
 fn read_answer(alloc: Global, known: &Known, entry: Entry, answer: &mut Answer) -> Result<()> {
     let status = u8::try_from(entry.number("status")?.unwrap_or(0)).ok();
     answer.status = status.context("no status")?;
@@ -250,7 +264,7 @@ fn read_answer(alloc: Global, known: &Known, entry: Entry, answer: &mut Answer) 
     Ok(())
 }
 
-/// Adds the notes of a line, or no notes where it is empty.
+/// Appends `line` with a line feed to `notes`, or nothing if it is empty.
 pub(crate) fn add_notes(line: &str, notes: &mut Vec<u8>) -> Result<(), AllocError> {
     if line.is_empty() {
         return Ok(());

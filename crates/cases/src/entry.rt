@@ -1,4 +1,4 @@
-// What stands in a table of a file.
+// The entries of a file's tables.
 
 use anyhow::{Context, Result, bail};
 use std::collections::btree_map::Keys;
@@ -15,13 +15,13 @@ impl<'a> Entry<'a> {
         Entry { table }
     }
 
-    /// What is listed as a table.
+    /// Returns the entry of `value`, which must be a table.
     pub(crate) fn of(value: &'a Value) -> Result<Entry<'a>> {
         let table = value.as_table().context("no table in a list")?;
         Ok(Entry { table })
     }
 
-    /// Refuses a table that has another key than these.
+    /// Refuses a table that has a key which isn't among `keys`.
     pub(crate) fn has_only(&self, keys: &[&str]) -> Result<()> {
         for key in self.table.keys() {
             if !keys.iter().any(|known| *known == key.as_str()) {
@@ -31,7 +31,7 @@ impl<'a> Entry<'a> {
         Ok(())
     }
 
-    /// The names of what stands in the table, in order.
+    /// Returns the keys of the table, in order.
     pub(crate) fn names(&self) -> Keys<'a, String, Value> {
         self.table.keys()
     }
@@ -63,7 +63,7 @@ impl<'a> Entry<'a> {
         }
     }
 
-    /// Adds the texts of a list to others.
+    /// Appends the texts of the list `key` to `texts`.
     pub(crate) fn add_texts(&self, key: &str, texts: &mut Vec<&'a str>) -> Result<()> {
         for value in self.list(key)? {
             texts.push(value.as_str().context("no text in a list")?)?;
@@ -79,7 +79,7 @@ impl<'a> Entry<'a> {
         }
     }
 
-    /// What is listed, which is nothing where the key isn't there.
+    /// Returns the list `key`, or an empty one if there is no such key.
     pub(crate) fn list(&self, key: &str) -> Result<&'a [Value]> {
         match self.table.get(key) {
             None => Ok(&[]),
@@ -89,7 +89,7 @@ impl<'a> Entry<'a> {
     }
 }
 
-/// A number that is listed.
+/// Returns `value` as a number.
 pub(crate) fn number(value: &Value) -> Result<u32> {
     match value {
         Value::Integer(number) => u32::try_from(*number).ok().context("out of range"),

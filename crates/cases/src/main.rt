@@ -1,6 +1,8 @@
-//! Runs worked cases that are given as data, and prints how many there are on each topic and which of them differ.
+//! Runs worked cases that are given as data. It prints how many there are on each topic and which
+//! of them differ.
 //!
-//! The words name the topics; each is a file `TOPIC.toml` beside the program. `docs/cases.md` has its form.
+//! The arguments name the topics. Each is a file `TOPIC.toml` next to the program. `docs/cases.md`
+//! describes its form.
 #![tactic(auto)]
 
 mod answer;

@@ -1,4 +1,4 @@
-// One call of the program on objects in memory.
+// One call of the program, on objects in memory.
 
 use crate::answer::Answer;
 use crate::bytes::Named;
@@ -20,16 +20,19 @@ pub(crate) enum Object {
 /// The outside of a call.
 #[derive(Drop)]
 pub(crate) struct Outside<'a, 'b> {
+    /// The arguments.
     pub words: &'a [&'b str],
+    /// The input.
     pub input: &'a [u8],
-    /// The greatest size of a read; 0 for any.
+    /// The largest size of a read, or 0 for any size.
     pub piece: u32,
     /// The calls that fail, counted from 1 for each object.
     pub fails: &'a [(Object, u32)],
-    /// The bytes for which out and notes have room.
+    /// The room for standard output and for standard error, in bytes.
     pub rooms: (u32, u32),
+    /// The files on the shelf before the call.
     pub shelf: &'a Named,
-    /// The names that are asked for after the call.
+    /// The names that are looked up after the call.
     pub names: &'a Named,
 }
 
@@ -42,7 +45,7 @@ struct Objects {
     shelf: MemShelf,
 }
 
-/// Calls the program and looks at what stands outside then.
+/// Calls the program and returns its answer.
 pub(crate) fn answer(alloc: Global, outside: &Outside) -> Result<Answer> {
     let mut objects = Objects::of(alloc, outside)?;
     let status = call(alloc, outside.words, &mut objects)?;
@@ -52,7 +55,7 @@ pub(crate) fn answer(alloc: Global, outside: &Outside) -> Result<Answer> {
     Ok(answer)
 }
 
-// The program's status.
+// Returns the program's status.
 fn call(alloc: Global, given: &[&str], objects: &mut Objects) -> Result<u8> {
     let words = words(alloc, given).context("memory")?;
     Ok(vmstate(
@@ -77,7 +80,7 @@ impl Objects {
     }
 }
 
-// Puts into the answer what stands outside after a call.
+// Puts what is outside after a call into the answer.
 fn see(alloc: Global, outside: &Outside, objects: &mut Objects, answer: &mut Answer) -> Result<()> {
     let left = left(&mut objects.input);
     answer.taken = Some(outside.input.len().saturating_sub(left));
@@ -99,7 +102,7 @@ fn words(alloc: Global, given: &[&str]) -> Option<Words> {
     Some(words)
 }
 
-// The numbers of an object's failing calls.
+// Returns the numbers of an object's failing calls.
 fn failing(alloc: Global, outside: &Outside, object: Object) -> Result<Vec<u32>> {
     let mut numbers = Vec::new(alloc);
     for (failing, number) in outside.fails {
@@ -115,7 +118,7 @@ fn sink(alloc: Global, outside: &Outside, object: Object, room: u32) -> Result<M
     MemSink::new(alloc, room, failing).ok().context("memory")
 }
 
-// The input in pieces of one size.
+// Returns the input in pieces of one size.
 fn source(alloc: Global, outside: &Outside) -> Result<MemSource> {
     let mut pieces = Vec::new(alloc);
     if outside.piece > 0 {
@@ -129,7 +132,7 @@ fn source(alloc: Global, outside: &Outside) -> Result<MemSource> {
     Ok(MemSource::new(input, pieces, failing))
 }
 
-// How many bytes a source has left, which are taken here.
+// Returns the number of bytes that a source has left, and reads them.
 fn left(source: &mut MemSource) -> usize {
     let mut left = 0_usize;
     let mut buf = [0; 4096];
@@ -149,7 +152,7 @@ fn shelf(alloc: Global, outside: &Outside) -> Result<MemShelf> {
     Ok(shelf)
 }
 
-// Lays contents on a shelf.
+// Puts contents on a shelf.
 fn lay(contents: &Named, shelf: &mut MemShelf) -> Result<()> {
     for (name, bytes) in contents {
         let put = shelf.put(name.as_str(), bytes.clone()?);
@@ -158,7 +161,7 @@ fn lay(contents: &Named, shelf: &mut MemShelf) -> Result<()> {
     Ok(())
 }
 
-// What a shelf holds under a name, past the calls that fail.
+// Returns what a shelf holds under a name, after the calls that fail.
 fn fetched(alloc: Global, shelf: &mut MemShelf, name: &str) -> Result<Option<Vec<u8>>> {
     for _ in 0..u64::MAX {
         match shelf.fetch(alloc, name, u32::MAX) {

@@ -1,4 +1,4 @@
-// The runs of a case: in each size of pieces, with each failing call, and cut at each length.
+// The runs of a case: with each size of pieces, with each failing call, and cut at each length.
 
 use crate::answer::Answer;
 use crate::case::{Case, Cut, add_notes};
@@ -11,13 +11,13 @@ use std::alloc::{AllocError, Global};
 #[derive(Clone, Copy)]
 pub(crate) struct Run {
     piece: u32,
-    /// How many bytes of the input are there.
+    /// The number of input bytes that are there.
     long: usize,
-    /// The call that fails alone.
+    /// The only call that fails.
     alone: Option<(Object, u32)>,
 }
 
-/// The runs of a case.
+/// Returns the runs of `case`.
 pub(crate) fn runs(alloc: Global, case: &Case) -> Result<Vec<Run>> {
     let mut runs = Vec::new(alloc);
     for piece in &case.call.pieces {
@@ -26,7 +26,7 @@ pub(crate) fn runs(alloc: Global, case: &Case) -> Result<Vec<Run>> {
     Ok(runs)
 }
 
-// Adds the runs in pieces of a size.
+// Appends the runs with pieces of one size.
 fn add_runs(case: &Case, piece: u32, runs: &mut Vec<Run>) -> Result<(), AllocError> {
     let whole = case.call.input.len();
     if case.call.faults.each.is_empty() {
@@ -49,7 +49,7 @@ fn run_of(piece: u32, long: usize, alone: Option<(Object, u32)>) -> Run {
     Run { piece, long, alone }
 }
 
-/// Tells whether another answer came in this run than is wanted, and then adds both to the text.
+/// Checks whether this run has another answer than the wanted one. If so, appends both to `text`.
 pub(crate) fn is_different(
     alloc: Global,
     case: &Case,
@@ -97,7 +97,7 @@ fn outside<'a, 'b>(case: &'a Case<'b>, run: &'a Run) -> Outside<'a, 'b> {
     }
 }
 
-// Makes the answer that which is wanted where the input ends early.
+// Changes the wanted answer into that for an input that ends early.
 fn cut(alloc: Global, case: &Case, long: usize, wanted: &mut Answer) -> Result<()> {
     let whole = &case.wanted.answer;
     let line = line_at(&case.wanted.cuts, long);
@@ -110,7 +110,7 @@ fn cut(alloc: Global, case: &Case, long: usize, wanted: &mut Answer) -> Result<(
     copy(alloc, &whole.shelf, &mut wanted.shelf)
 }
 
-// The line of an input of this length, which is empty where the input is whole.
+// Returns the line for an input of this length. It is empty if the input is complete.
 fn line_at<'a>(cuts: &[Cut<'a>], long: usize) -> &'a str {
     let mut line = "";
     for cut in cuts {
@@ -121,7 +121,7 @@ fn line_at<'a>(cuts: &[Cut<'a>], long: usize) -> &'a str {
     line
 }
 
-// Tells what is particular to a run: the size of its pieces, how much of the input there is, and the call that fails.
+// Appends what is special about a run: the size of its pieces, the length of the input, and the call that fails.
 fn tell_run(alloc: Global, case: &Case, run: &Run, text: &mut String) -> Result<(), AllocError> {
     text.push_str(&format!(in alloc; "  {}", case.name)?)?;
     if run.piece > 0 {

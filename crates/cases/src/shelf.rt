@@ -1,11 +1,11 @@
-// What lies on a shelf.
+// The contents of a shelf.
 
 use crate::bytes::{Known, Named};
 use crate::entry::Entry;
 use anyhow::{Context, Result};
 use std::alloc::Global;
 
-/// Puts copies of bytes beside others, under their names.
+/// Copies all of `named` into `copy`, under the same names.
 pub(crate) fn copy(alloc: Global, named: &Named, copy: &mut Named) -> Result<()> {
     for (name, bytes) in named {
         put_copy(alloc, copy, name.as_str(), bytes)?;
@@ -13,19 +13,19 @@ pub(crate) fn copy(alloc: Global, named: &Named, copy: &mut Named) -> Result<()>
     Ok(())
 }
 
-/// Puts a copy of bytes beside others, under a name.
+/// Puts a copy of `bytes` into `named`, as `name`.
 pub(crate) fn put_copy(alloc: Global, named: &mut Named, name: &str, bytes: &[u8]) -> Result<()> {
     put(alloc, named, name, bytes.to_vec(alloc)?)
 }
 
-/// Puts bytes beside others, under a name.
+/// Puts `bytes` into `named`, as `name`.
 pub(crate) fn put(alloc: Global, named: &mut Named, name: &str, bytes: Vec<u8>) -> Result<()> {
     let name = String::from_str(alloc, name)?;
     named.insert(name, bytes)?;
     Ok(())
 }
 
-/// Puts on a shelf what lay on another, and what a table names beside it.
+/// Puts the contents `before` and what `table` names on `shelf`.
 pub(crate) fn put_beside(
     alloc: Global,
     known: &Known,
@@ -37,7 +37,7 @@ pub(crate) fn put_beside(
     put_all(alloc, known, table, shelf)
 }
 
-/// Puts what a table names on a shelf.
+/// Puts what `table` names on `shelf`.
 pub(crate) fn put_all(
     alloc: Global,
     known: &Known,
@@ -65,7 +65,7 @@ fn put_content(
     put(alloc, shelf, name, bytes)
 }
 
-// Adds what a content stands for, so many times.
+// Appends what a content means, as often as it says.
 fn add_content(alloc: Global, known: &Known, content: Entry, bytes: &mut Vec<u8>) -> Result<()> {
     content.has_only(&["text", "bytes", "times"])?;
     let times = content.number("times")?.unwrap_or(1);
@@ -77,7 +77,7 @@ fn add_content(alloc: Global, known: &Known, content: Entry, bytes: &mut Vec<u8>
     Ok(())
 }
 
-/// Adds a row of bytes under the first key, or else a text under the second.
+/// Appends a row of bytes, if the first key is there, or else the text of the second key.
 pub(crate) fn add_either(
     alloc: Global,
     known: &Known,

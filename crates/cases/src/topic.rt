@@ -12,7 +12,7 @@ use std::fs;
 use std::rt::Files;
 use toml::Table;
 
-/// How many cases of a topic were run, how many of them differ, and how.
+/// The number of a topic's cases, of their runs and of those that differ, and how they differ.
 #[derive(Drop)]
 struct Tally {
     cases: u32,
@@ -21,8 +21,10 @@ struct Tally {
     differences: String,
 }
 
-/// Runs the cases of a topic and prints how many there are and which differ. Tells whether they answer as the topic says:
-/// none differs, or each one where they are wrong on purpose.
+/// Runs the cases of topic `name` and prints how many there are and which differ.
+///
+/// Returns whether the result is the one that the topic asks for: none differs, or each one does if
+/// they are wrong on purpose.
 pub(crate) fn is_as_wanted<R: Files + AllocGlobal + Print>(rt: &R, name: &str) -> Result<bool> {
     let table = table_of(rt, name)?;
     let topic = Entry::new(&table);
@@ -56,7 +58,7 @@ fn run_topic<R: Files + AllocGlobal>(
     run_cases(rt.alloc(), topic, &mut shared, tally).context(format_args!("in {name}"))
 }
 
-// Reads the files beside the topics that a table names.
+// Reads the files next to the topics that a table names.
 fn read_files<R: Files + AllocGlobal>(rt: &R, table: Entry, files: &mut Named) -> Result<()> {
     for name in table.names() {
         let file = table.text(name)?.context("no file under a name")?;
@@ -117,7 +119,7 @@ impl Tally {
         }
     }
 
-    // Tells whether as many cases differ as must.
+    // Checks whether the right number of cases differ.
     fn is_wanted(&self, is_wrong: bool) -> bool {
         self.different == if is_wrong { self.cases } else { 0 }
     }

@@ -1,13 +1,13 @@
-// A board: it is saved while it sends a line, and another goes on from there.
+// A board that is saved while it sends a line; a second board resumes from its stream.
 use anyhow::{Context, Result, bail};
 use std::alloc::Global;
 use vms_board::{Board, Event};
 use vms_io::{MemSink, MemSource};
 
-/// The newest level and set.
+/// The newest level, and the number of the newest set.
 const NEWEST: u8 = 4;
 
-/// The serial port at 9600 baud with its FIFOs on, and two bytes to send.
+/// Writes that set the serial port to 9600 baud, switch its FIFOs on and send two bytes.
 const WRITES: [(u16, u8); 7] = [
     (0x3fb, 0x83),
     (0x3f8, 0x0c),
@@ -18,7 +18,11 @@ const WRITES: [(u16, u8); 7] = [
     (0x3f8, b'k'),
 ];
 
-/// Sends two bytes, and goes on on two boards once one has left.
+/// Sends two bytes on a board, and the second of them on a restored board as well.
+///
+/// # Errors
+///
+/// An error if memory runs out, or if saving or restoring fails.
 pub fn send_a_line(rt: &HostRuntime) -> Result<()> {
     let mut board = Board::new(rt.alloc(), 2).ok().context("memory")?;
     send(rt, &mut board)
@@ -39,14 +43,14 @@ fn go_on(rt: &HostRuntime, board: &mut Board, other: &mut Board) -> Result<()> {
     Ok(())
 }
 
-// The first byte that leaves while time passes.
+// Returns the first byte that is sent while time passes.
 #[tactic(auto, unfolding(dev_board::specs::Step::names_wire))]
 fn sent(board: &mut Board) -> Option<u8> {
     let answer = board.event(Event::Wait { ns: 1_500_000 });
     answer.sent.first().copied()
 }
 
-// The board that a board's stream restores.
+// Returns the board that the stream of `board` restores.
 fn carried(alloc: Global, board: &Board) -> Result<Board> {
     let level = board.number();
     if level < 1 || level > NEWEST {

@@ -1,4 +1,4 @@
-// A device of one's own: a lamp, which is saved and restored by stored closures.
+// A device of one's own: a lamp, which stored closures save and restore.
 ghost use Rattle.std.specs.Prelude.{◌≡◌, ◌≤◌, Ok};
 ghost use Rattle.library_tour.specs.Lamps.{cells_of, lamp_of, brightest};
 
@@ -6,14 +6,15 @@ use arrayvec::ArrayVec;
 use vms_hooks::{HookFault, Hooked, Pass, load_by, save_by};
 use vms_kinds::DevCells;
 
-/// The greatest brightness.
+/// The largest brightness, in percent.
 const BRIGHTEST: u8 = 100;
 
 /// A lamp.
 #[derive(Clone, Copy, Debug, PartialEq, Eq)]
 pub struct Lamp {
-    /// In percent, up to 100.
+    /// The brightness in percent, 0 to 100.
     pub brightness: u8,
+    /// Whether the lamp is on.
     pub is_on: bool,
 }
 
@@ -29,7 +30,11 @@ impl Hooked for Lamp {
     ghost restores_to = { λ pass cells outcome. outcome ≡ lamp_of cells };
 }
 
-/// The cells of a lamp.
+/// Returns the cells of `lamp`.
+///
+/// # Requires
+///
+/// The brightness of `lamp` is at most 100.
 pub fn saved(lamp: &Lamp) -> DevCells
     requires { lamp.now.brightness ≤ brightest }
     ensures { result.items ≡ cells_of lamp.now }
@@ -44,8 +49,12 @@ pub fn saved(lamp: &Lamp) -> DevCells
     )
 }
 
-/// The lamp of these cells, or the first rule that fails: they are two numbers from 0 on (1), of a brightness (2) and
-/// of a truth value (3).
+/// Returns the lamp with these `cells`.
+///
+/// # Errors
+///
+/// [`HookFault`] with the number of the first rule that fails: (1) there are two cells, and neither
+/// is negative; (2) the first is a brightness; (3) the second is a truth value.
 pub fn restored(cells: &DevCells) -> Result<Lamp, HookFault>
     ensures { result ≡ lamp_of cells.now.items }
 {
@@ -59,7 +68,15 @@ pub fn restored(cells: &DevCells) -> Result<Lamp, HookFault>
     )
 }
 
-/// A lamp that is saved is restored as it was.
+/// Saves `lamp` and restores it. The result is the same lamp.
+///
+/// # Requires
+///
+/// The brightness of `lamp` is at most 100.
+///
+/// # Errors
+///
+/// Never; the contract says so.
 pub fn there_and_back(lamp: &Lamp) -> Result<Lamp, HookFault>
     requires { lamp.now.brightness ≤ brightest }
     ensures { result ≡ Ok lamp.now }
@@ -67,7 +84,7 @@ pub fn there_and_back(lamp: &Lamp) -> Result<Lamp, HookFault>
     restored(&saved(lamp))
 }
 
-// Called before a section is written, as VMState's pre_save.
+// Called before a section is written, like VMState's pre_save.
 fn pre_save(lamp: &Lamp) -> DevCells
     ensures { result.items ≡ cells_of lamp.now }
 {
@@ -79,7 +96,7 @@ fn pre_save(lamp: &Lamp) -> DevCells
     cells
 }
 
-// Called when a section has come, as post_load.
+// Called after a section was read, like VMState's post_load.
 fn post_load(cells: &DevCells) -> Result<Lamp, HookFault>
     ensures { result ≡ lamp_of cells.now.items }
 {

@@ -1,6 +1,7 @@
-//! A tour of the library: a set, a stream of it, a refusal, an upgrade, a device of one's own, and a board.
+//! A tour of the library: a set, a stream of it, a refusal, an upgrade, a device of one's own, and
+//! a board.
 //!
-//! `docs/library.md` goes through it, and quotes it.
+//! `docs/library.md` explains it and quotes it.
 #![tactic(auto)]
 
 mod board;
@@ -24,7 +25,7 @@ fn main(rt: HostRuntime) -> Result<()> {
     board::send_a_line(&rt)
 }
 
-// The stream of a lamp that is saved.
+// Returns the stream of a lamp.
 fn lamp_stream(alloc: Global) -> Result<Vec<u8>> {
     let set = lamp_set(alloc, 1).ok().context("a set")?;
     let cells = saved(&Lamp {
@@ -35,7 +36,7 @@ fn lamp_stream(alloc: Global) -> Result<Vec<u8>> {
     stream::written(alloc, &set, &[image])
 }
 
-// Loads a stream, and then one that has lost its last three bytes.
+// Loads a stream, and then the same without its last three bytes.
 fn load_back(rt: &HostRuntime, stream: &[u8]) -> Result<()> {
     let set = lamp_set(rt.alloc(), 1).ok().context("a set")?;
     let mut loader = Loader::new(rt.alloc(), set).ok().context("memory")?;
@@ -50,7 +51,7 @@ fn tell(rt: &HostRuntime, loader: &mut Loader, stream: &[u8]) -> Result<()> {
     Ok(())
 }
 
-// What comes of bytes that are loaded.
+// Returns what loading `bytes` results in.
 fn told(alloc: Global, loader: &mut Loader, bytes: &[u8]) -> Result<String> {
     match stream::load(loader, alloc, bytes.to_vec(alloc)?) {
         Ok(machine) => Ok(format!(in alloc; "taken, with machine {machine:?}")?),
@@ -59,7 +60,7 @@ fn told(alloc: Global, loader: &mut Loader, bytes: &[u8]) -> Result<String> {
     }
 }
 
-// Whether version 2 reads what version 1 writes, and the other way round.
+// Checks whether version 2 reads what version 1 writes, and the other way round.
 fn upgrade(rt: &HostRuntime) -> Result<()> {
     let old = lamp_set(rt.alloc(), 1).ok().context("a set")?;
     let new = lamp_set(rt.alloc(), 2).ok().context("a set")?;

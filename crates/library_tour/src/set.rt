@@ -8,7 +8,12 @@ use std::alloc::{AllocError, Global};
 use vms_desc::{Count, Desc, DescFault, DescSet, Device, Field, Listed, Parts, Text};
 use vms_kinds::{Item, Kind};
 
-/// The set at a version of the lamp's section: its brightness and its switch, and from version 2 on its colour.
+/// Returns the set with version `version` of the lamp's section: brightness and switch, and colour
+/// from version 2 on.
+///
+/// # Errors
+///
+/// [`DescFault`] if memory runs out or the parts form no valid set.
 pub fn lamp_set(alloc: Global, version: u32) -> Result<DescSet, DescFault>
     ensures { IfOk result (λ set. described set ≡ lamp_set version) }
 {
@@ -49,7 +54,7 @@ fn fields(alloc: Global, version: u32) -> Result<Vec<Field>, AllocError>
     Ok(fields)
 }
 
-// A field of one number, which is there from a version on.
+// Returns a field of one number, which is present from version `since` on.
 fn field(alloc: Global, name: &str, kind: Kind, since: u32) -> Result<Field, AllocError>
     ensures { IfOk result (λ field. field_of field ≡ field_with name.now kind since) }
 {

@@ -17,7 +17,12 @@ use vms_io::{MemSink, MemSource};
 use vms_load::{LoadFault, Loader};
 use vms_write::{are_ready, write_stream};
 
-/// The image of the set's first device at its defaults, with two numbers in its first two cells.
+/// Returns the default image of the first device of `set`, with `one` and `two` in its first two
+/// cells.
+///
+/// # Errors
+///
+/// An error if there is no such device or cell, if a number is out of range, or if memory runs out.
 pub fn image_of(alloc: Global, set: &DescSet, one: i128, two: i128) -> Result<Image>
     ensures { IfOk result (λ image. image ≡ with_two (default_at (described set.now) 0) one two) }
 {
@@ -30,7 +35,7 @@ pub fn image_of(alloc: Global, set: &DescSet, one: i128, two: i128) -> Result<Im
     Ok(image)
 }
 
-// Puts a number into a cell, if there is such a cell and the number is in the range of its kind.
+// Sets a cell, if it exists and the number is in the range of its kind.
 fn put(image: &mut Image, cell: u32, number: i128) -> Result<()>
     ensures ok { OnOk result (image.new
         ≡ record image.old { numbers = slice_set image.old.numbers cell number }) }
@@ -43,7 +48,11 @@ fn put(image: &mut Image, cell: u32, number: i128) -> Result<()>
     Ok(())
 }
 
-/// The stream of images of a set, with its first machine.
+/// Returns the stream of `images` of `set`, with the set's first machine.
+///
+/// # Errors
+///
+/// An error if the set has no machine, if the images can't be written, or if memory runs out.
 pub fn written(alloc: Global, set: &DescSet, images: &[Image]) -> Result<Vec<u8>>
     ensures { let machine = slice_get (described set.now).machines 0 in
         let bytes = written (described set.now) machine (map state_of images.now) None in
@@ -61,7 +70,11 @@ pub fn written(alloc: Global, set: &DescSet, images: &[Image]) -> Result<Vec<u8>
     Ok(sink.bytes().to_vec(alloc)?)
 }
 
-/// Takes a stream, and answers the machine that it names. After a refusal the loader keeps the images that it kept.
+/// Loads `stream` and returns the machine that it names.
+///
+/// # Errors
+///
+/// A [`LoadFault`] if the stream is refused or a read fails. `loader` keeps the images that it had.
 pub fn load(loader: &mut Loader, alloc: Global, stream: Vec<u8>) -> Result<Option<u32>, LoadFault>
     ensures set { loads loader.new ≡ loads loader.old }
     ensures taken { OnOk result (AreKept (loads loader.old) (kept loader.new)) }
@@ -71,7 +84,7 @@ pub fn load(loader: &mut Loader, alloc: Global, stream: Vec<u8>) -> Result<Optio
     loader.load(&mut source, None)
 }
 
-/// The lamp that the first image tells, if it tells one.
+/// Returns the lamp in the first image, if that is one.
 pub fn lamp_of(images: &[Image]) -> Option<Lamp> {
     let image = images.first()?;
     let mut cells = ArrayVec::new();

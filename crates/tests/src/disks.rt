@@ -1,4 +1,4 @@
-// A shelf of files with 20,000 bytes, and on a disk that is full.
+// A shelf of files with 20,000 bytes, also on a full disk.
 use crate::outside::{MANY, many, refusal};
 use std::alloc::{Allocator, Global};
 use std::fs::{Metadata, OpenFile, OpenOptions, Permissions};
@@ -117,7 +117,7 @@ impl Files for FullDisk {
     }
 }
 
-// What a shelf holds under the name, within the limit, is this.
+// Checks whether the shelf holds exactly these bytes under the name, within the limit.
 fn gives<H: Shelf>(alloc: Global, shelf: &mut H, name: &str, limit: u32, bytes: &[u8]) -> bool {
     shelf
         .fetch(alloc, name, limit)
@@ -140,7 +140,7 @@ fn keeps_many<H: Shelf>(rt: &impl Abort, alloc: Global, shelf: &mut H, bytes: &[
     assert!(rt; gives(alloc, shelf, "a", limit, bytes));
     assert!(rt; gives(alloc, shelf, "a", 20_001, bytes));
     assert!(rt; shelf.fetch(alloc, "a", 19_999).err() == Some(FetchFault::TooLarge));
-    // fewer bytes in their place leave none of them
+    // a shorter content leaves none of the earlier bytes
     assert!(rt; shelf.store("a", b"four").is_ok());
     assert!(rt; gives(alloc, shelf, "a", 4, b"four"));
     assert!(rt; refusal(alloc, shelf, ".a.new") == Some(FetchFault::NotThere));

@@ -1,4 +1,4 @@
-// A device that shows the pass that its stored closures are lent.
+// A device that shows the pass which its stored closures receive.
 ghost use Rattle.std.specs.Prelude.{◌≡◌, ◌<◌, pos, length, [], ◌∷◌, nat_lt, if◌then◌else◌, Ok, Err};
 
 use arrayvec::ArrayVec;
@@ -6,8 +6,10 @@ use std::test::Fail;
 use vms_hooks::{HookFault, Hooked, Pass, load_by, save_by};
 use vms_kinds::DevCells;
 
-/// Saves its number below 10 and then the three numbers of the pass. With fewer cells than the moment it
-/// restores the set; otherwise the rule of the level's number fails.
+/// A device that saves its number below 10 and then the three numbers of the pass.
+///
+/// If there are fewer cells than the moment, it restores the set. Otherwise the rule with the
+/// level's number fails.
 #[derive(Clone, Copy, Debug, PartialEq, Eq)]
 struct Echo {
     digit: u8,

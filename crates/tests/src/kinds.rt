@@ -1,4 +1,4 @@
-// The code of each kind at its ends, against bytes written down by hand.
+// The code of each kind at both ends of its range, compared with bytes that were written by hand.
 use std::process::Abort;
 use vms_kinds::Kind;
 

@@ -1,10 +1,14 @@
-//! Tests of what no command reaches: where cells lie in sets and stand in images, loads one after the other, parts that no file
-//! says, a set that is written as a file, the bytes of kinds and marks, the real objects of the outside, hooks, and what no board
-//! shows of the devices.
+//! Tests of what no command reaches:
 //!
-//! They stand apart from the crates that they test, since a crate with tests is proved twice. Each test is proved itself, and
-//! one that holds a set, an image or a loader through its `?` and asserts is dear: so a test hands it to a function that lends it
-//! on, and rows are statics.
+//! - where cells are in sets and images, and several loads with one loader;
+//! - parts that no file can describe, and a set that is written as a file;
+//! - the bytes of kinds and marks, and hooks;
+//! - the real objects of the outside;
+//! - what no board shows of the devices.
+//!
+//! They are a crate of their own, since a crate with tests is proved twice. Each test is proved
+//! itself. A test that holds a set, an image or a loader across its `?` and asserts takes long to
+//! prove. So it passes them to a function that borrows them, and rows are statics.
 #![tactic(auto)]
 
 #[cfg(test)]

@@ -1,4 +1,4 @@
-// Images and their bytes, and streams that one loader takes one after the other.
+// Images and their bytes, and streams that one loader reads one after the other.
 use crate::sets::{COUNTED, set_of, shipped};
 use std::alloc::Global;
 use std::process::Abort;
@@ -9,7 +9,7 @@ use vms_io::{MemSink, MemSource};
 use vms_load::{LoadFault, Loader, Reason};
 use vms_write::{are_ready, write_stream};
 
-/// A number and an array of a later version that it counts.
+/// A number, and an array of a later version that it counts.
 const LATER: &str =
     "{\"devices\":[{\"desc\":{\"fields\":[{\"kind\":\"u8\",\"name\":\"n\"},{\"capacity\":2,\"counted\":\"n\",\"kind\":\"u16\",\"name\":\"v\",\"since\":2}],\"minimum\":1,\"name\":\"box\",\"version\":2},\"instance\":0}],\"machines\":[\"lab\"],\"structs\":[]}";
 
@@ -18,7 +18,7 @@ fn image(rt: &impl Abort, alloc: Global, set: &DescSet) -> Result<Image, Fail> {
     Ok(Image::new(alloc, set, 0).ok().ok_or("memory")?)
 }
 
-/// Puts a number into a cell that it fits.
+/// Sets a cell to a number that fits it.
 fn put(rt: &impl Abort, image: &mut Image, cell: u32, number: i128) {
     assert!(rt; cell < image.len() && image.fits(cell, number));
     image.set(cell, number);
@@ -30,7 +30,7 @@ fn put_all(rt: &impl Abort, image: &mut Image, numbers: &[i128; 3]) {
     }
 }
 
-/// Tells whether an image with these numbers has these bytes.
+/// Checks whether an image with these numbers has these bytes.
 fn has_bytes(
     rt: &(impl Abort + AllocGlobal),
     set: &DescSet,
@@ -66,7 +66,7 @@ fn an_image_has_its_numbers_in_its_bytes(rt: HostRuntime) -> Result<(), Fail> {
     Ok(())
 }
 
-/// The stream of images with a description of this text, if they are ready.
+/// Returns the stream of `images` with the description `text`, if they are ready.
 fn written(alloc: Global, set: &DescSet, images: &[Image], text: Option<&str>) -> Option<Vec<u8>> {
     if !are_ready(set, images) || text.is_some_and(|text| text.len() > 16) {
         return None;
@@ -82,7 +82,7 @@ fn defaults(rt: &(impl Abort + AllocGlobal), set: &DescSet) -> Result<Vec<Image>
     Ok(images)
 }
 
-/// The stream of a device at its defaults with a description of this text.
+/// Returns the stream of a device at its defaults with the description `text`.
 fn described(
     rt: &(impl Abort + AllocGlobal),
     set: &DescSet,
@@ -109,7 +109,8 @@ fn a_description_has_a_text_of_ones_own(rt: HostRuntime) -> Result<(), Fail> {
     Ok(())
 }
 
-/// What comes of a load: it is taken, or refused at a place with a reason, in a device, or a read fails.
+/// The result of a load: the stream is accepted, or refused at an offset, in a device, for a
+/// reason; or a read fails.
 #[derive(Clone, Copy, PartialEq, Eq)]
 enum Comes {
     Taken,
@@ -117,7 +118,7 @@ enum Comes {
     ReadFault,
 }
 
-/// Bytes that come one by one, of which the 20th read fails if it must.
+/// Returns a source of single bytes. If `fails`, its 20th read fails.
 fn source_of(alloc: Global, bytes: &[u8], fails: bool) -> Result<MemSource, Fail> {
     let mut pieces = Vec::new(alloc);
     for _ in bytes {
@@ -140,13 +141,14 @@ fn end_of_load(loader: &mut Loader, source: &mut MemSource) -> Comes {
     }
 }
 
-/// Loads bytes one by one, of which the 20th read fails where the load must end so.
+/// Loads single bytes. If the load is to fail, the 20th read does.
 fn load_of(alloc: Global, loader: &mut Loader, bytes: &[u8], wanted: Comes) -> Result<Comes, Fail> {
     let mut source = source_of(alloc, bytes, wanted == Comes::ReadFault)?;
     Ok(end_of_load(loader, &mut source))
 }
 
-/// How many bytes were taken last, the first device's numbers, and the stream that is written of what is kept, if it is ready.
+/// The number of bytes that were read last, the first device's numbers, and the stream of the kept
+/// images, if they are ready.
 type Kept<'a> = (u64, &'a [i128], Option<&'a [u8]>);
 
 fn has_number(image: &Image, cell: usize, number: i128) -> bool {
@@ -192,7 +194,7 @@ fn load_each(
     Ok(())
 }
 
-/// Loads streams one after the other, and then asks what is kept.
+/// Loads streams one after the other, and then compares what is kept.
 fn load_all(
     rt: &(impl Abort + AllocGlobal),
     set: DescSet,
@@ -245,11 +247,11 @@ fn what_an_older_stream_leaves_may_not_be_ready(rt: HostRuntime) -> Result<(), F
     )
 }
 
-/// A timer's stream that names its machine and has a section of its own number.
+/// A timer's stream that names its machine and has a section with its own number.
 const NAMED: &[u8] =
     b"QEVM\0\0\0\x03\x07\0\0\0\x05isa-0\x04\0\0\0\x09\x05timer\0\0\0\0\0\0\0\x01\x7e\0\0\0\0\0\0\0\x7e\0\0\0\x09\0";
 
-/// The stream that is written of it.
+/// The stream that is written for it.
 const KEPT: &[u8] =
     b"QEVM\0\0\0\x03\x04\0\0\0\0\x05timer\0\0\0\0\0\0\0\x01\x7e\0\0\0\0\0\0\0\x7e\0\0\0\0\0";
 

@@ -1,4 +1,4 @@
-// Heads, footers and marks both ways, against bytes written down by hand.
+// Heads, footers and marks both ways, compared with bytes that were written by hand.
 use std::test::Fail;
 use vms_marks::{Configuration, Foot, Head, HeadFault, Mark, SubHead, name_of};
 

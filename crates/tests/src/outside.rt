@@ -1,5 +1,5 @@
-// The real objects of the outside at their traits, with 20,000 bytes and with readers, writers and disks that fail, and a shelf
-// in memory whose calls fail.
+// The real objects of the outside: 20,000 bytes, readers, writers and disks that fail, and a shelf in memory whose
+// calls fail.
 use std::alloc::Global;
 use std::io;
 use std::io::{BufWriter, ErrorKind, Read, Write};
@@ -19,14 +19,19 @@ fn fetched<H: Shelf>(alloc: Global, shelf: &mut H, name: &str) -> Result<Vec<u8>
     shelf.fetch(alloc, name, 4)
 }
 
-// How many bytes go through each object: more than two of its blocks.
+/// The number of bytes that go through each object: more than two of its blocks.
 pub const MANY: usize = 20_000;
 
-// Byte `n` of them.
+// Returns byte `n` of them.
 fn byte(n: usize) -> u8 {
     (n % 251) as u8
 }
 
+/// Returns [`MANY`] bytes.
+///
+/// # Errors
+///
+/// [`Fail`] if memory runs out.
 pub fn many(alloc: Global) -> Result<Vec<u8>, Fail> {
     let mut bytes = Vec::with_capacity(alloc, MANY)?;
     for n in 0..MANY {
@@ -44,7 +49,7 @@ fn a_slice_gives_its_bytes(rt: HostRuntime) -> Result<(), Fail> {
     Ok(())
 }
 
-// A reader of these bytes, at most 777 in one read. The read of number `fails` is an error.
+// A reader of these bytes, which returns at most 777 in one read. Read number `fails` is an error.
 #[derive(Drop)]
 struct Pieces {
     at: usize,
@@ -77,8 +82,8 @@ impl Read for Pieces {
     }
 }
 
-// Reads to the end or to the first failure, 100 bytes at a time: how many bytes came, whether a read failed, and whether each
-// byte was the one that is due.
+// Reads to the end or to the first failure, 100 bytes at a time. Returns the number of bytes, whether a read
+// failed, and whether each byte was right.
 fn read_on<S: Source>(source: &mut S, from: usize) -> (usize, bool, bool) {
     let mut came = from;
     let mut right = true;
@@ -116,7 +121,7 @@ fn an_error_of_a_reader_is_no_end(rt: HostRuntime) -> Result<(), Fail> {
     Ok(())
 }
 
-// A writer that takes at most 999 bytes in one write. The write of number `fails` is an error.
+// A writer that takes at most 999 bytes in one write. Write number `fails` is an error.
 #[derive(Drop)]
 struct Taker {
     took: Vec<u8>,
@@ -148,7 +153,7 @@ fn taking(alloc: Global, fails: u32) -> StdSink<Taker> {
     })
 }
 
-// Writes the bytes in pieces of 100 and flushes: whether no call failed.
+// Writes the bytes in pieces of 100 and flushes. Returns whether no call failed.
 fn write_on<W: Write + Drop>(sink: &mut StdSink<W>, bytes: &[u8]) -> bool {
     bytes
         .chunks(100)
@@ -163,7 +168,7 @@ fn a_writer_takes_all_that_is_flushed(rt: HostRuntime) -> Result<(), Fail> {
     let mut sink = taking(alloc, 0);
     assert!(rt; write_on(&mut sink, &bytes));
     assert!(rt; sink.get_ref().took == bytes);
-    // a writer that holds back what it took hands it on at the flush
+    // a buffered writer writes what it holds at the flush
     let mut sink = StdSink::new(BufWriter::with_capacity(alloc, 32_768, Vec::new(alloc))?);
     assert!(rt; write_on(&mut sink, &bytes));
     assert!(rt; *sink.get_ref().get_ref() == bytes);
@@ -182,6 +187,7 @@ fn an_error_of_a_writer_is_told(rt: HostRuntime) -> Result<(), Fail> {
     Ok(())
 }
 
+/// Returns why `name` can't be fetched from the shelf.
 pub fn refusal<H: Shelf>(alloc: Global, shelf: &mut H, name: &str) -> Option<FetchFault> {
     fetched(alloc, shelf, name).err()
 }

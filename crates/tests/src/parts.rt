@@ -1,5 +1,5 @@
-// Parts that no description file says: counts by fields that aren't there, defaults where none may be, and tests of fields that
-// aren't there. A file calls fields by their names, and has keys and numbers for what may be alone.
+// Parts that no description file can describe: counts by fields that don't exist, defaults where none is allowed,
+// and tests of fields that don't exist. A file names fields, and has no key or number where none is allowed.
 use std::alloc::Global;
 use std::test::Fail;
 use vms_desc::{
@@ -8,11 +8,12 @@ use vms_desc::{
 };
 use vms_kinds::{Item, Kind};
 
-/// A test that the number of a field is 0, and so many `not` above it.
+/// A test that the number of a field is 0, below a number of `not`.
 type Asks = (Whose, u32, u32);
 
-/// What one of the parts is: the field `b` is counted by a field, with capacity 2, or has an item and a default, or a test; the
-/// device has a validation; the subsection is needed by a test.
+/// What is special about the parts: the field `b` is counted by a field, with capacity 2, or has an
+/// item and a default, or a test; the device has a validation; or the subsection is needed by a
+/// test.
 #[derive(Clone, Copy)]
 enum Said {
     Counted(u32),
@@ -45,7 +46,7 @@ fn text(alloc: Global, name: &str) -> Result<Text, Fail> {
     Ok(Text::new(String::from_str(alloc, name)?))
 }
 
-/// A field that is a byte, unless more is said.
+/// Returns a field that is a byte, unless more is given.
 fn field(alloc: Global, name: &str, count: Count, since: u32) -> Result<Field, Fail> {
     Ok(Field {
         name: text(alloc, name)?,
@@ -58,7 +59,7 @@ fn field(alloc: Global, name: &str, count: Count, since: u32) -> Result<Field, F
     })
 }
 
-/// The field that the words say.
+/// Returns the field that `said` describes.
 fn said_field(alloc: Global, said: Said) -> Result<Field, Fail> {
     let mut field = field(alloc, "b", Count::One, 0)?;
     match said {
@@ -83,13 +84,13 @@ fn desc(alloc: Global, name: &str, fields: Vec<Field>, validate: Vec<Test>) -> R
     })
 }
 
-/// A structure or a subsection with a byte `x`.
+/// Returns a structure or a subsection with a byte `x`.
 fn small(alloc: Global, name: &str) -> Result<Desc, Fail> {
     let fields = vec![in alloc; field(alloc, "x", Count::One, 0)?]?;
     desc(alloc, name, fields, Vec::new(alloc))
 }
 
-/// The bytes `a`, `b` and `c`, two bytes `p`, and a byte `l` since version 2.
+/// Returns the bytes `a`, `b` and `c`, two bytes `p`, and a byte `l` since version 2.
 fn fields(alloc: Global, said: Said) -> Result<Vec<Field>, Fail> {
     let mut fields = Vec::new(alloc);
     fields.push(field(alloc, "a", Count::One, 0)?)?;
@@ -121,7 +122,7 @@ fn device(alloc: Global, said: Said) -> Result<Device, Fail> {
     })
 }
 
-/// What is wrong with a structure `s` and a device `box` with a subsection `box/s`.
+/// Returns what is wrong with a structure `s` and a device `box` with a subsection `box/s`.
 fn fault(alloc: Global, said: Said) -> Result<DescFault, Fail> {
     let parts = Parts {
         machines: Listed::new(Vec::new(alloc)),
@@ -164,7 +165,7 @@ static BROKEN: [(Said, u8, (Part, Option<u32>)); 22] = [
     (Said::Test((PARENT, 1, 0)), 4, FIELD),
     (Said::Test((PARENT, 2, 0)), 4, FIELD),
     (Said::Test((PARENT, 3, 0)), 4, FIELD),
-    // a test that is too deep and asks a field that isn't there
+    // a test that is too deep, of a field that doesn't exist
     (Said::Test((OWN, 9, 16)), 4, FIELD),
     (Said::Validate((OWN, 5, 0)), 4, DEVICE),
     (Said::Validate((PARENT, 0, 0)), 4, DEVICE),

@@ -1,4 +1,4 @@
-// Edges of inputs that are low, as no board gives them to more than its input 0.
+// Edges of inputs that are low. Boards give these only to the first PIC's input 0.
 use dev_pic::PicPair;
 use std::process::Abort;
 
@@ -25,7 +25,7 @@ fn an_edge_requests_an_input_that_is_low(rt: HostRuntime) {
     for (port, value) in &SET_UP {
         write(&rt, &mut pair, *port, *value);
     }
-    // one of the cascade input is not used
+    // an edge of the cascade input has no effect
     pair.settle(0, 0x0004);
     assert!(rt; !pair.int());
     pair.settle(0, 0x0101);

@@ -3,12 +3,13 @@ use dev_base::{LAST_MOMENT, is_level};
 use dev_pit::Pit;
 use std::process::Abort;
 
-/// A mode, a count that was loaded at 0, a moment, the live count, OUT, and whether OUT has risen by then.
+/// A mode, a count that was loaded at 0, a moment, the live count, OUT, and whether OUT has risen
+/// by then.
 type Shown = (u8, u16, u64, u16, bool, bool);
 
-/// Each mode with the counts 1, 2, 0 (which stands for 65,536) and 5. Tick 1 is at 839 ns, 2 at 1,677, 3 at
-/// 2,515, 4 at 3,353, 5 at 4,191, 6 at 5,029, 32,768 at 27,462,701, 65,535 at 54,924,564, 65,536 at 54,925,402
-/// and 65,537 at 54,926,240.
+/// Each mode with the counts 1, 2, 0 (which means 65,536) and 5. Tick 1 is at 839 ns, 2 at 1,677, 3
+/// at 2,515, 4 at 3,353, 5 at 4,191, 6 at 5,029, 32,768 at 27,462,701, 65,535 at 54,924,564, 65,536
+/// at 54,925,402 and 65,537 at 54,926,240.
 static SHOWN: [Shown; 48] = [
     (0, 1, 838, 1, false, false),
     (0, 1, 839, 0, true, true),
@@ -70,7 +71,7 @@ fn read(rt: &impl Abort, pit: &mut Pit, counter: u8) -> u8 {
     pit.read(counter, 60_000_000)
 }
 
-/// Sets a mode and a count of a counter at 0, and asks what it shows at a moment.
+/// Sets a counter's mode and count at 0, and checks what it shows at a moment.
 fn shows(rt: &impl Abort, level: u8, counter: u8, row: &Shown) {
     let (mode, count, now, live, out, has_risen) = *row;
     assert!(rt; is_level(level) && counter < 3 && mode < 6 && now <= LAST_MOMENT);

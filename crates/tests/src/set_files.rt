@@ -1,4 +1,4 @@
-// A set that is written as the file that it was read from.
+// A set is written as the file from which it was read.
 use crate::sets::{COUNTED, set_of};
 use std::alloc::Global;
 use std::test::Fail;

@@ -1,4 +1,4 @@
-// Where cells lie in sets, and where their numbers stand in the bytes of an image.
+// Where cells are in sets, and where their numbers are in the bytes of an image.
 use std::alloc::Global;
 use std::process::Abort;
 use std::test::Fail;
@@ -18,27 +18,27 @@ const FLAG: &str =
 const NESTED: &str =
     "{\"devices\":[{\"desc\":{\"fields\":[{\"kind\":\"unused\",\"name\":\"gap\",\"size\":4},{\"count\":3,\"kind\":\"struct\",\"name\":\"array\",\"struct\":0}],\"name\":\"box\",\"subsections\":[{\"fields\":[{\"kind\":\"u8\",\"name\":\"n\"},{\"capacity\":2,\"counted\":\"n\",\"kind\":\"u16\",\"name\":\"v\"}],\"name\":\"box/tail\",\"needed\":{\"at_least\":0},\"version\":1}],\"version\":1},\"instance\":0}],\"machines\":[\"lab\"],\"structs\":[{\"fields\":[{\"kind\":\"u8\",\"name\":\"n\"},{\"capacity\":2,\"counted\":\"n\",\"kind\":\"u16\",\"name\":\"v\"}],\"name\":\"inner\",\"version\":1}]}";
 
-/// The set of a description file.
+/// Returns the set of a description file.
 pub(crate) fn set_of(alloc: Global, text: &str) -> Result<DescSet, Fail> {
     Ok(read_set(alloc, text.as_bytes()).ok().ok_or("a set")?)
 }
 
-/// A shipped set.
+/// Returns the shipped set `number`.
 pub(crate) fn shipped(rt: &impl Abort, alloc: Global, number: u8) -> Result<DescSet, Fail> {
     assert!(rt; number <= 4);
     Ok(DescSet::shipped(alloc, number).ok().ok_or("memory")?)
 }
 
-/// What is asked of a set, and what it must answer.
+/// A question to a set, with the answer.
 #[derive(Clone, Copy)]
 enum Asked {
-    /// How many cells the first device has.
+    /// The number of the first device's cells.
     Count(u32),
     /// The cell of a device or of one of its subsections at a path.
     Cell(u32, Option<u32>, &'static [(u32, u32)], Option<u32>),
     /// The device of a name and an instance.
     Device(&'static [u8], u32, Option<u32>),
-    /// The offsets at which the numbers of a device stand, and in how many bytes.
+    /// The offsets of a device's numbers, and the number of its bytes.
     Stand(u32, &'static [u32], u32),
 }
 
@@ -126,7 +126,7 @@ fn cells_of_structures_and_subsections_follow(rt: HostRuntime) -> Result<(), Fai
     Ok(())
 }
 
-/// Shipped sets, and what they answer.
+/// Shipped sets, with questions and answers.
 static OF_SHIPPED: [(u8, &[Asked]); 5] = [
     (
         0,

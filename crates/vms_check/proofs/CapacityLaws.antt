@@ -30,7 +30,7 @@ pub ruleset bound_laws = (bound_some, bound_none)
 
 -- ---- room
 
--- each holds so many elements
+-- each has room for that number of elements
 abbrev Holds : ℕ → List ℕ → Type 0
 Holds n [] = Unit {0}
 Holds n (m ∷ caps) = (n ≤ m) × Holds n caps

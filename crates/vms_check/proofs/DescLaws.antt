@@ -1,4 +1,4 @@
--- A description on each side: no rule asks where cells begin.
+-- A description on each side: no rule depends on where cells begin.
 use Rattle.std.proofs.Common.{◌≡◌, ℕ, suc, ◌+◌, List, [], ◌∷◌, ◌++◌, length, map, Bool, true, false, Option, Some, None, refl, sym, ap, ◌∙◌}
 use Rattle.std.specs.Prelude.{◌==◌, if◌then◌else◌}
 use mathlib.Core.Path.{fun_ext}

@@ -1,4 +1,4 @@
--- What is left of the tests of two fields that are there.
+-- The rests of the tests of two present fields.
 use Rattle.std.proofs.Common.{◌≡◌, ℕ, Bool, true, false, Option, Some, None, refl, if◌then◌else◌}
 use Rattle.vms_spec.specs.Sets.{Formula}
 use Rattle.vms_check.specs.Comparing.{is_nothing, same_rest, same_reduced}

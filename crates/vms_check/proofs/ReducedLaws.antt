@@ -46,9 +46,9 @@ module _ (v : ℕ) (own parent : ℕ → ℕ) where
 pub reduced_holds : (t : Formula) (v : ℕ) (own parent : ℕ → ℕ) → truth_of (reduced v t) v own parent ≡ truth t v own parent
 reduced_holds t v own parent = reduced_holds_at v own parent t
 
--- ---- what holds of the test that is left
+-- ---- what holds of the rest of a test
 
--- where one is left
+-- if there is a rest
 abbrev pub IfOpen : (Formula → Type 0) → Reduced → Type 0
 IfOpen P (Known b) = Unit {0}
 IfOpen P (Open t) = P t

@@ -124,7 +124,7 @@ own_version d low = ap (λ (b : Bool). b && nat_le d.version d.version) (le-leb 
 
 -- ---- names
 
--- a name that stands in a list of names is one of them
+-- a name that is in a list of names is one of them
 pub is_among : (names : List (List ℕ)) (i : ℕ) (name : List ℕ) → slice_get names i ≡ Some name → is_one_of names name ≡ true
 is_among [] i name e = absurd (cc)
 is_among (n ∷ names) zero name e = let same : n ≡ name = cc in or_left (bytes_eq n name) (is_one_of names name) ((bytes_eq-Decides n name).1 same)

@@ -1,4 +1,4 @@
--- What is left of a test is the same as itself, where each number that it names has a position.
+-- The rest of a test is the same as itself, if each number that it names has a position.
 use Rattle.std.proofs.Common.{◌≡◌, ℕ, ◌≤◌, Bool, true, false, Option, Some, None, refl, sym, ap, ◌∙◌, arith}
 use Rattle.std.specs.Prelude.{◌&&◌, ◌==◌, nat_le, if◌then◌else◌}
 use Rattle.std.specs.List.{slice_get}

@@ -20,7 +20,7 @@ use Rattle.vms_check.specs.Reducing.{presence}
 use Rattle.vms_check.specs.Pairs.{struct_mismatch, table}
 use Rattle.vms_check.specs.declared.mismatch.Mismatch.{Mismatch}
 
--- ---- a table's end is not asked
+-- ---- the end of a table isn't used
 
 -- each entry that is a structure has one of a number below k
 abbrev pub AllBelow : ℕ → List Entry → Type 0

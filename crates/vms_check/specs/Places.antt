@@ -4,7 +4,7 @@ use Rattle.vms_check.specs.Sides.{position_on}
 use Rattle.vms_check.specs.declared.positions.Places.{Places}
 use Rattle.vms_check.specs.declared.side.Side.{Side}
 
--- each entry is the position of the field of its number, if that is there
+-- Each entry is the position of the field of its number, if that is present.
 pub record ArePlaces (s t : Side) (places : Places) : Type 0 where
   pub old : (k : ℕ) → get_or places.in_old k None ≡ position_on s k
   pub new : (k : ℕ) → get_or places.in_new k None ≡ position_on t k

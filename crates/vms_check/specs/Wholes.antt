@@ -1,4 +1,4 @@
--- What the comparison of two sets answers of machines, names and parts.
+-- What the comparison of two sets finds for machines, names and parts.
 use Rattle.std.specs.Prelude.{ℕ, Bool, not, [], ◌∷◌, Option, Some, None}
 use Rattle.std.specs.List.{slice_get, list_all}
 use Rattle.vms_spec.specs.declared.Part.{Part}
@@ -20,28 +20,32 @@ use Rattle.vms_check.specs.declared.mismatch.Verdict.{Verdict}
 use Rattle.vms_check.specs.declared.mismatch.Verdict.TheVariants.{Accepted, Refused}
 use Rattle.vms_check.specs.declared.side.Side.{Side}
 
+-- The verdict of a mismatch, if there is one.
 abbrev pub verdict_of : Option Mismatch → Verdict
 verdict_of None = Accepted
 verdict_of (Some mismatch) = Refused mismatch
 
+-- A set doesn't have the device.
 abbrev pub is_missing : Set → Device → Bool
 is_missing set d = not (is_in set d)
 
 module _ (old new : Set) where
+  -- Rule 1: machines of the older set that the newer one doesn't have.
   abbrev pub machines_mismatch : Option Mismatch
   machines_mismatch = failing_pair ((1, list_all (is_one_of new.machines) old.machines) ∷ []) (here parts.Set) (here parts.Set)
 
-  -- devices that one of the sets doesn't have
+  -- Devices that one of the sets doesn't have.
   abbrev pub lost_mismatch : Option Mismatch
   lost_mismatch =
       or_else (first_answer (λ i d. failing_pair ((2, is_in new d) ∷ []) (here (parts.Device i)) (here parts.Set)) 0 old.devices)
       (first_answer (λ i d. failing_pair ((3, is_in old d) ∷ []) (here parts.Set) (here (parts.Device i))) 0 new.devices)
 
-  -- device i of the older set, beside the one of the newer that has its name and instance
+  -- Device i of the older set, with the newer one of the same name and instance.
   abbrev pub device_mismatch : ℕ → Device → Option Mismatch
   device_mismatch i d = compare_device old new i d (paired_device old new d) (slice_get new.devices (index (paired_device old new d)))
 
--- a part of the older set beside one of a newer set, at the older one's version, which a rule says that the newer reads
+-- The first mismatch of a part of the older set and one of a newer set, at the older one's version. A rule says
+-- that the newer one reads that version.
 abbrev pub part_mismatch : ℕ → Side → Set → Part → Option Mismatch
 part_mismatch rule s new part =
     let old = described s.set.now in

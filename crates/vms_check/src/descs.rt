@@ -1,4 +1,4 @@
-// A description on each side: its present fields in pairs, structures before the next pair, and then its validations.
+// A description on each side: its present fields in pairs, their structures, and then its validations.
 ghost use Rattle.std.specs.List.{list_all, list_any};
 ghost use Rattle.std.specs.Prelude.{◌≡◌, ◌<◌, length, map, true};
 ghost use Rattle.vms_desc.specs.Described.{described};
@@ -17,7 +17,7 @@ use crate::side::{Side, at_own_version, here, in_field, validations_of};
 use vms_desc::{DescSet, Part, Test};
 use vms_kinds::Item;
 
-// Whether one of these old validations has become this.
+// Checks whether one of the old validations has become this.
 fn is_among(old: Side, new: Side, places: &Places, tests: &[Test], left: Left) -> bool
     requires old { IsSide old }
     requires new { IsSide new }
@@ -34,7 +34,7 @@ fn is_among(old: Side, new: Side, places: &Places, tests: &[Test], left: Left) -
     false
 }
 
-// Whether a validation of the new set is true, or is an old one.
+// Checks whether a validation of the new set is always true, or is an old one.
 fn is_kept(old: Side, new: Side, places: &Places, test: &Test) -> bool
     requires old { IsSide old }
     requires new { IsSide new }
@@ -77,7 +77,7 @@ fn compare_validations(old: Side, new: Side, places: &Places) -> Option<Mismatch
     })
 }
 
-// The structures of these numbers, each at its own version.
+// Compares two structures, each at its own version.
 #[cycle(walk)]
 fn compare_structs(old: &DescSet, new: &DescSet, in_old: u32, in_new: u32) -> Option<Mismatch>
     requires old { in_old < length (described old.now).structs }
@@ -90,7 +90,7 @@ fn compare_structs(old: &DescSet, new: &DescSet, in_old: u32, in_new: u32) -> Op
     )
 }
 
-// Two fields of the same position, and the structures that they have.
+// Compares two fields of the same position, and their structures.
 #[cycle(walk)]
 fn compare_pair(
     old: Side,
@@ -157,7 +157,7 @@ fn compare_fields(old: Side, new: Side, places: &Places) -> Option<Mismatch>
     }
 }
 
-// The first mismatch of two descriptions.
+// Returns the first mismatch of two descriptions.
 #[cycle(walk)]
 pub(crate) fn compare_descs(old: Side, new: Side) -> Option<Mismatch>
     requires old { IsSide old }

@@ -7,14 +7,14 @@ ghost use Rattle.vms_check.specs.Comparing.{same_kind, same_item, same_constant,
 use vms_desc::Count;
 use vms_kinds::{Item, Kind};
 
-/// Whether numbers are of one kind.
+/// Checks whether `one` and `other` are the same kind of number.
 pub fn same_kind(one: Kind, other: Kind) -> bool
     ensures { result ≡ same_kind one other }
 {
     one == other
 }
 
-// Whether items are of one kind. Two structures always are, and unused bytes are of a kind by their number.
+// Checks whether two items are of one kind. Two structures always are. Unused bytes are if their numbers are equal.
 pub(crate) fn same_item(one: Item, other: Item) -> bool
     ensures { result ≡ same_item one other }
 {
@@ -33,7 +33,7 @@ fn same_number(one: i128, other: i128) -> bool
     one == other
 }
 
-// Whether constants, where both are some, are the same.
+// Checks whether two constants are the same, if both items have one.
 pub(crate) fn same_constant(one: Item, other: Item) -> bool
     ensures { result ≡ same_constant one other }
 {
@@ -45,7 +45,7 @@ pub(crate) fn same_constant(one: Item, other: Item) -> bool
     }
 }
 
-// Whether unused bytes of the new set stand over a constant of the old one, or over its numbers.
+// Checks whether unused bytes of the new set cover a constant of the old one, or its numbers.
 pub(crate) fn is_covered(item: Item, count: Count, by: Item) -> bool
     ensures { result ≡ is_covered item count by }
 {
@@ -66,7 +66,7 @@ fn width(kind: Kind) -> u64
     kind.width() as u64
 }
 
-// Whether an array of the new set has as many places.
+// Checks whether an array of the new set has at least the old one's capacity.
 pub(crate) fn holds_as_much(one: Count, other: Count) -> bool
     ensures { result ≡ holds_as_much one other }
 {

@@ -1,26 +1,27 @@
 // Laws of the comparison.
 ghost use Rattle.vms_check.specs.Laws.{ReducedLaw, ReflexiveLaw, RulesLaw, ShippedLaw};
 
-/// What is left of a test once the version is known holds exactly where the test does.
+/// States that a test, reduced for a known version, is true exactly if the test itself is true at
+/// that version.
 #[tactic(auto, using(crate::proofs::ReducedLaws::reduced_holds))]
 pub fn reduced_law()
     ensures { ReducedLaw }
 {}
 
-/// Two sets are compatible exactly where the fifteen rules hold, each as it is worded: for every older set and every
-/// well-formed newer one.
+/// States that the check finds no failing rule exactly if all fifteen rules hold as they are
+/// worded, for every older set and every well-formed newer one.
 #[tactic(auto, using(crate::proofs::SetsFit::rules_hold))]
 pub fn rules_law()
     ensures { RulesLaw }
 {}
 
-/// Every well-formed set is compatible to itself.
+/// States that every well-formed set is compatible with itself.
 #[tactic(auto, using(crate::proofs::SelfLaws::reflexive))]
 pub fn reflexive_law()
     ensures { ReflexiveLaw }
 {}
 
-/// Each shipped set from 1 on is compatible to each later one.
+/// States that each shipped set from `@1` on is compatible with each later one.
 #[tactic(auto, using(crate::proofs::ShippedLaws::shipped_compatible))]
 pub fn shipped_law()
     ensures { ShippedLaw }

@@ -1,22 +1,22 @@
-// What a comparison of two sets answers.
+// The result of a comparison of two sets.
 use vms_desc::Place;
 
-/// A rule, 1 to 15, that fails, with its place on each side.
+/// A rule that fails, with its place on each side.
 #[derive(Clone, Copy, Debug, PartialEq, Eq)]
 pub struct Mismatch {
     /// The rule's number, 1 to 15.
     pub rule: u8,
-    /// Its place in the older set.
+    /// The place in the older set.
     pub in_old: Place,
-    /// Its place in the newer set.
+    /// The place in the newer set.
     pub in_new: Place,
 }
 
-/// Whether two sets are compatible.
+/// The result of [`check`](crate::check).
 #[derive(Clone, Copy, Debug, PartialEq, Eq)]
 pub enum Verdict {
-    /// Every stream that the older set writes is one of the newer.
+    /// The sets are compatible: no rule fails.
     Accepted,
-    /// The first rule that fails.
+    /// The sets aren't compatible. Holds the first rule that fails.
     Refused(Mismatch),
 }

@@ -5,7 +5,7 @@ ghost use Rattle.vms_check.specs.Comparing.{names_match};
 
 use vms_desc::{Field, is_one_of};
 
-// Whether the old field's name is the new one's, or one that it had.
+// Checks whether the old field's name is the new one's, or one of its former names.
 pub(crate) fn names_match(old: &Field, new: &Field) -> bool
     ensures { result ≡ names_match (field_of old.now) (field_of new.now) }
 {

@@ -1,4 +1,4 @@
-// The rules at two fields of the same position.
+// The rules for two fields of the same position.
 ghost use Rattle.std.specs.Prelude.{◌≡◌};
 ghost use Rattle.vms_spec.specs.Layout.{counted};
 ghost use Rattle.vms_check.specs.Comparing.{same_count, same_reduced, same_rest, absent_hold, bound};
@@ -16,7 +16,7 @@ use crate::same::same_reduced;
 use crate::side::{Side, fields_of};
 use vms_desc::Count;
 
-// Whether both are single, of equal length, or counted by fields of the same position.
+// Checks whether both fields are single, of equal length, or counted by fields of the same position.
 fn same_count(old: Side, new: Side, places: &Places, one: Count, other: Count) -> bool
     requires old { IsSide old }
     requires new { IsSide new }
@@ -33,7 +33,7 @@ fn same_count(old: Side, new: Side, places: &Places, one: Count, other: Count) -
     }
 }
 
-// Whether what is left of their tests is the same.
+// Checks whether the rest of their tests is the same.
 #[tactic(auto, using(crate::proofs::PairLaws::left_same, crate::proofs::PairLaws::presence_is))]
 fn same_rest(old: Side, new: Side, places: &Places, one: Present, other: Present) -> bool
     requires old { IsSide old }
@@ -53,7 +53,7 @@ fn same_rest(old: Side, new: Side, places: &Places, one: Present, other: Present
     )
 }
 
-// The greatest number that a field can have.
+// Returns the largest number that a field can have.
 #[tactic(auto, using(crate::proofs::CapacityLaws::bound_laws))]
 fn bound(side: Side, one: Present) -> u64
     requires side { IsSide side }
@@ -67,8 +67,9 @@ fn bound(side: Side, one: Present) -> u64
     }
 }
 
-// Whether the arrays that the new number counts and that are not there hold all that the old number may count. They are
-// looked at one by one only where some array that it counts holds less.
+// Checks whether the absent arrays that the new number counts have room for the largest old number.
+//
+// They are looked at one by one only if one of them has less room.
 #[tactic(auto, using(crate::proofs::CapacityLaws::room_laws))]
 fn absent_arrays_hold(old: Side, new: Side, one: Present, other: Present) -> bool
     requires old { IsSide old }
@@ -89,7 +90,7 @@ fn absent_arrays_hold(old: Side, new: Side, one: Present, other: Present) -> boo
     }
 }
 
-// The first rule that fails where no unused bytes cover the old field.
+// Returns the first rule that fails if no unused bytes cover the old field.
 fn uncovered_rule(old: Side, new: Side, places: &Places, one: Present, other: Present) -> Option<u8>
     requires old { IsSide old }
     requires new { IsSide new }
@@ -118,7 +119,7 @@ fn uncovered_rule(old: Side, new: Side, places: &Places, one: Present, other: Pr
     }
 }
 
-// The first rule that fails at two fields of the same position.
+// Returns the first rule that fails for two fields of the same position.
 pub(crate) fn failing_rule(
     old: Side,
     new: Side,

@@ -9,7 +9,7 @@ use crate::reducing::is_present;
 use crate::side::{Side, fields_of};
 use vms_desc::Field;
 
-// Of each field of a description its position, if it is there; a description has at most 256 fields.
+// The position of each field of a description, if it is present. A description has at most 256 fields.
 type Positions = [Option<u16>; 256];
 
 // The positions of the fields of two sides.
@@ -19,14 +19,14 @@ pub(crate) struct Places {
     in_new: Positions,
 }
 
-// The entry of a field, by whether it is there, and how many are there before it.
+// Returns the entry of a field: `count` if it is present.
 fn entry(is_there: bool, count: u16) -> Option<u16>
     ensures { result ≡ (if is_there then Some count else None) }
 {
     if is_there { Some(count) } else { None }
 }
 
-// How many are there with this field.
+// Returns the number of present fields up to and with this one.
 fn counted(is_there: bool, count: u16) -> u16
     requires { count < 256 }
     ensures { result ≡ (if is_there then suc count else count) }
@@ -55,6 +55,7 @@ fn positions_on(side: Side) -> Positions
     positions(fields_of(side), side.version)
 }
 
+/// Returns the positions of the fields of both sides.
 pub(crate) fn places_on(old: Side, new: Side) -> Places
     requires old { IsSide old }
     requires new { IsSide new }
@@ -66,7 +67,7 @@ pub(crate) fn places_on(old: Side, new: Side) -> Places
     }
 }
 
-// The position of the field of this number.
+// Returns the position of field `number`.
 fn position_of(positions: &Positions, number: u32) -> Option<u16>
     ensures { result ≡ get_or positions.now number None }
 {
@@ -78,7 +79,7 @@ fn position_of(positions: &Positions, number: u32) -> Option<u16>
     }
 }
 
-// Whether these fields are there on both sides, at the same position.
+// Checks whether two fields are present on both sides and have the same position.
 pub(crate) fn same_place(old: Side, new: Side, places: &Places, in_old: u32, in_new: u32) -> bool
     requires { ArePlaces old new places.now }
     ensures { result ≡ same_place (position_on old.entry in_old) (position_on new.entry in_new) }

@@ -1,4 +1,4 @@
-// The fields that are there at a version.
+// The fields that are present at a version.
 ghost use Rattle.vms_check.specs.Pairs.{IsNext};
 ghost use Rattle.vms_check.specs.Sides.{IsSide};
 
@@ -6,14 +6,14 @@ use crate::reducing::is_present;
 use crate::side::{Side, fields_of};
 use vms_desc::Field;
 
-// A field that is there, with its number in the description.
+// A present field, with its number in the description.
 #[derive(Clone, Copy)]
 pub(crate) struct Present<'a> {
     pub(crate) number: u32,
     pub(crate) field: &'a Field,
 }
 
-// The first field from this number on that is there.
+// Returns the first present field from number `from` on.
 pub(crate) fn next_present(side: Side<'_>, from: usize) -> Option<Present<'_>>
     requires side { IsSide side }
     ensures { IsNext side.entry from result }

@@ -1,4 +1,4 @@
-// Tests and fields at a version.
+// Tests and fields at a known version.
 ghost use Rattle.std.specs.Prelude.{◌≡◌, ◌≤◌, true, not};
 ghost use Rattle.std.specs.Option.{option_map};
 ghost use Rattle.vms_spec.specs.Rules.{nodes};
@@ -9,14 +9,16 @@ ghost use Rattle.vms_check.specs.Sides.{as_reduced, is_whole_left, left_nodes, f
 
 use vms_desc::{Field, Test};
 
-// What a test has become where the version is known: a truth, or what is left of it.
+// A test at a known version: a truth value, or the rest of the test.
 #[derive(Clone, Copy)]
 pub(crate) enum Left<'a> {
+    // The test is always true, or always false.
     Known(bool),
-    // Nothing is folded away at its root.
+    // The rest of the test. Its root can't be folded.
     Open(&'a Test),
 }
 
+// Returns what `test` becomes at `version`.
 pub(crate) fn reduce(test: &Test, version: u32) -> Left<'_>
     ensures same { as_reduced version result ≡ reduced version (formula test.now) }
     ensures whole { is_whole_left version result ≡ true }
@@ -43,7 +45,7 @@ pub(crate) fn reduce(test: &Test, version: u32) -> Left<'_>
     }
 }
 
-// Whether a field is there, or what is left of its test.
+// Returns whether a field is present, or the rest of its test.
 pub(crate) fn presence(field: &Field, version: u32) -> Left<'_>
     ensures same { as_reduced version result ≡ field_reduced version
         (option_map formula_in field.now.test) field.now.since }
@@ -55,8 +57,10 @@ pub(crate) fn presence(field: &Field, version: u32) -> Left<'_>
     }
 }
 
-/// Whether a field may be there at a version: its test there isn't false, or, where it has none, it has been there
-/// since then.
+/// Checks whether `field` may be present at `version`.
+///
+/// A field with a test may be, unless the test is false at that version. A field without one is
+/// present from its `since` on.
 pub fn is_present(field: &Field, version: u32) -> bool
     ensures { result ≡ not (is_absent version (field_of field.now)) }
 {

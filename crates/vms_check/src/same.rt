@@ -1,4 +1,4 @@
-// Whether tests are the same once they are reduced, fields being matched by position.
+// Whether reduced tests are the same, where fields are matched by position.
 ghost use Rattle.std.specs.Prelude.{◌≡◌, ◌==◌, true};
 ghost use Rattle.vms_parts.specs.Views.{formula};
 ghost use Rattle.vms_check.specs.Comparing.{rel_number, same_test, same_reduced};
@@ -34,7 +34,7 @@ pub(crate) fn same_reduced(old: Side, new: Side, places: &Places, one: Left, oth
     }
 }
 
-// The same of tests at whose roots nothing is folded away.
+// Compares two tests whose roots can't be folded.
 #[cycle(same)]
 fn same_tests(old: Side, new: Side, places: &Places, one: &Test, other: &Test) -> bool
     requires old { IsSide old }
@@ -76,7 +76,7 @@ fn same_inner(old: Side, new: Side, places: &Places, one: &Test, other: &Test) -
     )
 }
 
-// The same of two tests on numbers of the descriptions.
+// Compares two tests of numbers of the descriptions.
 fn same_atoms(old: Side, new: Side, places: &Places, one: &Test, other: &Test) -> bool
     requires old { IsSide old }
     requires new { IsSide new }

@@ -18,7 +18,8 @@ use crate::side::{Side, at_own_version, desc_of, here};
 use crate::{Mismatch, Verdict};
 use vms_desc::{Desc, DescSet, Device, Part, Sub, Text, find_sub, is_one_of};
 
-/// Whether the newer set reads what the older one writes, or else the first rule that fails with its place on each side.
+/// Checks whether `new` reads what `old` writes. Returns the first of fifteen rules that fails,
+/// with its place on each side.
 pub fn check(old: &DescSet, new: &DescSet) -> Verdict
     ensures { result ≡ verdict_of (first_mismatch (described old.now) (described new.now)) }
 {
@@ -67,7 +68,7 @@ fn compare_machines(old: &DescSet, new: &DescSet) -> Option<Mismatch>
     })
 }
 
-// The number of the first of these devices that a set doesn't have.
+// Returns the number of the first device that a set doesn't have.
 fn missing(devices: &[Device], set: &DescSet) -> Option<u32>
     requires { length devices.now ≤ 64 }
     ensures { result ≡ position (is_missing (described set.now)) 0 (map device_of devices.now) }
@@ -87,7 +88,7 @@ fn has_device(set: &DescSet, device: &Device) -> bool
         .is_some()
 }
 
-// The devices that one of the sets doesn't have.
+// Compares which devices the sets have.
 fn compare_names(old: &DescSet, new: &DescSet) -> Option<Mismatch>
     ensures { result ≡ lost_mismatch (described old.now) (described new.now) }
 {
@@ -124,7 +125,7 @@ fn compare_devices(old: &DescSet, new: &DescSet) -> Option<Mismatch>
     None
 }
 
-// The device of this number, and the new one of its name and instance.
+// Compares device `number` with the new one of the same name and instance.
 fn compare_device(old: &DescSet, new: &DescSet, number: u32) -> Option<Mismatch>
     requires { number < length (described old.now).devices }
     ensures { result ≡ device_mismatch (described old.now) (described new.now) number
@@ -137,7 +138,7 @@ fn compare_device(old: &DescSet, new: &DescSet, number: u32) -> Option<Mismatch>
     }
 }
 
-// The devices of these numbers, which have one name and instance.
+// Compares two devices of the same name and instance.
 fn compare_found(old: &DescSet, new: &DescSet, in_old: u32, in_new: u32) -> Option<Mismatch>
     requires old { in_old < length (described old.now).devices }
     requires new { in_new < length (described new.now).devices }
@@ -152,7 +153,7 @@ fn compare_found(old: &DescSet, new: &DescSet, in_old: u32, in_new: u32) -> Opti
     compare_subs(old, new, in_old, in_new)
 }
 
-// Two parts at the old one's version, where a rule of this number says that the new one reads that version.
+// Compares two parts at the old one's version. Rule `rule` says that the new one reads that version.
 fn compare_parts(rule: u8, old: Side, set: &DescSet, part: Part) -> Option<Mismatch>
     requires old { IsSide old }
     requires new { HasPart (described set.now) part }
@@ -181,7 +182,7 @@ fn is_version_of(desc: &Desc, version: u32) -> bool
 
 // ---- subsections
 
-// The subsections of the old device, each with one of the new device.
+// Compares the subsections of the old device with those of the new one.
 fn compare_subs(old: &DescSet, new: &DescSet, in_old: u32, in_new: u32) -> Option<Mismatch>
     requires old { in_old < length (described old.now).devices }
     requires new { in_new < length (described new.now).devices }

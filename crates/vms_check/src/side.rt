@@ -11,12 +11,19 @@ use vms_desc::{Desc, DescSet, Field, Part, Place, Test};
 /// A part of a set at the version at which it is compared.
 #[derive(Clone, Copy)]
 pub struct Side<'a> {
+    /// The set.
     pub set: &'a DescSet,
+    /// The part of the set.
     pub part: Part,
+    /// The version.
     pub version: u32,
 }
 
-/// A part at the version that its own set writes.
+/// Returns `part` at the version that its own `set` writes.
+///
+/// # Requires
+///
+/// `set` has `part`.
 pub fn at_own_version(set: &DescSet, part: Part) -> Side<'_>
     requires { HasPart (described set.now) part }
     ensures { result ≡ own_side set.entry part }
@@ -25,6 +32,7 @@ pub fn at_own_version(set: &DescSet, part: Part) -> Side<'_>
     Side { set, part, version }
 }
 
+/// Returns the description of `side`.
 pub(crate) fn desc_of(side: Side<'_>) -> &Desc
     requires { IsSide side }
     ensures { desc_of result.now ≡ desc_on side.entry }
@@ -32,7 +40,11 @@ pub(crate) fn desc_of(side: Side<'_>) -> &Desc
     side.set.desc(side.part)
 }
 
-/// The fields of a part.
+/// Returns the fields of `side`.
+///
+/// # Requires
+///
+/// The set of `side` has its part.
 pub fn fields_of(side: Side<'_>) -> &[Field]
     requires { IsSide side }
     ensures { map field_of result.now ≡ (desc_on side.entry).fields }
@@ -40,6 +52,7 @@ pub fn fields_of(side: Side<'_>) -> &[Field]
     desc_of(side).fields.as_slice()
 }
 
+/// Returns the validations of `side`.
 pub(crate) fn validations_of(side: Side<'_>) -> &[Test]
     requires { IsSide side }
     ensures { map formula result.now ≡ (desc_on side.entry).validate }
@@ -47,14 +60,14 @@ pub(crate) fn validations_of(side: Side<'_>) -> &[Test]
     desc_of(side).validate.as_slice()
 }
 
-// The place of a part itself.
+// Returns the place of a part itself.
 pub(crate) fn here(part: Part) -> Place
     ensures { result ≡ here part }
 {
     Place { part, field: None }
 }
 
-// The place of a field of it.
+// Returns the place of a field of a part.
 pub(crate) fn in_field(part: Part, field: u32) -> Place
     ensures { result ≡ in_field part field }
 {

@@ -1,5 +1,5 @@
--- Bytes of both sides at one front: where slots of the newer set are spelled at the front of what the older wrote, they take
--- the bytes that the older wrote for its own slots, and no others.
+-- Bytes of both sides at one front. If slots of the newer set are at the front of what the older set wrote, they
+-- take exactly the bytes that it wrote for its own slots.
 use Rattle.std.proofs.Common.{◌≡◌, ℕ, Bool, List, [], ◌∷◌, ◌++◌, length, get_or, refl, sym, ap, ◌∙◌, arith, append_assoc, ℤ, pos}
 use Rattle.std.proofs.lemmas.List.{length-append}
 use Rattle.byteorder.specs.Endian.{big_number}
@@ -43,7 +43,7 @@ spells_split y (Filler n ∷ b) c body s =
     (s.0 ++ t.0, t.1, s.3 ∙ ap (λ (l : List ℕ). s.0 ++ l) t.2 ∙ sym (append_assoc s.0 t.0 t.1), (s.0, t.0, s.2, refl, t.3), t.4)
 spells_split y (Rule r ∷ b) c body s = spells_split y b c body s
 
--- what is left behind the first of two parts
+-- the rest after the first of two parts
 pub behind_first : (x : List ℤ) (a c : List Slot) (front rest r r' : List ℕ) → (front ++ rest) ++ r' ≡ zeroed x (a ++ c) ++ r → front ++ (rest ++ r') ≡ zeroed x a ++ (zeroed x c ++ r)
 behind_first x a c front rest r r' h =
     sym (append_assoc front rest r') ∙ h ∙ ap (λ (l : List ℕ). l ++ r) (zeroed_append x a c) ∙ append_assoc (zeroed x a) (zeroed x c) r

@@ -1,6 +1,7 @@
--- Fields and descriptions at one front: where no rule fails at two fields and the numbers of earlier fields agree, the newer set
--- reads as many bytes for its field as the older wrote for its own, and a number that tests and counts may name is then the same;
--- so position by position. A position at which two constants differ, which the newer set can't read.
+-- Fields and descriptions at one front. If no rule fails at two fields and the numbers of earlier fields agree, the
+-- newer set reads the same number of bytes for its field as the older set wrote for its own. A number that tests
+-- and counts may name is the same then. This is repeated position by position. Also a position at which two
+-- constants differ, which the newer set can't read.
 use Rattle.std.proofs.Common.{◌≡◌, inl, inr, ℕ, zero, suc, ◌+◌, ◌<◌, ◌≤◌, Bool, true, List, [], ◌∷◌, ◌++◌, length, get_or, Option, Some, None, sym, ap, ◌∙◌, subst, arith, replicate, ℤ, pos, if◌then◌else◌, ◌⊎◌, nat_lt, take, refl}
 use Rattle.std.specs.List.{slice_get}
 use Rattle.std.proofs.lemmas.List.{length-append, length-replicate, take_all}
@@ -35,12 +36,12 @@ use Rattle.vms_check_laws.proofs.Aligned.{apart, same_bytes, aligns_nil, aligns_
 use Rattle.std.proofs.Math.Nat.{eq-or-lt_of_le}
 use Rattle.vms_check_laws.proofs.Positioned.{same_some, Above, Upto, upto_next, upto_here, upto_earlier}
 
--- the structures below so many, where no rule fails at two of them
+-- the structures below a number, if no rule fails at two of them
 abbrev pub AlignTable : (ks : List Comparer) (ms ns : List Meaning) (numbers numbers' : List ℤ) (below below' : ℕ) → Type 0
 AlignTable ks ms ns numbers numbers' below below' = (i j : ℕ) → i < below → j < below' → get_or ks j no_comparer i ≡ None → (x y : ℕ) → FitsAt (get_or (cells_in ms) i []) numbers x
     → Aligns numbers ((get_or ms i no_meaning).slots numbers x) numbers' ((get_or ns j no_meaning).slots numbers' y)
 
--- each field names earlier ones alone
+-- each field names only earlier ones
 abbrev pub NamesEarlier : ℕ → Desc → Type 0
 NamesEarlier below b = (j : ℕ) (f : Field) → slice_get b.fields j ≡ Some f → NewGood below (is_earlier_in b j) f
 

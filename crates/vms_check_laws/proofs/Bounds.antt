@@ -40,7 +40,7 @@ present_increasing cs all w i p [] = tt
 present_increasing cs all w i p (g ∷ gs) = entry_increasing i p g (presence w g.test g.since) _ (present_increasing cs all w (suc i) (p + length (field_cells cs all i g)) gs)
 
 module _ (o n : ℕ → Option ℕ) where
-  -- what stands on old's side at the position of new's field is old's field of the pair
+  -- what is on old's side at the position of new's field is old's field of the pair
   abbrev pub Indexed : List Entry → List Entry → Type 0
   Indexed [] fs = Unit {0}
   Indexed (e ∷ es) [] = Unit {0}

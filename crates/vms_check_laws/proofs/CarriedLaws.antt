@@ -14,7 +14,7 @@ use Rattle.vms_check_laws.proofs.GoesDevices.{carried_by_cell}
 use Rattle.vms_check_laws.proofs.PairDevices.{device_paired, one_sub}
 use Rattle.std.proofs.lemmas.List.{ext_get_or}
 
--- where a partner stands, if it is one
+-- where a partner is, if there is one
 is_some_of : (o : Option ℕ) (k : ℕ) → (o ≡ Some k) ⊎ (o ≡ Some k → ⊥)
 is_some_of None k = inr (λ e. cc)
 is_some_of (Some j) k = go (j == k) refl where

@@ -117,7 +117,7 @@ count_fits cs all numbers at by most c has fits =
     let le = counting_below c.field.item (counted (0 + by) all) c.field.default s.number most c.kind s.fits high in
     subst (λ (k : ℕ). k ≤ most) (sym s.is) le
 
--- ---- what is asked of old's fields, without numbers
+-- ---- what old's fields need, without numbers
 
 abbrev pub CountKnown : List Field → Count → Type 0
 CountKnown all (Counted by most) = Counter all by

@@ -1,5 +1,5 @@
--- A description on each side: its bytes carry, what doesn't stand in them is at its default, and at one front the newer set takes
--- just the bytes that the older wrote.
+-- A description on each side: its bytes carry, what isn't in them is at its default, and at one front the newer set
+-- takes exactly the bytes that the older one wrote.
 use Rattle.std.proofs.Common.{◌≡◌, ℕ, ◌+◌, List, [], ◌∷◌, Option, None, sym, ap, ◌∙◌, subst, arith, ℤ, inr, ◌++◌}
 use Rattle.vms_spec.specs.Sets.{Field, Desc}
 use Rattle.vms_spec.specs.Layout.{Slot, Rule, Meaning, desc_cells, slots_from, desc_slots, numbers_of, all_hold}
@@ -96,7 +96,7 @@ module _ (ks : List Comparer) (cs : List Carrier) (ms ns : List Meaning) (a b : 
         carries_append numbers numbers' _ _ (Rule (all_hold a.validate v own) ∷ []) (Rule (all_hold b.validate w own') ∷ []) moved
         (rule_carries ks cs ms ns a b v w part part' o n numbers numbers' at at' below below' table (is_steady_in b) (pairs_hold none).1 rules agree)
 
-    -- what doesn't stand in new's bytes is at new's default
+    -- what isn't in new's bytes is at new's default
     pub desc_settles : SettledTable ks cs ms ns numbers numbers' below below'
         → Settled (desc_slots ns b w numbers' at') at' (desc_cells (cells_in ns) b) (carry_desc cs (cells_in ms) (cells_in ns) numbers v w a b at)
     desc_settles rows =

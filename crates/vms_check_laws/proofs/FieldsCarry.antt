@@ -32,7 +32,7 @@ use Rattle.vms_check.proofs.ReducedLaws.{reduced_holds}
 use Rattle.vms_check.proofs.ListLaws.{passes}
 use Rattle.vms_spec.specs.Images.{zeroed}
 
--- what is covered is one filler, as long as the slots that it stands over
+-- what is covered is one filler, as long as the slots that it covers
 module _ (ms ns : List Meaning) (numbers numbers' : List ℤ) (own own' : ℕ → ℕ) where
   pub covered_slots : (i : Item) (c : Count) (j : Item) (d : Count) (caps caps' : List ℕ) (x y step step' : ℕ) → is_covered i c j ≡ true → IsSingle i c → IsSingle j d
       → (r : ℕ) × (times (elements_of d own') (item_slots ns j caps' numbers') y step' ≡ Filler r ∷ []) × (length (zeroed numbers (times (elements_of c own) (item_slots ms i caps numbers) x step)) ≡ r)
@@ -58,7 +58,7 @@ module _ (ks : List Comparer) (cs : List Carrier) (ms ns : List Meaning) (a b : 
   abbrev KnownNew : List Entry → Type 0
   KnownNew fs = AreKnown ns b.fields w numbers' at' fs
 
-  -- ---- one item, so many items, one field
+  -- ---- one item, several items, one field
 
   number_item : (t : Bool) (k l : Kind) (caps caps' : List ℕ) (d : ℤ) (x y : ℕ) → same_kind k l ≡ true → t ≡ true → Holds numbers' y (if t then get_or numbers x (pos 0) ∷ [] else d ∷ [])
       → Carries numbers (Number x k caps ∷ []) numbers' (Number y l caps' ∷ [])
@@ -122,7 +122,7 @@ module _ (ks : List Comparer) (cs : List Carrier) (ms ns : List Meaning) (a b : 
       let s = covered_slots ms ns numbers numbers' own own' i c j d caps caps' x y step step' covers single single' in
       subst (λ (l : List Slot). Carries numbers slots numbers' l) (sym s.1) (carries_filler numbers numbers' slots s.0 s.2)
 
-  -- a present field of new, with what is left of its test
+  -- a present field of new, with the rest of its test
   pub record EntryGood (f : Entry) : Type 0 where
     pub item : ItemBelow below' f.field.item
     pub single : IsSingle f.field.item f.field.count

@@ -1,5 +1,5 @@
--- Fields: the numbers that tests and counts may name agree on both sides, and what doesn't stand in the newer set's bytes is
--- at its default.
+-- Fields: the numbers that tests and counts may name agree on both sides, and what isn't in the newer set's bytes
+-- is at its default.
 use Rattle.std.proofs.Common.{◌≡◌, inl, inr, ℕ, zero, suc, ◌+◌, ◌*◌, ◌<◌, ◌≤◌, Bool, true, false, List, [], ◌∷◌, ◌++◌, length, get_or, Option, Some, None, refl, sym, ap, ◌∙◌, subst, arith, ℤ, pos, if◌then◌else◌, ◌==◌}
 use Rattle.vms_kinds.specs.declared.Kind.{Kind}
 use Rattle.vms_kinds.specs.declared.Item.{Item}
@@ -153,7 +153,7 @@ module _ (ks : List Comparer) (cs : List Carrier) (ms ns : List Meaning) (a b : 
       (item_settles i j row caps caps' caps2 d d' x y same structs below_a below_b (fits_left cells more_cells numbers x fits) (holds_left numbers' y first after held))
       (settled_at _ _ _ _ after (sym e') rest)
 
-  -- of so many elements on both sides where the field is there, and none else
+  -- for the same number of elements on both sides if the field is present, and else for none
   choice_settles : (i j : Item) → SettledRow → (s t : Bool) (caps caps' caps2 : List ℕ) (d d' : ℤ) (m m' most most' x y : ℕ) → s ≡ t → m ≡ m' → same_item i j ≡ true → pair_structs ks a b v w part part' o n i j ≡ None
       → ItemBelow below i → ItemBelow below' j → m ≤ most → m ≤ most' → FitsAt (times most (λ _. item_cells (cells_in ms) i caps d) 0 0) numbers x
       → Holds numbers' y (carry_items cs (cells_in ms) (cells_in ns) numbers i j (defaults (item_cells (cells_in ns) j [] d')) (length (item_cells (cells_in ms) i [] (pos 0))) (if s then m else 0) most' x)

@@ -161,7 +161,7 @@ module _ (ks : List Comparer) (cs : List Carrier) (x y : List (List Cell)) (ms :
   FollowAll (e ∷ es) [] = Unit {0}
   FollowAll (e ∷ es) (f ∷ fs) = Follows e f × FollowAll es fs
 
-  -- what is asked of old's entries
+  -- what old's entries need
   abbrev pub OldReady : List Entry → Type 0
   OldReady [] = Unit {0}
   OldReady (e ∷ es) = (ItemBelow below e.field.item × FitsAt (field_cells x a.fields e.index e.field) numbers (at + e.place)) × OldReady es

@@ -1,4 +1,4 @@
--- What is carried of a run of cells, cell by cell: the older number where it stands in the bytes, else the default.
+-- What is carried of a run of cells, cell by cell: the older number if it is in the bytes, else the default.
 use Rattle.std.proofs.Common.{◌≡◌, ◌⊎◌, inl, inr, ℕ, ◌+◌, ◌<◌, ◌≤◌, Bool, true, false, ◌||◌, List, [], ◌++◌, length, length-append, get_or, replicate, Option, Some, None, ℤ, pos, refl, sym, ap, ◌∙◌, subst, arith}
 use Rattle.std.specs.List.{slice_get}
 use Rattle.std.proofs.lemmas.List.{get_or_append_left, get_or-append-add}
@@ -13,7 +13,7 @@ use Rattle.vms_check.specs.Carrying.{defaults}
 use Rattle.vms_check_laws.proofs.PairLists.{AreFrom, IsBehind, at_left, at_right, at_none, before_or_behind, paired_append}
 use Rattle.std.proofs.lemmas.Option.{slice_get_within}
 
--- slots of cells between a place and its end alone
+-- slots only of cells between a place and its end
 pub record IsWithin (at size : ℕ) (slots : List Slot) : Type 0 where
   pub in_range : (c : ℕ) → has_cell slots c ≡ true → (at ≤ c) × (c < at + size)
 
@@ -28,7 +28,7 @@ pub record Goes (cells others : List Cell) (numbers : List ℤ) (slots : List Sl
 pub none_within : (at size : ℕ) → IsWithin at size []
 none_within at size = record { in_range = λ c h. absurd (cc) }
 
--- where none of the cells stands in the bytes, all is default
+-- if none of the cells is in the bytes, all is default
 pub goes_absent : (cells others : List Cell) (numbers : List ℤ) (at at' : ℕ) (partners : List (Option ℕ)) → AreFrom cells others at' partners → Goes cells others numbers [] at at' partners (defaults others)
 goes_absent cells others numbers at at' partners h = record {
   paired = h;
@@ -64,7 +64,7 @@ module _ (cells_a cells_b others_a others_b : List Cell) (numbers : List ℤ) (x
   abbrev next : ℕ
   next = at + length cells_a
 
-  -- before the seam the second slots have none, behind it the first
+  -- before the seam the second slots have none, and after it the first
   second_none : (c : ℕ) → c < next → has_cell ys c ≡ false
   second_none c lt = false_from_ne_true (has_cell ys c) (λ e. let r = (g.within.in_range c e).0 in omega (arith, lt, r))
 

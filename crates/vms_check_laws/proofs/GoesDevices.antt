@@ -32,7 +32,7 @@ module _ {A : Type 0} (set : Set) (f : Sub → List A) where
   abbrev Sized : List Sub → Type 0
   Sized subs = (m : ℕ) (s : Sub) → slice_get subs m ≡ Some s → length (f s) ≡ sub_size set s
 
-  -- where something stands in such a list
+  -- where something is in such a list
   pub record StandsIn (from : ℕ) (subs : List Sub) (b : ℕ) (o : A) : Type 0 where
     pub m : ℕ
     pub sub : Sub
@@ -58,7 +58,7 @@ module _ {A : Type 0} (set : Set) (f : Sub → List A) where
           let is = h.is in
           record { m = suc h.m; sub = h.sub; there = h.there; c = h.c; is = omega (arith, is, b_is, long); inside = h.inside; here = h.here }
 
-  -- a part stands at its subsection's place
+  -- a part is at its subsection's place
   pub part_in : (from : ℕ) (subs : List Sub) (m : ℕ) (s : Sub) → Sized subs → slice_get subs m ≡ Some s
       → (q : ℕ) × (sub_place set from subs m ≡ from + q) × ((c : ℕ) → c < sub_size set s → slice_get (flat_map f subs) (q + c) ≡ slice_get (f s) c)
       × ((z : A) (c : ℕ) → c < sub_size set s → get_or (flat_map f subs) (q + c) z ≡ get_or (f s) c z)

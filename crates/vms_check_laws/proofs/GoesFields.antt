@@ -28,7 +28,7 @@ use Rattle.vms_check_laws.proofs.PairLists.{AreFrom, paired_none}
 use Rattle.vms_check_laws.proofs.PairFields.{Structs, item_paired, array_paired}
 use Rattle.vms_check_laws.proofs.Goes.{Goes, IsWithin, goes_absent, goes_alone, goes_append}
 
--- ---- slots stand within their cells
+-- ---- slots are within their cells
 
 within_of : (at : ℕ) (cells : List Cell) (slots : List Slot) → IsAbove at slots → AreCells (replicate at no_cell ++ cells) slots → IsWithin at (length cells) slots
 within_of at cells slots above are = record {
@@ -54,7 +54,7 @@ module _ (structs : List Pairer) (cs : List Carrier) (ms : List Meaning) (y : Li
   abbrev x : List (List Cell)
   x = cells_in ms
 
-  -- what is known of the structures: the older ones of numbers below k beside the newer ones of numbers below k'
+  -- what is known of the structures: the older ones with numbers below k and the newer ones with numbers below k'
   abbrev pub StructsGo : Type 0
   StructsGo = (i j at at' : ℕ) → i < k → j < k' → Goes (get_or x i []) (get_or y j []) numbers ((get_or ms i no_meaning).slots numbers at) at at' (get_or structs i no_pairer j at') (get_or cs j no_carrier i numbers at)
 
@@ -64,7 +64,7 @@ module _ (structs : List Pairer) (cs : List Carrier) (ms : List Meaning) (y : Li
         within_of at (item_cells x a caps d) (item_slots ms a caps numbers at) (item_above ms above a caps numbers at)
         (item_are ms means a caps d (replicate at no_cell ++ item_cells x a caps d) at numbers (stands_behind at (item_cells x a caps d)))
 
-    -- ---- one element that stands in the bytes
+    -- ---- one element that is in the bytes
 
     -- a pair of numbers
     one_goes : (l m : Kind) (caps caps' : List ℕ) (d d' : ℤ) (at at' : ℕ) (b : Bool) → same_kind l m ≡ b
@@ -114,7 +114,7 @@ module _ (structs : List Pairer) (cs : List Carrier) (ms : List Meaning) (y : Li
     item_goes (Struct i) (Equal m u) caps caps' d d' at at' lt lt' = goes_alone _ _ numbers _ at at' (length (get_or x i [])) refl (item_within (Struct i) caps d at) (paired_none _ _ at' (length (get_or x i [])) refl)
     item_goes (Struct i) (Unused n) caps caps' d d' at at' lt lt' = goes_alone _ _ numbers _ at at' (length (get_or x i [])) refl (item_within (Struct i) caps d at) (paired_none _ _ at' (length (get_or x i [])) refl)
 
-    -- ---- so many elements, of which the first n stand in the bytes
+    -- ---- a number of elements, of which the first n are in the bytes
 
     carry_none : (a b : Item) (caps' : List ℕ) (d' : ℤ) (step m at q t : ℕ) → carry_items cs x y numbers a b (defaults (item_cells y b [] d')) step 0 m at ≡ defaults (times m (λ _. item_cells y b caps' d') q t)
     carry_none a b caps' d' step zero at q t = refl
@@ -182,7 +182,7 @@ module _ (structs : List Pairer) (cs : List Carrier) (ms : List Meaning) (y : Li
           within_of (at + p) (field_cells x all i f) (slots_of i p f) (field_above ms above all v own numbers i (at + p) f)
           (field_are ms means all v own numbers i (at + p) f (replicate (at + p) no_cell ++ field_cells x all i f) (stands_behind (at + p) (field_cells x all i f)))
 
-      -- a field that the older version hasn't
+      -- a field that the older version doesn't have
       not_there : (i p : ℕ) (f : Field) → presence v f.test f.since ≡ None → slots_of i p f ≡ []
       not_there i p f e =
           ap (λ (b : Bool). if b then times (elements_of f.count own) (item_slots ms f.item (counted i all) numbers) (at + p) (item_size x f.item) else [])
@@ -233,7 +233,7 @@ module _ (structs : List Pairer) (cs : List Carrier) (ms : List Meaning) (y : Li
       abbrev RestGoes : ℕ → ℕ → List Field → Type 0
       RestGoes i p fs = (i' p' : ℕ) (gs : List Field) → FieldsBelow k' gs → GoFrom i i' p p' fs gs
 
-      -- a field of the newer side alone, before more
+      -- a field of the newer side only, before more
       new_alone : (i' p p' : ℕ) (g : Field) (gs : List Field) (cells : List Cell) (slots : List Slot) (partners : List (Option ℕ)) (segment : List ℤ)
           → Goes cells (cells_from y all' (suc i') gs) numbers slots (at + p) (at' + (p' + size_at' i' g)) partners segment
           → Goes cells (cells_from y all' i' (g ∷ gs)) numbers slots (at + p) (at' + p') partners (default_field cs x y numbers all' i' g ++ segment)
@@ -254,7 +254,7 @@ module _ (structs : List Pairer) (cs : List Carrier) (ms : List Meaning) (y : Li
         by_new None h = new_alone i' p p' g gs [] [] [] (carry_on (suc i') gs []) h
         by_new (Some rest) h = new_alone i' p p' g gs [] [] [] (carry_on (suc i') gs []) h
 
-      -- a field of the older side alone, before more
+      -- a field of the older side only, before more
       old_alone : (i p p' : ℕ) (f : Field) (fs : List Field) (others : List Cell) (partners : List (Option ℕ)) (segment : List ℤ)
           → Goes (cells_from x all (suc i) fs) others numbers (slots_on (suc i) (p + size_at i f) fs) (at + (p + size_at i f)) (at' + p') partners segment
           → Goes (cells_from x all i (f ∷ fs)) others numbers (slots_on i p (f ∷ fs)) (at + p) (at' + p') (unpaired (capacity_of f.count * item_size x f.item) ++ partners) segment

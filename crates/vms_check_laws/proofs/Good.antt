@@ -127,7 +127,7 @@ module _ (k : ℕ) (d : Desc) where
         new_fields (suc i) fs (hold_next i f fs h),
       )
 
-  -- a field names earlier ones alone
+  -- a field names only earlier ones
   earlier_good : (i : ℕ) (f : Field) → AllTrue (field_rules k d i f) → NewGood k (is_earlier_in d i) f
   earlier_good i f h =
       let q = field_facts k d i f h in

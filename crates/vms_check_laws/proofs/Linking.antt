@@ -80,7 +80,7 @@ module _ (ks : List Comparer) (a b : Desc) (v w : ℕ) (part part' : Part) (o n 
   pub decoded : (e f : Entry) → PairGood e f → CoveredBy e f ⊎ Matched e f
   decoded e f g = decode (is_covered e.field.item e.field.count f.field.item) e f _ _ refl g.rules
 
-  -- ---- the carried numbers stand at each pair
+  -- ---- the carried numbers are at each pair
 
   module _ (cs : List Carrier) (x y : List (List Cell)) (numbers numbers' : List ℤ) (own : ℕ → ℕ) (at at' : ℕ) (below' : ℕ)
       (sized : (j i k : ℕ) → j < below' → length (get_or cs j no_carrier i numbers k) ≡ length (get_or y j [])) where

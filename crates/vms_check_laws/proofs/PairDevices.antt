@@ -19,7 +19,7 @@ use Rattle.vms_check.specs.Partners.{part_partners, sub_partners, named_partners
 use Rattle.vms_check_laws.proofs.PairLists.{AreFrom, IsPair, IsBehind, at_left, at_right, at_none, before_or_behind, IsOnce, Apart, once_append}
 use Rattle.vms_check_laws.proofs.PairStructs.{below_of, part_paired}
 
--- ---- what stands under a name, and where
+-- ---- what has a name, and where it is
 
 pub record Found (subs : List Sub) (name : List ℕ) (l : ℕ) : Type 0 where
   pub sub : Sub
@@ -41,7 +41,7 @@ found subs name l h =
     let same : f.0 ≡ l = omega (arith, f.1) in
     subst (λ (n : ℕ). Found subs name n) same f.2
 
--- the cells of a subsection stand at its place
+-- the cells of a subsection are at its place
 pub cell_of_sub : (set : Set) (from : ℕ) (subs : List Sub) (l : ℕ) (t : Sub) → slice_get subs l ≡ Some t
     → (q : ℕ) × (sub_place set from subs l ≡ from + q)
     × (q + sub_size set t ≤ length (flat_map (λ s. desc_cells (struct_cells set) s.desc) subs))
@@ -121,7 +121,7 @@ module _ (old new : Set) (good_old : WellFormed old) (good_new : WellFormed new)
           once = p.once;
         }))
 
-  -- of its older cell a pair says the kind alone
+  -- a pair says only the kind of its older cell
   at_kind : (cells cells' : List Cell) (name : List ℕ) (c c' k : ℕ) → IsSubPair cells name c k → (get_or cells' c' no_cell).kind ≡ (get_or cells c no_cell).kind → IsSubPair cells' name c' k
   at_kind cells cells' name c c' k x same =
       record { l = x.l; t = x.t; there = x.there; name_is = x.name_is; r = x.r; is = x.is; inside = x.inside; kind = same ∙ x.kind }

@@ -14,7 +14,7 @@ use Rattle.vms_check_laws.proofs.Pairing.{kinds_same}
 use Rattle.vms_check.specs.Partners.{Pairer, no_pairer, unpaired, item_partners, array_partners, field_partners, fields_left, partners_from, desc_partners}
 use Rattle.vms_check_laws.proofs.PairLists.{AreFrom, IsPair, paired_none, paired_append, paired_behind, paired_skip}
 
--- ---- the present fields of the other side stand in its cells
+-- ---- the present fields of the other side are in its cells
 
 module _ (y : List (List Cell)) (all : List Field) where
   abbrev pub cells_at : Entry → List Cell

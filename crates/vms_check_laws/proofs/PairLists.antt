@@ -1,4 +1,4 @@
--- Partners of cells among the cells that stand from a place on.
+-- Partners of cells among the cells from a place on.
 use Rattle.std.proofs.Common.{◌≡◌, ◌⊎◌, inl, inr, ℕ, zero, suc, ◌+◌, ◌-◌, ◌<◌, ◌≤◌, List, [], ◌∷◌, ◌++◌, length, length-append, get_or, replicate, Option, Some, None, refl, sym, ap, ◌∙◌, subst, arith}
 use Rattle.std.specs.List.{slice_get}
 use Rattle.std.proofs.lemmas.List.{get_or_append_left, get_or-append-add, length-replicate}
@@ -57,7 +57,7 @@ before_or_behind n c = go (cases_lt c n) where
   go (inl lt) = inl lt
   go (inr le) = inr (record { more = c - n; is = omega (arith, le) })
 
--- no number is the partner of one before and of one behind
+-- no number is the partner of one before and of one after
 abbrev pub Apart : List (Option ℕ) → List (Option ℕ) → Type 0
 Apart p q = (b c k : ℕ) → b < length p → IsBehind (length p) c → slice_get (p ++ q) b ≡ Some (Some k) → slice_get (p ++ q) c ≡ Some (Some k) → ⊥
 
@@ -125,7 +125,7 @@ module _ (xs ys us vs : List Cell) (at : ℕ) (p q : List (Option ℕ)) (h : Are
         once = once_append p q h.once g.once apart;
       }
 
--- others that stand before, or that nothing is paired with
+-- others before them, or with which nothing is paired
 pub paired_behind : (gap cells others : List Cell) (at : ℕ) (p : List (Option ℕ)) → AreFrom cells others (at + length gap) p → AreFrom cells (gap ++ others) at p
 paired_behind gap cells others at p h = paired_append [] cells gap others at [] p (paired_none [] gap at 0 refl) h
 

@@ -83,7 +83,7 @@ module _ (old new : Set) (good_old : WellFormed old) (good_new : WellFormed new)
             (old_fields (cells_in ms) (length old.structs) a.fields numbers at fits_in a.fields (λ by most h. h) good_a.old)
             good_b.new fits_in held_in good_b.rules
 
-        -- what doesn't stand in new's bytes is at its default
+        -- what isn't in new's bytes is at its default
         pub part_settles : Settled (desc_slots ns b v numbers' at') at' (desc_cells (struct_cells new) b) (carrying old new numbers v a b at)
         part_settles =
             let k = length new.structs in

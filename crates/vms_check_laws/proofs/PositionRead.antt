@@ -1,4 +1,4 @@
--- One position, and the first positions, of two descriptions that stand anywhere in two sets, with the sets' own cells.
+-- One position, and the first positions, of two descriptions anywhere in two sets, with the sets' own cells.
 use Rattle.std.proofs.Common.{◌≡◌, inl, inr, ℕ, zero, suc, ◌+◌, Bool, List, [], ◌∷◌, length, Option, Some, subst, arith, ℤ, ◌++◌, take, refl, ap}
 use Rattle.std.specs.List.{slice_get, flat_map}
 use Rattle.vms_spec.specs.declared.Part.{Part}
@@ -48,7 +48,7 @@ module _ (ks : List Comparer) (cs : List Carrier) (ms ns : List Meaning) (a b : 
   old_at (x ∷ es) zero e h k = let same : x ≡ e = cc in subst (λ (u : Entry). OldGood below (λ k. numbers_of (cells_in ms) a numbers at k) u.field) same k.0
   old_at (x ∷ es) (suc p) e h k = old_at es p e h k.1
 
-  -- a field of new names earlier ones alone
+  -- a field of new names only earlier ones
   earlier_at : (f : Entry) → IsKnown ns b.fields w numbers' at' f → DescGood below' b → EntryGood ks cs ms ns a b v w part part' o n numbers numbers' at at' below below' table (is_earlier_in b f.index) f
   earlier_at f known good =
       let h = good.earlier f.index f.field known.field in

@@ -1,4 +1,4 @@
--- What is asked of fields and structures on both sides, and positions that differ.
+-- What fields and structures on both sides need, and positions that differ.
 use Rattle.std.proofs.Common.{◌≡◌, ◌⊎◌, inl, inr, sym, ap, subst, ℕ, suc, ◌<◌, ◌≤◌, Bool, true, false, ◌==◌, List, [], ◌∷◌, length, get_or, Some, None, arith, ℤ, pos, if◌then◌else◌}
 use Rattle.std.proofs.lemmas.Bool.{eqb-true}
 use Rattle.std.proofs.Math.Nat.{eq-or-lt_of_le}
@@ -49,7 +49,7 @@ below_suc P k at_k before j lt =
     ] in
     go (eq-or-lt_of_le le)
 
--- what is known of the structures below so many: their cells, slots, comparers and carriers
+-- what is known of the structures below a number: their cells, slots, comparers and carriers
 pub record Table (ks : List Comparer) (cs : List Carrier) (ms ns : List Meaning) (numbers numbers' : List ℤ) (below below' : ℕ) : Type 0 where
   pub sized : (j i k : ℕ) → j < below' → length (get_or cs j no_carrier i numbers k) ≡ length (get_or (cells_in ns) j [])
   pub carried : (i j : ℕ) → i < below → j < below' → get_or ks j no_comparer i ≡ None → (x y : ℕ) → FitsAt (get_or (cells_in ms) i []) numbers x
@@ -73,13 +73,13 @@ abbrev pub CountNamed : (ℕ → Bool) → Count → Type 0
 CountNamed ok (Counted by most) = ok by ≡ true
 CountNamed ok _ = Unit {0}
 
--- what is asked of old's fields
+-- what old's fields need
 pub record OldGood (below : ℕ) (own : ℕ → ℕ) (f : Field) : Type 0 where
   pub item : ItemBelow below f.item
   pub single : IsSingle f.item f.count
   pub count : CountFits own f.count
 
--- what is asked of new's
+-- what new's fields need
 pub record NewGood (below : ℕ) (ok : ℕ → Bool) (f : Field) : Type 0 where
   pub item : ItemBelow below f.item
   pub single : IsSingle f.item f.count

@@ -43,7 +43,7 @@ module _ (ok : ℕ → Bool) where
     of_or = λ s t h g. and_from (names_well ok nobody s) (names_well ok nobody t) h g;
   }
 
-  -- what is left of a test names what the test names
+  -- the rest of a test names what the test names
   pub named_left : (u : ℕ) (t : Formula) → names_well ok nobody t ≡ true → Named (reduced u t)
   named_left u t h = open_reduced IsNamed named_by_parts ok (λ field mask rel value e. e) u t h
 
@@ -63,7 +63,7 @@ module _ (ok : ℕ → Bool) where
   since_named true (Some t) h = cc
   since_named false rest h = cc
 
-  -- what is left of a field's test names what its test names
+  -- the rest of a field's test names what its test names
   pub presence_named : (w : ℕ) (test : Option Formula) (since : ℕ) (rest : Option Formula) → NamedRest test → presence w test since ≡ Some rest → NamedRest rest
   presence_named w None since rest named h = since_named (nat_le since w) rest h
   presence_named w (Some t) since rest named h = left_named (reduced w t) rest (named_left w t named) h

@@ -86,7 +86,7 @@ carries_number x y c d k l p q e f = record {
 pub carries_constant : (x y : List ℤ) (k l : Kind) (z u : ℤ) → k ≡ l → z ≡ u → Carries x (Constant k z ∷ []) y (Constant l u ∷ [])
 carries_constant x y k l z u e f = record { spells = ([], ap (λ (i : ℤ). code k i ++ []) f ∙ ap (λ (i : Kind). code i u ++ []) e, refl); rules = λ h. h }
 
--- unused bytes stand over anything of their length
+-- unused bytes cover anything of their length
 pub carries_filler : (x y : List ℤ) (a : List Slot) (n : ℕ) → length (zeroed x a) ≡ n → Carries x a y (Filler n ∷ [])
 carries_filler x y a n e = record { spells = (zeroed x a, [], e, sym (append-nil (zeroed x a)), refl); rules = λ h. tt }
 

@@ -20,7 +20,7 @@ use Rattle.vms_check_laws.proofs.Premises.{Table, NewFields, RulesNamed, Settled
 use Rattle.vms_check_laws.proofs.Descriptions.{desc_carries, desc_settles}
 use Rattle.vms_check_laws.proofs.Counts.{OldPlains, old_fields}
 
--- ---- what is asked of structures, by their numbers
+-- ---- what structures need, by their numbers
 
 abbrev pub meanings_of : List Desc → List Meaning
 meanings_of ds = meanings ds (length ds)
@@ -34,7 +34,7 @@ rules_to olds news k = comparers (cells_of olds) (cells_of news) olds news k
 abbrev pub carries_to : (olds news : List Desc) → ℕ → List Carrier
 carries_to olds news k = carriers (cells_of olds) (cells_of news) olds news k
 
--- what is asked of old's structures, and of new's: each uses those before it
+-- what old's structures need, and new's: each uses those before it
 pub record OldStruct (j : ℕ) (d : Desc) : Type 0 where
   pub fields : OldPlains j d.fields d.fields
 
@@ -87,7 +87,7 @@ module _ (x y : List (List Cell)) (olds news : List Desc) where
       let row = λ (earlier : List Carrier) (d : Desc). carrier_of earlier x y olds d in
       first_at row news no_carrier (suc k) j (omega arith) ∙ sym (first_at row news no_carrier k j h)
 
--- structure i of old beside structure k of new, the next, where no rule fails at them
+-- structure i of old with structure k of new, the next one, if no rule fails at them
 module _ (olds news : List Desc) (numbers : List ℤ) (k i p : ℕ) where
   abbrev old_one : Desc
   old_one = get_or olds i no_desc
@@ -194,7 +194,7 @@ module _ (olds news : List Desc) (numbers numbers' : List ℤ) where
         let table = tables k (omega arith) in
         record { sized = sized_next k lt table; carried = λ i j lt_i lt_j none p q fits held. carried_next k lt table i j lt_i lt_j none p q fits held }
 
-    -- the same for what doesn't stand in the bytes
+    -- the same for what isn't in the bytes
     abbrev Row : ℕ → ℕ → ℕ → Type 0
     Row k i j = get_or (rules_to olds news k) j no_comparer i ≡ None → (p q : ℕ) → FitsAt (get_or (cells_of olds) i []) numbers p
         → Holds numbers' q (get_or (carries_to olds news k) j no_carrier i numbers p) → Settled ((get_or (meanings_of news) j no_meaning).slots numbers' q) q (get_or (cells_of news) j []) (get_or (carries_to olds news k) j no_carrier i numbers p)

@@ -124,7 +124,7 @@ module _ (old new : Set) (good_old : WellFormed old) (good_new : WellFormed new)
       (subs_settle ts (place + length (cells_of t)) h.1 (next_place t ts place h.0 held)))
       size
 
-  -- each subsection of new stands where its cells begin
+  -- each subsection of new is where its cells begin
   pub sub_held : (ts : List Sub) (place l : ℕ) (t : Sub) → slice_get ts l ≡ Some t → Facts ts → Holds numbers' place (flat_map carried_of ts) → Holds numbers' (sub_place new place ts l) (carried_of t)
   sub_held [] place l t is h held = absurd (cc)
   sub_held (u ∷ ts) place zero t is h held =

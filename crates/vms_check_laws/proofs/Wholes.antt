@@ -132,7 +132,7 @@ module _ (old new : Set) (good_old : WellFormed old) (good_new : WellFormed new)
           refl,
         )
 
-  -- ---- each subsection that came stands once
+  -- ---- each subsection that is present is there once
 
   order_has : (subs : List Sub) (cs : List (Option ℕ)) (j l v : ℕ) (s : Sub) → slice_get subs j ≡ Some s → slice_get cs j ≡ Some (Some v) → index (find_sub 0 e.subs s.desc.name) ≡ l → Among l (sub_order e subs cs)
   order_has (x ∷ subs) (Some u ∷ cs) zero l v s h h' is =

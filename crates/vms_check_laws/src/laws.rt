@@ -1,47 +1,60 @@
-//! Each law is the contract of a function without a body. The statements stand in `specs/Positions.antt`, `specs/Fronts.antt`,
-//! `specs/Laws.antt` and `specs/CellLaws.antt`.
+//! Laws of an upgrade. Each is the contract of a function with an empty body. The statements are in
+//! `specs/Positions.antt`, `specs/Fronts.antt`, `specs/Laws.antt` and `specs/CellLaws.antt`.
 ghost use Rattle.vms_check_laws.specs.CellLaws.{CarriedLaw, PartnersLaw};
 ghost use Rattle.vms_check_laws.specs.Fronts.{AlignedLaw};
 ghost use Rattle.vms_check_laws.specs.Laws.{DeviceLaw, UpgradeLaw};
 ghost use Rattle.vms_check_laws.specs.Positions.{PositionLaw};
 
-/// One position: where two fields are paired and no rule fails at them, what the older set writes for its field is read by the
-/// newer as carried, be it a number, an array, a structure, or what unused bytes of the newer stand over.
+/// States that the newer set reads, as carried, what the older set writes for a field.
+///
+/// The two fields are paired and no rule fails at them. They may be a number, an array, a
+/// structure, or anything that unused bytes of the newer set cover.
 #[tactic(auto)]
 pub fn position_law()
     ensures { PositionLaw }
 {}
 
-/// The first positions of two descriptions, at which no rule fails: where the newer set's fields are spelled at the front of
-/// what the older wrote for its own, they take just those bytes, whatever numbers they say, and whatever rule fails behind them.
+/// States that the newer set's fields at the first positions take exactly the bytes that the older
+/// set wrote for its own.
+///
+/// No rule fails at these positions. The statement holds whatever the numbers are and whatever rule
+/// fails at later positions.
 #[tactic(auto)]
 pub fn aligned_law()
     ensures { AlignedLaw }
 {}
 
-/// One device with its subsections, whichever came: where no rule fails at the device of an older set and the one of its name
-/// and instance in a newer, the section that the older writes is one of the newer, with the carried image.
+/// States that the section which the older set writes of a device is one of the newer set, with the
+/// carried image.
+///
+/// No rule fails at the device and the newer one of the same name and instance. Any of its
+/// subsections may be present.
 #[tactic(auto)]
 pub fn device_law()
     ensures { DeviceLaw }
 {}
 
-/// For compatible well-formed sets, what the older writes of ready images is a stream of the newer with the carried images,
-/// and all of it is taken: with any machine of the older set or none, and any description text or none.
+/// States that the newer of two compatible sets reads every stream that the older one writes, with
+/// the carried images.
+///
+/// The sets are well formed and the images ready. The stream may name any machine of the older set
+/// or none, and have any description or none. The newer set reads all of it.
 #[tactic(auto)]
 pub fn upgrade_law()
     ensures { UpgradeLaw }
 {}
 
-/// For well-formed sets each cell of an older device has at most one partner in a newer device, which is of its kind,
-/// and no two have the same.
+/// States that each cell of an older device has at most one partner in a newer device.
+///
+/// The partner is of the cell's kind, and no two cells have the same partner. The sets are well
+/// formed.
 #[tactic(auto)]
 pub fn partners_law()
     ensures { PartnersLaw }
 {}
 
-/// What is carried is said cell by cell: each newer cell holds the number of its partner where that stands in the
-/// bytes, else its default.
+/// States cell by cell what is carried: a newer cell has the number of its partner, if that is in
+/// the bytes, and else its default.
 #[tactic(auto)]
 pub fn carried_law()
     ensures { CarriedLaw }

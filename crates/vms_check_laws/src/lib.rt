@@ -1,4 +1,6 @@
-//! What an accepted comparison means: what the older set writes is read by the newer one, with the carried images.
+//! What it means that two sets are compatible: the newer one reads what the older one writes, with
+//! the carried images.
 #![tactic(auto)]
 
+/// Laws of an upgrade.
 pub mod laws;

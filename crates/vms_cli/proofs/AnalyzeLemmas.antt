@@ -31,7 +31,7 @@ use Rattle.vms_board_commands.proofs.SeenLemmas.{TakesSo, content_seen, other_se
 use Rattle.vms_cli.specs.Statuses.{analyze_course}
 use Rattle.vms_cli.specs.Analyze.{EndsLike, IsDone, IsRefused, FailsReading, FailsWriting, LacksMemory, GivesListed, IsListing, bytes_taken, listing_outcome, unlisted_line}
 
--- ---- how it ends by what the call answered
+-- ---- how it ends, by the result of the call
 
 pub listed_like : (listed : Result (Unit {0}) AnalyzeFault) (work : Result (Unit {0}) Ending)
     → MatchResult listed (λ u. work ≡ Ok u) (λ fault. IsErrAnd work (λ e. EndsLike (Err fault) e)) → EndsLike listed (ending_of work)
@@ -52,7 +52,7 @@ only_listing input held a b p q =
 
 -- ---- what is taken
 
--- bytes with this listing, and as many as are taken of an input with it
+-- bytes with this listing, and the number that is read of an input with it
 abbrev HasListed : Listing → List ℕ → ℕ → Type 0
 HasListed listing input n = Lists input listing × (bytes_taken input ≡ n)
 
@@ -123,7 +123,7 @@ module _ (i i' : Intake) (o o' : Outlet) where
   list_seen _ _ FailsWriting a s = λ among. text_seen s a.text endings.WriteFault a.listed a.written
   list_seen _ _ LacksMemory a s = other_seen endings.NoMemory refl
 
-  -- the outcome of an input that is told
+  -- the outcome of a known input
   told_content : (s : Stock) (e : Ending) (x : Outcome) → IfSome i.left IsBytes → Seen (IsListing s.held) i i' o o' s s e → IsSomeAnd i.left (λ bytes. IsListing s.held bytes x) → EndsAs i i' o o' s s e x
   told_content s e x octets v is = content_seen {o = o} {o' = o'} {s = s} {s' = s} {P = IsListing s.held} e x (λ bytes y ok p q. only_listing bytes s.held y x q p) octets v is
 
@@ -135,7 +135,7 @@ module _ (i i' : Intake) (o o' : Outlet) where
   list_content _ _ FailsWriting a octets s x is = told_content s endings.WriteFault x octets (text_seen s a.text endings.WriteFault a.listed a.written) is
   list_content _ _ LacksMemory a octets s x is = comes_to_nothing o o' s s x.parts (same_keeps o o' a.1) refl
 
-  -- ---- told or not
+  -- ---- known or unknown
 
   few_given : (bytes : List ℕ) → Takes i i' bytes → length bytes ≤ longest_input + 1 → GivesListed i.given i'.given
   few_given bytes t few = let given = t.given in omega (arith, few, given)

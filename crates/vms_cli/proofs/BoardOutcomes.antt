@@ -61,7 +61,7 @@ one_loaded (ClockBoard version) script input held ok =
     let one = one_scripted clock clock_stands.well clock_stands.heads version script input held ok in
     record { outcome = one.outcome; is = one.is; only = one.only }
 
--- what a script leaves of a board is saved, and goes on
+-- the board after a script is saved, and goes on
 module _ {S : Type 0} (f : Family S) (number : ℕ) (script : List ℕ) (map : Held) (can : CanBeRead None script map) where
   pub saved_then : (set : ℕ) → HasText (Some map) (saved_after f number set (Some map) script) (done (saved_stream f set (after_events f (events_of can.lines) (f.power_on number))) (Some map) 0)
   saved_then set =

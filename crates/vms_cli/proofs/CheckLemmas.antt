@@ -1,4 +1,4 @@
--- Of `check`: its steps are told where the shelf is.
+-- The steps of `check` are known where the shelf is.
 use Rattle.std.proofs.Common.{Option, Some, None, arith}
 use Rattle.vms_io.specs.Shelves.{Held}
 use Rattle.vms_check.specs.declared.mismatch.Mismatch.{Mismatch}

@@ -149,12 +149,12 @@ module _ (to : Set) (fit : IsFit to) (i i' : Intake) (o o' : Outlet) where
   given_set : (compatible : Compatible to newest) (s : Stock) (x : Outcome) → ConvertsBy (agrees to) i.left s.held x → IsSomeAnd i.left (λ bytes. Converts to bytes s.held x)
   given_set compatible s x has = subst (λ (step : Step Set). ConvertsBy step i.left s.held x) (agreed_gives to compatible) has
 
-  -- nothing was written before memory was wanting
+  -- nothing was written before memory ran out
   unwritten : Calls to newest i i' o o' (Err faults.NoMemory) → o' ≡ o
   unwritten (AtOnce input out) = out
   unwritten (Behind compatible t) = t.converts
 
-  -- the outcome of an input that is told
+  -- the outcome of a known input
   told_content : (s s' : Stock) (e : Ending) (x : Outcome) → Compatible to newest → IfSome i.left IsBytes → Seen (λ bytes y. Converts to bytes s.held y) i i' o o' s s' e → ConvertsBy (agrees to) i.left s.held x
       → EndsAs i i' o o' s s' e x
   told_content s s' e x compatible ok v has =
@@ -180,7 +180,7 @@ module _ (to : Set) (fit : IsFit to) (i i' : Intake) (o o' : Outlet) where
   convert_content _ _ LacksMemory c ok few s s' x same has = comes_to_nothing o o' s s' x.parts (same_keeps o o' (unwritten c)) same
   convert_content _ _ (LacksLine m) c ok few s s' x same has = comes_to_nothing o o' s s' x.parts (same_keeps o o' c.2) same
 
-  -- ---- told or not
+  -- ---- known or unknown
 
   within : Compatible to newest → i'.given ≤ i.given + most_given newest → ConvertGives (agrees to) i i'
   within compatible few = subst (λ (step : Step Set). ConvertGives step i i') (sym (agreed_gives to compatible)) few

@@ -31,7 +31,7 @@ record OneConverted (step : Step Set) (input : List ℕ) (held : Held) : Type 0 
   is : ConvertsBy step (Some input) (Some held) outcome
   only : (other : Outcome) → ConvertsBy step (Some input) (Some held) other → other ≡ outcome
 
--- whether the input takes a stream or is at fault
+-- whether the input begins with a stream or is invalid
 module _ (to : Set) (fit : IsFit to) (compatible : Compatible to newest) (input : List ℕ) (held : Held) (ok : IsBytes input) where
   of_taken : (n : ℕ) (machine : Option (List ℕ)) (images : List Image) → Takes newest newest.machines input n machine images
       → ((bytes : List ℕ) × IsStreamFor to newest machine images bytes) ⊎ ((section : Option ℕ) × (cell : Option ℕ) × LosesFirst to newest machine images section cell)

@@ -16,7 +16,7 @@ use Rattle.vms_cli.specs.Convert.{ConvertGives, ConvertsBy, agrees, newest}
 abbrev pub converts_after : Option (List ℕ) → Option Held → Set → Outcome → Type 0
 converts_after input held to x = ConvertsBy (agrees to) input held x
 
--- the outcome behind both steps is that behind the second, by the first
+-- the outcome after both steps is that after the second one, by the first
 pub converts_next : (input : Option (List ℕ)) (held : Option Held) (s : Step Set) (x : Outcome) → ConvertsBy (next s agrees) input held x → HasBy (converts_after input held) s x
 converts_next input held Untold x h = h
 converts_next input held (Gives to) x h = h

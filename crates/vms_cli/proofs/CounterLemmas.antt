@@ -59,7 +59,7 @@ fit_sets held old new = fit_after (both (fetched_set held old) (fetched_set held
 
 -- ---- the text
 
--- there is one answer, the one that is worked out
+-- there is one answer, the one that is computed
 pub answered : (old new : Set) → IsFit old → IsFit new → (answer : Answer) → Counters old new answer → answer ≡ computed old new
 answered old new fit fit' answer c = one_answer_holds old new fit.well answer (computed old new) c (computed_holds old new fit.well fit'.well fit'.heads)
 

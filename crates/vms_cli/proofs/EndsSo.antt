@@ -40,7 +40,7 @@ written_by asks compares text o o' e w = absurd w
 pub lacks_so : {T : Type 0} (own takes : List ℕ) → is_among own 10 ≡ true → {b : Bool} (i : Intake) (o : Outlet) {s s' : Stock} {e : Ending} → AsksIf (HadCause {T = T}) b s s' (Err e) → EndsSo i i o o s s' (text_course own takes b) e
 lacks_so own takes ten {b} i o {s} {s'} {e} a = unset_so (text_course own takes b) b (text_asks own takes b ten) i o a.looks a.unasked e a.cause
 
--- what is done behind the fetch is done of the shelf as it was before
+-- what follows the fetch depends on the shelf as it was before
 pub behind_so : (own takes : List ℕ) (b : Bool) {i i' : Intake} {o o' : Outlet} {s s' : Stock} (e : Ending) → (b ≡ false → s' ≡ s) → Looks s s' → EndsSo i i' o o' s' s' (text_course own takes b) e
     → EndsSo i i' o o' s s' (text_course own takes b) e
 behind_so own takes true e same looks g = so_since e refl looks g
@@ -95,7 +95,7 @@ module _ (i : Intake) (o o' : Outlet) (s s' : Stock) where
     text_so NoMemory c = (own_has 10 has.ten, tt, λ f. c)
     text_so e c = absurd c
 
-    -- where the shelf was looked at alone
+    -- if the shelf was only read
     text_by : (e : Ending) → WriteCause asks compares o o' e → Serves o o' → Looks s s' → (asks ≡ false → s' ≡ s) → EndsSo i i o o' s s' (text_course own [] asks) e
     text_by e c serves looks unasked =
         let r = text_so e c in

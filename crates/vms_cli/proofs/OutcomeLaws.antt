@@ -61,7 +61,7 @@ record OneShown (step : Step Set) (input : List ℕ) (held : Held) : Type 0 wher
   is : ShowsBy step (Some input) (Some held) outcome
   only : (other : Outcome) → ShowsBy step (Some input) (Some held) other → other ≡ outcome
 
--- whether the input takes a stream or is at fault
+-- whether the input begins with a stream or is invalid
 one_answered : (set : Set) → IsFit set → (input : List ℕ) (held : Held) → IsBytes input → Answer set set.machines input → OneShown (Gives set) input held
 one_answered set fit input held ok (Taken n machine images takes) = record {
   outcome = done (values_text set machine images) (Some held) n;
@@ -260,7 +260,7 @@ room_kept (Some most) p' (Some old) (Some new) faults n text room short appends 
 never_rose : (before now : ℕ) → now ≡ 0 → Rose before now → ⊥
 never_rose before now none rose = omega (arith, none, rose)
 
--- a line of at most so many bytes
+-- a line of at most a number of bytes
 line_short : (line : List ℕ) (k n : ℕ) → length line ≤ n → length (take k line) ≤ n
 line_short line k n short = omega (arith, short, length-take k line)
 

@@ -14,7 +14,7 @@ kept_flushed old new writer kept same = subst (Keeps old) same kept
 appends_front : (old new : Option (List ℕ)) (line : List ℕ) → Appends old new line → AppendsPrefix old new line
 appends_front old new line h = (length line, le_refl (length line), subst (λ (l : List ℕ). Appends old new l) (sym (take_all (length line) line (le_refl (length line)))) h)
 
--- what notes were told where out failed at the flush
+-- what standard error has if standard output failed at the flush
 pub told_late : (old new : Option (List ℕ)) (faults faults' status : ℕ)
     → Tells (record { written = old; faults = faults; promise = None }) (record { written = new; faults = faults'; promise = None }) endings.WriteFault status → AppendsPrefix old new write_fault
 told_late old new faults faults' status (inl told) = appends_front old new write_fault told.1

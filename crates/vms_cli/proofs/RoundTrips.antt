@@ -37,7 +37,7 @@ first_text (part ∷ parts) = part.text
 pub same_text : (x y : Outcome) → x ≡ y → first_text x.parts ≡ first_text y.parts
 same_text x y e = ap (λ (o : Outcome). first_text o.parts) e
 
--- what is done has a part, and what ends by a status of its own has none
+-- what succeeds has a part, and what ends with a status of its own has none
 pub done_apart : (s : ℕ) (note text : List ℕ) (held : Option Held) (k n : ℕ) → done text held n ≡ ended s note k → ⊥
 done_apart s note text held k n e = parts_apart _ _ (ap (λ (o : Outcome). o.parts) e)
   where

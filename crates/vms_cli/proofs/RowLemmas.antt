@@ -49,7 +49,7 @@ module _ (i i' : Intake) (o o' n n' : Outlet) (s s' : Stock) where
   abbrev new : Outside
   new = around i' o' n' s'
 
-  -- ---- how an ending is told
+  -- ---- how the line of an ending is written
 
   -- its status and its line, or 6 where notes failed
   abbrev Told : Ending → ℕ → Type 0

@@ -22,7 +22,7 @@ pub stores_one : (P : List ℕ → Type 0) → P [] → P (0 ∷ 6 ∷ 7 ∷ 10 
 stores_one P none play (Some (Play level script)) = play
 stores_one P none play asked = none
 
--- notes may fail whatever is asked
+-- standard error may fail with every command
 pub six_among : (asked : Option Asked) → is_among (statuses_of asked) 6 ≡ true
 six_among None = refl
 six_among (Some (Show set)) = refl

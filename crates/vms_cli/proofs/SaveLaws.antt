@@ -58,7 +58,7 @@ module _ (held : Option Held) (word : SetWord) (set : Set) (there : word_set hel
         listed = lists_all bytes text held (shown_listed set fit machine images named ready);
       }
 
--- boards of a kind, which are sound at power on and stay so, after a script
+-- boards of a kind, which are sound at power on and remain so, after a script
 module _ {S : Type 0} (f : Family S) {IsSound : S → Type 0} {AreTold : List (List ℤ) → Type 0} (stands : Stands f IsSound AreTold)
     (begins : (number : ℕ) → IsNumber f number → IsSound (f.power_on number))
     (stays : (events : List Event) (m : S) → AreEvents events → IsSound m → IsSound (after_events f events m))

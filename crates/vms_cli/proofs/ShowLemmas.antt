@@ -44,7 +44,7 @@ same_machine : (set : Set) (machine : Option ℕ) → name_of set machine ≡ ma
 same_machine set None = refl
 same_machine set (Some m) = refl
 
--- the outcome under a set, where so much of the input is told
+-- the outcome under a set, if the input is known
 abbrev pub shows_under : Option (List ℕ) → Option Held → Set → Outcome → Type 0
 shows_under input held set x = IsSomeAnd input (λ bytes. Shows set bytes held x)
 
@@ -59,7 +59,7 @@ shown_is set fit bytes held taken machine images x ok takes (Values taken' machi
 shown_is set fit bytes held taken machine images x ok takes (Refuses place section reason size fault) =
     absurd (never_both_holds set set.machines fit.well fit.heads bytes ok taken machine images place section reason size takes fault)
 
--- an input is at fault in one way
+-- an input is invalid in one way
 pub same_refusal : (set : Set) (bytes : List ℕ) → IsBytes bytes → (place place' : ℕ) (section section' : Option ℕ) (reason reason' : Reason) (size size' : ℕ)
     → Fault set set.machines bytes place section reason size → Fault set set.machines bytes place' section' reason' size'
     → ended 1 (refused_line set place' section' reason') (place' + size') ≡ ended 1 (refused_line set place section reason) (place + size)
@@ -70,7 +70,7 @@ same_refusal set bytes ok place place' section section' reason reason' size size
     ∙ ap (λ (r : Reason). ended 1 (refused_line set place section r) (place + size')) same.reasons
     ∙ ap (λ (n : ℕ). ended 1 (refused_line set place section reason) (place + n)) same.sizes
 
--- the outcome of an input that is at fault
+-- the outcome of an invalid input
 pub refused_is : (set : Set) → IsFit set → (bytes : List ℕ) (held : Option Held) (place : ℕ) (section : Option ℕ) (reason : Reason) (size : ℕ) (x : Outcome) → IsBytes bytes
     → Fault set set.machines bytes place section reason size → Shows set bytes held x → x ≡ ended 1 (refused_line set place section reason) (place + size)
 refused_is set fit bytes held place section reason size x ok fault (Values taken machine images takes) =

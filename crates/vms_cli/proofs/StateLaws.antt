@@ -43,7 +43,7 @@ refused_so new set held r size bytes gives fault =
     subst (λ (s : Step Set). ShowsBy s (Some bytes) held (ended 1 (refused_line set r.place r.section r.reason) (r.place + size))) (sym gives)
     (Refuses r.place r.section r.reason size fault)
 
--- the description stands behind all else
+-- the description is after everything else
 described_behind : (set : Set) (machine : Option (List ℕ)) (images : List Image) → written set machine images None ++ trailer (described_text set images) ≡ described_stream set machine images
 described_behind set machine images =
     ap (λ (l : List ℕ). l ++ trailer (described_text set images))

@@ -12,35 +12,36 @@ use Rattle.vms_commands.specs.Outcomes.{Outcome, done, ended}
 use Rattle.vms_commands.specs.declared.ending.Ending.{Ending}
 use Rattle.vms_commands.specs.declared.ending.Ending.TheVariants as endings
 
+-- The name of a reason.
 abbrev pub analyze_reason_name : AnalyzeReason → List ℕ
 analyze_reason_name reasons.TooLong = codes "TooLong"
 analyze_reason_name reasons.NoDescription = codes "NoDescription"
 analyze_reason_name reasons.Shape = codes "Shape"
 analyze_reason_name reasons.Mismatch = codes "Mismatch"
 
--- the line of an input that isn't listed; no section is named
+-- The line of an input that can't be listed. It names no device.
 abbrev pub unlisted_line : ℕ → AnalyzeReason → List ℕ
 unlisted_line at reason =
     codes "refused at " ++ (decimal at ++ (codes " in -: " ++ (analyze_reason_name reason ++ 10 ∷ [])))
 
--- how many bytes of the input are taken: all, or one more than an input may have
+-- The number of input bytes that are read: all, or one more than an input may have.
 abbrev pub bytes_taken : List ℕ → ℕ
 bytes_taken input = min (length input) (longest_input + 1)
 
--- the text of a listing, or the line of its refusal
+-- The outcome of a listing: its text, or the line of its refusal.
 abbrev pub listing_outcome : Listing → List ℕ → Option Held → Outcome
 listing_outcome (Text text) input held = done text held (bytes_taken input)
 listing_outcome (Refused at reason) input held = ended 1 (unlisted_line at reason) (bytes_taken input)
 
--- the outcome is that of the listing of the input; the shelf tells the same as before
+-- The outcome is that of the listing of the input. The shelf holds the same as before.
 pub record IsListing (held : Option Held) (input : List ℕ) (o : Outcome) : Type 0 where
   pub listing : Listing
   pub lists : Lists input listing
   pub is : o ≡ listing_outcome listing input held
 
--- ---- how it ends, and why, told or not
+-- ---- how it ends, and why, also where the contents are unknown
 
--- the ending of each answer of the call
+-- The ending of each answer of the call.
 pub data EndsLike : Result (Unit {0}) AnalyzeFault → Ending → Type 0 where
   IsDone : (u : Unit {0}) → EndsLike (Ok u) endings.Done
   IsRefused : (at : ℕ) (reason : AnalyzeReason) (line : ArrayVec ℕ) → line.items ≡ unlisted_line at reason
@@ -49,6 +50,6 @@ pub data EndsLike : Result (Unit {0}) AnalyzeFault → Ending → Type 0 where
   FailsWriting : EndsLike (Err faults.WriteFault) endings.WriteFault
   LacksMemory : EndsLike (Err faults.NoMemory) endings.NoMemory
 
--- at most so many bytes are given
+-- The number of bytes that are read is within the limit.
 abbrev pub GivesListed : (before now : ℕ) → Type 0
 GivesListed before now = now ≤ before + (longest_input + 1)

@@ -1,4 +1,4 @@
--- What a call answers.
+-- What a call returns and does.
 use Rattle.std.specs.Prelude.{◌≡◌, ℕ, List, Option, Some, None, IfSome, IsSomeAnd}
 use Rattle.vms_io.specs.Shelves.{Held, HoldsAll}
 use Rattle.vms_commands.specs.Courses.{Stands}
@@ -24,13 +24,13 @@ use Rattle.vms_cli.specs.Rows.{CanAnswer}
 use Rattle.vms_cli.specs.Show.{ShowsBy}
 use Rattle.vms_cli.specs.Upgrade.{Upgrade}
 
--- the stream that is written of a board under a set of its kind, after a script
+-- The step that gives the stream of a board after a script, under a set of the board's kind.
 abbrev pub saved_on : BoardWord → ℕ → Option Held → List ℕ → Step (List ℕ)
 saved_on (IsaBoard level) set held script = saved_after isa level set held script
 saved_on (ClockBoard version) set held script = saved_after clock version set held script
 
--- The outcome of a command, by what the input has left and what the shelf holds. A command that goes by what isn't told has
--- none.
+-- The outcome of a command, given the rest of the input and what the shelf holds. A command that depends on unknown
+-- contents has none.
 abbrev pub HasOutcome : Option Asked → Option (List ℕ) → Option Held → Outcome → Type 0
 HasOutcome None input held o = o ≡ ended 2 bad_words 0
 HasOutcome (Some (Show set)) input held o = ShowsBy (word_set held set) input held o
@@ -47,16 +47,17 @@ HasOutcome (Some (Load (ClockBoard version) script)) input held o =
 HasOutcome (Some (Play level script)) input held o = PlaysBy level (scripted (Some level) held script) held o
 HasOutcome (Some (Drill level seed count)) input held o = o ≡ done (drill_line level seed count) held 0
 
+-- What a call guarantees, whatever the arguments are.
 pub record Answers (words : List (List ℕ)) (status : ℕ) (old new : Outside) : Type 0 where
   pub outcome : (o : Outcome) → HasOutcome (asked_of words) old.input.left old.shelf.held o → DoesOrStops status old new o
   pub row : CanAnswer (asked_of words) status old new
-  -- where `check` is done, the two sets are compatible
+  -- if `check` succeeds, the two sets are compatible
   pub verdict : Verdict (asked_of words) old.shelf.held status
-  -- and of such sets the newer shows what the older wrote as carried
+  -- and with such sets the newer shows what the older wrote, as carried
   pub upgrade : Upgrade (asked_of words) status old new
-  -- and the stream of a board is loaded as that board going on
+  -- and the stream of a board is loaded as that board, which goes on
   pub continuation : Continuation (asked_of words) status old new
-  -- and no fault is forgotten, and each promise stays
+  -- and no recorded failure is lost, and each promise stays
   pub stands : Stands old new
-  -- what the shelf told before is bytes, as each shelf's is
+  -- what the shelf held before is bytes, as it is for each shelf
   pub octets : IfSome old.shelf.held HoldsAll

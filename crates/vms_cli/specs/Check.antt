@@ -10,31 +10,34 @@ use Rattle.vms_commands.specs.Fetching.{named_sets, is_on_shelf}
 use Rattle.vms_commands.specs.SetLines.{mismatch_line}
 use Rattle.vms_commands.specs.Steps.{Step, Untold, Gives, Ends, next, Both}
 
+-- The text of compatible sets.
 abbrev pub compatible_text : List ℕ
 compatible_text = codes "compatible" ++ 10 ∷ []
 
+-- The text of a comparison, or its line.
 abbrev pub verdict : Option Mismatch → Step (List ℕ)
 verdict None = Gives compatible_text
 verdict (Some mismatch) = Ends 4 (mismatch_line mismatch)
 
--- the first rule that fails, if any
+-- The text of two sets' comparison, or the line of the first rule that fails.
 abbrev pub compared : Both Set → Step (List ℕ)
 compared sets = verdict (first_mismatch sets.old sets.new)
 
--- both sets are fetched, then both are read, and then they are compared
+-- Both sets are fetched, then both are parsed, then they are compared.
 abbrev pub checked : Option Held → (old new : SetWord) → Step (List ℕ)
 checked held old new = next (named_sets held old new) compared
 
--- where they are told, the words name two sets that are compatible
+-- If they are known, the words name two sets that are compatible.
 abbrev pub AreCompatible : Step (Both Set) → Type 0
 AreCompatible Untold = Unit {0}
 AreCompatible (Gives sets) = Compatible sets.old sets.new
 AreCompatible (Ends status line) = ⊥
 
--- `check` is done only where the two sets are compatible
+-- `check` succeeds only if the two sets are compatible.
 abbrev pub Verdict : Option Asked → Option Held → ℕ → Type 0
 Verdict (Some (Check old new)) held status = status ≡ 0 → AreCompatible (named_sets held old new)
 Verdict asked held status = Unit {0}
 
+-- Whether one of the two sets is on the shelf.
 abbrev pub asks_shelf : (old new : SetWord) → Bool
 asks_shelf old new = is_on_shelf old || is_on_shelf new

@@ -1,4 +1,4 @@
--- The command `convert`: its outcome, and what is seen of its input.
+-- The command `convert`: its outcome, and what it sees of its input.
 use Rattle.std.specs.Prelude.{◌≡◌, ℕ, ◌+◌, ◌<◌, ◌≤◌, List, [], ◌∷◌, ◌++◌, length, Option, Some, None, IsSomeAnd, Result, Ok, Err, codes, string_bytes}
 use Rattle.std.specs.declared.alloc.Global.{Global}
 use Rattle.std.specs.declared.string.String.{String}
@@ -36,40 +36,43 @@ use Rattle.vms_board_commands.specs.Seen.{WithGiven}
 use Rattle.vms_board_commands.specs.Runs.{RunsBehind}
 use Rattle.vms_cli.specs.Statuses.{convert_course}
 
--- the set whose streams are read
+-- The set whose streams are read.
 abbrev pub newest : Set
 newest = shipped_set NEWEST
 
--- the newest set reads what this set writes, or the first rule that fails
+-- The set, if the newest set reads what it writes, or the line of the first rule that fails.
 abbrev pub agreed : Set → Option Mismatch → Step Set
 agreed to None = Gives to
 agreed to (Some mismatch) = Ends 4 (mismatch_line mismatch)
 
+-- The same, by comparing the set with the newest one.
 abbrev pub agrees : Set → Step Set
 agrees to = agreed to (first_mismatch to newest)
 
--- the set is fetched and read, and then it is compared
+-- The set is fetched and parsed, and then compared.
 abbrev pub target : Option Held → SetWord → Step Set
 target held word = next (word_set held word) agrees
 
--- what would be lost: a cell by its path, or a device without cells, or the machine
+-- The text of what would be lost: a cell by its path, or a device without cells, or the machine.
 abbrev pub lost_text : Set → (section cell : Option ℕ) → List ℕ
 lost_text set (Some k) (Some c) = cell_name set (device_at set k) c
 lost_text set (Some k) None = codes "-"
 lost_text set None cell = codes "machine"
 
--- the room for a path, before one is written
+-- The room for a path, before one is written.
 abbrev pub no_path : Store
 no_path = record { bytes = []; room = 64; failing = []; calls = 0; faults = 0 }
 
+-- The line that names what would be lost, in a device or in none.
 abbrev pub line_of : Set → Option ℕ → List ℕ → List ℕ
 line_of set section what = codes "would lose " ++ (section_text set section ++ (codes " " ++ (what ++ 10 ∷ [])))
 
+-- The line of what would be lost.
 abbrev pub lost_line : Set → (section cell : Option ℕ) → List ℕ
 lost_line set section cell = line_of set section (lost_text set section cell)
 
--- the stream under the set of what the input takes as the newest set's, or what of that would be lost first; or where and why the
--- input is refused, up to the end of the unit at fault; the shelf tells the same as before
+-- The outcome under a set: the stream of what the input has as one of the newest set, or what would be lost first;
+-- or where and why the input is refused, up to the end of the offending unit. The shelf holds the same as before.
 pub data Converts (to : Set) (input : List ℕ) (held : Option Held) : Outcome → Type 0 where
   Rewrites : (taken : ℕ) (machine : Option (List ℕ)) (images : List Image) (bytes : List ℕ)
       → Takes newest newest.machines input taken machine images → IsStreamFor to newest machine images bytes
@@ -80,35 +83,36 @@ pub data Converts (to : Set) (input : List ℕ) (held : Option Held) : Outcome �
   Refuses : (place : ℕ) (section : Option ℕ) (reason : Reason) (size : ℕ) → Fault newest newest.machines input place section reason size
       → Converts to input held (ended 1 (refused_line newest place section reason) (place + size))
 
--- by the step that gives the set: the outcome under it, or the end of that step, before anything of the input is taken
+-- The outcome under the set that a step gives, or the end of that step, before any input is read.
 abbrev pub ConvertsBy : Step Set → Option (List ℕ) → Option Held → Outcome → Type 0
 ConvertsBy step input held o = HasBy (λ to x. IsSomeAnd input (λ bytes. Converts to bytes held x)) step o
 
--- how many bytes the input gives at most: as a stream of the newest set may have, and none where there is no set
+-- The most bytes that the input gives: those of a stream of the newest set, and none if there is no set.
 abbrev pub ConvertGives : Step Set → Intake → Intake → Type 0
 ConvertGives (Ends status line) input input' = input' ≡ input
 ConvertGives step input input' = input'.given ≤ input.given + most_given newest
 
--- the outcome under a set, which is well formed and whose streams the newest set reads
+-- The outcome under a set that is well formed and whose streams the newest set reads.
 abbrev pub ConvertsWell : Option Held → Set → List ℕ → Outcome → Type 0
 ConvertsWell held to bytes o = IsFit to × Compatible to newest × Converts to bytes held o
 
--- the outcome of these bytes under the set that the step gave, or may have given where it isn't told
+-- The outcome of these bytes under the set that the step gave, or may have given if it is unknown.
 abbrev pub ConvertsWith : Step Set → Option Held → List ℕ → Outcome → Type 0
 ConvertsWith step held = WithGiven step (ConvertsWell held)
 
--- ---- how it ends, and why, told or not
+-- ---- how it ends, and why, also where the contents are unknown
 
--- a device of the newest set, and a cell of it
+-- A device of the newest set, and a cell of it.
 abbrev pub IsInNewest : (section cell : Option ℕ) → Type 0
 IsInNewest (Some k) (Some c) = (k < length newest.devices) × (c < length (device_cells newest (device_at newest k)))
 IsInNewest section cell = Unit {0}
 
+-- A loss names a device and a cell of the newest set.
 abbrev pub NamesCell : Result (Unit {0}) ConvertFault → Type 0
 NamesCell (Err (faults.WouldLose section cell)) = IsInNewest section cell
 NamesCell answer = Unit {0}
 
--- the ending of each answer of the call
+-- The ending for each result of the call.
 pub data EndsLike : Result (Unit {0}) ConvertFault → Ending → Type 0 where
   IsDone : (u : Unit {0}) → EndsLike (Ok u) endings.Done
   IsMismatch : (mismatch : Mismatch) (line : String Global) → string_bytes line ≡ mismatch_line mismatch
@@ -120,10 +124,10 @@ pub data EndsLike : Result (Unit {0}) ConvertFault → Ending → Type 0 where
   FailsReading : EndsLike (Err faults.ReadFault) endings.ReadFault
   FailsWriting : EndsLike (Err faults.WriteFault) endings.WriteFault
   LacksMemory : EndsLike (Err faults.NoMemory) endings.NoMemory
-  -- the sets are compared before the input is read, and only their line takes memory
+  -- the sets are compared before the input is read, and only their line needs memory
   LacksLine : (mismatch : Mismatch) → EndsLike (Err (faults.NotCompatible mismatch)) endings.NoMemory
 
--- once the set is there
+-- What the command guarantees once the set is known.
 pub record ConvertsStream (to : Set) (i i' : Intake) (o o' : Outlet) (e : Ending) : Type 0 where
   pub runs : RunsBehind (ConvertsBy (agrees to)) (ConvertsWith (agrees to)) convert_course i i' o o' e
   pub given : ConvertGives (agrees to) i i'

@@ -1,4 +1,4 @@
--- What follows of a stream that `convert` writes.
+-- What follows for a stream that `convert` writes.
 use Rattle.std.specs.Prelude.{◌≡◌, ℕ, List, length, Option, Some}
 use Rattle.dev_base.specs.Levels.{IsLevel}
 use Rattle.dev_base.specs.declared.limits.TheConstants.{NEWEST}
@@ -18,14 +18,14 @@ use Rattle.vms_cli.specs.Answers.{HasOutcome}
 use Rattle.vms_cli.specs.Commands.{Convert, IsaBoard, Load, Show}
 use Rattle.vms_cli.specs.Convert.{newest}
 
--- where `convert` writes a stream, `show` with the set of its word and `analyze` print that alike
+-- If `convert` writes a stream, `show` with the set of its word and `analyze` print the same text for it.
 abbrev pub ConvertThenAnalyzeLaw : Type 0
 ConvertThenAnalyzeLaw = (word : SetWord) (input stream : List ℕ) (held : Option Held) (n : ℕ)
     → HasOutcome (Some (Convert word)) (Some input) held (done stream held n) → PrintsAlike word stream held
 
--- What was written is a stream of the newest set too, with the machine of what the input takes and with its cells, but that FIFOs
--- are in counted arrays where the set keeps them so. `show` with the newest set shows it so, and `convert` with the set gives the
--- same bytes again.
+-- The stream that was written is one of the newest set too, with the machine and the cells of the input's. Only the
+-- bytes of FIFOs are in counted arrays, if the set keeps them so. `show` with the newest set prints it so, and
+-- `convert` with the set gives the same bytes again.
 pub record StandsFor (word : SetWord) (input stream : List ℕ) (held : Option Held) (n : ℕ) : Type 0 where
   pub to : Set
   pub there : word_set held word ≡ Gives to
@@ -38,13 +38,13 @@ pub record StandsFor (word : SetWord) (input stream : List ℕ) (held : Option H
   pub shown : HasOutcome (Some (Show (Shipped (Isa NEWEST)))) (Some stream) held (done (values_text newest machine loaded) held (length stream))
   pub again : HasOutcome (Some (Convert word)) (Some stream) held (done stream held (length stream))
 
--- where `convert` writes a stream
+-- This is so if `convert` writes a stream.
 abbrev pub ConvertAgainLaw : Type 0
 ConvertAgainLaw = (word : SetWord) (input stream : List ℕ) (held : Option Held) (n : ℕ)
     → HasOutcome (Some (Convert word)) (Some input) held (done stream held n) → StandsFor word input stream held n
 
--- where `convert` writes a stream, and `load` on a board isa-1 to isa-4 has a trace of the input, `load` has the same trace of the
--- stream, and takes all of it
+-- Suppose that `convert` writes a stream, and that `load` on a board isa-1 to isa-4 has a trace for the input. Then
+-- it has the same trace for the stream, and reads all of it.
 abbrev pub ConvertThenLoadLaw : Type 0
 ConvertThenLoadLaw = (word : SetWord) (level : ℕ) (input stream script trace : List ℕ) (held : Option Held) (n k : ℕ) → IsLevel level
     → HasOutcome (Some (Convert word)) (Some input) held (done stream held n)

@@ -11,25 +11,26 @@ use Rattle.vms_commands.specs.Outcomes.{Outcome, done}
 use Rattle.vms_commands.specs.Steps.{Step, Gives, Both, HasBy}
 use Rattle.vms_cli.specs.Check.{compatible_text}
 
+-- The text if no state is found.
 abbrev pub no_state : List ℕ
 no_state = codes "no state" ++ 10 ∷ []
 
--- the rule that fails, if one does; then that no state shows it, or where the newer set refuses a state's stream, and the
--- state as the older set's values
+-- The text of an answer: the rule that fails, if one does; then that no state shows it, or where the newer set
+-- refuses a state's stream, and the state as the older set's values.
 abbrev pub counter_text : Set → Set → Answer → List ℕ
 counter_text old new AreCompatible = compatible_text
 counter_text old new (NoState m) = mismatch_line m ++ no_state
 counter_text old new (State m machine images r) =
     (mismatch_line m ++ refused_line new r.place r.section r.reason) ++ values_text old machine images
 
--- what two sets are answered is told: nothing of the input is taken, and the shelf tells the same
+-- The answer to two sets is printed. No input is read, and the shelf holds the same.
 pub data Tells (held : Option Held) (sets : Both Set) : Outcome → Type 0 where
   Answers : (answer : Answer) → Counters sets.old sets.new answer → Tells held sets (done (counter_text sets.old sets.new answer) held 0)
 
--- by the step that gives both sets: the answer, or the end of that step
+-- The outcome for the sets that a step gives: the answer, or the end of that step.
 abbrev pub CountersBy : Step (Both Set) → Option Held → Outcome → Type 0
 CountersBy step held o = HasBy (Tells held) step o
 
--- the same as the steps that the code takes: the text is that of the answer as it is worked out
+-- The same for the steps that the code takes, with the answer as it is computed.
 abbrev pub counted : Both Set → Step (List ℕ)
 counted sets = Gives (counter_text sets.old sets.new (computed sets.old sets.new))

@@ -1,4 +1,4 @@
--- What follows of all calls, and of packing and showing one after the other.
+-- What follows for all calls, and for packing and showing one after the other.
 use Rattle.std.specs.Prelude.{◌≡◌, ◌⊎◌, ℕ, ◌+◌, ◌<◌, ◌≤◌, max, true, List, length, Option, Some, None, Ok, IfSome, IsSomeAnd}
 use Rattle.vms_io.specs.Causes.{KeepsPromise, Rose}
 use Rattle.vms_io.specs.Shelves.{Held, HoldsAll}
@@ -36,23 +36,23 @@ use Rattle.vms_spec.specs.Sets.{Set}
 
 -- ---- outcomes
 
--- a call has an outcome, and no other
+-- A call has an outcome, and no other.
 pub record HasOneOutcome (asked : Option Asked) (input : List ℕ) (held : Held) : Type 0 where
   pub outcome : Outcome
   pub is : HasOutcome asked (Some input) (Some held) outcome
   pub only : (other : Outcome) → HasOutcome asked (Some input) (Some held) other → other ≡ outcome
 
--- a board that there is
+-- An existing board.
 abbrev pub IsBoard : BoardWord → Type 0
 IsBoard (IsaBoard level) = IsLevel level
 IsBoard (ClockBoard version) = IsUpTo NEWEST_CLOCK version
 
--- a set of its kind at or above it
+-- A set of the board's kind at or above it.
 abbrev pub MaySaveOn : BoardWord → ℕ → Type 0
 MaySaveOn (IsaBoard level) set = MaySaveUnder level set
 MaySaveOn (ClockBoard version) set = MaySaveClock version set
 
--- what words can ask for: such boards, and for `save` such a set
+-- What arguments can name: existing boards, and for `save` such a set.
 abbrev pub CanBeAsked : Option Asked → Type 0
 CanBeAsked (Some (Save board set script)) = IsBoard board × MaySaveOn board set
 CanBeAsked (Some (Load board script)) = IsBoard board
@@ -60,17 +60,19 @@ CanBeAsked (Some (Drill level seed count)) = IsLevel level
 CanBeAsked (Some (Play level script)) = IsLevel level
 CanBeAsked asked = Unit {0}
 
+-- This is so for all arguments.
 abbrev pub AskedLaw : Type 0
 AskedLaw = (words : List (List ℕ)) → CanBeAsked (asked_of words)
 
--- whatever words, bytes and shelf of bytes there are, as the laws `octets` of an input and of a shelf have them
+-- This is so whatever the arguments, the input's bytes and the shelf's bytes are. The laws `octets` say that an
+-- input and a shelf hold bytes.
 abbrev pub OutcomeLaw : Type 0
 OutcomeLaw = (words : List (List ℕ)) (input : List ℕ) (held : Held) → IsBytes input → HoldsAll held
     → HasOneOutcome (asked_of words) input held
 
 -- ---- completeness
 
--- a set that a word names, and a values text of it under a name, which isn't too long
+-- A set that a word names, and a values text of it under a name, which isn't too long.
 pub record CanBePacked (word : SetWord) (name : List ℕ) (map : Held) : Type 0 where
   pub set : Set
   pub there : word_set (Some map) word ≡ Gives set
@@ -81,15 +83,15 @@ pub record CanBePacked (word : SetWord) (name : List ℕ) (map : Held) : Type 0 
   pub images : List Image
   pub reads : values_read set text ≡ Values machine images
 
--- a set that a word names, whose streams the newest set reads, and a stream of that at the front of the input, of which nothing
--- would be lost
+-- A word names a set whose streams the newest set reads. A stream of the newest set is at the front of the input, and
+-- nothing of it would be lost.
 abbrev pub CanBeConverted : SetWord → Option (List ℕ) → Option Held → Type 0
 CanBeConverted word input held =
     (to : Set) × (word_set held word ≡ Gives to) × Compatible to newest × IsSomeAnd input (λ bytes. (taken : ℕ) × (machine : Option (List ℕ))
     × (images : List Image) × Takes newest newest.machines bytes taken machine images
     × ((section cell : Option ℕ) → LosesFirst to newest machine images section cell → ⊥))
 
--- a script under a name, which isn't too long and is in its grammar, of a session on a board of a level where one is named
+-- A script under a name, which isn't too long and is in its grammar; on a board of the level, if one is given.
 pub record CanBeRead (play : Option ℕ) (name : List ℕ) (map : Held) : Type 0 where
   pub text : List ℕ
   pub held : map name ≡ Some text
@@ -97,10 +99,17 @@ pub record CanBeRead (play : Option ℕ) (name : List ℕ) (map : Held) : Type 0
   pub lines : List ScriptLine
   pub reads : script_read play text ≡ Ok lines
 
--- what a command asks for so that it can be done: of `show` a word that names a set, and a stream of it at the front of the
--- input, of `convert` a set and a stream that it keeps, of `analyze` an input that has a listing, of `pack` a set and a values text
--- of it, of `check` words that name two compatible sets, of `counter` words that name two sets, of `save` a script, of `load` a
--- script and a stream of a board at the front of the input, of `play` a script of a session, of `drill` nothing
+-- What a command needs to succeed:
+-- - `show`: a word that names a set, and a stream of it at the front of the input
+-- - `convert`: a set, and a stream of which it would lose nothing
+-- - `analyze`: an input that has a listing
+-- - `pack`: a set, and a values text of it
+-- - `check`: words that name two compatible sets
+-- - `counter`: words that name two sets
+-- - `save`: a script
+-- - `load`: a script, and a stream of a board at the front of the input
+-- - `play`: a script of a session
+-- - `drill`: nothing.
 abbrev pub CanBeDone : Option Asked → Option (List ℕ) → Option Held → Type 0
 CanBeDone None input held = ⊥
 CanBeDone (Some (Show word)) input held =
@@ -124,37 +133,39 @@ CanBeDone (Some (Play level script)) input held =
     IsSomeAnd held (λ map. CanBeRead (Some level) script map)
 CanBeDone (Some (Drill level seed count)) input held = Unit {0}
 
--- the count of no object rises in the call
+-- No object counts a failure in the call.
 pub record NoneRises (old new : Outside) : Type 0 where
   pub input : Rose old.input.faults new.input.faults → ⊥
   pub out : Rose old.out.faults new.out.faults → ⊥
   pub notes : Rose old.notes.faults new.notes.faults → ⊥
   pub shelf : Rose old.shelf.faults new.shelf.faults → ⊥
 
--- where all that a command asks for is there and no count rises, it is done, or memory is wanting
+-- If everything that a command needs is there and no object counts a failure, the command succeeds, or memory runs
+-- out.
 abbrev pub CompleteLaw : Type 0
 CompleteLaw = (words : List (List ℕ)) (status : ℕ) (old new : Outside) → CanBeDone (asked_of words) old.input.left old.shelf.held
     → NoneRises old new → Answers words status old new → (status ≡ 0) ⊎ (status ≡ 10)
 
--- a sink that promises no fault while it has room for so many bytes more
+-- A sink that promises no failure while it has room for `bytes` more.
 abbrev pub HasRoom : Outlet → ℕ → Type 0
 HasRoom sink bytes = IsSomeAnd sink.promise (λ room. IsSomeAnd sink.written (λ old. length old + bytes < room))
 
--- no object lists failing calls, and out and notes have room: for the text of the outcome, and for its line or that of a fault
+-- No object lists failing calls, and there is room: on standard output for the outcome's text, on standard error
+-- for its line or that of a failure.
 pub record IsAmple (old : Outside) (o : Outcome) : Type 0 where
   pub input : old.input.promise ≡ true
   pub out : HasRoom old.out (length (text_of o.parts))
   pub notes : HasRoom old.notes (max 14 (length o.note))
   pub shelf : old.shelf.promise ≡ true
 
--- each object keeps its promise, as the laws of the traits have it
+-- Each object keeps its promise, as the laws of the traits say.
 pub record PromisesKept (now : Outside) : Type 0 where
   pub input : now.input.promise ≡ true → now.input.faults ≡ 0
   pub out : KeepsPromise now.out.promise now.out.written now.out.faults
   pub notes : KeepsPromise now.notes.promise now.notes.written now.notes.faults
   pub shelf : now.shelf.promise ≡ true → now.shelf.faults ≡ 0
 
--- whatever the outcome is, no count rises where nothing can fail
+-- Whatever the outcome is, no object counts a failure if nothing can fail.
 abbrev pub AmpleLaw : Type 0
 AmpleLaw = (words : List (List ℕ)) (status : ℕ) (old new : Outside) (o : Outcome)
     → HasOutcome (asked_of words) old.input.left old.shelf.held o → IsAmple old o
@@ -162,8 +173,9 @@ AmpleLaw = (words : List (List ℕ)) (status : ℕ) (old new : Outside) (o : Out
 
 -- ---- check, and then show
 
--- Where `check` of two words was done, the shelf tells the same when `show` is called with the second, and the input is what the
--- first's set writes, `show` gives the values text of the carried images, and all of the stream is taken, or it stops on its way.
+-- Suppose that `check` of two words succeeded, that `show` is called with the second one and a shelf that holds the
+-- same, and that the input is a stream of the first one's set. Then `show` prints the values text of the carried
+-- images and reads all of the stream, or it stops early.
 abbrev pub CheckThenShowLaw : Type 0
 CheckThenShowLaw = (one other : List (List ℕ)) (old new : SetWord) (sets : Both Set) (a b c d : Outside) (status : ℕ)
     → asked_of one ≡ Some (Check old new) → asked_of other ≡ Some (Show new) → named_sets a.shelf.held old new ≡ Gives sets
@@ -173,14 +185,14 @@ CheckThenShowLaw = (one other : List (List ℕ)) (old new : SetWord) (sets : Bot
 
 -- ---- round trips
 
--- where `pack` gives a stream for the text under a name, `show` gives that text for the stream, and takes all of it
+-- If `pack` makes a stream from the text under a name, `show` prints that text for the stream and reads all of it.
 abbrev pub PackThenShowLaw : Type 0
 PackThenShowLaw = (word : SetWord) (name text stream : List ℕ) (input : Option (List ℕ)) (map : Held) → map name ≡ Some text
     → HasOutcome (Some (Pack word name)) input (Some map) (done stream (Some map) 0)
     → HasOutcome (Some (Show word)) (Some stream) (Some map) (done text (Some map) (length stream))
 
--- where `show` gives a text for a stream that was written with its machine and its description, and the text isn't too long,
--- `pack` gives that stream for the text
+-- If `show` prints a text for a stream that was written with its machine and its description, and the text isn't
+-- too long, `pack` makes that stream from the text.
 abbrev pub ShowThenPackLaw : Type 0
 ShowThenPackLaw = (word : SetWord) (set : Set) (machine : Option (List ℕ)) (images : List Image) (name text : List ℕ) (input : Option (List ℕ)) (map : Held)
     → word_set (Some map) word ≡ Gives set → AreReady set images → IfSome machine (λ m. is_one_of set.machines m ≡ true)

@@ -1,5 +1,4 @@
--- The numbers by which the program goes. Definitions cite each as the constant that the code goes by too; which number it is
--- stands here.
+-- The limits of the program. Definitions cite each by the constant that the code uses too. Here are the numbers.
 use Rattle.std.specs.Prelude.{◌≡◌}
 use Rattle.dev_base.specs.declared.limits.TheConstants.{NEWEST, LAST_MOMENT, NANOSECONDS}
 use Rattle.vms_kinds.specs.declared.TheConstants.{NEWEST_SET}
@@ -10,20 +9,21 @@ use Rattle.vms_board_commands.specs.Scripts.{longest_script}
 use Rattle.vms_commands.specs.Fetching.{longest_file}
 use Rattle.vms_cli.specs.Commands.{most_events}
 
+-- The numbers.
 pub record LimitsLaw : Type 0 where
-  -- how many bytes a description file or a values text has at most, and a script
+  -- the most bytes of a description file or a values text, and of a script
   pub file : longest_file ≡ 1048576
   pub script : longest_script ≡ 4194304
-  -- how many events a drill has at most, and how many nanoseconds a line of a script waits
+  -- the most events of a drill, and the most nanoseconds that a line of a script waits
   pub events : most_events ≡ 1000000
   pub wait : LONGEST_WAIT ≡ 1000000000000000
-  -- how many bytes a name and a description have in a stream at most
+  -- the most bytes of a name and of a description in a stream
   pub name : LONGEST_NAME ≡ 255
   pub described : LONGEST_TEXT ≡ 16777216
-  -- how many items a set has at most, and how many unused bytes in one place
+  -- the most items of a set, and the most unused bytes in one place
   pub items : MOST_ITEMS ≡ 16384
   pub unused : MOST_UNUSED ≡ 4096
-  -- the newest shipped sets, and with them the highest level and version of a board
+  -- the newest shipped sets, which are also the highest level and version of a board
   pub newest_set : NEWEST_SET ≡ 4
   pub newest : NEWEST ≡ 4
   pub newest_clock : NEWEST_CLOCK ≡ 2

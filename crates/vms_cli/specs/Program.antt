@@ -9,7 +9,7 @@ use Rattle.vms_commands.specs.Lines.{write_fault}
 use Rattle.vms_commands.specs.Outcomes.{Outside}
 use Rattle.vms_cli.specs.Answers.{Answers}
 
--- the outside of the call: what the reader has left, what the writers have, no fault so far, and this shelf
+-- The outside of the call: what the reader has left, what the writers have, no failure so far, and this shelf.
 abbrev pub outside : (left out notes : Option (List ℕ)) → Stock → Outside
 outside left out notes shelf = record {
   input = record { left = ahead left []; given = 0; faults = 0; promise = false };
@@ -18,7 +18,7 @@ outside left out notes shelf = record {
   shelf = shelf;
 }
 
--- notes have a front of the call's line, and then `write fault`, or some first bytes of both
+-- Standard error has a prefix of the call's line, and then `write fault`, or a prefix of both.
 pub record TellsLate (line notes : Option (List ℕ)) : Type 0 where
   pub first : Option (List ℕ)
   pub whole : Option (List ℕ)
@@ -26,17 +26,18 @@ pub record TellsLate (line notes : Option (List ℕ)) : Type 0 where
   pub told : AppendsPrefix first whole write_fault
   pub flushed : KeepsFront whole notes
 
--- the line is flushed, or notes failed after a front of it
+-- The line is flushed, or standard error failed after a prefix of it.
 abbrev pub NotesEnd : (answered : ℕ) (line : Option (List ℕ)) (status : ℕ) (notes : Option (List ℕ)) → Type 0
 NotesEnd answered line status notes = ((status ≡ answered) × Keeps line notes) ⊎ ((status ≡ 6) × KeepsFront line notes)
 
--- What the writers have at the end, and the status, by the status that the call answered and the text and the line that it wrote:
--- out took all, and notes so, or notes failed at the flush; or out failed, and notes tell `write fault` in place of the line.
+-- What the writers have at the end, and the status. It depends on the status that the call returned, its text and
+-- its line. Standard output took everything, and standard error too, or that failed at the flush; or standard
+-- output failed, and standard error has `write fault` in place of the line.
 pub data Ends (answered : ℕ) (text line : Option (List ℕ)) (status : ℕ) (out notes : Option (List ℕ)) : Type 0 where
   OutFlushed : Keeps text out → NotesEnd answered line status notes → Ends answered text line status out notes
   OutLate : status ≡ 6 → KeepsFront text out → TellsLate line notes → Ends answered text line status out notes
 
--- the call is made, and then its texts are flushed
+-- The call is made, and then its texts are flushed.
 pub record Ran (words : List (List ℕ)) (old : Outside) (status : ℕ) (out notes : Option (List ℕ)) : Type 0 where
   pub answered : ℕ
   pub after : Outside

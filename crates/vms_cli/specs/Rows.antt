@@ -1,4 +1,4 @@
--- What a command can answer, told or not: each sentence is a field.
+-- What a command can return, also where the contents are unknown: a field for each sentence.
 use Rattle.std.specs.Prelude.{◌≡◌, ◌⊎◌, ℕ, true, false, List, Option, Some, None}
 use Rattle.std.specs.Io.KnownBytes.{Appends, Keeps}
 use Rattle.vms_io.specs.Causes.{Rose}
@@ -19,7 +19,7 @@ use Rattle.vms_cli.specs.Convert.{ConvertGives, ConvertsWith, target}
 use Rattle.vms_cli.specs.Show.{GivesWithin, ShowsWith}
 use Rattle.vms_cli.specs.Statuses.{asks, reads, statuses_of, stores_at, takes_at, writes_at}
 
--- the cause of a status, and its line on notes
+-- The cause of a status, and its line on standard error.
 pub record HasCause (status : ℕ) (old new : Outside) : Type 0 where
   pub done : status ≡ 0 → new.notes ≡ old.notes
   pub words : status ≡ 2 → Appends old.notes.written new.notes.written bad_words
@@ -28,7 +28,8 @@ pub record HasCause (status : ℕ) (old new : Outside) : Type 0 where
   pub shelf : status ≡ 7 → Rose old.shelf.faults new.shelf.faults × Appends old.notes.written new.notes.written shelf_fault
   pub memory : status ≡ 10 → Appends old.notes.written new.notes.written out_of_memory
 
--- the outcome of these bytes, by the command that reads them, with what the shelf gave, or may have given where it isn't told
+-- The outcome of these bytes, for the commands that read them, with what the shelf gave, or may have given if it is
+-- unknown.
 abbrev pub OutcomeWith : Option Asked → Option Held → List ℕ → Outcome → Type 0
 OutcomeWith (Some (Show word)) held bytes o = ShowsWith (word_set held word) held bytes o
 OutcomeWith (Some (Convert word)) held bytes o = ConvertsWith (target held word) held bytes o
@@ -37,19 +38,19 @@ OutcomeWith (Some (Load (IsaBoard level) script)) held bytes o = LoadsWith isa l
 OutcomeWith (Some (Load (ClockBoard version) script)) held bytes o = LoadsWith clock version (scripted None held script) held bytes o
 OutcomeWith asked held bytes o = ⊥
 
--- An outcome is seen of the bytes that were taken, whether or not the input tells them, and the call does it.
+-- An outcome follows from the bytes that were read, whether or not the input is known, and the call carries it out.
 pub record DoesSeen (IsOutcome : List ℕ → Outcome → Type 0) (status : ℕ) (old new : Outside) : Type 0 where
   pub outcome : Outcome
   pub sees : Sees IsOutcome old.input new.input outcome
   pub does : Does status old new outcome
 
--- the same where the call may have stopped on the way to it
+-- The same if the call may have stopped early.
 pub record ComesSeen (IsOutcome : List ℕ → Outcome → Type 0) (status : ℕ) (old new : Outside) : Type 0 where
   pub outcome : Outcome
   pub sees : Sees IsOutcome old.input new.input outcome
   pub comes : DoesOrStops status old new outcome
 
--- how many bytes the input gives at most
+-- The most bytes that the input gives.
 abbrev pub Gives : Option Asked → Option Held → Intake → Intake → Type 0
 Gives (Some (Show word)) held input input' = GivesWithin (word_set held word) input input'
 Gives (Some (Convert word)) held input input' = ConvertGives (target held word) input input'
@@ -58,18 +59,20 @@ Gives (Some (Load (IsaBoard level) script)) held input input' = LoadGives isa (s
 Gives (Some (Load (ClockBoard version) script)) held input input' = LoadGives clock (scripted None held script) input input'
 Gives asked held input input' = Unit {0}
 
+-- What a command can return and touch.
 pub record CanAnswer (asked : Option Asked) (status : ℕ) (old new : Outside) : Type 0 where
   pub can : is_among (statuses_of asked) status ≡ true
   pub cause : HasCause status old new
-  -- out, the input and the shelf stay but at these statuses
+  -- standard output, the input and the shelf are unchanged except with these statuses
   pub out : is_among (writes_at asked) status ≡ false → Keeps old.out.written new.out.written
   pub input : is_among (takes_at asked) status ≡ false → new.input ≡ old.input
   pub held : is_among (stores_at asked) status ≡ false → new.shelf.held ≡ old.shelf.held
-  -- and are left alone where they aren't needed
+  -- and they are left alone if they aren't needed
   pub shelf : asks asked ≡ false → new.shelf ≡ old.shelf
   pub unnamed : asked ≡ None → new.out ≡ old.out
-  -- of the input no more is given than may be, and what is done, refused or would lose something is done of all that was taken
+  -- the input gives no more than it may; and what succeeds, is refused or would lose something is so for all that
+  -- was read
   pub given : Gives asked old.shelf.held old.input new.input
   pub seen : reads asked ≡ true → (status ≡ 0) ⊎ (status ≡ 1) ⊎ (status ≡ 11) → DoesSeen (OutcomeWith asked old.shelf.held) status old new
-  -- where out failed, what stands on it is the beginning of an outcome's text that is seen so
+  -- if standard output failed, it has a prefix of the text of such an outcome
   pub stopped : reads asked ≡ true → status ≡ 6 → ComesSeen (OutcomeWith asked old.shelf.held) status old new ⊎ Rose old.notes.faults new.notes.faults

@@ -1,4 +1,4 @@
--- The command `show`: its outcome, and what is seen of its input.
+-- The command `show`: its outcome, and what it sees of its input.
 use Rattle.std.specs.Prelude.{◌≡◌, ◌⊎◌, ℕ, ◌+◌, ◌≤◌, List, Option, IsSomeAnd}
 use Rattle.vms_io.specs.Shelves.{Held}
 use Rattle.vms_io.specs.Told.{Intake, Outlet}
@@ -18,35 +18,35 @@ use Rattle.vms_board_commands.specs.Causes.{stream_course}
 use Rattle.vms_board_commands.specs.Seen.{WithGiven}
 use Rattle.vms_board_commands.specs.Runs.{RunsBehind}
 
--- the values text of the stream that the input takes, or where and why the input is refused, up to the end of the unit at
--- fault; the shelf tells the same as before
+-- The values text of the stream at the front of the input; or where and why the input is refused, up to the end of
+-- the offending unit. The shelf holds the same as before.
 pub data Shows (set : Set) (input : List ℕ) (held : Option Held) : Outcome → Type 0 where
   Values : (taken : ℕ) (machine : Option (List ℕ)) (images : List Image) → Takes set set.machines input taken machine images
       → Shows set input held (done (values_text set machine images) held taken)
   Refuses : (place : ℕ) (section : Option ℕ) (reason : Reason) (size : ℕ) → Fault set set.machines input place section reason size
       → Shows set input held (ended 1 (refused_line set place section reason) (place + size))
 
--- by the step that gives the set: the outcome under it, or the end of that step, before anything of the input is taken
+-- The outcome under the set that a step gives, or the end of that step, before any input is read.
 abbrev pub ShowsBy : Step Set → Option (List ℕ) → Option Held → Outcome → Type 0
 ShowsBy step input held o = HasBy (λ set x. IsSomeAnd input (λ bytes. Shows set bytes held x)) step o
 
--- how many bytes the input gives at most: as a stream of the set may have; of a well-formed set, where it isn't told which, or
--- none; and none where there is no set
+-- The most bytes that the input gives: those of a stream of the set; those of a stream of some well-formed set, or
+-- none, if the set is unknown; and none if there is no set.
 abbrev pub GivesWithin : Step Set → Intake → Intake → Type 0
 GivesWithin Untold input input' =
     (input' ≡ input) ⊎ ((set : Set) × WellFormed set × (input'.given ≤ input.given + most_given set))
 GivesWithin (Gives set) input input' = input'.given ≤ input.given + most_given set
 GivesWithin (Ends status line) input input' = input' ≡ input
 
--- the outcome under a set, which is well formed
+-- The outcome under a set that is well formed.
 abbrev pub ShowsWell : Option Held → Set → List ℕ → Outcome → Type 0
 ShowsWell held set bytes o = WellFormed set × Shows set bytes held o
 
--- the outcome of these bytes under the set that the step gave, or may have given where it isn't told
+-- The outcome of these bytes under the set that the step gave, or may have given if it is unknown.
 abbrev pub ShowsWith : Step Set → Option Held → List ℕ → Outcome → Type 0
 ShowsWith step held = WithGiven step (ShowsWell held)
 
--- once the set is there
+-- What the command guarantees once the set is known.
 pub record ShowsStream (set : Set) (i i' : Intake) (o o' : Outlet) (e : Ending) : Type 0 where
   pub runs : RunsBehind (λ left held x. IsSomeAnd left (λ bytes. Shows set bytes held x)) (λ held. ShowsWell held set) stream_course i i' o o' e
   pub given : i'.given ≤ i.given + most_given set

@@ -1,4 +1,4 @@
-// The command `analyze`: the values text of a stream by its own description.
+// The command `analyze`: the values text of a stream by the stream's own description.
 ghost use Rattle.std.specs.Prelude.{◌≡◌, Err, Some};
 ghost use Rattle.vms_io.specs.Told.{Stock, intake, outlet};
 ghost use Rattle.vms_commands.specs.Endings.{ending_of};
@@ -13,6 +13,11 @@ use vms_commands::{Ending, NoteLine, append_number};
 use vms_io::{Sink, Source};
 use vms_words::append;
 
+/// Writes the values text of the stream in `input` to `out`, by the stream's own description.
+///
+/// # Errors
+///
+/// An [`Ending`] if the stream can't be listed, `input` or `out` fails, or memory runs out.
 pub(crate) fn analyze_input<I: Source, O: Sink>(
     alloc: Global,
     input: &mut I,
@@ -25,7 +30,7 @@ pub(crate) fn analyze_input<I: Source, O: Sink>(
     analyze(alloc, input, out).map_err(fault_ending)
 }
 
-// How the command ends by a fault.
+// Returns the ending for a fault.
 fn fault_ending(fault: AnalyzeFault) -> Ending
     ensures { EndsLike (Err fault) result }
 {
@@ -37,7 +42,7 @@ fn fault_ending(fault: AnalyzeFault) -> Ending
     }
 }
 
-// The line of an input that isn't listed: the place and the reason.
+// Returns the line of an input that can't be listed: the offset and the reason.
 fn unlisted_line(at: u64, reason: AnalyzeReason) -> NoteLine
     ensures { result.items ≡ unlisted_line at reason }
 {

@@ -1,4 +1,4 @@
-// Words that name a board or a number.
+// Arguments that name a board or a number.
 ghost use Rattle.std.specs.Prelude.{◌≡◌};
 ghost use Rattle.std.specs.Option.{option_map};
 ghost use Rattle.vms_cli.specs.Asks.{board_asked};
@@ -10,7 +10,7 @@ use vms_commands::number_after;
 use vms_rtc::NEWEST_CLOCK;
 use vms_script::number_of;
 
-/// The greatest number of events of a drill.
+/// The most events that a drill may have.
 const MOST_EVENTS: u64 = 1_000_000;
 
 /// Returns the board whose name is `word`: `isa-` and its level, or `clk-` and its version.
@@ -26,7 +26,7 @@ pub(crate) fn board_word(word: &str) -> Option<BoardWord>
     }
 }
 
-/// The board isa-1 to isa-4 that a word names.
+/// Returns the board `isa-1` to `isa-4` that `word` names.
 pub(crate) fn isa_board(word: &str) -> Option<IsaBoard>
     ensures { option_map (λ board. board.level) result ≡ isa_level (board_word word.now) }
 {
@@ -36,7 +36,7 @@ pub(crate) fn isa_board(word: &str) -> Option<IsaBoard>
     }
 }
 
-/// The number below 2^64 that a word spells.
+/// Returns the number below 2^64 whose decimal text is `word`.
 pub(crate) fn number_word(word: &str) -> Option<u64>
     ensures { result ≡ number_word word.now }
 {
@@ -46,7 +46,7 @@ pub(crate) fn number_word(word: &str) -> Option<u64>
     }
 }
 
-/// How many events a drill is to have.
+/// Returns the number of events of a drill, if `word` is one of at most a million.
 pub(crate) fn events_word(word: &str) -> Option<u32>
     ensures { result ≡ few_events (number_word word.now) }
 {

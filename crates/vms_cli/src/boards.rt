@@ -1,42 +1,42 @@
-// Boards that words name.
+// Boards that arguments name.
 ghost use Rattle.dev_base.specs.Levels.{IsLevel, IsUpTo};
 ghost use Rattle.dev_board.specs.Saved.{MaySaveUnder};
 ghost use Rattle.dev_clock.specs.Saved.{MaySaveUnder as MaySaveClock};
 ghost use Rattle.vms_rtc.specs.declared.limits.TheConstants.{NEWEST_CLOCK};
 
-/// The board that a word names.
+/// The board that an argument names.
 #[derive(Clone, Copy)]
 pub(crate) enum BoardWord {
-    /// `isa-1` to `isa-4`
+    /// One of `isa-1` to `isa-4`.
     Isa(IsaBoard),
-    /// `clk-1` and `clk-2`
+    /// One of `clk-1` and `clk-2`.
     Clock(ClockBoard),
 }
 
-/// A board of a level, 1 to 4.
+/// A board `isa-1` to `isa-4`, by its level, 1 to 4.
 #[derive(Clone, Copy)]
 pub(crate) struct IsaBoard {
     pub(crate) level: u8,
     ghost board: { IsLevel level },
 }
 
-/// A board of a version, 1 or 2, of the clock chip.
+/// A board `clk-1` or `clk-2`, by its version, 1 or 2.
 #[derive(Clone, Copy)]
 pub(crate) struct ClockBoard {
     pub(crate) version: u8,
     ghost board: { IsUpTo NEWEST_CLOCK version },
 }
 
-/// A board, and a shipped set of its kind at or above it.
+/// A board, and a shipped set of its kind that is at or above it.
 #[derive(Clone, Copy)]
 pub(crate) enum SavedBoard {
-    /// `isa-1` to `isa-4`, under a set up to `@4`
+    /// One of `isa-1` to `isa-4`, and a set up to `@4`.
     Isa(IsaSaved),
-    /// `clk-1` and `clk-2`, under a set up to `@c2`
+    /// One of `clk-1` and `clk-2`, and a set up to `@c2`.
     Clock(ClockSaved),
 }
 
-/// A board of a level, and a set from the level to the newest.
+/// A board's level, and a set from the level to the newest.
 #[derive(Clone, Copy)]
 pub(crate) struct IsaSaved {
     pub(crate) level: u8,
@@ -45,7 +45,7 @@ pub(crate) struct IsaSaved {
     ghost may: { MaySaveUnder level set },
 }
 
-/// A clock board of a version, and a clock set from the version to the newest.
+/// A clock board's version, and a set from the version to the newest.
 #[derive(Clone, Copy)]
 pub(crate) struct ClockSaved {
     pub(crate) version: u8,
@@ -54,7 +54,7 @@ pub(crate) struct ClockSaved {
     ghost may: { MaySaveClock version set },
 }
 
-/// A board that a stream is to restore, and the script by which it goes on.
+/// The board that a stream restores, and the script that runs on it then.
 #[derive(Clone, Copy)]
 pub(crate) struct Loading<'a> {
     pub(crate) board: BoardWord,

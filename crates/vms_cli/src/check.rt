@@ -18,6 +18,12 @@ use vms_commands::{Ending, SetWord, mismatch_line, write_text};
 use vms_desc::DescSet;
 use vms_io::{Shelf, Sink};
 
+/// Checks whether the set `new` reads what the set `old` writes, and writes so to `out`.
+///
+/// # Errors
+///
+/// An [`Ending`] if the sets aren't compatible, a set can't be obtained, `out` fails, or memory
+/// runs out.
 pub(crate) fn check<O: Sink, H: Shelf>(
     alloc: Global,
     old: SetWord,

@@ -22,9 +22,15 @@ use vms_io::{MemSink, Shelf, Sink, Source};
 use vms_values::print_path;
 use vms_words::append;
 
-/// More than the longest path of a cell of the newest set has, in bytes.
+/// A bound above the length of each path of a cell in the newest set, in bytes.
 const PATH_ROOM: u32 = 64;
 
+/// Writes the state of the stream in `input` to `out`, as a stream of the set `set`.
+///
+/// # Errors
+///
+/// An [`Ending`] if the set can't be obtained or isn't compatible with the newest one, the stream
+/// is refused or something would be lost, `input` or `out` fails, or memory runs out.
 pub(crate) fn convert<I: Source, O: Sink, H: Shelf>(
     alloc: Global,
     set: SetWord,
@@ -40,7 +46,7 @@ pub(crate) fn convert<I: Source, O: Sink, H: Shelf>(
     convert_to(alloc, &to, input, out)
 }
 
-// Once the set is there. The memory for a refusal's line is taken before the input is read.
+// Converts once the set is known. The memory for a refusal's line is allocated before the input is read.
 fn convert_to<I: Source, O: Sink>(
     alloc: Global,
     to: &DescSet,
@@ -57,7 +63,7 @@ fn convert_to<I: Source, O: Sink>(
     with_line(alloc, loader.set(), path, converted)
 }
 
-// What the call answered, with the line of its fault.
+// Returns the result of the conversion, with the line of its fault.
 fn with_line(
     alloc: Global,
     set: &DescSet,
@@ -84,7 +90,7 @@ fn with_line(
     }
 }
 
-// The line of what would be lost: a cell of the newest set, a device that has none, or the machine.
+// Returns the line of what would be lost: a cell of the newest set, a device that has none, or the machine.
 fn lost_line(set: &DescSet, mut path: MemSink, section: Option<u32>, cell: Option<u32>) -> NoteLine
     requires newest { described set.now ≡ newest }
     requires path { store path ≡ no_path }
@@ -101,7 +107,7 @@ fn lost_line(set: &DescSet, mut path: MemSink, section: Option<u32>, cell: Optio
     }
 }
 
-// Puts the path of a cell of a device into memory that has room for it.
+// Writes the path of a cell into memory that has room for it.
 fn put_path(set: &DescSet, device: u32, cell: u32, path: &mut MemSink)
     requires is_device { device < length (described set.now).devices }
     requires is_cell { let d = device_at (described set.now) device in
@@ -114,12 +120,12 @@ fn put_path(set: &DescSet, device: u32, cell: u32, path: &mut MemSink)
 {
     match print_path(set, device, cell, path) {
         Ok(()) => {}
-        // No call is to fail, and the room is never filled.
+        // No call is to fail, and the room is larger than the path.
         Err(_) => unreachable!(),
     }
 }
 
-// The line that names what would be lost, in a section or in none.
+// Returns the line that names what would be lost, in a device or in none.
 fn line_of(set: &DescSet, section: Option<u32>, what: &[u8]) -> NoteLine
     requires { length what.now < 64 }
     ensures { result.items ≡ line_of (described set.now) section what.now }

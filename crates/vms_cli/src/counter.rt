@@ -30,6 +30,11 @@ use vms_io::{NoMemory, Shelf, Sink, WriteFault, write_all_of};
 use vms_load::{Loader, Refusal};
 use vms_values::print_values;
 
+/// Writes a state to `out` that shows why the set `new` doesn't read what the set `old` writes.
+///
+/// # Errors
+///
+/// An [`Ending`] if a set can't be obtained, `out` fails, or memory runs out.
 pub(crate) fn counter<O: Sink, H: Shelf>(
     alloc: Global,
     old: SetWord,
@@ -96,7 +101,7 @@ fn no_state_text(alloc: Global, mismatch: Mismatch) -> Result<String, NoMemory>
     Ok(format!(in alloc; "{line}no state\n")?)
 }
 
-// The lines before a state's values: the rule that fails, and where the stream is refused.
+// Returns the lines before a state's values: the rule that fails, and where the stream is refused.
 fn head_of(
     alloc: Global,
     new: &DescSet,
@@ -112,7 +117,7 @@ fn head_of(
     Ok(head)
 }
 
-// What stands before a state's values, and the values.
+// Writes the lines before a state's values, and the values.
 fn write_state<O: Sink>(
     head: &[u8],
     set: &DescSet,

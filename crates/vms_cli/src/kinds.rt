@@ -1,4 +1,4 @@
-// `save` and `load` on a board of the kind that a word names.
+// `save` and `load` on a board of the kind that an argument names.
 ghost use Rattle.std.specs.Prelude.{Some};
 ghost use Rattle.vms_io.specs.Told.{outlet, stock};
 ghost use Rattle.vms_commands.specs.Endings.{ending_of};
@@ -13,8 +13,12 @@ use vms_board_commands::{OnBoard, Saving, load_board, save_board};
 use vms_commands::Ending;
 use vms_io::{Shelf, Sink, Source};
 
-/// Writes the stream of a board after a script, under a set of its kind.
-// Not inlined, as `load`, `play_board` and `drill_board` aren't: the other commands' stack has no board.
+/// Runs a script on a board and writes the board's stream to `out`, under a set of its kind.
+///
+/// # Errors
+///
+/// An [`Ending`] if the script can't be read, `out` fails or memory runs out.
+// Not inlined, like `load`, `play_board` and `drill_board`, so that the other commands' stack has no board.
 #[inline(never)]
 pub(crate) fn save<O: Sink, H: Shelf>(
     alloc: Global,
@@ -47,7 +51,12 @@ pub(crate) fn save<O: Sink, H: Shelf>(
     }
 }
 
-/// Lets a script go on from the board that the input's stream restores.
+/// Restores a board from the stream in `input` and runs a script on it.
+///
+/// # Errors
+///
+/// An [`Ending`] if the script can't be read, the stream is refused, `input` or `out` fails, or
+/// memory runs out.
 #[inline(never)]
 pub(crate) fn load<I: Source, O: Sink, H: Shelf>(
     alloc: Global,

@@ -1,4 +1,5 @@
-//! The program's top call: it does what the words say over the outside that is handed in.
+//! The program's top call: it runs the command that the arguments name, on the objects that the
+//! caller passes.
 #![tactic(auto)]
 
 mod analyze;
@@ -8,6 +9,7 @@ mod check;
 mod convert;
 mod counter;
 mod kinds;
+/// Laws of the whole program.
 pub mod laws;
 mod pack;
 mod running;

@@ -23,6 +23,12 @@ use vms_selfdesc::describe;
 use vms_values::{Values, ValuesFault, read_values};
 use vms_write::write_stream;
 
+/// Writes the stream of the values text `values` under the set `set` to `out`.
+///
+/// # Errors
+///
+/// An [`Ending`] if the set or the text can't be obtained, the text is refused, `out` fails, or
+/// memory runs out.
 pub(crate) fn pack<O: Sink, H: Shelf>(
     alloc: Global,
     set: SetWord,
@@ -38,14 +44,14 @@ pub(crate) fn pack<O: Sink, H: Shelf>(
     pack_text(alloc, &parts.set, &parts.values, out)
 }
 
-// A set, and a values text.
+// A set and a values text.
 #[derive(Drop)]
 struct PackParts {
     set: DescSet,
     values: Vec<u8>,
 }
 
-// What two words name, or how the command ends where it can't be had: the set is read once both texts are fetched.
+// Returns what two arguments name. The set is parsed once both texts are fetched.
 fn pack_parts<H: Shelf>(
     alloc: Global,
     set: SetWord,
@@ -64,7 +70,7 @@ fn pack_parts<H: Shelf>(
     Ok(PackParts { set, values })
 }
 
-// Once the set is read.
+// Packs once the set is known.
 fn pack_text<O: Sink>(alloc: Global, set: &DescSet, text: &[u8], out: &mut O) -> Result<(), Ending>
     requires { length text.now ≤ longest_file }
     ensures ends { TextEnds (packed (described set.now) text.now) (outlet O.Sink out.old)
@@ -81,7 +87,7 @@ fn pack_text<O: Sink>(alloc: Global, set: &DescSet, text: &[u8], out: &mut O) ->
     }
 }
 
-// The description is made before the first byte is written.
+// Writes the stream. Its description is made before the first byte is written.
 fn write<O: Sink>(alloc: Global, set: &DescSet, values: &Values, out: &mut O) -> Result<(), Ending>
     requires machine { IfSome values.now.machine (λ m. m < length (described set.now).machines) }
     requires of { AreImagesOf (described set.now) values.now.images.items }

@@ -1,4 +1,4 @@
-// The program, but for what the system hands it.
+// The whole program, except for the objects of the operating system.
 ghost use Rattle.std.specs.Prelude.{◌≡◌, IfOk, None, OnErr, IsSomeAnd};
 ghost use Rattle.vms_io.specs.Told.{Stock, intake, outlet, stock};
 ghost use Rattle.vms_io.specs.Writers.{writer_of};
@@ -12,12 +12,13 @@ use std::io::{Read, Write};
 use vms_commands::Ending;
 use vms_io::{NoMemory, Shelf, Sink, Source, StdSink, StdSource};
 
-/// Runs the program: makes the call that the words in `handed` name, over `input`, two writers and the shelf in `handed`,
-/// and flushes both texts. Returns the status with the writers.
+/// Runs the program: makes the call that the words in `handed` name, over `input`, two writers and
+/// the shelf in `handed`, and flushes both texts. Returns the status with the writers.
 ///
-/// If memory ran out for the words or the shelf there is no call: the status is 10, and nothing is read or written. If the
-/// last bytes for `out` can't be written, the status is 6, and `notes` gets the line `write fault` in place of the call's; if
-/// those for `notes` can't be, the status is 6 as well.
+/// If memory ran out for the words or the shelf, there is no call: the status is 10, and nothing is
+/// read or written. If the last bytes for `out` can't be written, the status is 6, and `notes` gets
+/// the line `write fault` in place of the call's. If those for `notes` can't be written, the status
+/// is 6 as well.
 pub fn program<R: Read + Drop, W: Write + Drop, E: Write + Drop, H: Shelf + Drop>(
     alloc: Global,
     handed: Result<(Words, H), NoMemory>,
@@ -44,8 +45,8 @@ pub fn program<R: Read + Drop, W: Write + Drop, E: Write + Drop, H: Shelf + Drop
     (status, out.into_inner(), notes.into_inner())
 }
 
-// The call, with the words and the shelf that it is handed. If memory ran out for these there is no call, and nothing is read
-// or written.
+// Makes the call with the words and the shelf in `handed`. If memory ran out for these there is no call, and
+// nothing is read or written.
 fn call<I: Source, O: Sink, N: Sink, H: Shelf + Drop>(
     alloc: Global,
     handed: Result<(Words, H), NoMemory>,
@@ -78,7 +79,7 @@ fn call<I: Source, O: Sink, N: Sink, H: Shelf + Drop>(
     Some(vmstate(alloc, &words, input, out, notes, &mut shelf))
 }
 
-// Flushes both texts, and returns the status at the end.
+// Flushes both texts and returns the final status.
 fn flush<W: Write + Drop, E: Write + Drop>(
     answered: u8,
     out: &mut StdSink<W>,
@@ -105,7 +106,7 @@ fn flush_notes<E: Write + Drop>(answered: u8, notes: &mut StdSink<E>) -> u8
     }
 }
 
-// Writes the line of a write fault in place of the call's, of which nothing was flushed yet, or a beginning.
+// Writes the line of a write fault in place of the call's, of which nothing or only a prefix has been flushed.
 fn tell_late<E: Write + Drop>(notes: &mut StdSink<E>) -> u8
     ensures status { result ≡ 6 }
     ensures told { TellsLate (⟦<StdSink<E> as Sink>⟧.written notes.old)

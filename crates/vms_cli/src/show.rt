@@ -16,6 +16,12 @@ use vms_io::{Shelf, Sink, Source};
 use vms_load::{LeanLoader, LoadFault};
 use vms_values::print_values;
 
+/// Writes the values text of the stream in `input` under the set `set` to `out`.
+///
+/// # Errors
+///
+/// An [`Ending`] if the set can't be obtained, the stream is refused, `input` or `out` fails, or
+/// memory runs out.
 pub(crate) fn show<I: Source, O: Sink, H: Shelf>(
     alloc: Global,
     set: SetWord,
@@ -31,7 +37,7 @@ pub(crate) fn show<I: Source, O: Sink, H: Shelf>(
     show_stream(&mut loader, input, out)
 }
 
-// Once the set is there.
+// Shows once the set is known.
 fn show_stream<I: Source, O: Sink>(
     loader: &mut LeanLoader,
     input: &mut I,

@@ -21,26 +21,29 @@ use vms_board_commands::{OnBoard, drill_board, play_board};
 use vms_commands::Ending;
 use vms_io::{Shelf, Sink, Source, write_all_of};
 
-/// Runs the command that the words name over the input, out, notes and the shelf, and answers the status.
+/// Runs the command that `words` name and returns its exit status.
+///
+/// The command reads `input` and `shelf`, writes its text to `out` and a line to `notes`.
 ///
 /// | status | meaning |
 /// |---|---|
-/// | 0 | done; the text stands on out |
+/// | 0 | success; the text is on `out` |
 /// | 1 | the stream is refused |
-/// | 2 | the words name no command |
+/// | 2 | the words form no command |
 /// | 3 | a values text, a script or a description file is refused |
 /// | 4 | the sets aren't compatible |
 /// | 5 | the input failed |
-/// | 6 | out or notes failed |
+/// | 6 | `out` or `notes` failed |
 /// | 7 | the shelf failed |
 /// | 8 | a name isn't on the shelf |
-/// | 9 | what a name holds is too large |
-/// | 10 | memory is wanting |
-/// | 11 | the set doesn't keep all of the stream |
+/// | 9 | the file of a name is too large |
+/// | 10 | out of memory |
+/// | 11 | the set would lose something in the stream |
 ///
-/// One line goes to notes for each status but 0. On statuses but 0 and 6 out is untouched, but for `play`: on 7 and 10
-/// the traces of its first lines stand on it, of the last perhaps a beginning. Nothing of the input is taken but by
-/// `show`, `convert`, `analyze` and `load`.
+/// One line is written to `notes` for each status but 0. With a status other than 0 and 6 nothing
+/// is written to `out`, except by `play`: with 7 and 10 it has written the traces of its first
+/// lines, the last of them perhaps in part. Only `show`, `convert`, `analyze` and `load` read
+/// `input`.
 pub fn vmstate<I: Source, O: Sink, N: Sink, H: Shelf>(
     alloc: Global,
     words: &Words,
@@ -67,8 +70,9 @@ pub fn vmstate<I: Source, O: Sink, N: Sink, H: Shelf>(
     tell(notes, &ending)
 }
 
-/// Writes the line of an ending to notes, and answers its status, or 6 where notes failed. Of what is done nothing is
-/// told.
+/// Writes the line of `ending` to `notes` and returns its status, or 6 if `notes` fails.
+///
+/// If the command succeeded, nothing is written.
 pub fn tell<N: Sink>(notes: &mut N, ending: &Ending) -> u8
     ensures tells { Tells (outlet N.Sink notes.old) (outlet N.Sink notes.new) ending.now result }
     ensures serves { Serves (outlet N.Sink notes.old) (outlet N.Sink notes.new) }

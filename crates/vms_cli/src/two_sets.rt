@@ -1,4 +1,4 @@
-// Two sets that words name: both are fetched, and then both are read.
+// Two sets that arguments name: both are fetched, then both are parsed.
 ghost use Rattle.vms_io.specs.Told.{stock};
 ghost use Rattle.vms_commands.specs.Asks.{set_asked};
 ghost use Rattle.vms_commands.specs.Fetching.{named_sets};
@@ -18,7 +18,11 @@ pub(crate) struct TwoSets {
     pub(crate) new: DescSet,
 }
 
-/// The sets that two words name, or how the command ends where one can't be had: the older is fetched and read first.
+/// Returns the sets that two words name. The older one is fetched and parsed first.
+///
+/// # Errors
+///
+/// Those of [`fetch_set`] and of [`read_fetched`].
 pub(crate) fn two_sets<H: Shelf>(
     alloc: Global,
     old: SetWord,

@@ -1,4 +1,4 @@
-// The line of a values text that is refused.
+// The line of a refused values text.
 ghost use Rattle.std.specs.Prelude.{◌≡◌, IfOk, string_bytes};
 ghost use Rattle.vms_cli.specs.ValuesLines.{values_line, values_reason_text};
 
@@ -6,7 +6,7 @@ use std::alloc::Global;
 use vms_io::NoMemory;
 use vms_values::ValuesReason;
 
-// The line of a values text that is refused.
+// Returns the line of a values text that is refused at line `line`.
 pub(crate) fn values_line(
     alloc: Global,
     line: u32,

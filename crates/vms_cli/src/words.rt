@@ -1,4 +1,4 @@
-// The words after the program's name.
+// The arguments after the program's name.
 ghost use Rattle.std.specs.Prelude.{◌≡◌, ◌∷◌, ◌++◌, [], OnOk, OnErr, Some, None, codes, if◌then◌else◌};
 ghost use Rattle.std.specs.Str.{bytes_eq};
 ghost use Rattle.std.specs.Option.{option_map};
@@ -17,7 +17,7 @@ use vms_io::NoMemory;
 use vms_rtc::NEWEST_CLOCK;
 use vms_script::{is_set_of, is_shelf_name};
 
-/// What the words ask for.
+/// The command that the arguments form.
 #[derive(Clone, Copy)]
 pub(crate) enum Command<'a> {
     /// `show SET`
@@ -68,7 +68,7 @@ pub(crate) enum Command<'a> {
     },
 }
 
-/// The words after the program's name, in order.
+/// The arguments after the program's name, in order.
 #[derive(Drop)]
 pub struct Words {
     alloc: Global,
@@ -84,7 +84,7 @@ impl Model for Words {
 }
 
 impl Words {
-    /// No word.
+    /// Returns a list without arguments.
     pub fn new(alloc: Global) -> Words
         ensures { result ≡ [] }
     {
@@ -94,7 +94,11 @@ impl Words {
         }
     }
 
-    /// Appends a word.
+    /// Appends `word`.
+    ///
+    /// # Errors
+    ///
+    /// [`NoMemory`] if memory runs out. The list is unchanged then.
     pub fn push(&mut self, word: &str) -> Result<(), NoMemory>
         ensures ok { OnOk result (self.new ≡ self.old ++ word.now ∷ []) }
         ensures err { OnErr result (self.new ≡ self.old) }
@@ -104,7 +108,7 @@ impl Words {
         Ok(())
     }
 
-    // The command that the words name, or none.
+    // Returns the command that the words form, or none.
     pub(crate) fn command(&self) -> Option<Command<'_>>
         ensures { option_map asked result ≡ asked_of self.now }
     {
@@ -123,7 +127,7 @@ impl Words {
     }
 }
 
-// A command without a word behind its name.
+// Returns the command of one word.
 fn bare_of(name: &str) -> Option<Command<'static>>
     ensures { option_map asked result ≡ (if bytes_eq name.now (codes "analyze")
         then Some Analyze else None) }
@@ -135,7 +139,7 @@ fn bare_of(name: &str) -> Option<Command<'static>>
     }
 }
 
-// A command with one word behind its name.
+// Returns the command of two words.
 #[tactic(auto, unfolding(crate::specs::Commands::single_of))]
 fn single_of<'a>(name: &str, set: &'a str) -> Option<Command<'a>>
     ensures { option_map asked result ≡ single_of name.now set.now }
@@ -158,7 +162,7 @@ fn show_of(set: &str) -> Option<Command<'_>>
     }
 }
 
-// `convert` takes no set of the clock boards.
+// Returns the command `convert`, which takes no set of the clock boards.
 fn convert_of(set: &str) -> Option<Command<'_>>
     ensures { option_map asked result ≡ convert_of (set_word set.now) }
 {
@@ -169,7 +173,7 @@ fn convert_of(set: &str) -> Option<Command<'_>>
     }
 }
 
-// A command with two words behind its name.
+// Returns the command of three words.
 #[tactic(auto, unfolding(crate::specs::Commands::pair_of))]
 fn pair_of<'a>(name: &str, one: &'a str, other: &'a str) -> Option<Command<'a>>
     ensures { option_map asked result ≡ pair_of name.now one.now other.now }
@@ -235,7 +239,7 @@ fn play_of<'a>(board: &str, script: &'a str) -> Option<Command<'a>>
     }
 }
 
-// A command with three words behind its name.
+// Returns the command of four words.
 #[tactic(auto, unfolding(crate::specs::Commands::triple_of))]
 fn triple_of<'a>(name: &str, one: &str, two: &str, three: &'a str) -> Option<Command<'a>>
     ensures { option_map asked result ≡ triple_of name.now one.now two.now three.now }
@@ -269,7 +273,7 @@ fn save_of<'a>(board: &str, set: &str, script: &'a str) -> Option<Command<'a>>
     }
 }
 
-// Saves a board under a set, where that is of the board's kind and at or above it.
+// Returns the command that saves a board under a set, if that is of the board's kind and at or above it.
 fn save_under<'a>(board: BoardWord, set: ShippedSet, script: &'a str) -> Option<Command<'a>>
     ensures { option_map asked result ≡ save_under (board_asked board) script.now
         (saved_set (board_asked board) (shipped_asked set)) }
@@ -295,7 +299,7 @@ fn save_under<'a>(board: BoardWord, set: ShippedSet, script: &'a str) -> Option<
     }
 }
 
-// The board that a word names, where the other names a script.
+// Returns the board that a word names, if the other word is the name of a script.
 fn on_board(board: &str, script: &str) -> Option<BoardWord>
     ensures { option_map (λ it. (board_asked it, script.now)) result
         ≡ on_board (board_word board.now) script.now }

@@ -45,7 +45,7 @@ pub same_so : (i : Intake) (o : Outlet) (s : Stock) (course : Course) (e : Endin
 same_so i o s course e can risen =
     unshelved_so s course e can risen (λ f. Keeps-refl o.written) (λ f. refl) (draws_none i) (serves_none o)
 
--- the shelf was looked at alone
+-- the shelf was only read
 pub looked_so : (i : Intake) (o : Outlet) {s s' : Stock} (course : Course) (e : Ending) → Looks s s' → (course.asks ≡ false → s' ≡ s) → is_among course.statuses (status_of e) ≡ true → Risen i i o o s s' e → EndsSo i i o o s s' course e
 looked_so i o course e looks same can risen = record {
   can = can;
@@ -59,7 +59,7 @@ looked_so i o course e looks same can risen = record {
   reaches = looks_reaches looks;
 }
 
--- the shelf was asked before
+-- the shelf was used before
 risen_since : (i i' : Intake) (o o' : Outlet) (a s s' : Stock) (e : Ending) → Looks a s → Risen i i' o o' s s' e → Risen i i' o o' a s' e
 risen_since i i' o o' a s s' ReadFault p h = h
 risen_since i i' o o' a s s' WriteFault p h = h
@@ -94,7 +94,7 @@ writes_end text o o' Done w = w.told
 writes_end text o o' WriteFault w = stops_prefix w
 writes_end text o o' e w = absurd w
 
--- out stays but where all was done or it failed
+-- standard output is unchanged unless the command succeeded or it failed
 pub so_quiet : {i i' : Intake} {o o' : Outlet} {s s' : Stock} {statuses takes stores : List ℕ} {asks : Bool} (e : Ending)
     → EndsSo i i' o o' s s' (record { statuses = statuses; writes = 0 ∷ 6 ∷ []; takes = takes; stores = stores; asks = asks }) e → Quiet o o' e
 so_quiet Done g = tt

@@ -12,7 +12,7 @@ use Rattle.vms_commands.specs.Endings.{Caused, EndsAs, EndsWith, Quiet, Tells, W
 use Rattle.vms_commands.specs.Lines.{bad_words}
 use Rattle.vms_commands.specs.Outcomes.{Part, Outcome, Outside, ComesTo, ComesToFault, FailsToStore, TellsShelfFault, DoesOrStops, TakesBytes, done, ended, text_of, held_after}
 
--- what stays grows by nothing
+-- what is unchanged grows by nothing
 pub kept_none : (old new : Option (List ℕ)) → Keeps old new → Appends old new []
 kept_none None new h = tt
 kept_none (Some xs) None h = absurd h
@@ -39,7 +39,7 @@ nothing_left (Some bytes) = refl
 pub takes_nothing : (i : Intake) → i.given < 2 ^ 64 → TakesBytes i i 0
 takes_nothing i few = record { left = nothing_left i.left; given = omega (arith, few) }
 
--- the front of what is told was taken, and counted
+-- a prefix of the known bytes was read, and counted
 pub takes_front : (i i' : Intake) (bytes input : List ℕ) (n : ℕ) → Takes i i' bytes → i.left ≡ Some input → i'.left ≡ Some (drop n input) → n ≤ length input → TakesBytes i i' n
 takes_front i i' bytes input n t old new within =
     let told : Consumes (Some input) (Some (drop n input)) bytes =
@@ -79,7 +79,7 @@ around input out notes shelf = record { input = input; out = out; notes = notes;
 module _ (i i' : Intake) (o o' n n' : Outlet) (s s' : Stock) where
   -- ---- the outcome
 
-  -- ended by a status with its line, which was told
+  -- ended with a status and its line, which was written
   ended_so : (k status : ℕ) (line : List ℕ) (x : Outcome) → EndsWith k line i i' x → Keeps o.written o'.written → s'.held ≡ s.held
       → ((status ≡ k) × Appends n.written n'.written line) ⊎ ((status ≡ 6) × Rose n.faults n'.faults × AppendsPrefix n.written n'.written line)
       → DoesOrStops status (around i o n s) (around i' o' n' s') x
@@ -95,7 +95,7 @@ module _ (i i' : Intake) (o o' n n' : Outlet) (s s' : Stock) where
     come = inl (comes_to_nothing o o' s s' x.parts keeps held);
   }
 
-  -- how far it came, where a fault of the shelf is told
+  -- how far it got, if the line of a failure of the shelf was written
   at_fault : (status : ℕ) (x : Outcome) → ComesToFault o o' s s' x.parts → TellsShelfFault status (around i o n s) (around i' o' n' s')
       → ComesTo o o' s s' x.parts ⊎ (TellsShelfFault status (around i o n s) (around i' o' n' s') × FailsToStore o o' s s' x.parts)
   at_fault status x (inl comes) told = inl comes

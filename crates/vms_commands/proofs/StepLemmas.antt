@@ -19,7 +19,7 @@ use Rattle.vms_commands.specs.StepEndings.{IsFree, EndedAs, StepAs, WrittenAs, T
 use Rattle.vms_commands.specs.Steps.{Step, Untold, Gives, Ends, next, both, HasBy, HasText}
 use Rattle.vms_commands.proofs.EndLemmas.{comes_to_nothing, ends_with, takes_nothing}
 
--- ---- how a command ends, by what its work comes to
+-- ---- how a command ends, by what its work returned
 
 -- at the exit of a `?`
 pub ending_passed : {T : Type 0} (work : Result T Ending) {e : Ending} → IsErrAnd work (λ x. x ≡ e) → ending_of work ≡ e
@@ -70,7 +70,7 @@ memory_text Untold o o' = tt
 memory_text (Gives text) o o' = tt
 memory_text (Ends status line) o o' = tt
 
--- a fault of the shelf and want of memory end any step
+-- a failure of the shelf and a lack of memory end any step
 free_text : (s : Step (List ℕ)) (o o' : Outlet) (e : Ending) → IsFree e → TextEnds s o o' e
 free_text s o o' ShelfFault h = shelf_text s o o'
 free_text s o o' NoMemory h = memory_text s o o'
@@ -118,7 +118,7 @@ ended_ends status line i o o' s s' ShelfFault few same quiet h = inl (comes_to_n
 ended_ends status line i o o' s s' NoMemory few same quiet h = comes_to_nothing o o' s s' _ quiet same
 ended_ends status line i o o' s s' e few same quiet h = absurd h
 
--- what an ending says beside the outcome of a command whose steps give the text for out
+-- what an ending says about the outcome of a command whose steps give the text for standard output
 pub text_ends : (step : Step (List ℕ)) (i : Intake) (o o' : Outlet) (s s' : Stock) (e : Ending) (x : Outcome) → i.given < 2 ^ 64 → s'.held ≡ s.held
     → Quiet o o' e → TextEnds step o o' e → HasText s.held step x → EndsAs i i o o' s s' e x
 text_ends Untold i o o' s s' e x few same quiet h has = absurd has
@@ -127,7 +127,7 @@ text_ends (Gives text) i o o' s s' e x few same quiet h has =
 text_ends (Ends status line) i o o' s s' e x few same quiet h has =
     subst (λ (y : Outcome). EndsAs i i o o' s s' e y) (sym has) (ended_ends status line i o o' s s' e few same quiet h)
 
--- the outcome of a command that goes by what a step gives
+-- the outcome of a command that depends on what a step gives
 module _ {A T : Type 0} (m : T → A) (P : A → Outcome → Type 0) where
   free_by : (i : Intake) (o o' : Outlet) (s s' : Stock) (e : Ending) (x : Outcome) → s'.held ≡ s.held → Quiet o o' e → IsFree e
       → EndsAs i i o o' s s' e x
@@ -149,7 +149,7 @@ module _ {A T : Type 0} (m : T → A) (P : A → Outcome → Type 0) where
   had_by (Gives a) t x h has = subst (λ (y : A). P y x) (sym h) has
   had_by (Ends status line) t x h has = absurd h
 
--- ---- steps are told where the shelf is, and never end by the status 0
+-- ---- steps are known where the shelf is, and never end with status 0
 
 abbrev pub IsSound : {A : Type 0} → Option Held → Step A → Type 0
 IsSound held Untold = held ≡ None

@@ -1,14 +1,16 @@
--- The words of the code, as what is meant.
+-- The code's types of arguments, as the types of the specification.
 use Rattle.vms_commands.specs.SetWords as words
 use Rattle.vms_commands.specs.declared.set_words.SetWord.{SetWord}
 use Rattle.vms_commands.specs.declared.set_words.SetWord.TheVariants.{Shipped, OnShelf}
 use Rattle.vms_commands.specs.declared.set_words.ShippedSet.{ShippedSet}
 use Rattle.vms_commands.specs.declared.set_words.ShippedSet.TheVariants.{Isa, Clock}
 
+-- The shipped set of the specification that the code's value means.
 abbrev pub shipped_asked : ShippedSet → words.ShippedSet
 shipped_asked (Isa set) = words.Isa set.number
 shipped_asked (Clock set) = words.Clock set.number
 
+-- The set of the specification that the code's value means.
 abbrev pub set_asked : SetWord → words.SetWord
 set_asked (Shipped set) = words.Shipped (shipped_asked set)
 set_asked (OnShelf name) = words.OnShelf name.now

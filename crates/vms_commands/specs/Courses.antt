@@ -1,4 +1,4 @@
--- How a command may end and what it touches then, told or not: each sentence is a field.
+-- How a command may end and what it touches then, whether or not the contents are known: a field for each sentence.
 use Rattle.std.specs.Prelude.{◌≡◌, ℕ, ◌≤◌, Bool, true, false, ◌==◌, List, [], ◌∷◌, ◌++◌}
 use Rattle.std.specs.List.{list_any}
 use Rattle.std.specs.Io.KnownBytes.{Keeps}
@@ -11,12 +11,12 @@ use Rattle.vms_commands.specs.declared.ending.Ending.TheVariants.{ReadFault, Wri
 use Rattle.vms_commands.specs.Endings.{status_of}
 use Rattle.vms_commands.specs.Outcomes.{Outside}
 
--- the status is one of these
+-- `is_among statuses status` is whether `status` is in the list.
 abbrev pub is_among : List ℕ → ℕ → Bool
 is_among statuses status = list_any (λ n. n == status) statuses
 
--- The statuses that a command can end by; those at which something may be written on out, something of the input may be taken, and
--- the shelf may tell something else than before; and whether the shelf is asked for anything.
+-- What a command may do: the statuses that it can end with; the statuses with which standard output may have been
+-- written, input may have been read, and the shelf may have changed; and whether it uses the shelf.
 pub record Course : Type 0 where
   pub statuses : List ℕ
   pub writes : List ℕ
@@ -24,21 +24,21 @@ pub record Course : Type 0 where
   pub stores : List ℕ
   pub asks : Bool
 
--- the statuses of what the shelf holds, or doesn't, and of a fault of it
+-- The statuses about names on the shelf and its failures, if the command uses the shelf.
 abbrev pub of_shelf : Bool → List ℕ
 of_shelf true = 3 ∷ 7 ∷ 8 ∷ 9 ∷ []
 of_shelf false = []
 
--- of a command that writes its text, once it is known, and stores nothing
+-- The course of a command that writes its text once it is known and stores nothing.
 abbrev pub text_course : (own takes : List ℕ) → Bool → Course
 text_course own takes asks = record { statuses = own ++ of_shelf asks; writes = 0 ∷ 6 ∷ []; takes = takes; stores = []; asks = asks }
 
--- no fault of an input is forgotten, and the promise stays
+-- The input loses no recorded failure, and its promise stays.
 pub record Draws (old new : Intake) : Type 0 where
   pub later : old.faults ≤ new.faults
   pub promise : new.promise ≡ old.promise
 
--- of the whole outside: no fault is forgotten, and each promise stays
+-- No object of the outside loses a recorded failure, and each keeps its promise.
 pub record Stands (old new : Outside) : Type 0 where
   pub input : Draws old.input new.input
   pub out : Serves old.out new.out
@@ -46,13 +46,14 @@ pub record Stands (old new : Outside) : Type 0 where
   pub shelf : Reaches old.shelf new.shelf
 
 module _ (i i' : Intake) (o o' : Outlet) (s s' : Stock) where
-  -- a fault only where its count rose
+  -- A failure comes only if the object has counted one.
   abbrev pub Risen : Ending → Type 0
   Risen ReadFault = Rose i.faults i'.faults
   Risen WriteFault = Rose o.faults o'.faults
   Risen ShelfFault = Rose s.faults s'.faults
   Risen ending = Unit {0}
 
+  -- A command with this course ended so, and touched no more than the course allows.
   pub record EndsSo (course : Course) (e : Ending) : Type 0 where
     pub can : is_among course.statuses (status_of e) ≡ true
     pub risen : Risen e

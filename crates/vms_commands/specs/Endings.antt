@@ -1,4 +1,4 @@
--- How a command ends, before it is told on notes.
+-- How a command ends, before its line is written to standard error.
 use Rattle.std.specs.Prelude.{◌≡◌, ◌⊎◌, ℕ, Bool, true, List, [], Result, Ok, Err, string_bytes}
 use Rattle.std.specs.Io.KnownBytes.{Appends, Keeps}
 use Rattle.vms_io.specs.Causes.{Rose, AppendsPrefix}
@@ -9,12 +9,12 @@ use Rattle.vms_commands.specs.declared.ending.Ending.TheVariants.{Done, Refused,
 use Rattle.vms_commands.specs.Lines.{bad_words, read_fault, write_fault, shelf_fault, out_of_memory}
 use Rattle.vms_commands.specs.Outcomes.{Outcome, text_of, held_after, TakesBytes, ComesTo, ComesToFault}
 
--- how a command ends whose work comes to this
+-- `ending_of work` is the ending of a command whose work returned `work`.
 abbrev pub ending_of : {T : Type 0} → Result T Ending → Ending
 ending_of (Ok t) = Done
 ending_of (Err ending) = ending
 
--- the status of each ending, and its line
+-- The status of an ending.
 abbrev pub status_of : Ending → ℕ
 status_of Done = 0
 status_of (Refused line) = 1
@@ -29,6 +29,7 @@ status_of (TooLarge line) = 9
 status_of NoMemory = 10
 status_of (WouldLose line) = 11
 
+-- The line of an ending, with its line feed.
 abbrev pub line_of : Ending → List ℕ
 line_of Done = []
 line_of (Refused line) = line.items
@@ -43,21 +44,22 @@ line_of (TooLarge line) = string_bytes line
 line_of NoMemory = out_of_memory
 line_of (WouldLose line) = line.items
 
--- the line was written and the status answered, or a prefix of it and a write fault answered; nothing is told of what is done
+-- The line has been written and the status returned; or a prefix has been written and status 6 returned. On success
+-- nothing is written.
 abbrev pub Tells : Outlet → Outlet → Ending → ℕ → Type 0
 Tells notes notes' Done result = (result ≡ 0) × (notes' ≡ notes)
 Tells notes notes' ending result =
     ((result ≡ status_of ending) × Appends notes.written notes'.written (line_of ending))
     ⊎ ((result ≡ 6) × Rose notes.faults notes'.faults × AppendsPrefix notes.written notes'.written (line_of ending))
 
--- the outcome has this status and this line, and so much of the input is taken
+-- The outcome has this status and this line, has no part, and its number of input bytes has been read.
 pub record EndsWith (status : ℕ) (line : List ℕ) (input input' : Intake) (o : Outcome) : Type 0 where
   pub status_is : o.status ≡ status
   pub parts : o.parts ≡ []
   pub note : o.note ≡ line
   pub taken : TakesBytes input input' o.taken
 
--- the outcome was done
+-- The outcome has been carried out.
 pub record DoneAs (input input' : Intake) (out out' : Outlet) (shelf shelf' : Stock) (o : Outcome) : Type 0 where
   pub status_is : o.status ≡ 0
   pub text : Appends out.written out'.written (text_of o.parts)
@@ -65,7 +67,8 @@ pub record DoneAs (input input' : Intake) (out out' : Outlet) (shelf shelf' : St
   pub held : shelf'.held ≡ held_after shelf.held o.parts
   pub taken : TakesBytes input input' o.taken
 
--- what an ending says beside the outcome: that it was done or ended so, or how far it came
+-- What an ending says about the outcome: it has been carried out, or it ended with this status, or how far the call
+-- got.
 abbrev pub EndsAs : (input input' : Intake) (out out' : Outlet) (shelf shelf' : Stock) → Ending → Outcome → Type 0
 EndsAs input input' out out' shelf shelf' Done o = DoneAs input input' out out' shelf shelf' o
 EndsAs input input' out out' shelf shelf' (Refused line) o = EndsWith 1 line.items input input' o
@@ -80,10 +83,10 @@ EndsAs input input' out out' shelf shelf' (TooLarge line) o = EndsWith 9 (string
 EndsAs input input' out out' shelf shelf' NoMemory o = ComesTo out out' shelf shelf' o.parts
 EndsAs input input' out out' shelf shelf' (WouldLose line) o = EndsWith 11 line.items input input' o
 
--- ---- the cause of an ending, told or not
+-- ---- the cause of an ending, also where the contents are unknown
 
--- whichever command it is: a fault only where its count rose, and nothing is touched but the input where it ends by a status of
--- its own
+-- For every command: a failure comes only if its object has counted one. If the command ends with a status of its own, only the
+-- input is touched.
 abbrev pub Caused : (input input' : Intake) (out out' : Outlet) (shelf shelf' : Stock) → Ending → Type 0
 Caused input input' out out' shelf shelf' Done = Unit {0}
 Caused input input' out out' shelf shelf' ReadFault =
@@ -94,7 +97,7 @@ Caused input input' out out' shelf shelf' NoMemory = Unit {0}
 Caused input input' out out' shelf shelf' ending =
     Keeps out.written out'.written × (shelf'.held ≡ shelf.held)
 
--- of a set that a word names, where `asks` says whether the word is a name
+-- Why the set that an argument names wasn't obtained. `asks` is whether the argument names a file.
 abbrev pub SetCause : Bool → (shelf shelf' : Stock) → Ending → Type 0
 SetCause asks shelf shelf' (BadText line) = asks ≡ true
 SetCause asks shelf shelf' ShelfFault = (asks ≡ true) × Rose shelf.faults shelf'.faults
@@ -103,14 +106,16 @@ SetCause asks shelf shelf' (TooLarge line) = asks ≡ true
 SetCause asks shelf shelf' NoMemory = Unit {0}
 SetCause asks shelf shelf' ending = ⊥
 
--- nothing was written, unless all was done or out failed: of commands that write one text once it is known
+-- For commands that write one text once it is known: nothing has been written, unless the command succeeded or
+-- standard output failed.
 abbrev pub Quiet : Outlet → Outlet → Ending → Type 0
 Quiet out out' Done = Unit {0}
 Quiet out out' WriteFault = Unit {0}
 Quiet out out' ending = Keeps out.written out'.written
 
--- ---- what a write of a text says
+-- ---- what writing a text guarantees
 
+-- The text has been written, or a prefix of it if standard output failed.
 abbrev pub WritesAs : List ℕ → Outlet → Outlet → Ending → Type 0
 WritesAs text out out' Done = Puts out out' text
 WritesAs text out out' WriteFault = Stops out out' text

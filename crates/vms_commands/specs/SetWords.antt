@@ -1,4 +1,4 @@
--- Words that name a set.
+-- Arguments that name a set.
 use Rattle.std.specs.Prelude.{ℕ, zero, suc, ◌++◌, if◌then◌else◌, List, Option, Some, None, codes}
 use Rattle.std.specs.Fmt.{decimal}
 use Rattle.std.specs.Option.{option_map}
@@ -10,34 +10,37 @@ use Rattle.vms_script.specs.Names.{is_shelf_name}
 use Rattle.vms_spec.specs.Lists.{or_else}
 use Rattle.vms_spec.specs.Sets.{Set}
 
--- a shipped set, by its number: one of the boards isa-1 to isa-4, or one of the boards clk-1 and clk-2
+-- A shipped set by its number: of the boards isa-1 to isa-4, or of the boards clk-1 and clk-2.
 pub data ShippedSet : Type 0 where
   Isa : ℕ → ShippedSet
   Clock : ℕ → ShippedSet
 
+-- The set itself.
 abbrev pub shipped : ShippedSet → Set
 shipped (Isa number) = shipped_set number
 shipped (Clock number) = clock_set number
 
--- a set: a shipped one, or what the shelf holds under a name
+-- The set that an argument names: a shipped one, or a file of this name on the shelf.
 pub data SetWord : Type 0 where
   Shipped : ShippedSet → SetWord
   OnShelf : List ℕ → SetWord
 
--- of the `count` numbers from `first` on, the one whose decimal text a word has after `front`
+-- `number_after front first count word` is the number whose decimal text `word` has after `front`, among the
+-- `count` numbers from `first`.
 abbrev pub number_after : List ℕ → (first count : ℕ) → List ℕ → Option ℕ
 number_after front first zero word = None
 number_after front first (suc count) word = if bytes_eq word (front ++ decimal first) then Some first else number_after front (suc first) count word
 
--- the shipped set of a word: `@` and its number, or `@c` and its number where the boards have a clock chip
+-- The shipped set that a word names: `@` and a number, or `@c` and a number for the boards with a clock chip.
 abbrev pub shipped_word : List ℕ → Option ShippedSet
 shipped_word word =
     or_else (option_map Isa (number_after (codes "@") 0 (suc NEWEST) word)) (option_map Clock (number_after (codes "@c") 1 NEWEST_CLOCK word))
 
+-- The set that a word names, given the shipped set that it names, if any.
 abbrev pub named_set : List ℕ → Option ShippedSet → Option SetWord
 named_set word (Some set) = Some (Shipped set)
 named_set word None = if is_shelf_name word then Some (OnShelf word) else None
 
--- the set that a word names
+-- The set that a word names.
 abbrev pub set_word : List ℕ → Option SetWord
 set_word word = named_set word (shipped_word word)

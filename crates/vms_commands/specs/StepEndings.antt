@@ -1,4 +1,4 @@
--- How the code's steps end, beside what is meant by them.
+-- How the steps of the code end, compared with the steps of the specification.
 use Rattle.std.specs.Prelude.{◌≡◌, ℕ, Bool, true, false, List, Result, Ok, Err, string_bytes}
 use Rattle.std.specs.Io.KnownBytes.{Appends}
 use Rattle.vms_io.specs.Causes.{Rose, AppendsPrefix}
@@ -13,17 +13,18 @@ use Rattle.vms_commands.specs.Asks.{shipped_asked}
 use Rattle.vms_commands.specs.Fetching.{SetText, Number, Text}
 use Rattle.vms_commands.specs.Steps.{Step, Untold, Gives, Ends}
 
+-- The fetched set that the code's value means.
 abbrev pub text_of : Fetched → SetText
 text_of (fetched.Shipped set) = Number (shipped_asked set)
 text_of (fetched.Text name text) = Text name.now text.items
 
--- by a fault of the shelf, or for want of memory
+-- The shelf failed or memory ran out: both may come at any step.
 abbrev pub IsFree : Ending → Type 0
 IsFree ShelfFault = Unit {0}
 IsFree NoMemory = Unit {0}
 IsFree ending = ⊥
 
--- by a status and a line of its own, or so
+-- The ending has this status and this line, or is one that may come at any step.
 abbrev pub EndedAs : ℕ → List ℕ → Ending → Type 0
 EndedAs status line (BadText text) = (status ≡ 3) × (line ≡ string_bytes text)
 EndedAs status line (NotCompatible text) = (status ≡ 4) × (line ≡ string_bytes text)
@@ -31,7 +32,7 @@ EndedAs status line (NotThere text) = (status ≡ 8) × (line ≡ string_bytes t
 EndedAs status line (TooLarge text) = (status ≡ 9) × (line ≡ string_bytes text)
 EndedAs status line ending = IsFree ending
 
--- a step where m says what its result means
+-- `StepAs m step result` says that `result` is what `step` gives, where `m` is the meaning of a returned value.
 abbrev pub StepAs : {A T : Type 0} → (T → A) → Step A → Result T Ending → Type 0
 StepAs m Untold result = Unit {0}
 StepAs m (Gives a) (Ok t) = m t ≡ a
@@ -39,32 +40,33 @@ StepAs m (Gives a) (Err ending) = IsFree ending
 StepAs m (Ends status line) (Ok t) = ⊥
 StepAs m (Ends status line) (Err ending) = EndedAs status line ending
 
--- a text for out was written, or a prefix of it, unless it ended before
+-- The text has been written to standard output, or a prefix of it if that failed, or nothing if the command ended
+-- earlier.
 abbrev pub WrittenAs : List ℕ → Outlet → Outlet → Ending → Type 0
 WrittenAs text out out' Done = Appends out.written out'.written text
 WrittenAs text out out' WriteFault = AppendsPrefix out.written out'.written text
 WrittenAs text out out' ending = IsFree ending
 
--- steps that give the text for out, and the writing of it
+-- A command that writes the text which a step gives has ended as that step says.
 abbrev pub TextEnds : Step (List ℕ) → Outlet → Outlet → Ending → Type 0
 TextEnds Untold out out' ending = Unit {0}
 TextEnds (Gives text) out out' ending = WrittenAs text out out' ending
 TextEnds (Ends status line) out out' ending = EndedAs status line ending
 
--- ---- causes, told or not
+-- ---- causes, also where the contents are unknown
 
--- the shelf was asked, and holds what it held; or the command ends, and this is why
+-- The shelf was used and holds the same as before; and if the command ended, `Cause` holds.
 pub record Asks {T : Type 0} (Cause : Stock → Stock → Result T Ending → Type 0) (shelf shelf' : Stock) (result : Result T Ending) : Type 0 where
   pub looks : Looks shelf shelf'
   pub cause : Cause shelf shelf' result
 
--- the same where it may not be asked at all, and then is untouched
+-- The same for a step that uses the shelf only if `asks`; if not, the shelf is untouched.
 pub record AsksIf {T : Type 0} (Cause : Bool → Stock → Stock → Result T Ending → Type 0) (asks : Bool) (shelf shelf' : Stock) (result : Result T Ending) : Type 0 where
   pub looks : Looks shelf shelf'
   pub unasked : asks ≡ false → shelf' ≡ shelf
   pub cause : Cause asks shelf shelf' result
 
--- of a fetch
+-- Why a fetch failed.
 abbrev pub FetchCause : {T : Type 0} → Stock → Stock → Result T Ending → Type 0
 FetchCause shelf shelf' (Ok t) = Unit {0}
 FetchCause shelf shelf' (Err ShelfFault) = Rose shelf.faults shelf'.faults
@@ -73,19 +75,19 @@ FetchCause shelf shelf' (Err (TooLarge line)) = Unit {0}
 FetchCause shelf shelf' (Err NoMemory) = Unit {0}
 FetchCause shelf shelf' (Err ending) = ⊥
 
--- of a word's fetch, where `asks` says whether the word is a name
+-- Why fetching the set of an argument failed. `asks` is whether the argument names a file.
 abbrev pub WordCause : {T : Type 0} → Bool → Stock → Stock → Result T Ending → Type 0
 WordCause asks shelf shelf' (Ok t) = Unit {0}
 WordCause asks shelf shelf' (Err ending) = (asks ≡ true) × FetchCause {T = ℕ} shelf shelf' (Err ending)
 
--- of reading a set
+-- Why parsing a set failed. `asks` is whether it comes from a file.
 abbrev pub ReadCause : {T : Type 0} → Bool → Result T Ending → Type 0
 ReadCause asks (Ok t) = Unit {0}
 ReadCause asks (Err (BadText line)) = asks ≡ true
 ReadCause asks (Err NoMemory) = Unit {0}
 ReadCause asks (Err ending) = ⊥
 
--- of the set that a word names, where `asks` says whether the word is a name
+-- Why the set of an argument wasn't obtained. `asks` is whether the argument names a file.
 abbrev pub HadCause : {T : Type 0} → Bool → Stock → Stock → Result T Ending → Type 0
 HadCause asks shelf shelf' (Ok t) = Unit {0}
 HadCause asks shelf shelf' (Err ending) = SetCause asks shelf shelf' ending

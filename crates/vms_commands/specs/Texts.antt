@@ -1,4 +1,4 @@
--- A command that takes nothing of the input, makes a text by what the shelf holds and writes it: how it ends.
+-- How a command ends that reads no input, makes a text from the shelf's contents and writes it.
 use Rattle.std.specs.Prelude.{◌≡◌, ◌<◌, ◌^◌, ℕ, List}
 use Rattle.vms_io.specs.Told.{Intake, Outlet, Stock}
 use Rattle.vms_commands.specs.declared.ending.Ending.{Ending}
@@ -6,7 +6,7 @@ use Rattle.vms_commands.specs.Endings.{EndsAs}
 use Rattle.vms_commands.specs.Outcomes.{Outcome}
 use Rattle.vms_commands.specs.Steps.{Step, HasText}
 
--- whatever the input: what the ending says beside the outcome of the steps that give the text
+-- For any input: what the ending says about the outcome that the step determines.
 abbrev pub TextContent : Step (List ℕ) → (out out' : Outlet) (shelf shelf' : Stock) → Ending → Type 0
 TextContent step out out' shelf shelf' ending =
     (input : Intake) (o : Outcome) → input.given < 2 ^ 64 → HasText shelf.held step o

@@ -5,32 +5,35 @@ ghost use Rattle.vms_commands.specs.declared.ending.Ending.TheVariants as ending
 use crate::refused::NoteLine;
 use vms_io::{NoMemory, WriteFault};
 
-/// How a command ends; each but `Done` has a status and a line of notes, which some bring with them.
+/// How a command ends: success, or one of eleven failures.
+///
+/// Each variant but [`Ending::Done`] has a status and a line for standard error. Some variants
+/// carry the line, others have a fixed one.
 #[derive(Drop)]
 pub enum Ending {
-    /// All is done.
+    /// The command succeeded: status 0, no line.
     Done,
-    /// The stream is refused, with this line.
+    /// The stream is refused (status 1). Holds the line.
     Refused(NoteLine),
-    /// The words name no command.
+    /// The arguments form no command (status 2).
     BadWords,
-    /// A values text, a description file or a script is refused, with this line.
+    /// A values text, a description file or a script is refused (status 3). Holds the line.
     BadText(String),
-    /// A set isn't compatible to another, with this line.
+    /// Two sets aren't compatible (status 4). Holds the line.
     NotCompatible(String),
-    /// The input failed.
+    /// Reading the input failed (status 5).
     ReadFault,
-    /// Out failed, after a beginning of the text.
+    /// Writing standard output failed, after a prefix of the text (status 6).
     WriteFault,
-    /// The shelf failed.
+    /// The shelf reported a failure (status 7).
     ShelfFault,
-    /// A name isn't on the shelf, with this line.
+    /// The shelf holds no file of a name (status 8). Holds the line.
     NotThere(String),
-    /// What a name holds is too large, with this line.
+    /// A file on the shelf is larger than its limit (status 9). Holds the line.
     TooLarge(String),
-    /// Memory is wanting.
+    /// Out of memory (status 10).
     NoMemory,
-    /// A set doesn't keep all of a stream, with this line.
+    /// The other set would lose something in the stream (status 11). Holds the line.
     WouldLose(NoteLine),
 }
 
@@ -45,7 +48,7 @@ impl From<NoMemory> for Ending {
 impl Ending {
     ghost use Rattle.vms_commands.specs.Endings.{ending_of, line_of, status_of};
 
-    /// How a command ends whose work comes to this.
+    /// Returns the ending of a command whose work returned `work`: [`Ending::Done`] for `Ok`.
     pub fn of(work: Result<(), Ending>) -> Self
         ensures { result ≡ ending_of work }
     {
@@ -55,7 +58,7 @@ impl Ending {
         }
     }
 
-    /// The status that the program answers.
+    /// Returns the exit status of the program, 0 to 11.
     pub fn status(&self) -> u8
         ensures { result ≡ status_of self.now }
     {
@@ -75,7 +78,8 @@ impl Ending {
         }
     }
 
-    /// The line of notes, with its line feed; none where all is done.
+    /// Returns the line for standard error with its line feed. The line of [`Ending::Done`] is
+    /// empty.
     pub fn line(&self) -> &[u8]
         ensures { result.now ≡ line_of self.now }
     {

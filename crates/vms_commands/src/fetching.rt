@@ -1,4 +1,4 @@
-// Sets that the words name: fetched from the shelf, and then read.
+// Sets that arguments name: they are fetched from the shelf and then parsed.
 ghost use Rattle.std.specs.Prelude.{◌≡◌, ◌≤◌, true, IfOk, vec_len};
 ghost use Rattle.vms_io.specs.Told.{stock};
 ghost use Rattle.vms_desc.specs.Described.{described};
@@ -19,20 +19,28 @@ use vms_descfile::{FileFault, read_set};
 use vms_io::{FetchFault, NoMemory, Shelf};
 use vms_load::LeanLoader;
 
-/// The greatest file on the shelf but a script, in bytes.
+/// The size limit of every file on the shelf except scripts, in bytes.
 pub const LONGEST_FILE: u32 = 1_048_576;
 
-/// A set as its word gives it, before a file is read.
+/// A set as an argument names it, before its file is parsed.
 #[derive(Drop)]
 pub enum SetText<'a> {
-    /// A shipped set.
+    /// A shipped set. Nothing has been fetched for it.
     Shipped(ShippedSet),
-    /// What the shelf holds under the name.
+    /// The text that the shelf holds under `name`.
     Text { name: &'a str, text: Vec<u8> },
 }
 
-/// What the shelf holds under a name, or how the command ends where that has more than `limit` bytes, isn't there or
-/// can't be had.
+/// Returns the text that `shelf` holds under `name`, of at most `limit` bytes.
+///
+/// `shelf` is searched and what it holds stays the same.
+///
+/// # Errors
+///
+/// - [`Ending::NotThere`]: the shelf holds nothing under `name`.
+/// - [`Ending::TooLarge`]: the text has more than `limit` bytes.
+/// - [`Ending::ShelfFault`]: the shelf reported a failure.
+/// - [`Ending::NoMemory`]: out of memory.
 pub fn fetch<H: Shelf>(
     alloc: Global,
     name: &str,
@@ -46,7 +54,7 @@ pub fn fetch<H: Shelf>(
 {
     match shelf.fetch(alloc, name, limit) {
         Ok(mut text) => {
-            // Its room grew by doubling.
+            // The buffer grew by doubling.
             text.shrink_to_fit();
             Ok(text)
         }
@@ -57,7 +65,13 @@ pub fn fetch<H: Shelf>(
     }
 }
 
-/// What a word names, or how the command ends where it can't be had; a shipped set asks nothing of the shelf.
+/// Fetches the set that `word` names, without parsing it.
+///
+/// For a shipped set `shelf` isn't used.
+///
+/// # Errors
+///
+/// Those of [`fetch`] with the limit [`LONGEST_FILE`], and only for a name on the shelf.
 pub fn fetch_set<'a, H: Shelf>(
     alloc: Global,
     word: SetWord<'a>,
@@ -79,7 +93,13 @@ pub fn fetch_set<'a, H: Shelf>(
     }
 }
 
-/// The set that was fetched, or how the command ends where its file is no set.
+/// Returns the set of `text`, which [`fetch_set`] fetched.
+///
+/// # Errors
+///
+/// - [`Ending::BadText`]: the file isn't a set. The line names the first fault. Never for a shipped
+///   set.
+/// - [`Ending::NoMemory`]: out of memory.
 pub fn read_fetched(alloc: Global, text: &SetText) -> Result<DescSet, Ending>
     ensures read { StepAs described (set_in (text_of text.now)) result }
     ensures ends { ReadCause (is_text (text_of text.now)) result }
@@ -90,7 +110,7 @@ pub fn read_fetched(alloc: Global, text: &SetText) -> Result<DescSet, Ending>
     }
 }
 
-// A shipped set. Fails only where memory is wanting.
+// Makes the shipped set `set`. It fails only if memory runs out.
 fn make_shipped(alloc: Global, set: ShippedSet) -> Result<DescSet, NoMemory>
     ensures { IfOk result (λ made. described made ≡ shipped (shipped_asked set)) }
 {
@@ -100,7 +120,13 @@ fn make_shipped(alloc: Global, set: ShippedSet) -> Result<DescSet, NoMemory>
     }
 }
 
-/// The set that a word names, or how the command ends where it can't be had.
+/// Returns the set that `word` names: it is fetched and then parsed.
+///
+/// For a shipped set `shelf` isn't used.
+///
+/// # Errors
+///
+/// Those of [`fetch_set`] and of [`read_fetched`].
 pub fn set_of<H: Shelf>(alloc: Global, word: SetWord, shelf: &mut H) -> Result<DescSet, Ending>
     ensures had { StepAs described (word_set (H.held shelf.old) (set_asked word.entry)) result }
     ensures asks { AsksIf HadCause (is_on_shelf (set_asked word.entry))
@@ -110,7 +136,13 @@ pub fn set_of<H: Shelf>(alloc: Global, word: SetWord, shelf: &mut H) -> Result<D
     read_fetched(alloc, &text)
 }
 
-/// A loader of one stream of the set that a word names, or how the command ends where it can't be had.
+/// Returns a loader for the set that `word` names. It reads one stream at a time.
+///
+/// For a shipped set `shelf` isn't used.
+///
+/// # Errors
+///
+/// Those of [`set_of`].
 pub fn loader_of<H: Shelf>(
     alloc: Global,
     word: SetWord,
@@ -124,7 +156,7 @@ pub fn loader_of<H: Shelf>(
     Ok(LeanLoader::new(alloc, set)?)
 }
 
-// The set that a description file says.
+// Parses the description file `text`, whose name is `name`.
 fn read_file(alloc: Global, name: &str, text: &[u8]) -> Result<DescSet, Ending>
     ensures read { StepAs described (said_set name.now (file_said text.now)) result }
     ensures ends { ReadCause true result }

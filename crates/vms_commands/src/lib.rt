@@ -1,7 +1,8 @@
-//! What all commands of the program share: what a call is to do and how far it comes, how a command ends, the sets that
-//! words name, and the lines of notes.
+//! What all commands of the program share: what a call has to do and how far it got, how a command
+//! ends, the sets that arguments name, and the lines on standard error.
 //!
-//! A command is a crate's or a module's own: its outcome, what it can answer and its code stand there, on this crate.
+//! Each command has a crate or a module of its own, which builds on this crate: its outcome, its
+//! errors and its code.
 #![tactic(auto)]
 
 mod ending;

@@ -1,4 +1,4 @@
-// The line of a stream that is refused, made without memory: what was read of the input is never lost for want of it.
+// The line of a refused stream. It needs no allocation, so it can't be lost after the input was read.
 ghost use Rattle.std.specs.Prelude.{◌≡◌, ◌+◌, ◌++◌, ◌≤◌, ◌<◌, Some, length};
 ghost use Rattle.vms_desc.specs.Described.{described, device_at};
 ghost use Rattle.vms_commands.specs.Lines.{device_text, refusal_text, refused_line, section_text};
@@ -10,11 +10,13 @@ use vms_desc::DescSet;
 use vms_load::Refusal;
 use vms_words::append;
 
-/// A line of at most 256 bytes, which is made without memory.
+/// A line of at most 256 bytes in a fixed buffer, built without an allocation.
 pub type NoteLine = ArrayVec<u8, 256>;
 
-/// The line of a stream that is refused: the place, the device and the reason. It has at most 201 bytes, since the
-/// names of a set's devices have at most 100.
+/// Returns the line of the refused stream: `refused at OFFSET in DEVICE: REASON`.
+///
+/// `set` is the set that the stream was read with; `refusal` holds the offset, the device and the
+/// reason.
 pub fn refused_line(set: &DescSet, refusal: &Refusal) -> NoteLine
     ensures { let r = refusal.now in
         result.items ≡ refused_line (described set.now) r.at r.section r.reason }
@@ -22,7 +24,12 @@ pub fn refused_line(set: &DescSet, refusal: &Refusal) -> NoteLine
     refusal_line(set, refusal, b"refused at ", b" in ", b": ")
 }
 
-/// The line of a refusal: the place, the device and the reason, each behind its own text.
+/// Returns a line of `refusal` in which each part follows a text of the caller: the offset follows
+/// `before_place`, the device `before_device` and the reason `before_reason`.
+///
+/// # Requires
+///
+/// `before_place` has at most 16 bytes; `before_device` and `before_reason` have at most 8 each.
 pub fn refusal_line(
     set: &DescSet,
     refusal: &Refusal,
@@ -48,10 +55,15 @@ pub fn refusal_line(
     line
 }
 
-/// The name and instance of a device take no more bytes.
+/// The most bytes that [`append_section`] appends.
 pub const SECTION_ROOM: usize = 121;
 
-/// Appends the name and instance of a set's device, or a dash where there is none, to a line that has `SECTION_ROOM`.
+/// Appends the name and the instance of device `section` of `set` to `line`, or a dash if there is
+/// none.
+///
+/// # Requires
+///
+/// `line` has room for [`SECTION_ROOM`] more bytes.
 pub fn append_section<const N: usize>(
     line: &mut ArrayVec<u8, N>,
     set: &DescSet,

@@ -1,4 +1,4 @@
-// The lines of notes about sets.
+// The lines about sets.
 ghost use Rattle.std.specs.Prelude.{◌≡◌, IfOk, string_bytes};
 ghost use Rattle.vms_commands.specs.SetLines.{mismatch_line, part_text, place_text, rule_line, shape_line, syntax_line};
 
@@ -18,7 +18,7 @@ fn part_text(alloc: Global, part: Part) -> Result<String, NoMemory>
     }
 }
 
-// A part, and a field of it where one is concerned.
+// Returns the text of `place`: the part and, if there is one, its field.
 fn place_text(alloc: Global, place: Place) -> Result<String, NoMemory>
     ensures { IfOk result (λ text. string_bytes text ≡ place_text place) }
 {
@@ -29,21 +29,34 @@ fn place_text(alloc: Global, place: Place) -> Result<String, NoMemory>
     }
 }
 
-/// The line of a file that is no JSON value.
+/// Returns the line for a description file that isn't a JSON value: `set NAME: Syntax`.
+///
+/// # Errors
+///
+/// [`NoMemory`] if memory runs out.
 pub fn syntax_line(alloc: Global, name: &str) -> Result<String, NoMemory>
     ensures { IfOk result (λ line. string_bytes line ≡ syntax_line name.now) }
 {
     Ok(format!(in alloc; "set {name}: Syntax\n")?)
 }
 
-/// The line of a file that isn't of its shape at a path.
+/// Returns the line for a description file with a wrong shape at `path`: `set NAME: Shape at PATH`.
+///
+/// # Errors
+///
+/// [`NoMemory`] if memory runs out.
 pub fn shape_line(alloc: Global, name: &str, path: &str) -> Result<String, NoMemory>
     ensures { IfOk result (λ line. string_bytes line ≡ shape_line name.now path.now) }
 {
     Ok(format!(in alloc; "set {name}: Shape at {path}\n")?)
 }
 
-/// The line of a file whose set isn't well formed.
+/// Returns the line for a description file whose set breaks rule `rule` at `place`: `set NAME: rule
+/// RULE at PLACE`.
+///
+/// # Errors
+///
+/// [`NoMemory`] if memory runs out.
 pub fn rule_line(alloc: Global, name: &str, rule: u8, place: Place) -> Result<String, NoMemory>
     ensures { IfOk result (λ line. string_bytes line ≡ rule_line name.now rule place) }
 {
@@ -51,7 +64,11 @@ pub fn rule_line(alloc: Global, name: &str, rule: u8, place: Place) -> Result<St
     Ok(format!(in alloc; "set {name}: rule {rule} at {place}\n")?)
 }
 
-/// The line of two sets that aren't compatible.
+/// Returns the line for two sets that aren't compatible, with the rule and the places in both sets.
+///
+/// # Errors
+///
+/// [`NoMemory`] if memory runs out.
 pub fn mismatch_line(alloc: Global, mismatch: Mismatch) -> Result<String, NoMemory>
     ensures { IfOk result (λ line. string_bytes line ≡ mismatch_line mismatch) }
 {

@@ -1,11 +1,15 @@
-// Texts that are written on out.
+// Texts that are written to standard output.
 ghost use Rattle.vms_io.specs.Told.{outlet};
 ghost use Rattle.vms_commands.specs.Endings.{WritesAs, ending_of};
 
 use crate::ending::Ending;
 use vms_io::{Sink, write_all_of};
 
-/// Writes a text, or as much of it as comes before out fails.
+/// Writes `text` to `out`.
+///
+/// # Errors
+///
+/// [`Ending::WriteFault`] if `out` fails. A prefix of `text` has been written then.
 pub fn write_text<O: Sink>(text: &[u8], out: &mut O) -> Result<(), Ending>
     ensures { WritesAs text.now (outlet O.Sink out.old) (outlet O.Sink out.new)
         (ending_of result) }

@@ -1,4 +1,4 @@
-// Words that name a set.
+// Arguments that name a set.
 ghost use Rattle.std.specs.Prelude.{◌≡◌, ◌-◌, ◌≤◌, suc, IfSome};
 ghost use Rattle.std.specs.Option.{option_map};
 ghost use Rattle.vms_commands.specs.Asks.{set_asked, shipped_asked};
@@ -9,8 +9,10 @@ use dev_base::NEWEST;
 use vms_rtc::NEWEST_CLOCK;
 use vms_script::{is_shelf_name, number_of};
 
-/// The set that a word names, or `None` where it names none: the words of the shipped sets, and a
-/// name of the shelf is a set's file.
+/// Returns the set that `word` names: a shipped set by its word, or a file by its name on the
+/// shelf.
+///
+/// Returns `None` if `word` is neither.
 pub fn set_word(word: &str) -> Option<SetWord<'_>>
     ensures { option_map set_asked result ≡ set_word word.now }
 {

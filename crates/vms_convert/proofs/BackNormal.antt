@@ -78,7 +78,7 @@ module _ (to : Set) (well : WellFormed to) (heads : FitsHeads to) (i : ℕ) (d :
       by_part (inl own) = either_fits c true lt (back.settled.own c own)
       by_part (inr h) = either_fits c (is_needed to d (whole d now) h.1 h.0) lt (back.settled.subs h.0 h.1 c h.2)
 
-    -- ---- and where no byte stands for it, it is at its default
+    -- ---- and if no byte is for it, it is at its default
 
     same_own : SameIn 0 (0 + own_cells to d) now then_
     same_own = record { same = λ c low lt. back.settled.own c (omega (arith, lt)) }
@@ -89,7 +89,7 @@ module _ (to : Set) (well : WellFormed to) (heads : FitsHeads to) (i : ℕ) (d :
           back.settled.subs j s c (record { is = e; low = low; high = lt }) ∙ ap (λ (b : Bool). if b then get_or now c (pos 0) else default_at c) n;
     }
 
-    -- a cell that stands in no part of the whole image was not taken
+    -- a cell that is in no part of the whole image was not taken
     left : (c : ℕ) → c < length cells → has_cell (own_slots to d d.desc.version now) c ≡ false
         → has_cell (came_slots to d now (own_cells to d) d.subs (map (λ s. Some s.desc.version) d.subs)) c ≡ false → get_or now c (pos 0) ≡ default_at c
     left c lt a b =
@@ -109,7 +109,7 @@ module _ (to : Set) (well : WellFormed to) (heads : FitsHeads to) (i : ℕ) (d :
         ∙ left c lt (ap (λ (xs : List Slot). has_cell xs c) (sym (its_same to d.desc d.desc.version 0 good.structs (good.devices i d there) now then_ same_own)) ∙ none)
         (none_else c _ (λ j s v e f. its_below to s.desc v (part_place to d j) now c (omega (arith, own, sub_place_up to (own_cells to d) d.subs j))))
 
-    -- of another part than the cell's none stands there
+    -- it isn't in a part other than the cell's own
     others_none : (c j : ℕ) (s : Sub) → IsCellOf to d j s c → (j' : ℕ) (s' : Sub) (v : ℕ) → slice_get d.subs j' ≡ Some s' → (nat_lt j' j ≡ true) ⊎ (nat_lt j j' ≡ true) → has_cell (sub_slots to s' v now (part_place to d j')) c ≡ false
     others_none c j s h j' s' v e (inl lt) =
         let l = h.low in

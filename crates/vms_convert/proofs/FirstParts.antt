@@ -1,4 +1,4 @@
--- The slots of a device's own fields and of its first subsections, as walks come to them part by part.
+-- The slots of a device's own fields and of its first subsections, in the order in which walks visit them.
 use Rattle.std.proofs.Common.{◌≡◌, ℕ, zero, suc, ◌+◌, List, [], ◌∷◌, ◌++◌, length, map, take, Option, Some, None, ℤ, refl, sym, ap, ◌∙◌, arith, append_assoc}
 use Rattle.std.specs.List.{slice_get}
 use Rattle.vms_spec.specs.Sound.{IsSound, AreSound}

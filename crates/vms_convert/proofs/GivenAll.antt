@@ -68,7 +68,7 @@ module _ (partners : List (Option ℕ)) (numbers : List ℤ) where
         keeps_given slots c k (give_partner (get_or numbers b (pos 0)) (get_or partners b None) now) (omega (arith, lt, long)) e (step_keeps c k b now lt e h)
     keeps_given (_ ∷ slots) c k now lt e h = keeps_given slots c k now lt e h
 
-    -- a cell that stands in the slots gives its number to its partner
+    -- a cell that is in the slots gives its number to its partner
     pub given_some : (slots : List Slot) (c k : ℕ) (now : List ℤ) → k < length now → get_or partners c None ≡ Some k → has_cell slots c ≡ true → get_or (gives slots now) k (pos 0) ≡ get_or numbers c (pos 0)
     given_some [] c k now lt e h = cc
     given_some (Number b kind caps ∷ slots) c k now lt e h =

@@ -28,7 +28,7 @@ extend P n f h i lt = by_last i n lt (f i) (λ same. subst P (sym same) h)
 -- ---- what is taken, cell by cell
 
 module _ (to : Set) (structs : AreSound to.structs) (d : Device) (own : IsSound d.desc) (subs : AllSound to structs d.subs) (partners : List (Option ℕ)) (numbers : List ℤ) where
-  -- what cell c takes, where these numbers say which stand in the bytes
+  -- what cell c takes, where these numbers determine which cells are in the bytes
   abbrev takes : List ℤ → ℕ → ℤ
   takes now c = taken numbers (get_or (device_cells to d) c no_cell) (has_cell (image_slots to d (whole d now)) c) (get_or partners c None)
 

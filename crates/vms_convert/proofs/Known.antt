@@ -1,4 +1,5 @@
--- Which cells stand in the bytes is known, cell by cell, from the numbers before: tests and counts name earlier fields alone.
+-- Which cells are in the bytes is known, cell by cell, from the numbers before: tests and counts name only earlier
+-- fields.
 use Rattle.std.proofs.Common.{◌≡◌, ℕ, zero, suc, ◌+◌, ◌<◌, ◌≤◌, List, [], ◌∷◌, ◌++◌, length, get_or, drop, Option, Some, None, ℤ, refl, sym, ap, ◌∙◌, arith, Bool, true, false, nat_lt, if◌then◌else◌, ◌||◌}
 use Rattle.std.specs.List.{slice_get}
 use Rattle.std.proofs.lemmas.Bool.{ltb-true, ltb-false}
@@ -45,7 +46,8 @@ module _ (ms : List Meaning) (h : MeanKnown ms) (above : MeanAbove ms) where
       either_part (item_slots ms item caps k at) (times count (item_slots ms item caps k) (at + step) step) (item_slots ms item caps n at) (times count (item_slots ms item caps n) (at + step) step) c
       (item_known item caps at c n k s) (items_known item caps count (at + step) step c n k (in_less at (at + step) c c n k (omega arith) (omega arith) s))
 
-  -- before a field none of its cells stands; from its first cell on, it is known whether it is there and how often
+  -- before a field none of its cells is in the bytes; from its first cell on it is known whether it is there and
+  -- how often
   field_known : (d : Desc) (v base i cell c : ℕ) (f : Field) (n k : List ℤ) → IsSoundField d.fields i f → base ≤ cell → cell ≡ place_of (cells_in ms) d.fields 0 base d.fields i → SameIn base c n k
       → has_cell (field_slots ms d.fields v (numbers_of (cells_in ms) d k base) k i cell f) c ≡ has_cell (field_slots ms d.fields v (numbers_of (cells_in ms) d n base) n i cell f) c
   field_known d v base i cell c f n k sound up here s = by_place (nat_lt c cell) refl where
@@ -134,7 +136,7 @@ module _ (set : Set) (structs : AreSound set.structs) where
       either_part (sub_slots set t v m from) (came_slots set d m next subs came) (sub_slots set t v n from) (came_slots set d n next subs came) c
       (part_known t.desc (sound 0 t refl) v from c n m s) (came_known d next c n m subs came (λ j u e. sound (suc j) u e) s)
 
-  -- whether a cell stands in the bytes of an image is said by the numbers before it
+  -- the numbers before a cell determine whether it is in the bytes of an image
   pub image_known : (d : Device) → IsSound d.desc → AllSound d.subs → (v : ℕ) (came : List (Option ℕ)) (c : ℕ) (n m : List ℤ) → SameBelow c n m
       → has_cell (image_slots set d (record { version = v; came = came; numbers = m })) c ≡ has_cell (image_slots set d (record { version = v; came = came; numbers = n })) c
   image_known d own sound v came c n m s =

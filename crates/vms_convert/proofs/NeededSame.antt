@@ -1,4 +1,4 @@
--- Whether a subsection is needed goes by its own cells and by those of its device.
+-- Whether a subsection is needed depends on its own cells and on those of its device.
 use Rattle.std.proofs.Common.{◌≡◌, ℕ, ◌+◌, List, length, get_or, Option, Some, None, ℤ, refl, ap, ◌∙◌, arith, Bool, true, not, ◌&&◌, ◌||◌, bit_and}
 use Rattle.std.specs.List.{slice_get}
 use Rattle.std.proofs.lemmas.Bool.{and_parts}
@@ -19,7 +19,7 @@ use Rattle.vms_bodies.proofs.FineLaws.{part_place}
 use Rattle.vms_bodies.proofs.SettledLaws.{SameIn}
 use Rattle.vms_spec.proofs.WellFormedLaws.{earlier, sub_clean}
 
--- a test that names fields of these numbers alone
+-- a test that names only fields of these numbers
 pub truth_alike : (ok okp : ℕ → Bool) (own own' parent parent' : ℕ → ℕ) → ((i : ℕ) → ok i ≡ true → own' i ≡ own i) → ((i : ℕ) → okp i ≡ true → parent' i ≡ parent i)
     → (t : Formula) (v : ℕ) → names_well ok okp t ≡ true → truth t v own' parent' ≡ truth t v own parent
 truth_alike ok okp own own' parent parent' h hp (AtLeast n) v e = refl

@@ -1,4 +1,4 @@
--- The partners of what is left of two descriptions, field by field.
+-- The partners of the rest of two descriptions, field by field.
 use Rattle.std.proofs.Common.{◌≡◌, ℕ, zero, suc, ◌+◌, ◌-◌, ◌*◌, ◌<◌, ◌≤◌, List, [], ◌∷◌, ◌++◌, length, length-append, get_or, drop, true, false, Option, Some, None, refl, sym, ap, ◌∙◌, append_assoc, arith}
 use Rattle.std.proofs.lemmas.Bool.{ltb-true}
 use Rattle.std.proofs.lemmas.List.{drop_all, drop_more}
@@ -225,7 +225,7 @@ module _ (structs : List Pairer) (x y : List (List Cell)) (all : List Field) (v 
       (something (presence v here.test here.since) e).is
       ∙ ap (λ (q : ℕ). array_partners structs x y here.item f.field.item (capacity_of here.count) (capacity_of f.field.count) q ++ partners_from structs x y v 0 (drop (k + 1) all) es) z
 
--- what was put, and what is left
+-- what was put, and the rest
 pub put_left : (before pairs rest after all : List (Option ℕ)) → after ≡ before ++ pairs → all ≡ pairs ++ rest → after ++ rest ≡ before ++ all
 put_left before pairs rest after all e f =
     ap (λ (l : List (Option ℕ)). l ++ rest) e ∙ append_assoc before pairs rest ∙ sym (ap (λ (l : List (Option ℕ)). before ++ l) f)
@@ -273,7 +273,7 @@ module _ (structs : List Pairer) (x y : List (List Cell)) (a b : Item) where
       ∙ ap (λ (k : ℕ). unpaired (item_size x a) ++ array_partners structs x y a b k ((m - i) - 1) at) p
       ∙ ap (λ (k : ℕ). unpaired (item_size x a) ++ array_partners structs x y a b (n - (i + 1)) k at) q
 
--- so many elements of a size, and those from the next on
+-- a number of elements of a size, and those from the next one on
 pub all_but_one : (n i size : ℕ) → i < n → (n - i) * size ≡ size + (n - (i + 1)) * size
 all_but_one n i size lt =
     let s : n - i ≡ suc (n - (i + 1)) = omega (arith, lt) in

@@ -48,7 +48,7 @@ module _ (s : Side) where
   abbrev cells_at : ℕ → ℕ
   cells_at k = length (field_cells cs all k (get_or all k no_field))
 
-  -- the cells of a field are few, and so are those behind it
+  -- the cells of a field are few, and so are those after it
   pub few_here : (k : ℕ) → k < length all → HasFew s k → capacity_of (get_or all k no_field).count * item_size cs (get_or all k no_field).item ≤ MOST_ITEMS
   few_here k lt few =
       let f = get_or all k no_field in
@@ -76,7 +76,7 @@ module _ (s : Side) where
         cell = place;
       }
 
-  -- the place behind a field is small
+  -- the place after a field is small
   pub sum_small : (start : Start) → start.field < length all → IsStart s start
       → start.cell + in_u32 (capacity_of (get_or all start.field no_field).count * item_size cs (get_or all start.field no_field).item) ≤ MOST_ITEMS
   sum_small start lt h =
@@ -254,7 +254,7 @@ sub_pairs s new k found first version lt is place =
     ∙ sym (ap (λ (o : Option Sub). sub_partners old' new' e a (Some found) o) at)
     ∙ sym (ap (λ (l : Option ℕ). sub_partners old' new' e a l (at_option e.subs l)) is)
 
--- the fields of a device, and what is left of its subsections
+-- the fields of a device, and the rest of its subsections
 pub device_pairs : (old new : Bor DescSet) (i k : ℕ) (s : Side) (now : List (Option ℕ)) → s ≡ own_side old (parts.Device i) → now ≡ partners_on s (record { set = new; part = parts.Device k; version = s.version }) 0
     → now ++ flat_map (named_partners (described old.now) (described new.now) (device_at (described new.now) k)) (device_at (described old.now) i).subs
     ≡ device_partners (described old.now) (described new.now) (device_at (described old.now) i) (device_at (described new.now) k)

@@ -1,4 +1,4 @@
--- What stands in a cell after the steps of some slots.
+-- The number of a cell after the steps of some slots.
 use Rattle.std.proofs.Common.{◌≡◌, ℕ, ◌<◌, Bool, true, false, ◌||◌, ◌==◌, List, [], ◌∷◌, length, length-set, get_or, slice_set, Option, Some, None, ℤ, pos, refl, sym, ap, ◌∙◌, subst, arith, if◌then◌else◌}
 use Rattle.std.proofs.lemmas.List.{get_or-set_other, get_or-set_same}
 use Rattle.std.proofs.lemmas.Bool.{eqb-true, eq-eqb}

@@ -22,7 +22,7 @@ box version fields subs = record { instance = 0; desc = record { name = codes "b
 abbrev lab : Device → Set
 lab d = record { machines = codes "lab" ∷ []; structs = []; devices = d ∷ [] }
 
--- the number that each cell takes, where `now` says which stand in the bytes
+-- the number that each cell takes, where `now` determines which cells are in the bytes
 abbrev taken_from : Set → Device → List (Option ℕ) → List ℤ → List ℤ → ℕ → List OneCell → List ℤ
 taken_from to d partners numbers now c [] = []
 taken_from to d partners numbers now c (cell ∷ cells) =
@@ -43,7 +43,7 @@ renamed_partners : device_partners (lab pair) (lab renamed) pair renamed ≡ Som
 unfolding device_partners first
 renamed_partners = refl
 
--- ---- a number that unused bytes stand for now
+-- ---- a number whose bytes are unused now
 
 abbrev covered : Device
 covered = box 1 (number (codes "a") ∷ record (number (codes "gap")) { item = Unused 1 } ∷ []) []
@@ -56,7 +56,7 @@ covered_taken : taken_by (lab pair) (lab covered) pair covered (pos 7 ∷ []) (p
 unfolding device_partners first
 covered_taken = refl
 
--- ---- a count above the older capacity isn't taken, and so none of its elements stands in the bytes
+-- ---- a count above the older capacity isn't taken, so none of its elements is in the bytes
 
 abbrev counted : ℕ → Device
 counted most = box 1 (number (codes "n") ∷ record (number (codes "v")) { count = Counted 0 most } ∷ []) []

@@ -1,4 +1,4 @@
--- The parts of a device, as they are walked over, and what stands in them.
+-- The parts of a device, as they are walked over, and their slots.
 use Rattle.std.specs.Prelude.{◌≡◌, ℕ, ◌+◌, ◌<◌, ◌≤◌, Bool, true, false, List, [], length, get_or, slice_set, Some, None, Option, ℤ, pos}
 use Rattle.vms_spec.specs.declared.Part.{Part}
 use Rattle.vms_spec.specs.declared.Part.TheVariants as parts
@@ -12,47 +12,50 @@ use Rattle.vms_desc.specs.Parts.{desc_at, sub_at}
 use Rattle.vms_image.specs.Typed.{Typed}
 use Rattle.vms_walk.specs.declared.fields.PartAt.{PartAt}
 
--- a part at the version of its set
+-- A part at the version of its set.
 abbrev pub part_of : Set → Part → PartAt
 part_of set part = record { part = part; version = (desc_at set part).version; base = first_cell set part }
 
--- the cells from one up to another are at their defaults, and all others as they were
+-- The cells from `first` to before `end` are at their defaults, and all others are unchanged.
 pub record ArePut (set : Set) (i first end : ℕ) (before now : List ℤ) : Type 0 where
   pub long : length now ≡ length before
   pub inside : (c : ℕ) → first ≤ c → c < end → get_or now c (pos 0) ≡ (get_or (device_cells set (device_at set i)) c no_cell).default
   pub below : (c : ℕ) → c < first → get_or now c (pos 0) ≡ get_or before c (pos 0)
   pub above : (c : ℕ) → end ≤ c → get_or now c (pos 0) ≡ get_or before c (pos 0)
 
--- those of subsection j of device i
+-- The cells of subsection j of device i are at their defaults, and all others are unchanged.
 abbrev pub ArePutAt : Set → ℕ → ℕ → List ℤ → List ℤ → Type 0
 ArePutAt set i j before now =
     let part = parts.Sub i j in
     ArePut set i (first_cell set part) (first_cell set part + own_cell_count set (desc_at set part)) before now
 
--- a device's own fields, and a subsection, at a version
+-- The device's own fields at a version.
 abbrev pub own_part : ℕ → ℕ → PartAt
 own_part i v = record { part = parts.Device i; version = v; base = 0 }
 
+-- Subsection j of device i at a version.
 abbrev pub sub_part : Set → ℕ → ℕ → ℕ → PartAt
 sub_part set i j v = record { part = parts.Sub i j; version = v; base = first_cell set (parts.Sub i j) }
 
--- the slots of subsection j of device i, which came or not
+-- The slots of subsection j of device i, if it is present.
 abbrev pub sub_slots_at : Set → ℕ → ℕ → Option ℕ → List ℤ → List Slot
 sub_slots_at set i j None numbers = []
 sub_slots_at set i j (Some v) numbers = sub_slots set (sub_at (device_at set i) j) v numbers (first_cell set (parts.Sub i j))
 
+-- The slots of subsection j of device i in an image.
 abbrev pub part_slots : Set → ℕ → ℕ → Image → List Slot
 part_slots set i j image = sub_slots_at set i j (get_or image.came j None) image.numbers
 
--- subsection j is settled, by whether it is needed
+-- Subsection j is settled: its cells are put to their defaults, unless it is needed.
 abbrev pub SettlesBy : Bool → Set → ℕ → ℕ → Typed → Typed → Type 0
 SettlesBy true set i j before now = now ≡ before
 SettlesBy false set i j before now = ArePutAt set i j before.numbers now.numbers × (now ≡ record before { numbers = now.numbers })
 
+-- The same, where the image's numbers say whether it is needed.
 abbrev pub SettlesSub : Set → ℕ → ℕ → Typed → Typed → Type 0
 SettlesSub set i j before now = SettlesBy (needed_at set i j before.numbers) set i j before now
 
--- subsection j comes at its version where it is needed
+-- Subsection j is marked as present at its version, if it is needed.
 abbrev pub marked_by : Bool → Set → ℕ → ℕ → List (Option ℕ) → List (Option ℕ)
 marked_by true set i j came = slice_set came j (Some (sub_at (device_at set i) j).desc.version)
 marked_by false set i j came = came

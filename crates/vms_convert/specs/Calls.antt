@@ -1,4 +1,4 @@
--- What a call of `convert` answers.
+-- What a call of `convert` returns, and what it has done by then.
 use Rattle.std.specs.Prelude.{◌≡◌, ℕ, List, Option, Some, Result, Ok, Err}
 use Rattle.vms_spec.specs.Sets.{Set}
 use Rattle.vms_spec.specs.Images.{Image}
@@ -16,29 +16,29 @@ use Rattle.vms_convert.specs.Lost.{Loses, numbers_in}
 use Rattle.vms_convert.specs.declared.fault.ConvertFault.{ConvertFault}
 use Rattle.vms_convert.specs.declared.fault.ConvertFault.TheVariants as faults
 
--- the fault of a load, as the call answers it
+-- The fault of a load, as the call returns it.
 abbrev pub as_fault : LoadFault → ConvertFault
 as_fault (loads.Refused r) = faults.Refused r
 as_fault loads.ReadFault = faults.ReadFault
 
 module _ (to new : Set) where
-  -- a stream of this machine and these images has these bytes under the target, and says of itself what it has
+  -- A stream of this machine and these images has these bytes under the target, and describes itself.
   abbrev pub IsStreamFor : Option (List ℕ) → List Image → List ℕ → Type 0
   IsStreamFor machine images bytes = IsConverted to new (described_text to) machine images bytes
 
-  -- what is lost of this machine and these images first
+  -- `section` and `cell` are what is lost first of this machine and these images.
   pub record LosesFirst (machine : Option (List ℕ)) (images : List Image) (section cell : Option ℕ) : Type 0 where
     pub backs : List Image
     pub back : AreBack to new (recast_each to new.devices (numbers_in images)) backs
     pub loses : Loses to new machine (recast_each to new.devices (numbers_in images)) (numbers_in (carried to new backs)) backs section cell
 
-  -- the bytes of the stream were put so
+  -- The bytes of the stream have been written as `ArePut` says.
   pub record PutsStream (machine : Option (List ℕ)) (images : List Image) (ArePut : List ℕ → Type 0) : Type 0 where
     pub bytes : List ℕ
     pub is : IsStreamFor machine images bytes
     pub puts : ArePut bytes
 
-  -- with the machine and the images that were loaded
+  -- What becomes of the machine and the images that were loaded.
   abbrev pub ConvertsKept : Option (List ℕ) → List Image → Outlet → Outlet → Result Unit ConvertFault → Type 0
   ConvertsKept machine images empty full (Ok u) = PutsStream machine images (Puts empty full)
   ConvertsKept machine images empty full (Err faults.WriteFault) = PutsStream machine images (Stops empty full)
@@ -48,7 +48,7 @@ module _ (to new : Set) where
   ConvertsKept machine images empty full (Err (faults.NotCompatible m)) = ⊥
   ConvertsKept machine images empty full (Err (faults.Refused r)) = ⊥
 
-  -- a stream of the newer set was taken, and its machine and images are converted so
+  -- A stream of the newer set was read, and its machine and images are converted.
   pub record TakesFirst (before after : Intake) (empty full : Outlet) (result : Result Unit ConvertFault) : Type 0 where
     pub images : List Image
     pub taken : ℕ
@@ -56,19 +56,20 @@ module _ (to new : Set) where
     pub reads : LoadReads before after new new.machines images taken (Ok machine)
     pub converts : ConvertsKept (name_of new machine) images empty full result
 
-  -- nothing was taken, and memory is wanting; or a stream was taken, since the newer set reads what the target writes
+  -- Memory ran out: before anything was read, or after a stream was read. In the second case the newer set reads
+  -- what the target writes.
   pub data WantsMemory (before after : Intake) (empty full : Outlet) : Type 0 where
     AtOnce : after ≡ before → full ≡ empty → WantsMemory before after empty full
     Behind : Compatible to new → TakesFirst before after empty full (Err faults.NoMemory) → WantsMemory before after empty full
 
-  -- the load was refused so, and nothing was written
+  -- The load ended with this fault, and nothing has been written.
   pub record RefusesFirst (before after : Intake) (empty full : Outlet) (fault : LoadFault) : Type 0 where
     pub images : List Image
     pub taken : ℕ
     pub reads : LoadReads before after new new.machines images taken (Err fault)
     pub none : full ≡ empty
 
-  -- where the newer set reads what the target writes, or at once where it doesn't
+  -- The result, if the newer set reads what the target writes.
   abbrev pub ConvertsInto : Intake → Intake → Outlet → Outlet → Result Unit ConvertFault → Type 0
   ConvertsInto before after empty full (Ok u) = TakesFirst before after empty full (Ok u)
   ConvertsInto before after empty full (Err (faults.WouldLose section cell)) = TakesFirst before after empty full (Err (faults.WouldLose section cell))
@@ -78,6 +79,7 @@ module _ (to new : Set) where
   ConvertsInto before after empty full (Err faults.NoMemory) = WantsMemory before after empty full
   ConvertsInto before after empty full (Err (faults.NotCompatible m)) = ⊥
 
+  -- What a call of `convert` guarantees: its result, what has been read, and what has been written.
   abbrev pub Converts : Intake → Intake → Outlet → Outlet → Result Unit ConvertFault → Type 0
   Converts before after empty full (Err (faults.NotCompatible m)) = (first_mismatch to new ≡ Some m) × (after ≡ before) × (full ≡ empty)
   Converts before after empty full (Err faults.NoMemory) = WantsMemory before after empty full

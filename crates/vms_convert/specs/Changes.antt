@@ -1,16 +1,18 @@
--- Steps that change numbers of an image, each in its way, and leave all else of it.
+-- Steps that change numbers of an image and leave everything else unchanged.
 use Rattle.std.proofs.Common.{◌≡◌, List, [], ◌∷◌, ◌++◌, ℤ, refl, sym, ap, ◌∙◌}
 use Rattle.vms_image.specs.Typed.{Typed}
 use Rattle.vms_walk.specs.declared.step.WalkStep.{WalkStep}
 
--- what one step makes of the numbers
+-- What one step makes of the numbers.
 abbrev pub Change : Type 0
 Change = WalkStep → List ℤ → List ℤ
 
+-- What a list of steps makes of the numbers.
 abbrev pub changed : Change → List WalkStep → List ℤ → List ℤ
 changed change [] now = now
 changed change (x ∷ xs) now = changed change xs (change x now)
 
+-- The image differs only in its numbers, which the steps have changed.
 abbrev pub Changes : Change → List WalkStep → Typed → Typed → Type 0
 Changes change xs before after = after ≡ record before { numbers = changed change xs before.numbers }
 

@@ -1,4 +1,4 @@
--- What the steps of a walk give to the partners of the cells that stand in the bytes.
+-- What the steps of a walk copy to the partners of the cells in the bytes.
 use Rattle.std.specs.Prelude.{◌≡◌, ℕ, ◌<◌, List, length, get_or, slice_set, Option, Some, None, ℤ, pos}
 use Rattle.std.proofs.Common.{ap, ◌∙◌}
 use Rattle.vms_kinds.specs.declared.Kind.{Kind}
@@ -7,18 +7,19 @@ use Rattle.vms_kinds.specs.Codes.{InRange}
 use Rattle.vms_walk.specs.declared.step.WalkStep.TheVariants.{Number, Constant, Filler, Rule}
 use Rattle.vms_convert.specs.Changes.{Change}
 
+-- The numbers after `z` is copied to the partner, if there is one.
 abbrev pub give_partner : ℤ → Option ℕ → List ℤ → List ℤ
 give_partner z (Some k) now = slice_set now k z
 give_partner z None now = now
 
--- `numbers` are those of the cells
+-- The numbers after one step; `numbers` are those of the cells.
 abbrev pub give_step : List (Option ℕ) → List ℤ → Change
 give_step partners numbers (Number cell kind most) now = give_partner (get_or numbers cell (pos 0)) (get_or partners cell None) now
 give_step partners numbers (Constant kind value) now = now
 give_step partners numbers (Filler bytes) now = now
 give_step partners numbers (Rule holds) now = now
 
--- each cell's partner is one of the target, of the kind of the cell's number
+-- Each cell's partner is a cell of the target and of the kind of the cell's number.
 pub record AreTargets (kinds : List Kind) (numbers : List ℤ) (partners : List (Option ℕ)) : Type 0 where
   pub long : length partners ≡ length numbers
   pub inside : (c k : ℕ) → get_or partners c None ≡ Some k → k < length kinds

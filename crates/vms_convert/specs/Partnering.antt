@@ -1,4 +1,4 @@
--- What pairing asks of a description on each side, and what is left to pair from a field on.
+-- What pairing needs of a description on each side, and what is left to pair from a field on.
 use Rattle.std.specs.Prelude.{◌≡◌, ℕ, ◌+◌, ◌-◌, ◌*◌, ◌<◌, ◌≤◌, true, false, List, ◌++◌, length, get_or, drop, Option}
 use Rattle.vms_kinds.specs.declared.Item.{Item}
 use Rattle.vms_spec.specs.Layout.{capacity_of, item_size, no_field, struct_cells, cells_from, field_cells}
@@ -14,91 +14,94 @@ use Rattle.vms_convert.specs.declared.pairing.Elements.{Elements}
 use Rattle.vms_convert.specs.declared.pairing.Start.{Start}
 use Rattle.vms_check.specs.declared.side.Side.{Side}
 
--- the partners of the structures of two sets
+-- The partners of the structures of two sets.
 abbrev pub table : Set → Set → List Pairer
 table old new = pairers (struct_cells old) (struct_cells new) old.structs new.structs (length old.structs)
 
+-- The partners of an item's cells.
 abbrev pub item_on : Set → Set → Item → Item → ℕ → List (Option ℕ)
 item_on old new a b at = item_partners (table old new) (struct_cells old) (struct_cells new) a b at
 
+-- The partners of an array's cells.
 abbrev pub array_on : Set → Set → Item → Item → ℕ → ℕ → ℕ → List (Option ℕ)
 array_on old new a b n m at = array_partners (table old new) (struct_cells old) (struct_cells new) a b n m at
 
+-- The partners of a structure's cells.
 abbrev pub struct_on : Set → Set → ℕ → ℕ → ℕ → List (Option ℕ)
 struct_on old new i j at = get_or (table old new) i no_pairer j at
 
--- the elements of field k
+-- The elements of field k.
 abbrev pub elements_on : Side → ℕ → Elements
 elements_on s k = let f = get_or (desc_on s).fields k no_field in record { item = f.item; count = capacity_of f.count }
 
--- the elements of a field of each side
+-- The elements of a field of each side.
 abbrev pub arrays_on : Side → ℕ → Side → ℕ → Arrays
 arrays_on s k t l = record { sets = record { old = s.set; new = t.set }; one = elements_on s k; other = elements_on t l }
 
--- what is left of them, from an element on
+-- The partners of the elements from one on.
 abbrev pub elements_left : Arrays → ℕ → ℕ → List (Option ℕ)
 elements_left a i at = array_on (described a.sets.old.now) (described a.sets.new.now) a.one.item a.other.item (a.one.count - i) (a.other.count - i) at
 
--- the newer one's cells from that element on are few
+-- The newer side's cells from that element on are within the limit.
 abbrev pub HasRoom : Arrays → ℕ → ℕ → Type 0
 HasRoom a i at = at + (a.other.count - i) * item_size (struct_cells (described a.sets.new.now)) a.other.item ≤ MOST_ITEMS
 
--- items of structures that the sets have, and of few cells
+-- The items' structures are in their sets, and their cells are within the limit.
 pub record AreArrays (a : Arrays) : Type 0 where
   pub one : uses_below (length (described a.sets.old.now).structs) a.one.item ≡ true
   pub other : uses_below (length (described a.sets.new.now).structs) a.other.item ≡ true
   pub few : a.one.count * item_size (struct_cells (described a.sets.old.now)) a.one.item ≤ MOST_ITEMS
 
--- one element was paired
+-- One element has been paired.
 pub record PairsElement (a : Arrays) (i at next : ℕ) (before after : List (Option ℕ)) : Type 0 where
   pub room : HasRoom a (i + 1) next
   pub so_far : after ++ elements_left a (i + 1) next ≡ before ++ elements_left a i at
 
--- the cells of the fields from one on are few
+-- The cells of the fields from one on are within the limit.
 abbrev pub HasFew : Side → ℕ → Type 0
 HasFew s k = length (cells_from (struct_cells (described s.set.now)) (desc_on s).fields k (drop k (desc_on s).fields)) ≤ MOST_ITEMS
 
--- a field of the side or its end, with the place of the first cell
+-- A field of the side or its end, with its first cell.
 pub record IsStart (s : Side) (a : Start) : Type 0 where
   pub inside : a.field ≤ length (desc_on s).fields
   pub room : a.cell + length (cells_from (struct_cells (described s.set.now)) (desc_on s).fields a.field (drop a.field (desc_on s).fields)) ≤ MOST_ITEMS
 
--- the present fields from one on
+-- The present fields from one on.
 abbrev pub entries_at : Side → Start → List Entry
 entries_at s start = present_from (struct_cells (described s.set.now)) (desc_on s).fields s.version start.field start.cell (drop start.field (desc_on s).fields)
 
--- the first from there on that is there, or the end
+-- The first present field from there on, or the end.
 pub record IsNextStart (s : Side) (a b : Start) : Type 0 where
   pub start : IsStart s b
   pub same : entries_at s b ≡ entries_at s a
   pub there : b.field < length (desc_on s).fields → is_absent s.version (get_or (desc_on s).fields b.field no_field) ≡ false
 
--- the place behind a field
+-- The start after a field.
 pub record IsBehind (s : Side) (a b : Start) : Type 0 where
   pub start : IsStart s b
   pub field : b.field ≡ a.field + 1
   pub cell : b.cell ≡ a.cell + length (field_cells (struct_cells (described s.set.now)) (desc_on s).fields a.field (get_or (desc_on s).fields a.field no_field))
 
 module _ (s t : Side) where
-  -- two descriptions, the first cell of the newer being given
+  -- The partners of two descriptions' cells, where the first cell of the newer one is given.
   abbrev pub partners_on : ℕ → List (Option ℕ)
   partners_on at =
       let old = described s.set.now in
       let new = described t.set.now in
       desc_partners (table old new) (struct_cells old) (struct_cells new) s.version t.version (desc_on s) (desc_on t) at
 
-  -- the older fields from one on, beside the newer from a place on
+  -- The partners of the older fields from one on, with the newer ones from a start on.
   abbrev pub partners_left : ℕ → Start → List (Option ℕ)
   partners_left k start =
       let old = described s.set.now in
       let new = described t.set.now in
       partners_from (table old new) (struct_cells old) (struct_cells new) s.version 0 (drop k (desc_on s).fields) (entries_at t start)
 
-  -- one older field was paired
+  -- One older field has been paired.
   pub record PairsField (k : ℕ) (a b : Start) (before after : List (Option ℕ)) : Type 0 where
     pub start : IsStart t b
     pub so_far : after ++ partners_left (k + 1) b ≡ before ++ partners_left k a
 
--- a subsection, beside the one of its name
+-- The partners of a subsection, with the one of the same name.
 abbrev pub sub_on : Side → Set → Device → List (Option ℕ)
 sub_on s new e = named_partners (described s.set.now) new e (record { desc = desc_on s; needed = AtLeast 0 })

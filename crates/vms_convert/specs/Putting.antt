@@ -1,4 +1,4 @@
--- What the steps of a walk put into a state: each number takes its partner's.
+-- What the steps of a walk put into a state: each cell takes its partner's number.
 use Rattle.std.specs.Prelude.{◌≡◌, ℕ, ◌<◌, if◌then◌else◌, List, length, get_or, slice_set, Option, Some, None, ℤ, pos}
 use Rattle.vms_kinds.specs.declared.Kind.{Kind}
 use Rattle.vms_kinds.specs.declared.Kind.TheVariants.{U8}
@@ -8,19 +8,20 @@ use Rattle.vms_walk.specs.Steps.{capacities_of}
 use Rattle.vms_walk.specs.declared.step.WalkStep.TheVariants.{Number, Constant, Filler, Rule}
 use Rattle.vms_convert.specs.Changes.{Change}
 
--- a number that counts more than the most that it may stays as it was
+-- The numbers after one cell took its partner's number. A number above the cell's capacity isn't taken.
 abbrev pub put_partner : List ℤ → ℕ → Option ℕ → Option ℕ → List ℤ → List ℤ
 put_partner source cell most (Some k) now =
     let z = get_or source k (pos 0) in if exceeds (capacities_of most) z then now else slice_set now cell z
 put_partner source cell most None now = now
 
+-- The numbers after one step.
 abbrev pub put_step : List (Option ℕ) → List ℤ → Change
 put_step partners source (Number cell kind most) now = put_partner source cell most (get_or partners cell None) now
 put_step partners source (Constant kind value) now = now
 put_step partners source (Filler bytes) now = now
 put_step partners source (Rule holds) now = now
 
--- each cell's partner is one of the source, of the cell's kind
+-- Each cell's partner is a cell of the source and of the cell's kind.
 pub record AreSources (kinds : List Kind) (source : List ℤ) (partners : List (Option ℕ)) : Type 0 where
   pub long : length partners ≡ length kinds
   pub inside : (c k : ℕ) → get_or partners c None ≡ Some k → k < length source

@@ -1,27 +1,31 @@
--- What an older set keeps of the numbers of a newer device: all, but that a port's FIFOs are in counted arrays where the set has
--- the port and no rings for it.
+-- The form in which an older set keeps the numbers of a newer device. It differs only for a serial port whose set
+-- has no rings: there the FIFOs are in counted arrays.
 use Rattle.std.specs.Prelude.{Bool, ◌&&◌, ◌==◌, not, if◌then◌else◌, List, ℤ, codes}
 use Rattle.std.specs.List.{list_any}
 use Rattle.std.specs.Str.{bytes_eq}
 use Rattle.vms_spec.specs.Sets.{Sub, Device, Set}
 use Rattle.dev_serial.specs.Recast.{recast_cells}
 
+-- The serial port, by name and instance.
 abbrev pub is_port : Device → Bool
 is_port d = bytes_eq d.desc.name (codes "serial") && (d.instance == 0)
 
+-- The subsection of the port's rings, by name.
 abbrev pub is_ring : Sub → Bool
 is_ring s = bytes_eq s.desc.name (codes "serial/ring")
 
+-- The device has a subsection of rings.
 abbrev pub has_rings : Device → Bool
 has_rings d = list_any is_ring d.subs
 
--- the set has the port, and no rings for it
+-- The device is the port and has no rings.
 abbrev pub wants : Device → Bool
 wants d = is_port d && not (has_rings d)
 
+-- The set has the port, and no rings for it.
 abbrev pub wants_arrays : Set → Bool
 wants_arrays to = list_any wants to.devices
 
--- the numbers of a device of the newest set
+-- The numbers of a device of the newest set, in the form of the older set.
 abbrev pub recast : Set → Device → List ℤ → List ℤ
 recast to e numbers = if is_port e && wants_arrays to then recast_cells numbers else numbers

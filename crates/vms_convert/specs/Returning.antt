@@ -1,4 +1,4 @@
--- What comes back of one device of the newer set.
+-- What one device of the newer set becomes.
 use Rattle.std.specs.Prelude.{◌≡◌, ℕ, List, Option, Some, None, ℤ}
 use Rattle.vms_spec.specs.Sets.{Set}
 use Rattle.vms_desc.specs.Described.{device_at}
@@ -9,12 +9,12 @@ use Rattle.vms_convert.specs.Back.{IsBack}
 use Rattle.vms_convert.specs.Lost.{DifferAt}
 use Rattle.vms_convert.specs.declared.returning.Returned.{Returned}
 
--- the first cell at which numbers differ, or none
+-- The first cell at which numbers differ, or none.
 abbrev pub FirstDifference : List ℤ → List ℤ → Option ℕ → Type 0
 FirstDifference wanted there None = wanted ≡ there
 FirstDifference wanted there (Some c) = DifferAt wanted there c
 
--- of these numbers of the newer device k, for device i of the older set
+-- `r` is what the numbers of the newer device k become for device i of the older set.
 pub record IsReturned (to new : Set) (i k : ℕ) (numbers : List ℤ) (r : Returned) : Type 0 where
   pub of : IsImageOf to i r.image
   pub back : IsBack to (device_at to i) (device_partners to new (device_at to i) (device_at new k)) numbers (state_of r.image)

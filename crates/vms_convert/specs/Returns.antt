@@ -1,4 +1,4 @@
--- What comes back of all devices of the newer set.
+-- What all devices of the newer set become.
 use Rattle.std.specs.Prelude.{◌≡◌, ℕ, ◌<◌, true, nat_lt, if◌then◌else◌, List, [], length, get_or, map, Option, Some, None, ℤ}
 use Rattle.std.specs.Borrow.{Bor}
 use Rattle.std.specs.List.{slice_get}
@@ -22,34 +22,35 @@ use Rattle.vms_convert.specs.declared.returning.Pair.{Pair}
 use Rattle.vms_convert.specs.declared.returns.LostCell.{LostCell}
 use Rattle.vms_convert.specs.declared.returns.Returns.{Returns}
 
--- device k of the newer set may be brought to the older: what is wanted of its numbers is of its kinds, and a port has a port's cells
+-- Device k of the newer set may be brought to the older set: its recast numbers are of its kinds, and a port has a
+-- port's cells.
 pub record IsRecastFor (to new : Set) (k : ℕ) (numbers : List ℤ) : Type 0 where
   pub inside : k < length new.devices
   pub kinds : AreOfKinds (device_cells new (device_at new k)) (recast to (device_at new k) numbers)
   pub port : is_port (device_at new k) ≡ true → (kinds_at new k ≡ port_kinds NEWEST) × IsPortCells numbers
 
--- a device of the older set and the newer one's of its name and instance
+-- A device of the older set and the newer one's of the same name and instance.
 pub record IsPairOf (to : Bor DescSet) (i : ℕ) (newest : Bor DescSet) (p : Pair) : Type 0 where
   pub to_is : p.to ≡ to
   pub device_is : p.device ≡ i
   pub newest_is : p.newest ≡ newest
   pub pair : IsPairAt (described to.now) (described newest.now) i p.other (device_at (described to.now) i) (device_at (described newest.now) p.other)
 
--- the earlier of a cell that is known and one of device k
+-- The earlier of a known cell and one of device k.
 abbrev pub IsEarlier : Option LostCell → ℕ → Option ℕ → Option LostCell → Type 0
 IsEarlier known k None r = r ≡ known
 IsEarlier None k (Some c) r = r ≡ Some (record { device = k; cell = c })
 IsEarlier (Some l) k (Some c) r = r ≡ (if nat_lt l.device k then Some l else Some (record { device = k; cell = c }))
 
--- the numbers of device k of the newer set that are carried from the older one's image i
+-- The numbers of device k of the newer set that the older set's image i carries.
 abbrev pub carried_of : (to new : Set) → List Image → ℕ → ℕ → List ℤ
 carried_of to new backs i k = (carried_device to new (device_at to i) (device_at new k) (get_or backs i (no_image to new))).numbers
 
--- devices i and k are of one name and instance
+-- Devices i and k have one name and instance.
 abbrev pub ArePaired : (to new : Set) → ℕ → ℕ → Type 0
 ArePaired to new i k = IsPairAt to new i k (device_at to i) (device_at new k)
 
--- the first cell of which the older set's first n devices give other numbers, in the newer set's order
+-- The first cell, in the newer set's order, that the older set's first n devices don't carry.
 pub record IsLostCell (to new : Set) (wanted : List (List ℤ)) (n : ℕ) (backs : List Image) (l : LostCell) : Type 0 where
   pub i : ℕ
   pub inside : i < n
@@ -57,14 +58,14 @@ pub record IsLostCell (to new : Set) (wanted : List (List ℤ)) (n : ℕ) (backs
   pub differs : DifferAt (get_or wanted l.device []) (carried_of to new backs i l.device) l.cell
   pub before : (i' k : ℕ) → i' < n → k < l.device → ArePaired to new i' k → get_or wanted k [] ≡ carried_of to new backs i' k
 
--- `wanted` are the numbers of each device of the newer set. Of the older set's first n devices nothing is lost, or this cell
--- is the first that is, in the newer set's order
+-- `wanted` are the numbers of each device of the newer set. The older set's first n devices carry them all, or this
+-- is the first cell that they don't carry, in the newer set's order.
 abbrev pub IsFirstLost : (to new : Set) → List (List ℤ) → ℕ → List Image → Option LostCell → Type 0
 IsFirstLost to new wanted n backs None = (i k : ℕ) → i < n → ArePaired to new i k → get_or wanted k [] ≡ carried_of to new backs i k
 IsFirstLost to new wanted n backs (Some l) = IsLostCell to new wanted n backs l
 
--- an image of each of the older set's first n devices, in its order, that comes back of the newer ones' numbers; and the first
--- cell that isn't carried from there
+-- An image of each of the older set's first n devices, in its order, that comes back for the newer ones' numbers;
+-- and the first cell that isn't carried.
 pub record AreReturnedTo (to new : Set) (wanted : List (List ℤ)) (n : ℕ) (images : List Typed) (lost : Option LostCell) : Type 0 where
   pub count : length images ≡ n
   pub of : (i : ℕ) (image : Typed) → slice_get images i ≡ Some image → IsImageOf to i image
@@ -72,6 +73,6 @@ pub record AreReturnedTo (to new : Set) (wanted : List (List ℤ)) (n : ℕ) (im
       → IsBack to (device_at to i) (device_partners to new (device_at to i) (device_at new k)) (get_or wanted k []) image
   pub first_lost : IsFirstLost to new wanted n (map state_of images) lost
 
--- of all devices
+-- The same for all devices.
 abbrev pub AreReturned : (to new : Set) → List (List ℤ) → Returns → Type 0
 AreReturned to new wanted r = AreReturnedTo to new wanted (length to.devices) r.images.items r.lost

@@ -1,4 +1,4 @@
-// What an older set makes of the numbers of a newer device.
+// The image of an older set that the numbers of a newer device become.
 ghost use Rattle.std.specs.Prelude.{◌≡◌, ◌<◌, IfOk, None, get_or, length, map, slice_set};
 ghost use Rattle.vms_spec.specs.Layout.{device_cells, no_cell};
 ghost use Rattle.vms_desc.specs.Asks.{needed_at};
@@ -18,7 +18,13 @@ use vms_image::Image;
 use vms_io::NoMemory;
 use vms_walk::PartAt;
 
-/// What comes back of the numbers of a newer device, by the partners of the older device's cells.
+/// Returns the image of device `device` of `to` that the numbers of `source` become.
+///
+/// `partners` holds the newer cell of each older cell.
+///
+/// # Errors
+///
+/// [`NoMemory`] if memory runs out.
 pub(crate) fn come_back(
     alloc: Global,
     to: &DescSet,
@@ -40,7 +46,7 @@ pub(crate) fn come_back(
     Ok(image)
 }
 
-/// A part at the version of its set.
+/// Returns `part` at the version that `set` gives it.
 pub(crate) fn whole_part(set: &DescSet, part: Part) -> PartAt
     requires { HasPart (described set.now) part }
     ensures { result ≡ part_of (described set.now) part }
@@ -52,7 +58,7 @@ pub(crate) fn whole_part(set: &DescSet, part: Part) -> PartAt
     }
 }
 
-// Each cell takes its partner's number where it stands in the bytes, all subsections having come.
+// Sets each cell that is in the bytes to its partner's number. All subsections are taken to be present.
 fn take_all(set: &DescSet, device: u32, image: &mut Image, source: &Image, partners: &[Option<u32>])
     requires device { device < length (described set.now).devices }
     requires image { image.old ≡ default_at (described set.now) device }
@@ -69,7 +75,7 @@ fn take_all(set: &DescSet, device: u32, image: &mut Image, source: &Image, partn
     }
 }
 
-// The cells of each subsection that isn't needed are put to their defaults.
+// Sets the cells of each subsection that isn't needed to their defaults.
 fn settle(set: &DescSet, device: u32, image: &mut Image)
     requires device { device < length (described set.now).devices }
     requires of { IsImageOf (described set.now) device image.old }
@@ -82,7 +88,7 @@ fn settle(set: &DescSet, device: u32, image: &mut Image)
     }
 }
 
-// Those of one subsection.
+// Does this for one subsection.
 fn settle_sub(set: &DescSet, device: u32, sub: u32, image: &mut Image)
     requires device { device < length (described set.now).devices }
     requires sub { sub < length (device_at (described set.now) device).subs }
@@ -94,7 +100,7 @@ fn settle_sub(set: &DescSet, device: u32, sub: u32, image: &mut Image)
     }
 }
 
-// The cells of a subsection are put to their defaults.
+// Sets the cells of a subsection to their defaults.
 fn put_defaults(set: &DescSet, device: u32, sub: u32, image: &mut Image)
     requires device { device < length (described set.now).devices }
     requires sub { sub < length (device_at (described set.now) device).subs }
@@ -110,7 +116,7 @@ fn put_defaults(set: &DescSet, device: u32, sub: u32, image: &mut Image)
     }
 }
 
-// A cell is put to its default.
+// Sets a cell to its default.
 fn put_default(set: &DescSet, device: u32, cell: u32, image: &mut Image)
     requires device { device < length (described set.now).devices }
     requires cell { let d = device_at (described set.now) device in
@@ -123,7 +129,7 @@ fn put_default(set: &DescSet, device: u32, cell: u32, image: &mut Image)
     image.set(cell, default_of(set, device, cell));
 }
 
-// The default of a cell.
+// Returns the default of a cell.
 fn default_of(set: &DescSet, device: u32, cell: u32) -> i128
     requires device { device < length (described set.now).devices }
     requires cell { let d = device_at (described set.now) device in
@@ -134,7 +140,7 @@ fn default_of(set: &DescSet, device: u32, cell: u32) -> i128
     set.defaults(device).get(cell)
 }
 
-// Each subsection comes that the numbers need, at its version.
+// Marks each subsection that the numbers need as present, at its version.
 fn mark(set: &DescSet, device: u32, image: &mut Image)
     requires device { device < length (described set.now).devices }
     requires of { IsImageOf (described set.now) device image.old }
@@ -149,7 +155,7 @@ fn mark(set: &DescSet, device: u32, image: &mut Image)
     }
 }
 
-// One that the numbers need.
+// Marks one subsection, if the numbers need it.
 fn mark_sub(set: &DescSet, device: u32, sub: u32, image: &mut Image)
     requires device { device < length (described set.now).devices }
     requires sub { sub < length (device_at (described set.now) device).subs }

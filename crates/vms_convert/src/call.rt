@@ -1,4 +1,4 @@
-// The call.
+// The conversion of a stream.
 ghost use Rattle.std.specs.Prelude.{◌≡◌, ◌<◌, IfOk, IfSome, length, map};
 ghost use Rattle.dev_base.specs.declared.limits.TheConstants.{NEWEST};
 ghost use Rattle.vms_check.specs.Comparing.{Compatible};
@@ -27,12 +27,24 @@ use vms_load::LeanLoader;
 use vms_selfdesc::describe;
 use vms_write::write_stream;
 
-/// Reads a stream with the newest shipped set, and writes the same state under another.
+/// Reads a stream from `source` with the newest shipped set and writes the same state to `sink`
+/// under the set `to`.
 ///
-/// Nothing of the source is taken where the newest set doesn't read what the target writes. A port's FIFOs that stand in
-/// rings are put into counted arrays first, where the target keeps them so. Each cell of the target takes the number of its
-/// partner in the newest set, if it has one; what has no room in the target is lost, and then nothing is written. The stream
-/// that is written names the same machine and describes itself.
+/// Each cell of `to` takes the number of its partner in the newest set, if it has one. The bytes of
+/// the port's FIFOs move from rings into counted arrays first, if `to` keeps them so. The new
+/// stream names the same machine and describes itself.
+///
+/// # Errors
+///
+/// - [`ConvertFault::NotCompatible`]: the newest set doesn't read what `to` writes. Nothing has
+///   been read or written.
+/// - [`ConvertFault::Refused`]: the input isn't a stream of the newest set. Nothing has been
+///   written.
+/// - [`ConvertFault::WouldLose`]: `to` has no room for something in the stream. Nothing has been
+///   written.
+/// - [`ConvertFault::ReadFault`]: `source` failed. Nothing has been written.
+/// - [`ConvertFault::WriteFault`]: `sink` failed. A prefix of the new stream has been written.
+/// - [`ConvertFault::NoMemory`]: out of memory. Nothing has been written.
 pub fn convert<S: Source, K: Sink>(
     alloc: Global,
     source: &mut S,
@@ -47,7 +59,8 @@ pub fn convert<S: Source, K: Sink>(
     convert_with(alloc, source, to, &mut loader, sink)
 }
 
-/// Makes a loader of the newest shipped set for [`convert_with`], with all memory that reading takes.
+/// Returns a loader of the newest shipped set for [`convert_with`]. It holds all memory that
+/// reading needs.
 ///
 /// # Errors
 ///
@@ -59,16 +72,17 @@ pub fn newest_loader(alloc: Global) -> Result<LeanLoader, NoMemory>
     LeanLoader::new(alloc, newest)
 }
 
-/// Converts as [`convert`] does, by a loader that its caller has made. So the caller has the newest set, of which a fault
-/// speaks by number.
+/// Converts as [`convert`] does, with a `loader` that the caller has made.
+///
+/// The caller thereby has the newest set, whose devices and cells a fault names by number.
 ///
 /// # Requires
 ///
-/// `loader` is one of the newest shipped set, as [`newest_loader`] makes it.
+/// `loader` has the newest shipped set, as [`newest_loader`] makes it.
 ///
 /// # Errors
 ///
-/// Those of [`convert`].
+/// The errors of [`convert`].
 pub fn convert_with<S: Source, K: Sink>(
     alloc: Global,
     source: &mut S,
@@ -88,7 +102,7 @@ pub fn convert_with<S: Source, K: Sink>(
     convert_by(alloc, source, to, loader, sink)
 }
 
-// The same by a loader of the newest set, where that reads what the target writes.
+// Converts with a loader of the newest set, which reads what the target writes.
 fn convert_by<S: Source, K: Sink>(
     alloc: Global,
     source: &mut S,
@@ -107,7 +121,7 @@ fn convert_by<S: Source, K: Sink>(
     convert_kept(alloc, to, loader, machine, sink)
 }
 
-// Writes the images that a loader has under the target.
+// Writes the images of `loader` under the target.
 fn convert_kept<K: Sink>(
     alloc: Global,
     to: &DescSet,
@@ -128,7 +142,7 @@ fn convert_kept<K: Sink>(
     write_back(alloc, to, machine, &returns.images, sink)
 }
 
-// Writes images of the target, with the description of themselves.
+// Writes images of the target, with their description.
 fn write_back<K: Sink>(
     alloc: Global,
     to: &DescSet,

@@ -1,4 +1,4 @@
-// What of the numbers of a newer device the older set's image of them gives back.
+// The numbers of a newer device that the older set's image gives back.
 ghost use Rattle.std.specs.Prelude.{◌≡◌, ◌+◌, ◌<◌, Some, length};
 ghost use Rattle.vms_spec.specs.Images.{image_slots};
 ghost use Rattle.vms_desc.specs.Described.{described, device_at};
@@ -14,7 +14,8 @@ use vms_desc::{DescSet, Part};
 use vms_image::Image;
 use vms_walk::PartAt;
 
-/// Puts the number of each cell of an image that stands in its bytes into the cell's partner.
+/// Copies the number of each cell that is in the bytes of `gift` into the cell's partner in
+/// `target`.
 pub(crate) fn give_all(set: &DescSet, device: u32, gift: Gift, target: &mut Image)
     requires device { device < length (described set.now).devices }
     requires of { IsImageOf (described set.now) device gift.image.now }
@@ -34,7 +35,7 @@ pub(crate) fn give_all(set: &DescSet, device: u32, gift: Gift, target: &mut Imag
     }
 }
 
-// The same of a subsection, if it came.
+// Does this for a subsection, if it is present.
 fn give_sub(set: &DescSet, device: u32, sub: u32, gift: Gift, target: &mut Image)
     requires device { device < length (described set.now).devices }
     requires sub { sub < length (device_at (described set.now) device).subs }
@@ -52,7 +53,7 @@ fn give_sub(set: &DescSet, device: u32, sub: u32, gift: Gift, target: &mut Image
     }
 }
 
-// A device's own fields, at an image's version.
+// Returns the device's own fields, at the version of `image`.
 fn own_part(set: &DescSet, device: u32, image: &Image) -> PartAt
     requires { device < length (described set.now).devices }
     ensures { result ≡ own_part device image.now.version }
@@ -64,7 +65,7 @@ fn own_part(set: &DescSet, device: u32, image: &Image) -> PartAt
     }
 }
 
-// A subsection at a version.
+// Returns a subsection at a version.
 fn sub_part(set: &DescSet, device: u32, sub: u32, version: u32) -> PartAt
     requires device { device < length (described set.now).devices }
     requires sub { sub < length (device_at (described set.now) device).subs }
@@ -78,7 +79,7 @@ fn sub_part(set: &DescSet, device: u32, sub: u32, version: u32) -> PartAt
     }
 }
 
-/// The first cell at which the numbers of two images of one device differ.
+/// Returns the first cell at which the numbers of two images of one device differ.
 pub(crate) fn first_difference(wanted: &Image, there: &Image) -> Option<u32>
     requires { length wanted.now.numbers ≡ length there.now.numbers }
     ensures { FirstDifference wanted.now.numbers there.now.numbers result }

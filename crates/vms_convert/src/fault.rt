@@ -8,30 +8,36 @@ use vms_frames::Refusal;
 use vms_io::{NoMemory, WriteFault};
 use vms_load::LoadFault;
 
-/// Why a stream wasn't converted. All but a write fault come before the first byte is written.
+/// Why a stream wasn't converted. Only a write fault comes after a byte has been written.
 #[derive(Debug, Drop, Error)]
 pub enum ConvertFault {
-    /// The newest set doesn't read what the target writes: the first rule that fails. Nothing of the source was taken.
+    /// The newest set doesn't read what the target writes. Holds the first rule that fails. Nothing
+    /// has been read.
     #[error("the sets are not compatible")]
     NotCompatible(Mismatch),
-    /// The input is no stream of the newest set.
+    /// The input isn't a stream of the newest set. Holds the place and the reason.
     #[error("the stream is refused")]
     Refused(Refusal),
-    /// Something would be lost: the first cell of the newest set that the target doesn't carry, else the first device
-    /// whose image isn't valid under the target, with its first cell if it has one, else the machine, which has neither
-    /// section nor cell.
+    /// The target would lose something. Holds what is lost first:
+    ///
+    /// - a cell: the first cell of the newest set that the target doesn't carry;
+    /// - else a device: the first one whose image isn't valid under the target, with its first cell
+    ///   if it has one;
+    /// - else the machine, with neither section nor cell.
     #[error("the conversion would lose something")]
     WouldLose {
+        /// The device, by its number in the newest set, or none for the machine.
         section: Option<u32>,
+        /// The cell of the device, if there is one.
         cell: Option<u32>,
     },
-    /// The source failed; its count of faults has risen.
+    /// The source failed and has counted a failure. Nothing has been written.
     #[error("a read has failed")]
     ReadFault,
-    /// The sink failed, after a prefix of the stream; its count of faults has risen.
+    /// The sink failed and has counted a failure. A prefix of the stream has been written.
     #[error("a write has failed")]
     WriteFault,
-    /// Memory is wanting; nothing was written.
+    /// Out of memory. Nothing has been written.
     #[error("out of memory")]
     NoMemory,
 }
@@ -65,7 +71,7 @@ impl From<LoadFault> for ConvertFault {
     }
 }
 
-/// What would be lost.
+/// What would be lost: a cell of a device, a device, or the machine, which has neither.
 #[derive(Clone, Copy)]
 pub(crate) struct Loss {
     pub(crate) section: Option<u32>,

@@ -1,4 +1,4 @@
-// What a newer device is given of the numbers of an older one, over what stands in the bytes of a part.
+// The numbers of an older device that a newer device receives, cell by cell in the bytes of a part.
 ghost use Rattle.std.specs.Prelude.{◌≡◌, ◌<◌, None, IfSome, length, get_or, pos};
 ghost use Rattle.vms_kinds.specs.Codes.{InRange};
 ghost use Rattle.vms_kinds.specs.declared.Kind.TheVariants.{U8};
@@ -13,14 +13,14 @@ use vms_desc::{Cells, DescSet};
 use vms_image::Image;
 use vms_walk::{PartAt, WalkStep, Walker, walk};
 
-/// An image, and the partners of its cells.
+/// An image and the partners of its cells.
 #[derive(Clone, Copy)]
 pub(crate) struct Gift<'a> {
     pub(crate) image: &'a Image,
     pub(crate) partners: &'a [Option<u32>],
 }
 
-/// Puts the number of each cell that stands in the bytes of a part into its partner.
+/// Copies the number of each cell that is in the bytes of `part` into its partner in `target`.
 pub(crate) fn give_part(set: &DescSet, part: PartAt, gift: Gift, target: &mut Image)
     requires part { HasSpot (described set.now) part gift.image.now.numbers }
     requires targets { let numbers = gift.image.now.numbers in
@@ -41,7 +41,7 @@ pub(crate) fn give_part(set: &DescSet, part: PartAt, gift: Gift, target: &mut Im
     }
 }
 
-// Gives numbers of the image to the target.
+// A walker that copies numbers of `image` into `target`.
 #[derive(Drop)]
 struct Giver<'a> {
     image: &'a Image,
@@ -98,7 +98,7 @@ impl Walker for Giver<'_> {
     }
 }
 
-// One step.
+// Takes one step of the walk.
 fn give_step(step: WalkStep, image: &Image, target: &mut Image, partners: &[Option<u32>])
     requires inside { IsInside image.now.numbers step }
     requires targets { AreTargets target.old.kinds image.now.numbers partners.now }
@@ -111,7 +111,7 @@ fn give_step(step: WalkStep, image: &Image, target: &mut Image, partners: &[Opti
     }
 }
 
-// A number, to a partner if there is one.
+// Copies a number to a partner, if there is one.
 fn give_number(target: &mut Image, number: i128, partner: Option<u32>)
     requires inside { IfSome partner (λ k. k < length target.old.numbers) }
     requires in_range { IfSome partner (λ k. InRange (get_or target.old.kinds k U8) number) }

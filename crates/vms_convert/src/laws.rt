@@ -1,44 +1,51 @@
-//! Each law is the contract of a function without a body. The statements stand in `specs/Laws.antt`.
+//! Laws of conversion. Each is the contract of a function with an empty body; the statements are in
+//! `specs/Laws.antt`.
 ghost use Rattle.vms_convert.specs.Laws.{AnswerLaw, BackLaw, ComesBackLaw, ConvertsLaw, OneBackLaw, OneLostLaw, RecastOfLaw};
 
-/// At most one image comes back of some numbers.
+/// States that at most one image of an older set comes back for given numbers of a newer device.
 #[tactic(auto)]
 pub fn one_back_law()
     ensures { OneBackLaw }
 {}
 
-/// And one does, whatever the numbers are.
+/// States that an image comes back, whatever the numbers are.
 #[tactic(auto)]
 pub fn comes_back_law()
     ensures { ComesBackLaw }
 {}
 
-/// What comes back is normal, at the set's version and with exactly the subsections that are needed.
+/// States that the image which comes back is normal, at its set's version and with exactly the
+/// subsections that are needed.
 #[tactic(auto)]
 pub fn back_law()
     ensures { BackLaw }
 {}
 
-/// The recast numbers of normal images of the newest set are of its devices' kinds.
+/// States that the recast numbers of normal images of the newest set are in the range of their
+/// devices' kinds.
 #[tactic(auto)]
 pub fn recast_of_law()
     ensures { RecastOfLaw }
 {}
 
-/// What is lost first is one thing, and where something is, not all is kept.
+/// States that there is only one first thing that is lost, and that something is lost only if not
+/// all is kept.
 #[tactic(auto)]
 pub fn one_lost_law()
     ensures { OneLostLaw }
 {}
 
-/// Of each state of the newest set something comes back, and either all is kept or something is lost first.
+/// States that each state of the newest set has images in the older set, and that either all is
+/// kept or something is lost first.
 #[tactic(auto)]
 pub fn answer_law()
     ensures { AnswerLaw }
 {}
 
-/// A stream that is converted to a set is one of the newer set with the same machine and the recast cells, and
-/// converting that to the set again gives the same bytes, and no others.
+/// States that a converted stream is one of the newer set, with the same machine and the recast
+/// cells.
+///
+/// Converting it again gives the same bytes and no others.
 #[tactic(auto)]
 pub fn converts_law()
     ensures { ConvertsLaw }

@@ -6,6 +6,7 @@ mod call;
 mod carrying;
 mod fault;
 mod giving;
+/// Laws of conversion.
 pub mod laws;
 mod losing;
 mod pairing;

@@ -1,4 +1,4 @@
-// What would be lost of a stream: a cell, a device that isn't valid, or the machine.
+// What a conversion would lose: a cell, a device that isn't valid, or the machine.
 ghost use Rattle.std.specs.Prelude.{◌≡◌, ◌<◌, length, map};
 ghost use Rattle.std.specs.Bool.{OnFalse, OnTrue};
 ghost use Rattle.dev_base.specs.declared.limits.TheConstants.{NEWEST};
@@ -22,7 +22,7 @@ use vms_image::Image;
 use vms_load::LeanLoader;
 use vms_write::ready;
 
-/// The machine's number in the target, or what is lost first.
+/// Returns the machine's number in the target, or what is lost first as an error.
 pub(crate) fn judge(
     to: &DescSet,
     loader: &LeanLoader,
@@ -57,7 +57,7 @@ pub(crate) fn judge(
     machine_under(to, loader.set(), machine)
 }
 
-// The first device of the newer set whose image isn't valid in the target.
+// Returns the first device of the newer set whose image isn't valid in the target.
 fn first_invalid(to: &DescSet, newest: &DescSet, images: &[Image]) -> Option<u32>
     requires { AreWritable (described to.now) images.now }
     ensures { let backs = map state_of images.now in
@@ -72,7 +72,7 @@ fn first_invalid(to: &DescSet, newest: &DescSet, images: &[Image]) -> Option<u32
     None
 }
 
-// Whether the target's image of a device of the newer set may be written.
+// Checks whether the target's image of a device of the newer set may be written.
 fn is_valid(to: &DescSet, newest: &DescSet, device: u32, images: &[Image]) -> bool
     requires device { device < length (described newest.now).devices }
     requires writable { AreWritable (described to.now) images.now }
@@ -88,7 +88,7 @@ fn is_valid(to: &DescSet, newest: &DescSet, device: u32, images: &[Image]) -> bo
     }
 }
 
-// The first cell of a device, if it has one.
+// Returns the first cell of a device, if it has one.
 fn first_cell(set: &DescSet, device: u32) -> Option<u32>
     requires { device < length (described set.now).devices }
     ensures { result ≡ first_cell_at (described set.now) device }
@@ -100,7 +100,7 @@ fn first_cell(set: &DescSet, device: u32) -> Option<u32>
     }
 }
 
-// The number in the target of a machine of the newer set.
+// Returns the number that a machine of the newer set has in the target.
 fn machine_under(to: &DescSet, newest: &DescSet, machine: Option<u32>) -> Result<Option<u32>, Loss>
     requires { IsMachine (described newest.now).machines machine }
     ensures { KeepsMachine (described to.now) (name_of (described newest.now) machine) result }

@@ -1,4 +1,4 @@
-// Which cell of a newer device each cell of an older one is paired with.
+// The pairs of cells of an older and a newer device.
 ghost use Rattle.std.specs.Prelude.{◌≡◌, ◌++◌, ◌+◌, ◌*◌, ◌<◌, ◌≤◌, true, false, length, get_or, replicate, IfOk, None, OnOk, [], ◌∷◌, Some, if◌then◌else◌};
 ghost use Rattle.vms_desc.specs.Described.{described, device_at};
 ghost use Rattle.vms_desc.specs.Parts.{HasPart};
@@ -19,14 +19,14 @@ use vms_io::NoMemory;
 use vms_kinds::{Item, Kind};
 use vms_parts::capacity;
 
-// A field of a description, and its first cell.
+// A field of a description and its first cell.
 #[derive(Clone, Copy)]
 struct Start {
     field: u32,
     cell: u32,
 }
 
-// The items of a field, one for each element.
+// The elements of a field: their item and their count.
 #[derive(Clone, Copy)]
 struct Elements {
     item: Item,
@@ -40,7 +40,7 @@ struct Sets<'a> {
     new: &'a DescSet,
 }
 
-// The elements of a field of each set.
+// The elements of one field in each set.
 #[derive(Clone, Copy)]
 struct Arrays<'a> {
     sets: Sets<'a>,
@@ -48,9 +48,16 @@ struct Arrays<'a> {
     other: Elements,
 }
 
-/// For each cell of a device of the older set the cell of a device of the newer that it is paired with, if there is
-/// one of its kind: present fields are paired by position, elements by number, structures field by field, and
-/// subsections by name. All is at the older set's versions, but for structures, which are at each side's own.
+/// Returns for each cell of device `in_old` its partner, the cell of device `in_new` that it is
+/// paired with, if one of its kind exists.
+///
+/// Present fields are paired by position, elements by number, structures field by field, and
+/// subsections by name. Fields are those of the older set's versions; structures are at each side's
+/// own version.
+///
+/// # Errors
+///
+/// [`NoMemory`] if memory runs out.
 pub fn partners(
     alloc: Global,
     old: &DescSet,
@@ -80,7 +87,7 @@ pub fn partners(
     Ok(partners)
 }
 
-// A subsection, beside the one of its name.
+// Pairs a subsection with the one of the same name.
 fn pair_sub(
     older: Side,
     new: &DescSet,
@@ -109,7 +116,7 @@ fn pair_sub(
     }
 }
 
-// Two descriptions, where `first` is the newer one's first cell.
+// Pairs two descriptions, where `first` is the first cell of the newer one.
 #[cycle(pairing)]
 fn pair_descs(
     old: Side,
@@ -135,7 +142,7 @@ fn pair_descs(
     Ok(())
 }
 
-// One field, beside the first of the newer side's present fields from a place on, and what is behind that.
+// Pairs one field with the newer side's first present field from `start` on. Returns the start after that.
 #[cycle(pairing)]
 fn pair_field(
     old: Side,
@@ -161,7 +168,7 @@ fn pair_field(
     }
 }
 
-// One field that is there, beside a present one of the newer side, or beside none.
+// Pairs one present field with a present field of the newer side, or with none.
 #[cycle(pairing)]
 fn pair_present(
     old: Side,
@@ -193,7 +200,7 @@ fn pair_present(
     }
 }
 
-// A field of each side.
+// Returns the elements of a field of each side.
 fn arrays_of<'a>(old: Side<'a>, number: u32, new: Side<'a>, other: u32) -> Arrays<'a>
     requires old { IsSide old }
     requires new { IsSide new }
@@ -211,7 +218,7 @@ fn arrays_of<'a>(old: Side<'a>, number: u32, new: Side<'a>, other: u32) -> Array
     }
 }
 
-// The elements of a field.
+// Returns the elements of a field.
 fn elements_of(side: Side, number: u32) -> Elements
     requires side { IsSide side }
     requires field { number < length (desc_on side).fields }
@@ -224,7 +231,7 @@ fn elements_of(side: Side, number: u32) -> Elements
     }
 }
 
-// The first field from a place on that is there, or the end.
+// Returns the first present field from `start` on, or the end.
 fn next_start(side: Side, start: Start) -> Start
     requires side { IsSide side }
     requires start { IsStart side start }
@@ -240,7 +247,7 @@ fn next_start(side: Side, start: Start) -> Start
     next
 }
 
-// The place behind a field.
+// Returns the start after a field.
 fn behind(side: Side, start: Start) -> Start
     requires side { IsSide side }
     requires start { IsStart side start }
@@ -253,7 +260,7 @@ fn behind(side: Side, start: Start) -> Start
     }
 }
 
-// Elements beside elements, of which the newer one's first cell is `first`.
+// Pairs elements with elements, where `first` is the first cell of the newer ones.
 #[cycle(pairing)]
 fn pair_arrays(
     arrays: Arrays,
@@ -272,7 +279,7 @@ fn pair_arrays(
     Ok(())
 }
 
-// One element, beside the newer one of its number or beside none. The answer is the first cell of the one behind that.
+// Pairs one element with the newer one of its number, or with none. Returns the first cell of the next one.
 #[cycle(pairing)]
 fn pair_element(
     arrays: Arrays,
@@ -302,7 +309,7 @@ fn pair_element(
     }
 }
 
-// One element beside another, whose first cell is `cell`.
+// Pairs one element with another, whose first cell is `cell`.
 #[cycle(pairing)]
 fn pair_items(
     sets: Sets,
@@ -326,7 +333,7 @@ fn pair_items(
     }
 }
 
-// Two numbers.
+// Pairs two numbers, if they are of one kind.
 fn put_pair(
     one: Kind,
     other: Kind,
@@ -345,7 +352,7 @@ fn put_pair(
     Ok(())
 }
 
-// The structures of these numbers, each at its own version.
+// Pairs two structures, each at its own version.
 #[cycle(pairing)]
 fn pair_structs(
     sets: Sets,
@@ -371,7 +378,7 @@ fn pair_structs(
     )
 }
 
-// So many cells have no partner.
+// Appends `cells` cells without a partner.
 fn put_unpaired(cells: u32, partners: &mut Vec<Option<u32>>) -> Result<(), AllocError>
     ensures { OnOk result (partners.new.items ≡ partners.old.items ++ replicate cells None) }
 {

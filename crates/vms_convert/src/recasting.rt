@@ -1,4 +1,4 @@
-// Which devices the target keeps otherwise than the newest set has them, and their numbers then.
+// The devices that the target keeps in another form than the newest set, and their numbers in that form.
 ghost use Rattle.std.specs.List.{list_any};
 ghost use Rattle.std.specs.Prelude.{◌≡◌, ◌&&◌, ◌<◌, ℕ, IfOk, get_or, length, map, pos, slice_set};
 ghost use Rattle.dev_base.specs.declared.limits.TheConstants.{NEWEST};
@@ -20,21 +20,21 @@ use vms_image::Image;
 use vms_io::NoMemory;
 use vms_kinds::DevCells;
 
-/// Whether the target keeps a device of the newest set otherwise than the newest set has it.
+/// Checks whether the target keeps `device` in another form than the newest set.
 pub(crate) fn is_recast(to: &DescSet, device: &Device) -> bool
     ensures { result ≡ (is_port (device_of device.now) && wants_arrays (described to.now)) }
 {
     is_port(device) && wants_arrays(to)
 }
 
-// Whether a device is the serial port.
+// Checks whether a device is the serial port.
 fn is_port(device: &Device) -> bool
     ensures { result ≡ is_port (device_of device.now) }
 {
     device.desc.name.as_bytes() == b"serial".as_slice() && device.instance == 0
 }
 
-// Whether a set has the serial port, and no rings for its FIFOs.
+// Checks whether a set has the serial port and no rings for its FIFOs.
 fn wants_arrays(to: &DescSet) -> bool
     ensures { result ≡ wants_arrays (described to.now) }
 {
@@ -63,7 +63,11 @@ fn has_rings(subs: &[Sub]) -> bool
     false
 }
 
-/// The port's image with its FIFOs in counted arrays, where they stood in rings alone.
+/// Returns the port's image with its FIFOs in counted arrays, if they were only in rings.
+///
+/// # Errors
+///
+/// [`NoMemory`] if memory runs out.
 pub(crate) fn recast_image(
     alloc: Global,
     newest: &DescSet,
@@ -84,7 +88,7 @@ pub(crate) fn recast_image(
     Ok(recast)
 }
 
-// Puts cells of its kinds into an image.
+// Sets the numbers of `image` to `cells`.
 fn put_cells(image: &mut Image, cells: &DevCells)
     requires long { length cells.now.items ≡ length image.old.numbers }
     requires in_range { (c : ℕ) → c < length cells.now.items
@@ -96,7 +100,7 @@ fn put_cells(image: &mut Image, cells: &DevCells)
     }
 }
 
-// Puts one of them.
+// Sets one of them.
 fn put_cell(image: &mut Image, cell: u32, cells: &DevCells)
     requires long { length cells.now.items ≡ length image.old.numbers }
     requires cell { cell < length cells.now.items }

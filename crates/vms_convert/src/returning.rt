@@ -1,4 +1,4 @@
-// Brings the numbers of a newer device to the older set, and looks what of them is carried back.
+// The image of an older set that one newer device becomes, and the first cell that it doesn't carry.
 ghost use Rattle.std.specs.Prelude.{◌≡◌, ◌<◌, IfOk, length};
 ghost use Rattle.vms_spec.specs.Layout.{device_cells};
 ghost use Rattle.vms_desc.specs.Described.{described, device_at};
@@ -15,7 +15,7 @@ use vms_desc::DescSet;
 use vms_image::Image;
 use vms_io::NoMemory;
 
-/// A device of the older set, and the newer set's device of its name and instance.
+/// A device of the older set and the newer set's device of the same name and instance.
 #[derive(Clone, Copy)]
 pub(crate) struct Pair<'a> {
     pub(crate) to: &'a DescSet,
@@ -24,14 +24,18 @@ pub(crate) struct Pair<'a> {
     pub(crate) other: u32,
 }
 
-/// What comes back of a newer device, and the first of its cells that isn't carried from there.
+/// The image that a newer device becomes, and the first cell that it doesn't carry.
 #[derive(Drop)]
 pub(crate) struct Returned {
     pub(crate) image: Image,
     pub(crate) lost: Option<u32>,
 }
 
-/// What comes back of the numbers of a device of the newer set.
+/// Returns the image of the older set that the numbers of `source` become.
+///
+/// # Errors
+///
+/// [`NoMemory`] if memory runs out.
 pub(crate) fn return_device(alloc: Global, pair: Pair, source: &Image) -> Result<Returned, NoMemory>
     requires device { pair.device < length (described pair.to.now).devices }
     requires other { pair.other < length (described pair.newest.now).devices }

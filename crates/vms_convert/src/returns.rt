@@ -1,4 +1,4 @@
-// Brings the numbers of all devices of the newest set to an older one.
+// The images of an older set that all devices of the newest set become.
 ghost use Rattle.std.specs.Prelude.{◌≡◌, ◌<◌, ◌∷◌, ◌++◌, [], IfOk, OnOk, get_or, length};
 ghost use Rattle.dev_base.specs.declared.limits.TheConstants.{NEWEST};
 ghost use Rattle.vms_check.specs.Comparing.{Compatible};
@@ -21,21 +21,25 @@ use vms_image::Image;
 use vms_io::NoMemory;
 use vms_load::LeanLoader;
 
-/// A cell of a device of the newest set that isn't carried back.
+/// A cell of a device of the newest set that isn't carried.
 #[derive(Clone, Copy)]
 pub(crate) struct LostCell {
     pub(crate) device: u32,
     pub(crate) cell: u32,
 }
 
-/// What comes back of all devices, in the older set's order, and the first cell that isn't carried from there.
+/// The images of all devices in the older set's order, and the first cell that they don't carry.
 #[derive(Drop)]
 pub(crate) struct Returns {
     pub(crate) images: Vec<Image>,
     pub(crate) lost: Option<LostCell>,
 }
 
-/// What comes back of the images that a loader of the newest set has.
+/// Returns what the images of `loader` become in the older set.
+///
+/// # Errors
+///
+/// [`NoMemory`] if memory runs out.
 pub(crate) fn return_all(
     alloc: Global,
     to: &DescSet,
@@ -68,7 +72,7 @@ fn push_image(images: &mut Vec<Image>, image: Image) -> Result<(), NoMemory>
     Ok(())
 }
 
-// A device, and the newest set's device of its name and instance.
+// Returns a device with the newest set's device of the same name and instance.
 fn pair_of<'a>(to: &'a DescSet, device: u32, newest: &'a DescSet) -> Pair<'a>
     requires compatible { Compatible (described to.now) (described newest.now) }
     requires device { device < length (described to.now).devices }
@@ -86,7 +90,7 @@ fn pair_of<'a>(to: &'a DescSet, device: u32, newest: &'a DescSet) -> Pair<'a>
     }
 }
 
-// What comes back of the newest set's device that a loader has.
+// Returns what the newest set's device in `loader` becomes.
 fn return_at(alloc: Global, pair: Pair, loader: &LeanLoader) -> Result<Returned, NoMemory>
     requires newest { loads loader.now ≡ shipped_set NEWEST }
     requires same { described pair.newest.now ≡ loads loader.now }
@@ -100,7 +104,7 @@ fn return_at(alloc: Global, pair: Pair, loader: &LeanLoader) -> Result<Returned,
     return_image(alloc, pair, &loader.images()[pair.other as usize])
 }
 
-// What comes back of an image, whose FIFOs are in counted arrays first where the target keeps them so.
+// Returns what an image becomes. Its FIFOs move into counted arrays first, if the target keeps them so.
 fn return_image(alloc: Global, pair: Pair, image: &Image) -> Result<Returned, NoMemory>
     requires device { pair.device < length (described pair.to.now).devices }
     requires of { IsImageOf (described pair.newest.now) pair.other image.now }
@@ -118,7 +122,7 @@ fn return_image(alloc: Global, pair: Pair, image: &Image) -> Result<Returned, No
     }
 }
 
-// The earlier of two cells in the newest set's order: one that is known, and one of this device.
+// Returns the earlier of two cells in the newest set's order: a known one, and one of this device.
 fn earlier(known: Option<LostCell>, device: u32, cell: Option<u32>) -> Option<LostCell>
     ensures { IsEarlier known device cell result }
 {

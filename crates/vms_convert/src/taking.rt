@@ -1,4 +1,4 @@
-// What an older set takes of the numbers of a newer device, over what stands in the bytes of a part.
+// The numbers of a newer device that an older one takes, cell by cell in the bytes of a part.
 ghost use Rattle.std.specs.Prelude.{◌≡◌, ◌≤◌, ◌<◌, None, IfSome, length, get_or, pos};
 ghost use Rattle.vms_kinds.specs.Codes.{InRange};
 ghost use Rattle.vms_kinds.specs.declared.Kind.TheVariants.{U8};
@@ -14,8 +14,10 @@ use vms_desc::{Cells, DescSet};
 use vms_image::Image;
 use vms_walk::{PartAt, WalkStep, Walker, is_above, walk};
 
-/// Puts into each cell that stands in the bytes of a part its partner's number, unless that counts more than there is
-/// room for. Which cells stand there is said by the numbers that are put.
+/// Sets each cell that is in the bytes of `part` to its partner's number, unless the number is
+/// above the cell's capacity.
+///
+/// Which cells are in the bytes depends on the numbers that are set.
 pub(crate) fn take_part(
     set: &DescSet,
     part: PartAt,
@@ -40,7 +42,7 @@ pub(crate) fn take_part(
     }
 }
 
-// Takes numbers of `source` into the image.
+// A walker that takes numbers of `source` into the image.
 #[derive(Drop)]
 struct Taker<'a> {
     image: &'a mut Image,
@@ -98,7 +100,7 @@ impl Walker for Taker<'_> {
     }
 }
 
-// One step.
+// Takes one step of the walk.
 fn take_step(step: WalkStep, image: &mut Image, source: &Image, partners: &[Option<u32>])
     requires inside { IsInside image.old.numbers step }
     requires sources { AreSources image.old.kinds source.now.numbers partners.now }
@@ -111,7 +113,7 @@ fn take_step(step: WalkStep, image: &mut Image, source: &Image, partners: &[Opti
     }
 }
 
-// One number, whose cell may have a partner.
+// Takes one number, if its cell has a partner.
 fn take_number(
     image: &mut Image,
     cell: u32,

@@ -1,4 +1,4 @@
--- What trying the candidates in turn comes to.
+-- The result of trying the candidates in turn.
 use Rattle.std.proofs.Common.{◌≡◌, ℕ, true, List, [], ◌∷◌, Option, Some, None, IfSome, refl, sym, subst, map}
 use Rattle.vms_spec.specs.Lists.{at_option}
 use Rattle.vms_spec.specs.Sets.{Set}

@@ -1,4 +1,4 @@
--- What the code has of a raised number.
+-- What the code's raised numbers mean.
 use Rattle.std.specs.Prelude.{◌≡◌, ℕ, ◌<◌, length, ◌==◌, if◌then◌else◌, List, [], ◌∷◌, Option, Some, None}
 use Rattle.vms_spec.specs.declared.Count.{Count}
 use Rattle.vms_spec.specs.declared.Count.TheVariants.{Counted}
@@ -9,23 +9,26 @@ use Rattle.vms_image.specs.Typed.{Typed, state_of}
 use Rattle.vms_counter_laws.specs.Candidates as candidates
 use Rattle.vms_counter.specs.declared.raising.Excess.{Excess}
 
+-- The field and the capacity of the specification, if there are any.
 abbrev pub map_excess : Option Excess → Option candidates.Excess
 map_excess None = None
 map_excess (Some x) = Some (record { field = x.field; room = x.room })
 
--- the capacity of a count, where it counts by field i
+-- The capacity of a count, if it counts by field i.
 abbrev pub counted_here : ℕ → Count → List ℕ
 counted_here i (Counted by most) = if by == i then most ∷ [] else []
 counted_here i _ = []
 
+-- The field and the capacity of the specification.
 abbrev pub as_excess : Excess → candidates.Excess
 as_excess x = record { field = x.field; room = x.room }
 
+-- The image of the specification, if there is one.
 abbrev pub image_state : Option Typed → Option Image
 image_state None = None
 image_state (Some image) = Some (state_of image)
 
--- what a number is raised to, if it is, makes these images the candidate of device k
+-- The field and the capacity, if there are any, make these images the candidate of device k.
 abbrev pub IsExcess : Set → ℕ → Option (List Image) → Option Excess → Type 0
 IsExcess set k images None = images ≡ None
 IsExcess set k images (Some x) =

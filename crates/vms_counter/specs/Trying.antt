@@ -1,4 +1,4 @@
--- What trying a state tells.
+-- What trying a state finds.
 use Rattle.std.specs.Prelude.{◌≡◌, ℕ, ◌<◌, List, length, Option, Some, None, IfSome}
 use Rattle.vms_spec.specs.Sets.{Set}
 use Rattle.vms_spec.specs.Images.{Image}
@@ -13,27 +13,27 @@ use Rattle.vms_counter_laws.specs.Candidates.{machine_for}
 use Rattle.vms_counter.specs.Found.{HasRoom}
 use Rattle.vms_counter.specs.declared.trying.Trial.{Trial}
 
--- the newer set takes a stream of these bytes
+-- The newer set reads a stream of these bytes.
 pub record IsTaken (new : Set) (bytes : List ℕ) : Type 0 where
   pub taken : ℕ
   pub machine : Option (List ℕ)
   pub states : List Image
   pub takes : Takes new new.machines bytes taken machine states
 
--- the bytes are refused there, for that reason, and taken as no stream
+-- The bytes are refused at this place and for this reason, and aren't read as a stream.
 pub record IsRefused (new : Set) (bytes : List ℕ) (refusal : Refusal) : Type 0 where
   pub size : ℕ
   pub fault : Fault new new.machines bytes refusal.at refusal.section refusal.reason size
   pub untaken : (n : ℕ) (machine : Option (List ℕ)) (states : List Image) → Takes new new.machines bytes n machine states → ⊥
 
--- whether images are a state that the newer set refuses: it is ready, and its stream is refused so; or it isn't, and is not
--- ready or taken
+-- A refusal: the images are ready, and the newer set refuses their stream so. None: they aren't ready, or the newer
+-- set reads their stream.
 abbrev pub Tries : (old new : Set) (machine : Option (List ℕ)) (images : List Image) → Option Refusal → Type 0
 Tries old new machine images (Some refusal) = AreReady old images × IsRefused new (written old machine images None) refusal
 Tries old new machine images None = AreReady old images → IsTaken new (written old machine images None)
 
--- what all candidates of two sets share: the mismatch is the first, the machine is the one that their streams name, and no such
--- stream fills the room
+-- What all candidates of two sets share: the mismatch is the first one, the machine is the one that their streams
+-- name, and no such stream fills the room.
 pub record IsTrial (trial : Trial) (new : Set) : Type 0 where
   pub first : first_mismatch (described trial.old.now) new ≡ Some trial.mismatch
   pub name : at_option (described trial.old.now).machines trial.machine ≡ machine_for (described trial.old.now) new trial.mismatch

@@ -1,4 +1,4 @@
-// What a candidate's stream names, and the first candidate.
+// The machine that a candidate's stream names.
 ghost use Rattle.std.specs.Prelude.{◌≡◌, ◌<◌, ◌^◌, length, IfSome};
 ghost use Rattle.vms_spec.specs.Lists.{at_option};
 ghost use Rattle.vms_desc.specs.Described.{described};
@@ -7,7 +7,7 @@ ghost use Rattle.vms_counter_laws.specs.Candidates.{lacking, machine_for};
 use vms_check::Mismatch;
 use vms_desc::{DescSet, Text, is_one_of};
 
-// The number of the first of these machines that isn't one of those names.
+// Returns the number of the first machine that isn't among `names`.
 fn lacking(names: &[Text], machines: &[Text]) -> Option<u32>
     requires { length machines.now < 2 ^ 32 }
     ensures name { at_option machines.now result ≡ lacking names.now machines.now }
@@ -21,7 +21,7 @@ fn lacking(names: &[Text], machines: &[Text]) -> Option<u32>
     None
 }
 
-/// The machine, by its number in the older set, that a candidate's stream names.
+/// Returns the machine that a candidate's stream names, by its number in `old`.
 pub(crate) fn machine_for(old: &DescSet, new: &DescSet, mismatch: &Mismatch) -> Option<u32>
     ensures name { at_option (described old.now).machines result
         ≡ machine_for (described old.now) (described new.now) mismatch.now }

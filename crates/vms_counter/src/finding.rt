@@ -20,26 +20,35 @@ use vms_image::Image;
 use vms_io::NoMemory;
 use vms_load::{Loader, Refusal, default_images};
 
-/// What is found of two sets.
+/// The result of [`counter`].
 #[derive(Drop)]
 pub enum Finding {
     /// The newer set reads what the older one writes.
     Compatible,
-    /// The first rule that fails, which no candidate shows.
+    /// No candidate shows the mismatch. Holds the first rule that fails.
     NoState(Mismatch),
-    /// The first rule that fails, and a state that the older set writes and the newer one refuses: the machine that its
-    /// stream names, by its number in the older set, one image for each of that set's devices, and where and why the
-    /// newer set refuses the stream, the device being one of the newer set.
+    /// A state that the older set writes and the newer one refuses.
     State {
+        /// The first rule that fails.
         mismatch: Mismatch,
+        /// The machine that the state's stream names, by its number in the older set.
         machine: Option<u32>,
+        /// One image for each of the older set's devices.
         images: Vec<Image>,
+        /// Where and why the newer set refuses the stream. The device is one of the newer set.
         refusal: Refusal,
     },
 }
 
-/// Whether the set of the loader reads what the older set writes; or else the first candidate that the older set may write
-/// and the loader refuses, if there is one. The loader's set stays.
+/// Checks whether the set of `new` reads what `old` writes. If not, looks for a state that shows
+/// it.
+///
+/// The state is the first candidate that `old` may write and `new` refuses, if there is one. The
+/// set of `new` is unchanged.
+///
+/// # Errors
+///
+/// [`NoMemory`] if memory runs out.
 pub fn counter(alloc: Global, old: &DescSet, new: &mut Loader) -> Result<Finding, NoMemory>
     ensures found { IfOk result (λ f.
         Counters (described old.now) (loads new.old) (answer_of (described old.now) f)) }
@@ -52,7 +61,7 @@ pub fn counter(alloc: Global, old: &DescSet, new: &mut Loader) -> Result<Finding
     }
 }
 
-// The first candidate that shows the mismatch.
+// Returns the first candidate that shows the mismatch.
 fn show(
     alloc: Global,
     old: &DescSet,
@@ -95,7 +104,7 @@ fn show_first(alloc: Global, trial: &Trial, new: &mut Loader) -> Result<Finding,
     }
 }
 
-// The second candidate, where the first doesn't show it.
+// Tries the second candidate, as the first doesn't show the mismatch.
 fn show_second(alloc: Global, trial: &Trial, new: &mut Loader) -> Result<Finding, NoMemory>
     requires trial { IsTrial trial.now (loads new.old) }
     requires tried { let old = described trial.now.old.now in

@@ -1,5 +1,5 @@
-//! States that show why a check is refused: what an older set writes of a state and a newer one refuses, found by trying two
-//! candidates.
+//! States that show why a check is refused: the older set writes such a state and the newer one
+//! refuses it. Two candidates are tried.
 #![tactic(auto)]
 
 mod candidates;

@@ -1,4 +1,4 @@
-// One number of a device, raised above what a newer set has room for.
+// One number of a device, raised above the newer set's capacity.
 ghost use Rattle.std.specs.Prelude.{◌≡◌, ◌<◌, length, get_or, map, slice_set, IfSome, IfOk, Some};
 ghost use Rattle.std.specs.Bool.{OnTrue};
 ghost use Rattle.vms_kinds.specs.Codes.{InRange};
@@ -17,22 +17,28 @@ use vms_desc::{Count, DescSet, Field};
 use vms_image::Image;
 use vms_io::NoMemory;
 
-/// A field of an older description, and what the newer set has room for where that field counts.
+/// A field of an older description, and the newer set's capacity for what the field counts.
 #[derive(Clone, Copy)]
 pub(crate) struct Excess {
+    /// The number of the field.
     pub field: u32,
+    /// The capacity.
     pub room: u32,
 }
 
-/// The number of a field, and its count.
+/// A field's number and its count.
 #[derive(Clone, Copy)]
 pub(crate) struct Counting {
+    /// The number of the field.
     pub number: u32,
+    /// The count of the field.
     pub count: Count,
 }
 
-/// Of two fields at which capacities differ, the older one's that counts, and what the newer set has room for: `fields` are
-/// those of the newer description, at this version.
+/// Returns the older field that counts, and the newer set's capacity for it, for two fields with
+/// different capacities.
+///
+/// `fields` are those of the newer description at version `version`.
 pub(crate) fn find_excess(
     fields: &[Field],
     version: u32,
@@ -58,7 +64,7 @@ pub(crate) fn find_excess(
     }
 }
 
-// Whether a number is at most each capacity that the field counts.
+// Checks whether a number is at most each capacity that the field counts.
 fn is_within(fields: &[Field], number: u32, value: i128) -> bool
     ensures { result ≡ counts_well (counted number (map field_of fields.now)) value }
 {
@@ -79,7 +85,7 @@ fn holds(count: Count, number: u32, value: i128) -> bool
     }
 }
 
-// The number of a field of a device, and what it is to be raised to.
+// A field of a device, and the number to which it is raised.
 #[derive(Clone, Copy)]
 struct Raise {
     device: u32,
@@ -87,7 +93,7 @@ struct Raise {
     value: i128,
 }
 
-// Whether the number, which is in this cell of the device's image, may be this.
+// Checks whether the number in this cell of the device's image can have the raised value.
 fn admits(set: &DescSet, raise: Raise, image: &Image, cell: u32) -> bool
     requires device { raise.device < length (described set.now).devices }
     requires image { image.now ≡ default_at (described set.now) raise.device }
@@ -103,7 +109,12 @@ fn admits(set: &DescSet, raise: Raise, image: &Image, cell: u32) -> bool
     image.fits(cell, raise.value) && is_within(fields, raise.field, raise.value)
 }
 
-/// The defaults of a device but for the number of one field, where it may be one more than there is room for.
+/// Returns the defaults of device `device` with one number raised to one above the newer set's
+/// capacity, if the number can be that.
+///
+/// # Errors
+///
+/// [`NoMemory`] if memory runs out.
 pub(crate) fn raised_image(
     alloc: Global,
     set: &DescSet,
@@ -126,7 +137,7 @@ pub(crate) fn raised_image(
     }
 }
 
-// The same for the cell that the number is in.
+// Does this for the cell of the number.
 fn raised_cell(
     alloc: Global,
     set: &DescSet,

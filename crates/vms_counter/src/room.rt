@@ -1,4 +1,4 @@
-// How much room a stream of a set needs.
+// The size that a stream of a set can have.
 ghost use Rattle.std.specs.Prelude.{◌≡◌, ◌+◌, map, length, IfOk};
 ghost use Rattle.vms_parts.specs.Sizes.{in_u32};
 ghost use Rattle.vms_parts.specs.Views.{desc_of, device_of, field_of, sub_of};
@@ -16,7 +16,7 @@ use vms_kinds::Item;
 use vms_marks::{BESIDE_SECTIONS, FOOT_LENGTH, LONGEST_HEAD, LONGEST_SUB_HEAD};
 use vms_parts::capacity;
 
-// The bytes of one element, where those of each structure are given.
+// Returns the bytes of one element, where those of each structure are given.
 fn item_bytes(structs: &[u32], item: Item) -> u32
     ensures { result ≡ item_bytes structs.now item }
 {
@@ -28,11 +28,11 @@ fn item_bytes(structs: &[u32], item: Item) -> u32
     }
 }
 
-// What takes room in a stream, where the bytes of each structure are given.
+// Parts of a set that take room in a stream, where the bytes of each structure are given.
 trait TakesRoom {
     ghost use Rattle.std.specs.Prelude.{◌≡◌, ◌+◌, ℕ, List, [], ◌∷◌};
 
-    // At full lengths and capacities.
+    // The bytes at full lengths and capacities.
     ghost bytes: { List ℕ → Self → ℕ };
 
     ghost all_bytes: { List ℕ → List Self → ℕ };
@@ -42,7 +42,7 @@ trait TakesRoom {
     ghost more: { (structs : List ℕ) (x : Self) (xs : List Self)
         → all_bytes structs (x ∷ xs) ≡ bytes structs x + all_bytes structs xs };
 
-    // At most 2^32 - 1, as all sums here.
+    // Returns the bytes, but at most 2^32 - 1, like all sums here.
     fn bytes(&self, structs: &[u32]) -> u32
         ensures { result ≡ in_u32 (bytes structs.now self.now) };
 }
@@ -64,7 +64,7 @@ impl TakesRoom for Field {
     }
 }
 
-// With their heads.
+// A subsection with its head.
 impl TakesRoom for Sub {
     ghost use Rattle.std.specs.Prelude.{◌+◌, map, refl};
     ghost use Rattle.vms_marks.specs.declared.sub_head.TheConstants.{LONGEST_SUB_HEAD};
@@ -83,7 +83,7 @@ impl TakesRoom for Sub {
     }
 }
 
-// With their heads, footers and all subsections.
+// A device with its head, its footer and all its subsections.
 impl TakesRoom for Device {
     ghost use Rattle.std.specs.Prelude.{map, refl};
 
@@ -113,7 +113,7 @@ fn all_bytes<T: TakesRoom>(structs: &[u32], items: &[T]) -> u32
     sum
 }
 
-// The bytes of each structure. A structure that no device uses may have more than there is room to tell.
+// Returns the bytes of each structure. For a structure that no device uses the number may be cut to 2^32 - 1.
 fn struct_bytes(alloc: Global, structs: &[Desc]) -> Result<Vec<u32>, AllocError>
     ensures { IfOk result (λ bytes. bytes.items
         ≡ map in_u32 (struct_bytes (map desc_of structs.now) (length structs.now))) }
@@ -125,8 +125,12 @@ fn struct_bytes(alloc: Global, structs: &[Desc]) -> Result<Vec<u32>, AllocError>
     Ok(bytes)
 }
 
-/// All sections of the set at full lengths and capacities, and what stands beside sections: no stream of ready images
-/// that has no description fills that.
+/// Returns a size that no stream of ready images without a description reaches: all sections at
+/// full lengths and capacities, and what is outside of sections.
+///
+/// # Errors
+///
+/// [`NoMemory`] if memory runs out.
 pub(crate) fn room(alloc: Global, set: &DescSet) -> Result<u32, NoMemory>
     ensures bytes { IfOk result (λ room.
         room ≡ BESIDE_SECTIONS + devices_most (described set.now) (described set.now).devices) }

@@ -15,14 +15,18 @@ use vms_image::Image;
 use vms_io::NoMemory;
 use vms_load::default_images;
 
-// A field of a device, by their numbers.
+// A field of a device, both by their numbers.
 #[derive(Clone, Copy)]
 struct DeviceField {
     device: u32,
     field: u32,
 }
 
-/// The second candidate, where capacities are the mismatch at two fields of a device.
+/// Returns the second candidate, if the mismatch is about the capacities of two fields of devices.
+///
+/// # Errors
+///
+/// [`NoMemory`] if memory runs out.
 pub(crate) fn raised(
     alloc: Global,
     old: &DescSet,
@@ -73,7 +77,7 @@ fn raised_fields(
     }
 }
 
-// What the two fields tell, where there are such.
+// Returns the counting field and the capacity for the two fields, if they exist.
 fn excess_at(old: &DescSet, new: &DescSet, older: DeviceField, newer: DeviceField) -> Option<Excess>
     ensures { IsExcess (described old.now) older.device
         (raised_fields (described old.now) older.device

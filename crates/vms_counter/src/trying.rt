@@ -1,4 +1,4 @@
-// One state, tried: its stream is made in memory and read by a loader.
+// A state is tried: its stream is written to memory and read by a loader.
 ghost use Rattle.std.specs.Prelude.{◌≡◌, ◌<◌, length, map, None, IfSome, IfOk};
 ghost use Rattle.vms_spec.specs.Lists.{at_option};
 ghost use Rattle.vms_spec.specs.Streams.{written, AreReady};
@@ -16,17 +16,20 @@ use vms_io::{MemSink, MemSource, NoMemory};
 use vms_load::{LoadFault, Loader, Refusal};
 use vms_write::{are_ready, write_stream};
 
-/// What all candidates of two sets share: the older set, the mismatch, the machine that their streams name, by its number in
-/// the older set, and the room for a stream.
+/// What all candidates of two sets share.
 #[derive(Clone, Copy)]
 pub(crate) struct Trial<'a> {
+    /// The older set.
     pub old: &'a DescSet,
+    /// The first mismatch.
     pub mismatch: Mismatch,
+    /// The machine that the streams name, by its number in the older set.
     pub machine: Option<u32>,
+    /// The room for a stream, in bytes.
     pub room: u32,
 }
 
-// The stream of these images in memory, which the room is more than enough for.
+// Returns the stream of these images. The room is always enough.
 fn stream_of(alloc: Global, trial: &Trial, images: &[Image]) -> Result<Vec<u8>, NoMemory>
     requires machine { IfSome trial.now.machine (λ m.
         m < length (described trial.now.old.now).machines) }
@@ -47,7 +50,7 @@ fn stream_of(alloc: Global, trial: &Trial, images: &[Image]) -> Result<Vec<u8>, 
     }
 }
 
-// Where a loader refuses these bytes, if it does.
+// Returns where a loader refuses these bytes, if it does.
 fn refusal_in(alloc: Global, bytes: Vec<u8>, new: &mut Loader) -> Option<Refusal>
     ensures refused { IfSome result (IsRefused (loads new.old) bytes.items) }
     ensures taken { result ≡ None → IsTaken (loads new.old) bytes.items }
@@ -62,7 +65,11 @@ fn refusal_in(alloc: Global, bytes: Vec<u8>, new: &mut Loader) -> Option<Refusal
     }
 }
 
-/// Where the loader refuses the stream of these images, if they are ready and it does.
+/// Returns where the loader refuses the stream of `images`, if they are ready and it does.
+///
+/// # Errors
+///
+/// [`NoMemory`] if memory runs out.
 pub(crate) fn tried(
     alloc: Global,
     trial: &Trial,

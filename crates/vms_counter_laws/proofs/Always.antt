@@ -45,7 +45,7 @@ module _ (old new : Set) (good_old : WellFormed old) (good_new : WellFormed new)
   abbrev images : List Image
   images = default_images old
 
-  -- what stands behind the stream head
+  -- what follows the stream head
   abbrev behind : List ℕ
   behind = written_sections old 0 old.devices images ++ (end_mark ++ [])
 
@@ -88,7 +88,7 @@ module _ (old new : Set) (good_old : WellFormed old) (good_new : WellFormed new)
     fails_here : compare_device old new i d (Some p.number) (Some p.device) ≡ Some m
     fails_here = let z : 0 + i ≡ i = omega arith in sym p.compared_is ∙ ap compare_at (sym z) ∙ fails.answers.answers
 
-    -- an accepted reading comes to its section
+    -- an accepted reading has its section
     arrives : IsBytes (written old None images None) → (n : ℕ) (machine : Option (List ℕ)) (states : List Image) → Takes new new.machines (written old None images None) n machine states
         → Comes old new good_old good_new heads fails.all_in d image i
     arrives ok n machine states t =

@@ -1,4 +1,4 @@
--- Devices of the older set beside those of the newer, and the sections before the one that a mismatch concerns.
+-- Devices of the older set and of the newer one, and the sections before the one that a mismatch concerns.
 use Rattle.std.proofs.Common.{◌≡◌, ℕ, zero, suc, ◌+◌, ◌<◌, ◌≤◌, Bool, true, false, List, [], ◌∷◌, ◌++◌, length, slice_set, Some, None, refl, sym, ap, ◌∙◌, subst, arith, append_assoc}
 use Rattle.std.specs.List.{slice_get}
 use Rattle.std.proofs.lemmas.List.{length-set}
@@ -42,7 +42,7 @@ module _ (old new : Set) (good_old : WellFormed old) (good_new : WellFormed new)
   abbrev pub Waits : List Bool → ℕ → Type 0
   Waits came i = (j : ℕ) (d : Device) (p : Pair old new good_old all_in j d) → i ≤ j → slice_get old.devices j ≡ Some d → slice_get came p.number ≡ Some false
 
-  -- an accepted reading comes to the section of a device, which is one of new
+  -- an accepted reading has the section of a device, which is one of new
   pub record Comes (d : Device) (image : Image) (id : ℕ) : Type 0 where
     pub came : List Bool
     pub rest : List ℕ

@@ -99,7 +99,7 @@ module _ (old new : Set) (well : WellFormed old) (good : WellFormed new) (heads 
       by true e = let r = all_ready_is old old.devices images e in by_reading images (stream_bytes old new well m images) (record { one_each = r.0; ready = r.1 }) (read images) refl
       by false e = λ s. let f : true ≡ false = sym (is_all_ready old old.devices images s.ready.one_each s.ready.ready) ∙ e in cc
 
-  -- what the list of candidates comes to
+  -- the result of the list of candidates
   abbrev Comes : List (List Image) → Answer → Type 0
   Comes list AreCompatible = ⊥
   Comes list (NoState n) = (n ≡ m) × NoneShows old new m list

@@ -1,5 +1,5 @@
--- What is answered of an older set and a newer one: that they are compatible; a state that the older set writes and the newer
--- one refuses; or that no candidate is such a state.
+-- The answer to an older and a newer set: they are compatible; or a state that the older set writes and the newer
+-- one refuses; or no candidate is such a state.
 use Rattle.std.specs.Prelude.{◌≡◌, ℕ, List, [], ◌∷◌, Option, Some, None}
 use Rattle.vms_spec.specs.declared.Reason.{Reason}
 use Rattle.vms_spec.specs.Sets.{Set}
@@ -11,36 +11,39 @@ use Rattle.vms_check.specs.declared.mismatch.Mismatch.{Mismatch}
 use Rattle.vms_check.specs.Comparing.{Compatible, first_mismatch}
 use Rattle.vms_counter_laws.specs.Candidates.{candidates, machine_for}
 
--- where and why a stream is refused
+-- Where and why a stream is refused.
 pub record Refusal : Type 0 where
   pub place : ℕ
   pub section : Option ℕ
   pub reason : Reason
 
+-- The answer.
 pub data Answer : Type 0 where
   AreCompatible : Answer
   NoState : Mismatch → Answer
   State : Mismatch → Option (List ℕ) → List Image → Refusal → Answer
 
 module _ (old new : Set) where
-  -- what the older set writes of images
+  -- The stream that the older set writes of images.
   abbrev pub stream_of : Mismatch → List Image → List ℕ
   stream_of m images = written old (machine_for old new m) images None
 
-  -- the older set may write it, and the newer one takes no stream of it
+  -- The older set may write it, and the newer one accepts no stream of it.
   pub record Shows (m : Mismatch) (images : List Image) : Type 0 where
     pub ready : AreReady old images
     pub untaken : (n : ℕ) (machine : Option (List ℕ)) (states : List Image) → Takes new new.machines (stream_of m images) n machine states → ⊥
 
-  -- the first of these that shows it
+  -- The first of these that shows it.
   pub data IsFirst (m : Mismatch) (images : List Image) : List (List Image) → Type 0 where
     Here : (more : List (List Image)) → Shows m images → IsFirst m images (images ∷ more)
     Later : (others : List Image) (more : List (List Image)) → (Shows m others → ⊥) → IsFirst m images more → IsFirst m images (others ∷ more)
 
+  -- None of these shows it.
   abbrev pub NoneShows : Mismatch → List (List Image) → Type 0
   NoneShows m [] = Unit {0}
   NoneShows m (images ∷ more) = (Shows m images → ⊥) × NoneShows m more
 
+  -- The answer is the right one.
   pub data Counters : Answer → Type 0 where
     Agree : Compatible old new → Counters AreCompatible
     Lacks : (m : Mismatch) → first_mismatch old new ≡ Some m → NoneShows m (candidates old new m) → Counters (NoState m)

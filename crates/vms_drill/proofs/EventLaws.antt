@@ -8,7 +8,7 @@ use Rattle.dev_board.specs.Wires.{is_wire}
 use Rattle.vms_drill.specs.Events.{next_number, wires, event_by, event_of, events_after}
 use Rattle.vms_drill.specs.EventLaws.{EventsAreGood}
 
--- the remainder of a sum goes by that of its first part
+-- the remainder of a sum depends only on that of its first part
 pub sum_rest : (n k m : ℕ) → (n % m + k) % m ≡ (n + k) % m
 sum_rest n k m = mod-add-mod n m k
 

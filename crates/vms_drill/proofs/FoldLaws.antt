@@ -24,7 +24,7 @@ pub save_may : (level saves : ℕ) → level ≤ NEWEST → MaySaveUnder level (
 unfolding set_of
 save_may level saves l = record { level_le_set = omega arith; set_le_newest = omega (arith, l) }
 
--- a board that is left like another one
+-- a board that is sound and like another one
 pub record Left (m after : State) : Type 0 where
   pub alike : Alike m after
   pub sound : IsSound after
@@ -48,7 +48,7 @@ pub save-left : (events : ℕ) (m : State) → IsSound m → Left m (after_save 
 unfolding after_save
 save-left events m s = due-left _ _ m s (save_may m.level _ s.devices.level.last)
 
--- a drill in progress, beside a board like its own that goes on without saves
+-- a drill in progress, and a board like its own that goes on without saves
 record GoesAs (count : ℕ) (progress : Progress) (m : State) : Type 0 where
   pub counts : (drilled count progress).counts ≡ counted_all (observe (events_after progress.number count) m) progress.counts
   pub alike : Alike (after_all (events_after progress.number count) m) (drilled count progress).board

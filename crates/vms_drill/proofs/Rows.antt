@@ -22,7 +22,7 @@ saves_after_a_thousand : (is_save_due 999 ≡ false) × (is_save_due 1000 ≡ tr
 unfolding is_save_due
 saves_after_a_thousand = (refl, refl)
 
--- the level's set, the newest, and the level's again; the newest alone where it is the level's
+-- the level's set, the newest, and the level's again; only the newest if it is the level's
 turns_by_saves : map (set_of 3) (0 ∷ 1 ∷ 2 ∷ []) ≡ 3 ∷ 4 ∷ 3 ∷ []
 unfolding set_of
 turns_by_saves = refl

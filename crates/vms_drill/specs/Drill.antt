@@ -8,27 +8,30 @@ use Rattle.vms_drill.specs.Fold.{Progress, begun, went_on, is_save_due, set_of, 
 use Rattle.vms_board.specs.Isa.{isa}
 use Rattle.vms_board.specs.Saving.{saved_stream}
 
--- a drill in progress: events, board and counts; how many bytes the streams so far have together; and how many the last of
--- them has, which is what the board was restored from, or none
+-- A drill in progress: events, board and counts; the number of bytes of all streams so far; and that of the last
+-- stream, from which the board was restored, or 0.
 pub record Drill : Type 0 where
   pub progress : Progress
   pub bytes : ℕ
   pub taken : ℕ
 
+-- A drill of a level and a seed before its first event.
 abbrev pub drill_begun : ℕ → ℕ → Drill
 drill_begun level seed = record { progress = begun level seed; bytes = 0; taken = 0 }
 
--- the bytes of the stream that is saved of a board after so many events
+-- The length of the stream that is saved of a board after `events` events.
 abbrev pub stream_long : ℕ → State → ℕ
 stream_long events m = length (saved_stream isa (set_of m.level (saves_of events - 1)) m)
 
+-- The bytes of all streams after an event.
 unfoldable pub bytes_after : ℕ → State → ℕ → ℕ
 bytes_after events m bytes = if is_save_due events then bytes + stream_long events m else bytes
 
+-- The bytes of the last stream after an event.
 unfoldable pub taken_after : ℕ → State → ℕ → ℕ
 taken_after events m taken = if is_save_due events then stream_long events m else taken
 
--- an event, and a save and a restore where they are due
+-- One event, and a save and a restore if they are due.
 abbrev pub drill_on : Drill → Answer × State → Drill
 drill_on drill done = record {
   progress = went_on drill.progress done;
@@ -36,16 +39,19 @@ drill_on drill done = record {
   taken = taken_after (drill.progress.events + 1) done.1 drill.taken;
 }
 
+-- The drill after one event more.
 abbrev pub with_drill_event : Drill → Drill
 with_drill_event drill = drill_on drill (step (event_of (next_number drill.progress.number)) drill.progress.board)
 
--- so many events more
+-- The drill after `count` events more.
 abbrev pub drilled_on : ℕ → Drill → Drill
 drilled_on zero drill = drill
 drilled_on (suc count) drill = drilled_on count (with_drill_event drill)
 
--- ---- what a drill is told by
+-- ---- the summary of a drill
 
+-- The summary of a drill: events, bytes sent, events with the interrupt output high, saves, and bytes of all
+-- streams.
 pub record Summary : Type 0 where
   pub events : ℕ
   pub sent : ℕ
@@ -53,6 +59,7 @@ pub record Summary : Type 0 where
   pub saves : ℕ
   pub bytes : ℕ
 
+-- The summary of a drill.
 abbrev pub summary_of : Drill → Summary
 summary_of drill = record {
   events = drill.progress.events;

@@ -8,11 +8,11 @@ use Rattle.dev_board.specs.Step.{observe, after_all}
 use Rattle.vms_drill.specs.Events.{events_after}
 use Rattle.vms_drill.specs.Fold.{nothing, counted_all, begun, drilled}
 
--- the events of a seed are such that there are
+-- The events of a seed are valid.
 pub record EventsAreGood : Type 0 where
   pub are : (count seed : ℕ) → AreEvents (events_after seed count)
 
--- a drill of a level and a seed, beside the same events without any save
+-- A drill of a level and a seed, compared with the same events without any save.
 pub record IsAsUnsaved (level seed count : ℕ) : Type 0 where
   pub counts : (drilled count (begun level seed)).counts
       ≡ counted_all (observe (events_after seed count) (power_on level)) nothing
@@ -21,5 +21,6 @@ pub record IsAsUnsaved (level seed count : ℕ) : Type 0 where
   pub same_level : (drilled count (begun level seed)).board.level ≡ level
   pub sound : IsSound (drilled count (begun level seed)).board
 
+-- This is so for all drills.
 pub record SavesLeaveCounts : Type 0 where
   pub same : (level seed count : ℕ) → IsLevel level → IsAsUnsaved level seed count

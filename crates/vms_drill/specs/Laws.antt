@@ -11,7 +11,7 @@ use Rattle.vms_drill.specs.Drill.{drill_begun, drilled_on}
 use Rattle.vms_drill.specs.declared.events.TheConstants.{WAIT}
 use Rattle.vms_drill.specs.declared.schedule.TheConstants.{BETWEEN_SAVES}
 
--- a drill of a level and a seed beside the same events without any save
+-- A drill of a level and a seed, compared with the same events without any save.
 pub record IsAsUnsaved (level seed count : ℕ) : Type 0 where
   pub progress : (drilled_on count (drill_begun level seed)).progress ≡ drilled count (begun level seed)
   pub counts : (drilled_on count (drill_begun level seed)).progress.counts
@@ -20,16 +20,17 @@ pub record IsAsUnsaved (level seed count : ℕ) : Type 0 where
   pub alike : Alike (after_all (events_after seed count) (power_on level)) (drilled_on count (drill_begun level seed)).progress.board
   pub sound : IsSound (drilled_on count (drill_begun level seed)).progress.board
 
+-- This is so for all drills.
 pub record ProgressIsSame : Type 0 where
   pub same : (level seed count : ℕ) → IsLevel level → IsAsUnsaved level seed count
 
--- the streams of a drill don't fill the room for one, so that together they have at most so many
+-- Each stream of a drill has fewer bytes than the room for one, so all together have at most that for each event.
 pub record SizesAreSmall : Type 0 where
   pub bytes : (level seed count : ℕ) → IsLevel level
       → (drilled_on count (drill_begun level seed)).bytes ≤ STREAM_ROOM * count
 
--- how many nanoseconds a wait has for each one that its byte counts, how many events there are from one save to the next, and
--- how many bytes the room for a stream has
+-- The nanoseconds of a wait for each unit of its byte, the number of events from one save to the next, and the
+-- bytes of the room for a stream.
 pub record NumbersAre : Type 0 where
   pub wait : WAIT ≡ 100000
   pub saves : BETWEEN_SAVES ≡ 1000

@@ -1,4 +1,4 @@
--- What contracts see of a drill in progress and of its summary.
+-- What the code's drill in progress and its summary mean.
 use Rattle.std.specs.Prelude.{◌*◌, ◌≤◌}
 use Rattle.dev_board.specs.Sound.{IsSound}
 use Rattle.dev_serial.specs.declared.transmitter.TheConstants.{MOST_SENT}
@@ -10,6 +10,7 @@ use Rattle.vms_drill.specs.Drill.{Drill, Summary}
 use Rattle.vms_drill.specs.declared.progress.Progress.{Progress}
 use Rattle.vms_drill.specs.declared.fold.Summary as declared
 
+-- The drill of the specification.
 abbrev pub progress_view : Progress → Drill
 progress_view c = record {
   progress = record { events = c.done; number = c.events.number; board = c.board.state; counts = tally_view c.tally };
@@ -17,7 +18,7 @@ progress_view c = record {
   taken = c.board.taken;
 }
 
--- its board is sound, its sets are a board's, and no count is greater than so many events can make it
+-- Its board is sound, its sets are a board's, and no count is larger than the events so far allow.
 pub record IsInProgress (c : Progress) : Type 0 where
   pub sound : IsSound c.board.state
   pub sets : AreOf isa c.sets
@@ -25,5 +26,6 @@ pub record IsInProgress (c : Progress) : Type 0 where
   pub raised : c.tally.raised ≤ c.done
   pub bytes : c.bytes ≤ STREAM_ROOM * c.done
 
+-- The summary of the specification.
 abbrev pub summary_view : declared.Summary → Summary
 summary_view s = record { events = s.events; sent = s.sent; raised = s.raised; saves = s.saves; bytes = s.bytes }

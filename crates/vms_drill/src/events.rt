@@ -5,12 +5,12 @@ ghost use Rattle.vms_drill.specs.Events.{next_number, ports, wires, event_of};
 
 use dev_board::Event;
 
-/// The multiplier and the increment of the numbers.
+/// The multiplier of the sequence of numbers.
 const MULTIPLIER: u64 = 6_364_136_223_846_793_005;
 
 const INCREMENT: u64 = 1_442_695_040_888_963_407;
 
-/// How long a wait is, in nanoseconds, for each one that its byte counts.
+/// The length of a wait for each unit of its byte, in nanoseconds.
 const WAIT: u64 = 100_000;
 
 /// The ports of the serial port, of the two 8259A and of the timer chip.
@@ -22,21 +22,21 @@ const PORTS: [u16; 16] = [
 /// The interrupt inputs that no device drives.
 const WIRES: [u8; 13] = [1, 3, 5, 6, 7, 8, 9, 10, 11, 12, 13, 14, 15];
 
-/// The events that follow from a seed, one after the other and without end.
+/// An endless sequence of events that a seed determines.
 #[derive(Drop)]
 pub struct Events {
     number: u64,
 }
 
 impl Events {
-    /// The events of a seed.
+    /// Returns the events of `seed`.
     pub fn new(seed: u64) -> Events
         ensures { result.number ≡ seed }
     {
         Events { number: seed }
     }
 
-    /// The next event. A wire that rises or falls is one of a board's.
+    /// Returns the next event. An event of a wire names a wire that boards have.
     #[tactic(auto, using(crate::proofs::EventLaws::sum_rest, crate::proofs::EventLaws::names_a_wire), unfolding(crate::specs::Events::next_number))]
     pub fn next_event(&mut self) -> Event
         ensures number { self.new.number ≡ next_number self.old.number }
@@ -48,8 +48,8 @@ impl Events {
     }
 }
 
-// The event that a number chooses: what happens by its upper half modulo 8, the byte by the next eight
-// bits, and the port or the wire by the six behind them.
+// Returns the event of a number. Its upper half modulo 8 chooses what happens, the next eight bits are the byte,
+// and the six bits after them choose the port or the wire.
 #[tactic(auto, unfolding(crate::specs::Events::event_of, crate::specs::Events::event_by))]
 fn event_of(number: u64) -> Event
     ensures { result ≡ event_of number }

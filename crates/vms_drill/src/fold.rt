@@ -9,30 +9,41 @@ use std::alloc::Global;
 use vms_board::Board;
 use vms_io::NoMemory;
 
-/// What a drill came to.
+/// The summary of a drill.
 #[derive(Clone, Copy, Debug, PartialEq, Eq)]
 pub struct Summary {
-    /// How many events there were.
+    /// The number of events.
     pub events: u32,
-    /// How many bytes left the serial port.
+    /// The number of bytes that the serial port sent.
     pub sent: u64,
-    /// After how many events the interrupt output was high.
+    /// The number of events after which the interrupt output was high.
     pub raised: u64,
-    /// How often the board was saved and restored.
+    /// The number of times that the board was saved and restored.
     pub saves: u32,
-    /// How many bytes the streams have together.
+    /// The number of bytes of all streams together.
     pub bytes: u64,
 }
 
 /// A drill's summary, and its board after the last event and save.
 #[derive(Drop)]
 pub struct Drilled {
+    /// The summary.
     pub summary: Summary,
+    /// The board.
     pub board: Board,
 }
 
-/// Lets the first events of a seed happen to a board at power on, and after every thousand of them makes it the
-/// board that its own stream restores.
+/// Runs the first `count` events of `seed` on a board of level `level` at power on.
+///
+/// After every thousandth event the board is saved and restored from its own stream.
+///
+/// # Requires
+///
+/// `level` is a board's level, 1 to 4.
+///
+/// # Errors
+///
+/// [`NoMemory`] if memory runs out.
 pub fn drill(alloc: Global, level: u8, seed: u64, count: u32) -> Result<Drilled, NoMemory>
     requires { IsLevel level }
     ensures summary { let drill = drilled_on count (drill_begun level seed) in

@@ -1,35 +1,36 @@
-// Laws of drills, each in a clause of a function that does nothing.
+// Laws of drills. Each is the contract of a function with an empty body.
 ghost use Rattle.vms_drill.specs.EventLaws.{EventsAreGood, SavesLeaveCounts};
 ghost use Rattle.vms_drill.specs.Laws.{ProgressIsSame, SizesAreSmall, NumbersAre};
 
-/// A drill's board is that of its events and saves alone, what its streams weigh beside it, and so its events, the bytes
-/// sent and the events that raised the interrupt output are those of the same events without any save.
+/// States that a drill's progress doesn't depend on the sizes of its streams.
+///
+/// Its events, bytes sent and interrupts are those of the same events without any save.
 #[tactic(auto, using(crate::proofs::DrillLaws::progress_is_same))]
 pub fn progress_law()
     ensures { ProgressIsSame }
 {}
 
-/// The streams of a drill have together at most 65,536 bytes for each of its events.
+/// States that the streams of a drill have together at most 65,536 bytes for each of its events.
 #[tactic(auto, using(crate::proofs::DrillLaws::sizes_are_small))]
 pub fn size_law()
     ensures { SizesAreSmall }
 {}
 
-/// The events of a drill are such that there are: their bytes are bytes, and their wires wires.
+/// States that the events of a drill are valid: their bytes are bytes, and their wires are wires.
 #[tactic(auto, using(crate::proofs::EventLaws::events_are_good))]
 pub fn events_law()
     ensures { EventsAreGood }
 {}
 
-/// What the answers of a drill come to is what those of the same events without any save come to, and its
-/// board is like the board after them.
+/// States that a drill's counts are those of the same events without any save, and that its board
+/// is like the board after those.
 #[tactic(auto, using(crate::proofs::FoldLaws::saves_leave_counts))]
 pub fn saves_law()
     ensures { SavesLeaveCounts }
 {}
 
-/// A wait has 100,000 nanoseconds for each one that its byte counts, there are 1,000 events from one save to the next, and a
-/// stream has less than 65,536 bytes.
+/// States the numbers of a drill: 100,000 nanoseconds of a wait for each unit of its byte, 1,000
+/// events from one save to the next, and less than 65,536 bytes of a stream.
 #[tactic(auto, using(crate::proofs::DrillLaws::numbers_are))]
 pub fn numbers_law()
     ensures { NumbersAre }

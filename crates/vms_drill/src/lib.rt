@@ -1,5 +1,5 @@
-//! Drills of a board: events that a seed chooses, what a board answers to them in all, and after every
-//! thousand of them a board that is restored from its own stream.
+//! Drills of a board: a seed chooses the events, after every thousandth one the board is restored
+//! from its own stream, and the board's answers are counted.
 #![tactic(auto)]
 
 mod events;

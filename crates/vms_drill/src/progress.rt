@@ -16,18 +16,22 @@ use vms_io::NoMemory;
 #[derive(Drop)]
 pub(crate) struct Progress {
     board: Board,
-    /// The sets that its streams went by.
+    /// The sets under which its streams are written.
     sets: KeptSets,
     events: Events,
     tally: Tally,
-    /// How many events there were.
+    /// The number of events so far.
     done: u32,
-    /// How many bytes the streams so far have together.
+    /// The number of bytes of all streams so far.
     bytes: u64,
 }
 
 impl Progress {
-    /// Before the first event.
+    /// Returns a drill before its first event.
+    ///
+    /// # Errors
+    ///
+    /// [`NoMemory`] if memory runs out.
     pub(crate) fn begin(alloc: Global, level: u8, seed: u64) -> Result<Progress, NoMemory>
         requires { IsLevel level }
         ensures view { IfOk result (λ progress. progress_view progress ≡ drill_begun level seed) }
@@ -43,8 +47,11 @@ impl Progress {
         })
     }
 
-    /// Lets the next event happen, and after every thousand of them makes the board the one that its own stream
-    /// restores.
+    /// Runs the next event. After every thousandth one the board is restored from its own stream.
+    ///
+    /// # Errors
+    ///
+    /// [`NoMemory`] if memory runs out.
     pub(crate) fn step(&mut self, alloc: Global) -> Result<(), NoMemory>
         requires going { IsInProgress self.old }
         requires room { self.old.done + 1 < 2 ^ 32 }
@@ -62,7 +69,7 @@ impl Progress {
         Ok(())
     }
 
-    /// What it came to, and its board.
+    /// Returns the summary, and the board.
     pub(crate) fn end(self) -> Drilled
         ensures summary { summary_view result.summary ≡ summary_of (progress_view self) }
         ensures board { result.board ≡ self.board }

@@ -13,7 +13,12 @@ use vms_board::Board;
 use vms_board_streams::{KeptSets, restore_from, stream_by};
 use vms_io::NoMemory;
 
-/// Makes a board, saved so many times before, the one that its stream restores; answers the stream's length.
+/// Saves `board` and restores it from the stream. `saves` is the number of saves before. Returns
+/// the stream's length.
+///
+/// # Errors
+///
+/// [`NoMemory`] if memory runs out.
 pub(crate) fn come_back(
     alloc: Global,
     board: &mut Board,
@@ -35,7 +40,7 @@ pub(crate) fn come_back(
     let long = stream.len() as u64;
     match restore_from(alloc, board, stream) {
         Ok(()) => Ok(long),
-        // A board takes its own stream.
+        // A board reads its own stream.
         Err(_) => unreachable!(),
     }
 }

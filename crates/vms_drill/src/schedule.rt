@@ -6,10 +6,10 @@ ghost use Rattle.vms_drill.specs.Fold.{is_save_due, set_of};
 
 use dev_base::NEWEST;
 
-/// How many events there are from one save to the next.
+/// The number of events from one save to the next.
 pub const BETWEEN_SAVES: u32 = 1_000;
 
-/// Tells whether the board is saved after so many events.
+/// Checks whether the board is saved after `events` events.
 #[tactic(auto, unfolding(crate::specs::Fold::is_save_due))]
 pub fn is_save_due(events: u32) -> bool
     ensures { result ≡ is_save_due events }
@@ -17,7 +17,12 @@ pub fn is_save_due(events: u32) -> bool
     events % BETWEEN_SAVES == 0
 }
 
-/// The set under which a board of this level is saved after so many saves: each from its level to the newest in turn.
+/// Returns the set under which a board of level `level` is saved after `saves` saves: the sets from
+/// its level to the newest, in turn.
+///
+/// # Requires
+///
+/// `level` is a board's level, 1 to 4.
 #[tactic(auto, using(crate::proofs::FoldLaws::save_may), unfolding(crate::specs::Fold::set_of))]
 pub fn set_of(level: u8, saves: u32) -> u8
     requires { IsLevel level }

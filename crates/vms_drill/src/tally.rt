@@ -1,4 +1,4 @@
-// What the answers of a drill come to.
+// The counts of a drill's answers.
 ghost use Rattle.std.specs.Prelude.{◌≡◌, ◌+◌, ◌<◌, ◌≤◌, ◌^◌};
 ghost use Rattle.vms_drill.specs.Fold.{Counts, counted};
 ghost use Rattle.vms_drill.specs.Tallies.{tally_view};
@@ -6,17 +6,17 @@ ghost use Rattle.dev_serial.specs.declared.transmitter.TheConstants.{MOST_SENT};
 
 use dev_board::Answer;
 
-/// What the answers of a board to its events come to.
+/// Counts over the answers of a board to its events.
 #[derive(Clone, Copy, Debug, PartialEq, Eq)]
 pub struct Tally {
-    /// How many bytes left the serial port.
+    /// The number of bytes that the serial port sent.
     pub sent: u64,
-    /// After how many events the interrupt output was high.
+    /// The number of events after which the interrupt output was high.
     pub raised: u64,
 }
 
 impl Tally {
-    /// Nothing so far.
+    /// Returns counts of zero.
     pub fn new() -> Tally
         ensures sent { result.sent ≡ 0 }
         ensures raised { result.raised ≡ 0 }
@@ -24,7 +24,11 @@ impl Tally {
         Tally { sent: 0, raised: 0 }
     }
 
-    /// Counts an answer.
+    /// Counts `answer`.
+    ///
+    /// # Requires
+    ///
+    /// No count overflows.
     #[tactic(auto, unfolding(crate::specs::Fold::counted))]
     pub fn count(&mut self, answer: &Answer)
         requires sent { self.old.sent + MOST_SENT < 2 ^ 64 }

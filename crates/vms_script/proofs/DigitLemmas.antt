@@ -144,7 +144,7 @@ port_is (a ∷ b ∷ c ∷ d ∷ []) p e =
     }
 port_is (a ∷ b ∷ c ∷ d ∷ f ∷ text) p e = cc
 
--- ---- digits are neither blanks nor line feeds
+-- ---- digits are neither spaces nor line feeds
 
 abbrev pub lacks : ℕ → List ℕ → Bool
 lacks byte text = list_all (λ b. not (b == byte)) text

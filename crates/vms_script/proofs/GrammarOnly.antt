@@ -238,7 +238,7 @@ line_is play text line e =
 
 -- ---- a whole script
 
--- lines with their line feeds, and what stands behind them
+-- lines with their line feeds, and the rest after them
 abbrev pub unsplit : List (List ℕ) → List ℕ → List ℕ
 unsplit [] tail = tail
 unsplit (line ∷ lines) tail = line ++ 10 ∷ unsplit lines tail

@@ -30,7 +30,7 @@ lines_lack (b ∷ text) = by (b == 10) refl (lines_lack text) where
   by true e h = ((refl, h.0), h.1)
   by false e h = begun_lacks b (lines_of text).lines (lines_of text).tail e h.0 h.1
 
--- ---- the first line of what is left
+-- ---- the first line of the rest
 
 line_first : (line after : List ℕ) → lacks 10 line ≡ true → first_line (line ++ 10 ∷ after) ≡ Some (line, after)
 line_first [] after h = refl

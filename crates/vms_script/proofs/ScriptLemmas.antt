@@ -95,7 +95,7 @@ reads_lines reading lines e = subst (λ (r : Reading). SaysLines r lines) (sym e
 pub reads_bad : (reading : Reading) (number : ℕ) (reason : ScriptReason) → reading ≡ bad number reason → IsBadAt reading number reason
 reads_bad reading number reason e = subst (λ (r : Reading). IsBadAt r number reason) (sym e) (refl, refl)
 
--- what a line says stands behind what was said before
+-- what a line says is after what was said before
 pub line_put : (before : List ScriptLine) (play : Option ℕ) (number : ℕ) (text line after : List ℕ) (all : List ScriptLine) → first_line text ≡ Some (line, after) → IsPut (line_read play line) before all
     → after_lines all (text_read play (number + 1) after) ≡ after_lines before (text_read play number text)
 line_put before play number text line after all first put = by (line_read play line) refl put where
@@ -105,7 +105,7 @@ line_put before play number text line after all first put = by (line_read play l
       ∙ line_goes before play number text line after said first good
   by (Err reason) bad h = absurd h
 
--- a last line that says something lacks its end alone
+-- a last line that says something lacks only its end
 pub put_unended : (before all : List ScriptLine) (read : Read) → IsPut read before all → tail_reason read ≡ reasons.NoEnd
 put_unended before all (Ok line) h = refl
 put_unended before all (Err reason) h = absurd h

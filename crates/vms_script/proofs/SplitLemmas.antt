@@ -9,7 +9,7 @@ use Rattle.vms_script.specs.Lines.{Happens, line_read, line_split}
 use Rattle.vms_script.specs.Words.{first_word, longer_word}
 use Rattle.vms_script.specs.declared.line.ScriptReason.TheVariants as reasons
 
--- a byte stands at a place, and not before it
+-- a byte is at an offset, and not before it
 abbrev pub NotBefore : ℕ → List ℕ → ℕ → Type 0
 NotBefore byte xs i = (k : ℕ) → k < i → get_or xs k 0 ≡ byte → ⊥
 
@@ -26,7 +26,7 @@ one_word (b ∷ xs) none =
     ap (λ (t : Bool). if t then ([], Some xs) else longer_word b (first_word xs)) (ne_eqb b 32 (none 0 (omega arith)))
     ∙ ap (longer_word b) (one_word xs (λ k h. none (suc k) (omega arith)))
 
--- the first blank ends the first word
+-- the first space ends the first word
 pub found_word : (xs : List ℕ) (i : ℕ) → i < length xs → get_or xs i 0 ≡ 32 → NotBefore 32 xs i → first_word xs ≡ (take i xs, Some (drop (i + 1) xs))
 found_word xs i lt is before =
     let s : suc i ≡ i + 1 = omega arith in
@@ -46,7 +46,7 @@ none_here byte xs i other before k h is = ⊎_elim (λ lt. before k lt is) here 
       let same : i ≡ k = omega (arith, h, from) in
       other (ap (λ (n : ℕ). get_or xs n 0) same ∙ is)
 
--- a line without a blank is its own first word
+-- a line without a space is its own first word
 by_blank : (t : Bool) (b : ℕ) (xs : List ℕ) → ((first_word xs).1 ≡ None → (first_word xs).0 ≡ xs)
     → (if t then ([], Some xs) else longer_word b (first_word xs)).1 ≡ None → (if t then ([], Some xs) else longer_word b (first_word xs)).0 ≡ b ∷ xs
 by_blank true b xs whole none = absurd (none-some xs (sym none))
@@ -59,7 +59,7 @@ whole_word (b ∷ xs) none = by_blank (b == 32) b xs (λ e. whole_word xs e) non
 lone_word : (xs : List ℕ) → (first_word xs).1 ≡ None → first_word xs ≡ (xs, None)
 lone_word xs none = ap (λ (word : List ℕ). (word, (first_word xs).1)) (whole_word xs none) ∙ ap (λ (rest : Option (List ℕ)). (xs, rest)) none
 
--- a line with a blank isn't empty
+-- a line with a space isn't empty
 pub words_long : (xs rest : List ℕ) → (first_word xs).1 ≡ Some rest → 0 < length xs
 words_long [] rest some = absurd (none-some rest some)
 words_long (b ∷ xs) rest some = omega arith

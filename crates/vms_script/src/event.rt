@@ -12,7 +12,8 @@ use crate::number::{LONGEST_WAIT, number_of};
 use crate::split::split_word;
 use dev_board::{Event, is_wire};
 
-/// The event of a line by its first word and what stands behind it, or `None` where the word is no event's.
+/// Returns the event of a line with the first word `word` and the rest `rest`, or `None` if no
+/// event begins with `word`.
 #[inline(always)]
 pub(crate) fn read_event(word: &[u8], rest: &[u8]) -> Option<Result<Event, ScriptReason>>
     ensures { (play : Option ℕ) → line_of_words play word.now rest.now
@@ -28,7 +29,7 @@ pub(crate) fn read_event(word: &[u8], rest: &[u8]) -> Option<Result<Event, Scrip
     }
 }
 
-// `in PPPP`, by what stands behind the first word.
+// Parses the rest of `in PPPP`.
 fn read_in(port: &[u8]) -> Result<Event, ScriptReason>
     ensures { event_view result ≡ in_line port.now }
 {
@@ -36,7 +37,7 @@ fn read_in(port: &[u8]) -> Result<Event, ScriptReason>
     Ok(Event::Read { port })
 }
 
-// `out PPPP VV`.
+// Parses the rest of `out PPPP VV`.
 fn read_out(words: &[u8]) -> Result<Event, ScriptReason>
     ensures { event_view result ≡ out_line (first_word words.now) }
 {
@@ -47,7 +48,7 @@ fn read_out(words: &[u8]) -> Result<Event, ScriptReason>
     Ok(Event::Write { port, value })
 }
 
-// `byte VV`.
+// Parses the rest of `byte VV`.
 fn read_byte(value: &[u8]) -> Result<Event, ScriptReason>
     ensures { event_view result ≡ byte_line value.now }
 {
@@ -55,7 +56,7 @@ fn read_byte(value: &[u8]) -> Result<Event, ScriptReason>
     Ok(Event::Byte { value })
 }
 
-// `wait N`, with N at most `LONGEST_WAIT`.
+// Parses the rest of `wait N`, with N at most `LONGEST_WAIT`.
 fn read_wait(number: &[u8]) -> Result<Event, ScriptReason>
     ensures { event_view result ≡ wait_line number.now }
 {
@@ -71,7 +72,7 @@ fn read_wait(number: &[u8]) -> Result<Event, ScriptReason>
     }
 }
 
-// `wire N 0` or `wire N 1`, with N one of 1, 3, 5, 6, 7 and 8 to 15.
+// Parses the rest of `wire N 0` or `wire N 1`, with N one of 1, 3, 5, 6, 7 and 8 to 15.
 fn read_wire(words: &[u8]) -> Result<Event, ScriptReason>
     ensures { event_view result ≡ wire_line (first_word words.now) }
 {
@@ -95,7 +96,7 @@ fn read_wire(words: &[u8]) -> Result<Event, ScriptReason>
     }
 }
 
-// The level of a wire.
+// Returns the level of a wire.
 fn level_of(text: &[u8]) -> Option<bool>
     ensures { result ≡ level_spelled text.now }
 {
@@ -106,7 +107,7 @@ fn level_of(text: &[u8]) -> Option<bool>
     }
 }
 
-// Tells whether a number is that of a wire.
+// Checks whether a number is that of a wire.
 fn names_wire(number: u64) -> bool
     ensures named { result ≡ is_wire_of number }
     ensures small { OnTrue result (number < 16) }

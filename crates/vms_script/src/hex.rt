@@ -1,9 +1,9 @@
-// Hexadecimal digits, lower-case.
+// Lower-case hexadecimal digits.
 ghost use Rattle.std.specs.Prelude.{◌≡◌, ◌<◌, IfSome};
 ghost use Rattle.std.specs.Char.{digit_char};
 ghost use Rattle.vms_script.specs.Words.{joined, digit_spelled, byte_spelled, port_spelled, byte_text};
 
-/// The byte of two digits, or `None` exactly where the text is not two digits.
+/// Returns the byte with the two digits `text`, or `None` if `text` isn't two digits.
 pub(crate) fn byte_of(text: &[u8]) -> Option<u8>
     ensures { result ≡ byte_spelled text.now }
 {
@@ -13,7 +13,7 @@ pub(crate) fn byte_of(text: &[u8]) -> Option<u8>
     }
 }
 
-/// The port of four digits, or `None` exactly where the text is not four digits.
+/// Returns the port with the four digits `text`, or `None` if `text` isn't four digits.
 pub(crate) fn port_of(text: &[u8]) -> Option<u16>
     ensures { result ≡ port_spelled text.now }
 {
@@ -27,14 +27,14 @@ pub(crate) fn port_of(text: &[u8]) -> Option<u16>
     }
 }
 
-// The byte of two digits, or `None` exactly where they are none.
+// Returns the byte with these two digits, or `None` if one isn't a digit.
 fn byte_by(high: u8, low: u8) -> Option<u8>
     ensures { result ≡ joined 16 (digit_spelled high) (digit_spelled low) }
 {
     Some(digit_of(high)? * 16 + digit_of(low)?)
 }
 
-// The value of a digit.
+// Returns the value of a digit.
 fn digit_of(digit: u8) -> Option<u8>
     ensures value { result ≡ digit_spelled digit }
     ensures small { IfSome result (λ value. value < 16) }
@@ -46,14 +46,14 @@ fn digit_of(digit: u8) -> Option<u8>
     }
 }
 
-/// The two digits of a byte.
+/// Returns the two digits of `value`.
 pub(crate) fn digits_of(value: u8) -> [u8; 2]
     ensures { result ≡ byte_text value }
 {
     [digit(value / 16), digit(value % 16)]
 }
 
-// The digit of a value.
+// Returns the digit of a value.
 fn digit(value: u8) -> u8
     requires { value < 16 }
     ensures { result ≡ digit_char value }

@@ -1,4 +1,4 @@
-// What is kept of the lines of a script.
+// What the reader keeps of the lines of a script.
 ghost use Rattle.std.specs.Prelude.{◌≡◌, ℕ, Option, None};
 ghost use Rattle.vms_script.specs.Lines.{Happens, ScriptLine, play_line};
 ghost use Rattle.vms_script.specs.Views.{IsKept};
@@ -11,31 +11,38 @@ use std::alloc::Global;
 /// Why nothing is kept of a line.
 #[derive(Clone, Copy)]
 pub(crate) enum Unkept {
-    /// It is refused for this reason.
+    /// The line is refused for this reason.
     Refused(ScriptReason),
-    /// Memory is wanting.
+    /// Out of memory.
     NoMemory,
 }
 
-/// What is kept of a line.
+/// What the reader keeps of a line.
 pub(crate) trait Kept: Drop {
-    /// The line that it is.
+    /// The line that the value means.
     ghost said: { Self → ScriptLine };
 
-    /// The scripts of which every line is kept, by the level of their session's board, if they have one.
+    /// The scripts of which every line can be kept, by the level of their session's board, if they
+    /// have one.
     ghost keeps: { Option ℕ → Type 0 };
 
-    /// What is kept of an event.
+    /// Returns what is kept of `event`.
     fn of_event(event: Event) -> Self
         ensures { said result ≡ Happens event };
 
-    /// What is kept of a line that only a session has, by its first word and what stands behind it.
+    /// Returns what is kept of a line that only a session has, with the first word `word` and the
+    /// rest `rest`.
+    ///
+    /// # Errors
+    ///
+    /// - [`Unkept::Refused`]: the line is refused.
+    /// - [`Unkept::NoMemory`]: out of memory.
     fn of_session(alloc: Global, play: Option<u8>, word: &[u8], rest: &[u8]) -> Result<Self, Unkept>
         requires { keeps play }
         ensures { IsKept said (play_line play word.now rest.now) result };
 }
 
-/// Every line is kept.
+/// Keeps every line.
 impl Kept for Line {
     ghost use Rattle.vms_script.specs.Views.{line_view};
 
@@ -66,7 +73,7 @@ impl Kept for Line {
     }
 }
 
-/// Events alone are kept, of scripts that have no session.
+/// Keeps events only, of scripts without a session.
 impl Kept for Event {
     ghost said = { Happens };
 

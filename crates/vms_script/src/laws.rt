@@ -1,17 +1,20 @@
-// Laws of scripts, each in a clause of a function that does nothing.
+// Laws of scripts. Each is the contract of a function with an empty body.
 ghost use Rattle.vms_script.specs.Grammar.{ReadsExactly};
 ghost use Rattle.vms_script.specs.Refusal.{RefusesFirst};
 
-/// Exactly the texts of lines that may stand in a script, each spelled in its one way and ended by a line
-/// feed, are read, and as these lines.
+/// States that exactly the texts of valid lines are read, and as these lines.
+///
+/// Each line is spelled in its one way and ends with a line feed.
 #[tactic(auto, using(crate::proofs::GrammarOnly::reads_exactly))]
 pub fn grammar_law()
     ensures { ReadsExactly }
 {}
 
-/// A text that is refused begins with good lines, and behind them stands the line that is refused, counted
-/// from 1: one that says nothing, for that reason, or one without its line feed, for what else is wrong with
-/// it or for that alone.
+/// States that a refused text begins with good lines, which are followed by the line that is
+/// refused, counted from 1.
+///
+/// Either that line is invalid for the returned reason, or it has no line feed. In the second case
+/// the reason is what else is wrong with it, if anything, and else the missing line feed.
 #[tactic(auto, using(crate::proofs::RefusalLaws::refuses_first))]
 pub fn refusal_law()
     ensures { RefusesFirst }

@@ -1,4 +1,4 @@
-//! Scripts, which say line by line what happens to a board, and the trace that its answers leave.
+//! Scripts, which say line by line what happens to a board, and the trace of the board's answers.
 #![tactic(auto)]
 
 mod event;

@@ -1,4 +1,4 @@
-// What a script is read as, and what can go wrong.
+// The lines of a script, and what can be wrong with one.
 use arrayvec::ArrayString;
 use dev_board::Event;
 
@@ -7,35 +7,38 @@ use dev_board::Event;
 pub enum Line {
     /// Something happens to the board.
     Event(Event),
-    /// Something that only a session does. Few lines are such, and their names are long: they stand apart.
+    /// A line that only a session has. Such lines are rare and their names are long, so they are
+    /// boxed.
     Session(Box<SessionLine>),
 }
 
 /// A line that only a session has.
 #[derive(Drop)]
 pub enum SessionLine {
-    /// The board's stream is stored under a shipped set, at or above the board's level, and a name.
+    /// Stores the board's stream as `name`, under the shipped set `set`, which is at or above the
+    /// board's level.
     Save { set: u8, name: ArrayString<64> },
-    /// A stream of this name is loaded.
+    /// Loads the stream `name`.
     Restore { name: ArrayString<64> },
 }
 
-/// Why a line of a script is refused. Of several reasons at one line the first is answered.
+/// Why a line of a script is refused. If a line has several reasons, the first of these is
+/// returned.
 #[derive(Clone, Copy, Debug, PartialEq, Eq)]
 pub enum ScriptReason {
-    /// The line has no such shape.
+    /// The line doesn't have the form of any line.
     Form,
-    /// Its number or its set is outside the stated ones.
+    /// A number or a set is out of range.
     Range,
-    /// It is the last and has no line feed.
+    /// The last line has no line feed.
     NoEnd,
 }
 
-/// Why a text gives no script.
+/// Why a text isn't read as a script.
 #[derive(Clone, Copy, Debug, PartialEq, Eq)]
 pub enum ScriptFault {
-    /// The first bad line, counted from 1.
+    /// The first bad line, counted from 1, and its reason.
     Bad { line: u32, reason: ScriptReason },
-    /// Memory is wanting.
+    /// Out of memory.
     NoMemory,
 }

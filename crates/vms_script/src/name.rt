@@ -7,8 +7,8 @@ ghost use Rattle.vms_script.specs.Views.{name_view};
 use arrayvec::ArrayString;
 use vms_words::is_name;
 
-/// Tells whether these bytes are a name of the shelf: 1 to 64 ASCII letters, digits, `_`, `-` and `.`, the
-/// first no dot.
+/// Checks whether `name` is a name for the shelf: 1 to 64 ASCII letters, digits, `_`, `-` and `.`,
+/// of which the first isn't a dot.
 pub fn is_shelf_name(name: &[u8]) -> bool
     ensures { result ≡ is_shelf_name name.now }
 {
@@ -24,7 +24,7 @@ fn begins_with_dot(bytes: &[u8]) -> bool
     }
 }
 
-/// The name of the shelf that these bytes are, or `None` exactly where they are none.
+/// Returns the name for the shelf that `text` is, or `None` if it isn't one.
 pub(crate) fn name_of(text: &[u8]) -> Option<ArrayString<64>>
     ensures { name_view result ≡ name_spelled text.now }
 {

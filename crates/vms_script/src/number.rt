@@ -1,4 +1,4 @@
-// Numbers of lines.
+// Numbers in lines.
 ghost use Rattle.std.specs.List.{list_all};
 ghost use Rattle.std.specs.Prelude.{◌≡◌, ◌+◌, ◌-◌, ◌*◌, ◌&&◌, ◌||◌, ◌==◌, nat_le, not, length, get_or};
 ghost use Rattle.vms_spec.specs.Spelling.{number_spelled, is_digit, are_digits, natural_from};
@@ -6,11 +6,15 @@ ghost use Rattle.vms_script.specs.Views.{number_read, below_2_64};
 
 use crate::line::ScriptReason;
 
-/// The longest time that one line lets pass, in nanoseconds.
+/// The longest time that one `wait` line lets pass, in nanoseconds.
 pub const LONGEST_WAIT: u64 = 1_000_000_000_000_000;
 
-/// The number that a text spells, in decimal without leading zeros: `Form` exactly where it spells none, and
-/// `Range` where it is negative or 2^64 or more.
+/// Returns the number that `text` spells, in decimal without leading zeros.
+///
+/// # Errors
+///
+/// - [`ScriptReason::Form`]: `text` isn't a number.
+/// - [`ScriptReason::Range`]: the number is negative, or 2^64 or more.
 #[inline(always)]
 pub fn number_of(text: &[u8]) -> Result<u64, ScriptReason>
     ensures { result ≡ number_read (number_spelled text.now) }
@@ -35,7 +39,7 @@ pub fn number_of(text: &[u8]) -> Result<u64, ScriptReason>
     }
 }
 
-// Tells whether there is a digit, nothing but digits, and no zero before others.
+// Checks whether there is a digit, nothing but digits, and no leading zero.
 fn are_digits(text: &[u8]) -> bool
     ensures { result ≡ are_digits text.now }
 {
@@ -60,7 +64,7 @@ fn is_unpadded(text: &[u8]) -> bool
     text.len() == 1 || text.len() >= 2 && text[0] != b'0'
 }
 
-// The number of these digits, or `None` exactly where it is 2^64 or more.
+// Returns the number with these digits, or `None` if it is 2^64 or more.
 fn natural_of(digits: &[u8]) -> Option<u64>
     ensures { result ≡ below_2_64 (natural_from 0 digits.now) }
 {
@@ -71,7 +75,7 @@ fn natural_of(digits: &[u8]) -> Option<u64>
     Some(value)
 }
 
-// A number with one more digit, or `None` exactly where it is 2^64 or more.
+// Returns a number with one more digit, or `None` if it is 2^64 or more.
 fn next_value(value: u64, digit: u8) -> Option<u64>
     ensures { result ≡ below_2_64 (value * 10 + (digit - 48)) }
 {

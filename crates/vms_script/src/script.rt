@@ -1,4 +1,4 @@
-// Reads scripts.
+// The reader of scripts.
 ghost use Rattle.std.specs.Prelude.{◌≡◌, ◌<◌, ◌++◌, ◌∷◌, [], None, false, codes, length, map, IfErr, OnOk};
 ghost use Rattle.std.specs.Str.{bytes_eq};
 ghost use Rattle.vms_script.specs.Lines.{line_of_words, line_read};
@@ -13,9 +13,18 @@ use dev_board::Event;
 use std::alloc::Global;
 use vms_words::next_line;
 
-/// Reads a script: its lines, or the first bad one, counted from 1, with the lowest reason. Where `play` is
-/// the level of a board, `save` and `restore` are lines as well. The text has fewer than 2^32 bytes, and is
-/// read once.
+/// Reads the script `text` once and returns its lines.
+///
+/// If `play` is the level of a board, `save` and `restore` are lines as well.
+///
+/// # Requires
+///
+/// `text` has fewer than 2^32 bytes.
+///
+/// # Errors
+///
+/// - [`ScriptFault::Bad`]: the first bad line, counted from 1, with its first reason.
+/// - [`ScriptFault::NoMemory`]: out of memory.
 pub fn read_script(alloc: Global, text: &[u8], play: Option<u8>) -> Result<Vec<Line>, ScriptFault>
     requires { length text.now < 4294967296 }
     ensures { ReadsAs (λ lines. lines.items) (script_read play text.now) result }
@@ -23,8 +32,16 @@ pub fn read_script(alloc: Global, text: &[u8], play: Option<u8>) -> Result<Vec<L
     read_lines(alloc, text, play)
 }
 
-/// Reads a script of events alone, where `save` and `restore` are no lines: its events, one for each line, or
-/// the first bad line as `read_script` does. The text has fewer than 2^32 bytes, and is read once.
+/// Reads the script `text` once, in which `save` and `restore` aren't lines, and returns its
+/// events, one for each line.
+///
+/// # Requires
+///
+/// `text` has fewer than 2^32 bytes.
+///
+/// # Errors
+///
+/// The errors of [`read_script`].
 pub fn read_events(alloc: Global, text: &[u8]) -> Result<Vec<Event>, ScriptFault>
     requires { length text.now < 4294967296 }
     ensures { ReadsLines (λ events. event_lines events.items) (script_read None text.now) result }
@@ -32,7 +49,7 @@ pub fn read_events(alloc: Global, text: &[u8]) -> Result<Vec<Event>, ScriptFault
     read_lines(alloc, text, None)
 }
 
-// Reads a script, and keeps something of each line.
+// Reads a script and keeps something of each line.
 fn read_lines<L: Kept>(alloc: Global, text: &[u8], play: Option<u8>) -> Result<Vec<L>, ScriptFault>
     requires small { length text.now < 4294967296 }
     requires keeps { L.keeps play }
@@ -58,7 +75,7 @@ fn read_lines<L: Kept>(alloc: Global, text: &[u8], play: Option<u8>) -> Result<V
     }
 }
 
-// Appends what a line without its line feed says, or tells that it says nothing.
+// Appends what is kept of a line without its line feed, or returns why the line is bad.
 #[inline(always)]
 fn put_line<L: Kept>(
     alloc: Global,
@@ -85,7 +102,7 @@ fn put_line<L: Kept>(
     }
 }
 
-// Whether a line is the one of a single word.
+// Checks whether a line is `ack`, the only one of a single word.
 fn is_ack(text: &[u8]) -> bool
     ensures { result ≡ bytes_eq text.now (codes "ack") }
 {
@@ -95,7 +112,7 @@ fn is_ack(text: &[u8]) -> bool
     }
 }
 
-// Appends what a line says that isn't `ack`.
+// Appends what is kept of a line that isn't `ack`.
 #[inline(always)]
 fn put_other<L: Kept>(
     alloc: Global,
@@ -117,7 +134,7 @@ fn put_other<L: Kept>(
     }
 }
 
-// Appends what a line says by its first word and what stands behind it.
+// Appends what is kept of a line with a first word and a rest.
 fn put_words<L: Kept>(
     alloc: Global,
     lines: &mut Vec<L>,
@@ -140,7 +157,7 @@ fn put_words<L: Kept>(
     }
 }
 
-// Appends a line, or tells that memory is wanting.
+// Appends a line. It fails only if memory runs out.
 fn push_line<L: Kept>(lines: &mut Vec<L>, line: L) -> Result<(), Unkept>
     ensures put { let all = map L.said lines.old.items ++ L.said line ∷ [] in
         OnOk result (map L.said lines.new.items ≡ all) }
@@ -152,7 +169,7 @@ fn push_line<L: Kept>(lines: &mut Vec<L>, line: L) -> Result<(), Unkept>
     }
 }
 
-// The fault at a line.
+// Returns the fault at a line.
 fn bad(line: u32, reason: ScriptReason) -> ScriptFault
     ensures { result ≡ ScriptFault.Bad line reason }
 {

@@ -10,7 +10,12 @@ use crate::number::number_of;
 use crate::split::split_word;
 use dev_base::NEWEST;
 
-/// A line of a session on a board of this level, by its first word and what stands behind it.
+/// Parses a line of a session on a board of level `level`, with the first word `word` and the rest
+/// `rest`.
+///
+/// # Errors
+///
+/// The [`ScriptReason`] for which the line is refused.
 pub(crate) fn read_session(level: u8, word: &[u8], rest: &[u8]) -> Result<SessionLine, ScriptReason>
     ensures { read_view result ≡ session_line level word.now rest.now }
 {
@@ -23,7 +28,7 @@ pub(crate) fn read_session(level: u8, word: &[u8], rest: &[u8]) -> Result<Sessio
     }
 }
 
-// `save @N NAME`, with N a shipped set at or above the level.
+// Parses the rest of `save @N NAME`, with N a shipped set at or above the level.
 fn read_save(level: u8, words: &[u8]) -> Result<SessionLine, ScriptReason>
     ensures { read_view result ≡ save_line level (first_word words.now) }
 {
@@ -50,7 +55,7 @@ fn read_save(level: u8, words: &[u8]) -> Result<SessionLine, ScriptReason>
     }
 }
 
-// `restore NAME`.
+// Parses the rest of `restore NAME`.
 fn read_restore(name: &[u8]) -> Result<SessionLine, ScriptReason>
     ensures { read_view result ≡ restore_line name.now }
 {
@@ -60,8 +65,10 @@ fn read_restore(name: &[u8]) -> Result<SessionLine, ScriptReason>
     }
 }
 
-/// Tells whether a set, by its number, is at or above a board of this number, and one of the sets up to the newest. A board is
-/// saved under these.
+/// Checks whether the set with number `set` is at or above the board with number `board` and at
+/// most `newest`.
+///
+/// A board can be saved under these sets.
 pub fn is_set_of(newest: u8, board: u8, set: u64) -> bool
     ensures { result ≡ is_set_of newest board set }
 {

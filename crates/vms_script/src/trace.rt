@@ -1,4 +1,4 @@
-// The trace that answers leave.
+// The trace of a board's answers.
 ghost use Rattle.std.specs.Prelude.{◌≡◌, ◌+◌, ◌*◌, ◌++◌, ◌≤◌, [], length};
 ghost use Rattle.vms_io.specs.Told.{outlet};
 ghost use Rattle.vms_io.specs.Writing.{Wrote};
@@ -10,13 +10,18 @@ use dev_board::Answer;
 use vms_io::{Sink, WriteFault, write_all_of};
 use vms_words::append;
 
-// The line of an answer has at most so many bytes: value and output with their blanks, 17 sent bytes of two digits each
-// behind a blank, and a line feed.
+// The most bytes of an answer's line: value and output with their spaces, 17 sent bytes of two digits each after a
+// space, and a line feed.
 const LONGEST_LINE: usize = 40;
 
-/// Appends the line of an answer: the value as two hexadecimal digits or `--`, a blank, `1` or `0` for the
-/// interrupt output, where bytes were sent a blank and their digits, and a line feed. After an error a prefix
-/// of it was appended.
+/// Writes the line of `answer` to `sink`.
+///
+/// The line has the value as two hexadecimal digits or `--`, a space, and `1` or `0` for the
+/// interrupt output. If bytes were sent, a space and their digits follow. It ends with a line feed.
+///
+/// # Errors
+///
+/// [`WriteFault`] if `sink` fails. A prefix of the line has been written then.
 #[inline(always)]
 pub fn print_answer<K: Sink>(answer: &Answer, sink: &mut K) -> Result<(), WriteFault>
     ensures { let line = trace_line answer.now in
@@ -33,7 +38,7 @@ pub fn print_answer<K: Sink>(answer: &Answer, sink: &mut K) -> Result<(), WriteF
     }
 }
 
-// The line of an answer without sent bytes.
+// Returns the line of an answer without sent bytes.
 #[tactic(auto, unfolding(crate::specs::Trace::trace_line))]
 fn short_line(answer: &Answer) -> [u8; 5]
     requires { answer.now.sent.items ≡ [] }
@@ -44,7 +49,7 @@ fn short_line(answer: &Answer) -> [u8; 5]
     [high, low, b' ', int, b'\n']
 }
 
-// The line of an answer.
+// Returns the line of an answer.
 #[inline(never)]
 #[tactic(auto, unfolding(crate::specs::Trace::trace_line))]
 fn long_line(answer: &Answer) -> ArrayVec<u8, LONGEST_LINE>
@@ -58,7 +63,7 @@ fn long_line(answer: &Answer) -> ArrayVec<u8, LONGEST_LINE>
     line
 }
 
-// The two digits of a value, or two dashes.
+// Returns the two digits of a value, or two dashes.
 fn value_digits(value: Option<u8>) -> [u8; 2]
     ensures { result ≡ value_text value }
 {
@@ -68,7 +73,7 @@ fn value_digits(value: Option<u8>) -> [u8; 2]
     }
 }
 
-// Where bytes were sent, appends a blank and their digits.
+// Appends a space and the digits of the sent bytes, if there are any.
 fn append_sent(line: &mut ArrayVec<u8, LONGEST_LINE>, sent: &[u8])
     requires { length line.old.items + 2 * length sent.now + 1 ≤ LONGEST_LINE }
     ensures items { line.new.items ≡ line.old.items ++ sent_text sent.now }

@@ -1,5 +1,5 @@
--- How long the entries of fields are, and how many: of a path that begins with so many bytes, by the depth of structures and the
--- number of items.
+-- The length and the number of the entries of fields, for a path that begins with a number of bytes. They depend on
+-- the depth of structures and the number of items.
 use Rattle.std.proofs.Common.{◌≡◌, ℕ, zero, suc, ◌+◌, ◌*◌, ◌<◌, ◌≤◌, List, ◌∷◌, ◌++◌, length, length-append, get_or, ℤ, Bool, true, false, ◌&&◌, refl, sym, ap, arith, subst, nat_lt, codes, []}
 use Rattle.std.proofs.lemmas.Bool.{ltb-true, ltb-false}
 use Rattle.std.proofs.Math.ListN.{get_or-eq_default}
@@ -242,7 +242,7 @@ module _ (ds : List Desc) (most : ℕ) (sound : (j : ℕ) → j < most → AreSo
   abbrev made : ℕ → Type 0
   made j = Fits (shape (first shape ds j) (get_or ds j no_desc)) (items_of_desc (first items_of_desc ds j) (get_or ds j no_desc)) (depth_of_desc (first depth_of_desc ds j) (get_or ds j no_desc))
 
-  -- what stands in the first k, where each of them fits
+  -- what is in the first k, where each of them fits
   at_number : (k : ℕ) → ((j : ℕ) → j < k → made j) → FitTables (first shape ds k) (first items_of_desc ds k) (first depth_of_desc ds k)
   at_number k each j = by_place (nat_lt j k) refl
     where

@@ -1,4 +1,4 @@
--- Which bytes stand in the text of a JSON value without blanks: those of its strings, escaped, and others from 34 to 125.
+-- The bytes in the text of a JSON value without spaces: those of its strings, escaped, and others from 34 to 125.
 use Rattle.std.proofs.Common.{◌≡◌, ℕ, zero, suc, ◌<◌, ◌≤◌, ◌%◌, ◌/◌, ◌+◌, Bool, true, false, cond, ◌&&◌, ◌||◌, ◌==◌, nat_lt, nat_le, if◌then◌else◌, List, [], ◌∷◌, ◌++◌, map, Option, Some, None, ℤ, pos, negsuc, refl, arith, codes}
 use Rattle.std.specs.List.{AllByRecursion, list_all}
 use Rattle.std.proofs.lemmas.Bool.{and_parts, eqb-true, leb-true, ltb-true, ltb-false, lt-ltb}
@@ -30,7 +30,7 @@ abbrev mutual
   MembersHave L no_members = Unit {0}
   MembersHave L (member k d ms) = AllByRecursion L k × HasLetters L d × MembersHave L ms
 
--- what may stand in strings, keys among it, and what then may stand in the text
+-- the bytes that strings and keys may have, and those that the text may have then
 pub record Allows (Letter Good : ℕ → Type 0) : Type 0 where
   pub key : (b : ℕ) → 48 ≤ b → b ≤ 122 → Letter b
   pub own : (b : ℕ) → 34 ≤ b → b ≤ 125 → Good b

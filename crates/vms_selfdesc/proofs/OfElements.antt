@@ -29,7 +29,7 @@ of_dotted sent path (x ∷ xs) =
     ap (λ p. entry_of x.what x.counted (sent && x.present) p ++ entries_of sent path (map dotted xs)) (sym (append_assoc path (46 ∷ []) x.name))
     ∙ ap (λ l. entry_of x.what x.counted (sent && x.present) ((path ++ 46 ∷ []) ++ x.name) ++ l) (of_dotted sent path xs)
 
--- behind a step that is counted
+-- after a step that is counted
 of_step : (sent there p : Bool) (path text : List ℕ) (step : ℕ × ℕ) (xs : List Element) → p ≡ there → entries_of sent path (map (behind step text true p) xs) ≡ entries_of (sent && there) (path ++ text) xs
 of_step sent there p path text step [] e = refl
 of_step sent there p path text step (x ∷ xs) e =
@@ -38,7 +38,7 @@ of_step sent there p path text step (x ∷ xs) e =
     ∙ ap (λ q. entry_of x.what x.counted (sent && there && x.present) q ++ entries_of sent path (map (behind step text true p) xs)) (sym (append_assoc path text x.name))
     ∙ ap (λ l. entry_of x.what x.counted (sent && there && x.present) ((path ++ text) ++ x.name) ++ l) (of_step sent there p path text step xs e)
 
--- behind one past the count
+-- after one beyond the count
 none_of : (what : What) (path : List ℕ) → entry_of what false false path ≡ []
 none_of (Number cell) path = refl
 none_of _ path = refl

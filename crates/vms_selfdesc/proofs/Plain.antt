@@ -84,7 +84,7 @@ pub word_plain : (kind : Kind) → list_all is_name_byte (kind_word kind) ≡ tr
 word_plain U8 = refl
 word_plain _ = refl
 
--- a text of at most so many bytes that is written as it is
+-- a text of at most a number of bytes that is written as it is
 pub record IsShort (most : ℕ) (name : List ℕ) : Type 0 where
   pub plain : IsPlain name
   pub short : length name ≤ most

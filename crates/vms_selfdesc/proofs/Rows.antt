@@ -53,7 +53,7 @@ counts_elements : text_of counted_set (one (pos 1 ∷ pos 258 ∷ pos 0 ∷ []))
 unfolding text_of first digits escape_byte code
 counts_elements = refl
 
--- a constant and unused bytes stand in the stream
+-- a constant and unused bytes are in the stream
 lists_what_has_no_cell : text_of constant_set (one (pos 1 ∷ []))
     ≡ box_text (codes "{\"name\":\"flag\",\"size\":1,\"type\":\"bool\"},{\"name\":\"id\",\"size\":1,\"type\":\"equal\"},{\"name\":\"gap\",\"size\":2,\"type\":\"unused\"}")
 unfolding text_of first digits escape_byte code

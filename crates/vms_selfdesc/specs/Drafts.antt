@@ -1,4 +1,4 @@
--- What the calls that write a description add to its text.
+-- What the calls that write a description append to its text.
 use Rattle.std.specs.Prelude.{◌≡◌, ℕ, Bool, true, List, [], ◌∷◌, ◌++◌, Some, String, string_bytes, codes, decimal}
 use Rattle.std.specs.declared.alloc.Global.{Global}
 use Rattle.json.specs.Print.{escape_byte, quoted}
@@ -12,93 +12,94 @@ use Rattle.vms_words.specs.Words.{kind_word}
 use Rattle.vms_selfdesc.specs.Tree.{natural}
 use Rattle.vms_selfdesc.specs.declared.draft.Draft.{Draft}
 
--- JSON escapes no byte of the text
+-- The text has no byte that JSON escapes.
 abbrev pub IsPlain : List ℕ → Type 0
 IsPlain [] = Unit {0}
 IsPlain (x ∷ xs) = (escape_byte x ≡ x ∷ []) × IsPlain xs
 
--- the tree is read back from its text: each number's text is a number, and members come in order
+-- The tree is read back from its text: the text of each number is a number, and members are in order.
 pub record IsSound (d : Data) : Type 0 where
   pub read : of_json (outline d) ≡ Some d
   pub numbers : HasNumbers (outline d)
 
+-- All trees are read back.
 abbrev pub AreSound : List Data → Type 0
 AreSound [] = Unit {0}
 AreSound (d ∷ ds) = IsSound d × AreSound ds
 
 -- ---- texts
 
--- a member after others
+-- A member after others.
 abbrev pub member_text : List ℕ → Data → List ℕ
 member_text k d = 44 ∷ (quoted k ++ 58 ∷ compact_text d)
 
--- of trees in an array, where something stands before the first or not
+-- Trees in an array, with a comma before each that isn't the first.
 abbrev pub texts : Bool → List Data → List ℕ
 texts later [] = []
 texts later (d ∷ ds) = comma_if later ++ (compact_text d ++ texts true ds)
 
--- whether something stands before the next tree
+-- Whether a comma comes before the next tree.
 abbrev pub after : Bool → List Data → Bool
 after later [] = later
 after later (d ∷ ds) = true
 
--- what comes after the path of a cell that stands in the stream
+-- What follows the path of a cell that is in the stream.
 abbrev pub cell_tail : Kind → List ℕ
 cell_tail kind = codes "\",\"size\":" ++ (decimal (width kind) ++ (codes ",\"type\":\"" ++ (kind_word kind ++ codes "\"}")))
 
--- what comes after the path of a cell that doesn't stand there, up to its default
+-- What follows the path of a cell that isn't in the stream, up to its default.
 abbrev pub absent_tail : Kind → List ℕ
 absent_tail kind = codes "\",\"size\":0,\"type\":\"" ++ (kind_word kind ++ codes "\",\"value\":")
 
--- ---- what a call adds
+-- ---- what a call appends
 
--- the text has grown by these bytes
+-- The text has grown by these bytes.
 abbrev pub Extends : String Global → String Global → List ℕ → Type 0
 Extends old new bytes = string_bytes new ≡ string_bytes old ++ bytes
 
--- a tree
+-- A tree has been appended.
 pub record Spells (old new : String Global) (d : Data) : Type 0 where
   pub text : Extends old new (compact_text d)
   pub sound : IsSound d
 
--- a member of an object
+-- A member of an object has been appended.
 pub record Puts (old new : String Global) (k : List ℕ) (d : Data) : Type 0 where
   pub text : Extends old new (member_text k d)
   pub sound : IsSound d
 
--- the members of an entry after its path
+-- The members of an entry after its path have been appended.
 pub record PutsSize (old new : String Global) (size : ℕ) (type : List ℕ) : Type 0 where
   pub text : Extends old new (member_text (codes "size") (natural size) ++ member_text (codes "type") (string type))
   pub sound : IsSound (natural size)
 
--- those of a subsection after its fields
+-- The members of a subsection after its fields have been appended.
 pub record PutsSub (old new : String Global) (name : List ℕ) (sent : Bool) (version : ℕ) : Type 0 where
   pub text : Extends old new (member_text (codes "name") (string name) ++ (member_text (codes "sent") (boolean sent) ++ member_text (codes "version") (natural version)))
   pub sound : IsSound (natural version)
 
--- those of a device between its fields and its subsections
+-- The members of a device between its fields and its subsections have been appended.
 pub record PutsName (old new : String Global) (instance : ℕ) (name : List ℕ) : Type 0 where
   pub text : Extends old new (member_text (codes "instance_id") (natural instance) ++ member_text (codes "name") (string name))
   pub sound : IsSound (natural instance)
 
--- the path and what stands before the next tree are as before
+-- The path is as before, and so is whether a comma comes next.
 pub record Keeps (old new : Draft) : Type 0 where
   pub path : string_bytes new.path ≡ string_bytes old.path
   pub later : new.later ≡ old.later
 
--- the beginning of a tree in an array
+-- The beginning of a tree in an array has been appended.
 pub record Begins (old new : Draft) (front : List ℕ) : Type 0 where
   pub text : Extends old.text new.text (comma_if old.later ++ front)
   pub keeps : Keeps old new
 
--- trees in an array, and the path is as before
+-- Trees in an array have been appended, and the path is as before.
 pub record Adds (old new : Draft) (ds : List Data) : Type 0 where
   pub text : Extends old.text new.text (texts old.later ds)
   pub later : new.later ≡ after old.later ds
   pub sound : AreSound ds
   pub path : string_bytes new.path ≡ string_bytes old.path
 
--- an array, and the path is as before
+-- An array has been appended, and the path is as before.
 pub record Lays (old new : Draft) (d : Data) : Type 0 where
   pub text : Extends old.text new.text (compact_text d)
   pub sound : IsSound d

@@ -1,4 +1,4 @@
--- What the calls of this crate need.
+-- What the calls of this crate require.
 use Rattle.std.specs.Prelude.{◌≡◌, ℕ, ◌+◌, ◌*◌, ◌≤◌, true, ◌&&◌, List, length, ℤ, pos, negsuc, int_le, int_lt}
 use Rattle.vms_spec.specs.declared.TheConstants.{MOST_ITEMS}
 use Rattle.vms_spec.specs.Sets.{Set, Field}
@@ -8,17 +8,17 @@ use Rattle.vms_spec.specs.declared.Part.{Part}
 use Rattle.vms_desc.specs.Asks.{HasCells}
 use Rattle.vms_desc.specs.Parts.{HasPart}
 
--- a number of 64 bits, with or without a sign
+-- A number of 64 bits, with or without a sign.
 abbrev pub IsWide : ℤ → Type 0
 IsWide z = (int_le (negsuc 0x7fff_ffff_ffff_ffff) z && int_lt z (pos 0x1_0000_0000_0000_0000)) ≡ true
 
--- the cells of a part, or of one element of a structure, are among the numbers from a place on
+-- The cells of a part, or of one element of a structure, are among the numbers from a cell on.
 pub record HasPlace (set : Set) (part : Part) (cell : ℕ) (numbers : List ℤ) : Type 0 where
   pub has : HasPart set part
   pub few : length numbers ≤ MOST_ITEMS
   pub room : HasCells set part numbers cell
 
--- and those of n elements of a field are
+-- The cells of n elements of a field are among the numbers from a cell on.
 pub record HasElements (set : Set) (f : Field) (cell n : ℕ) (numbers : List ℤ) : Type 0 where
   pub reaches : uses_below (length set.structs) f.item ≡ true
   pub default : defaults_well f.item f.default ≡ true

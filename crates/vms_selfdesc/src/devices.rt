@@ -17,7 +17,7 @@ use crate::fields::{Lister, Place, list_part};
 use std::alloc::AllocError;
 use vms_desc::{Desc, Device, Part};
 
-// The entries of the fields of a part.
+// Writes the entries of the fields of a part.
 fn write_fields(
     lister: &Lister,
     part: Part,
@@ -36,7 +36,7 @@ fn write_fields(
     draft.text.push_str("]")
 }
 
-// The members of a subsection after its fields.
+// Appends the members of a subsection after its fields.
 fn put_sub_head(text: &mut String, desc: &Desc, sent: bool) -> Result<(), AllocError>
     requires { IsPlain desc.now.name }
     ensures { OnOk result (PutsSub text.old text.new desc.now.name sent desc.now.version) }
@@ -46,7 +46,7 @@ fn put_sub_head(text: &mut String, desc: &Desc, sent: bool) -> Result<(), AllocE
     put_natural(text, "version", desc.version as u64)
 }
 
-// A subsection, whether or not it stands in the stream.
+// Writes a subsection, whether or not it is in the stream.
 fn write_sub(lister: &Lister, device: u32, sub: u32, draft: &mut Draft) -> Result<(), AllocError>
     requires device { IsOfDevice (set_in lister.now) device (state_of lister.now.image.now) }
     requires is_sub { sub < length (device_at (set_in lister.now) device).subs }
@@ -69,7 +69,7 @@ fn write_sub(lister: &Lister, device: u32, sub: u32, draft: &mut Draft) -> Resul
     Ok(())
 }
 
-// The subsections, one after the other.
+// Writes the subsections, one after the other.
 fn write_each(lister: &Lister, device: u32, draft: &mut Draft) -> Result<(), AllocError>
     requires device { IsOfDevice (set_in lister.now) device (state_of lister.now.image.now) }
     requires no_path { string_bytes draft.old.path ≡ [] }
@@ -100,7 +100,7 @@ fn write_subs(lister: &Lister, device: u32, draft: &mut Draft) -> Result<(), All
     draft.text.push_str("]")
 }
 
-// The members of a device between its fields and its subsections.
+// Appends the members of a device between its fields and its subsections.
 fn put_name(text: &mut String, device: &Device) -> Result<(), AllocError>
     requires { IsPlain device.now.desc.name }
     ensures { OnOk result (PutsName text.old text.new device.now.instance device.now.desc.name) }
@@ -110,7 +110,7 @@ fn put_name(text: &mut String, device: &Device) -> Result<(), AllocError>
     Ok(())
 }
 
-// A device with its subsections.
+// Writes a device with its subsections.
 pub(crate) fn write_device(
     lister: &Lister,
     device: u32,

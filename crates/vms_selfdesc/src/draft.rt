@@ -1,4 +1,4 @@
-// What is written of a description, as JSON without blanks.
+// What is written of a description, as JSON without spaces.
 ghost use Rattle.std.specs.Prelude.{◌≡◌, ◌++◌, true, pos, codes, int_lt, OnOk};
 ghost use Rattle.serde_json.specs.Data.{string, boolean, number};
 ghost use Rattle.serde_json.specs.Find.{of_integer};
@@ -10,8 +10,7 @@ ghost use Rattle.vms_selfdesc.specs.Tree.{natural};
 use itoa::Buffer;
 use std::alloc::AllocError;
 
-// The text so far, the path of the element that comes next, and whether one stands before it in its
-// array.
+// The text so far, the path of the next element, and whether the next one isn't the first in its array.
 #[derive(Drop)]
 pub(crate) struct Draft {
     pub(crate) text: String,
@@ -37,6 +36,7 @@ fn put_key(text: &mut String, key: &str) -> Result<(), AllocError>
     text.push_str("\":")
 }
 
+/// Appends a member with a text.
 pub(crate) fn put_text(text: &mut String, key: &str, value: &str) -> Result<(), AllocError>
     requires key { IsPlain key.now }
     requires value { IsPlain value.now }
@@ -54,6 +54,7 @@ fn flag_word(flag: bool) -> &'static str
     if flag { "true" } else { "false" }
 }
 
+/// Appends a member with a truth value.
 pub(crate) fn put_flag(text: &mut String, key: &str, flag: bool) -> Result<(), AllocError>
     requires { IsPlain key.now }
     ensures { OnOk result (Puts text.old text.new key.now (boolean flag)) }
@@ -62,6 +63,7 @@ pub(crate) fn put_flag(text: &mut String, key: &str, flag: bool) -> Result<(), A
     text.push_str(flag_word(flag))
 }
 
+/// Appends a member with a natural number.
 pub(crate) fn put_natural(text: &mut String, key: &str, number: u64) -> Result<(), AllocError>
     requires { IsPlain key.now }
     ensures { OnOk result (Puts text.old text.new key.now (natural number)) }
@@ -77,7 +79,7 @@ fn put_digits(text: &mut String, number: u64) -> Result<(), AllocError>
     text.push_str(digits.format(number))
 }
 
-// A number of 64 bits, with or without a sign.
+// Appends a number of 64 bits, with or without a sign.
 pub(crate) fn put_integer(text: &mut String, value: i128) -> Result<(), AllocError>
     requires { IsWide value }
     ensures { OnOk result (Spells text.old text.new (number (of_integer value))) }

@@ -9,7 +9,7 @@ use crate::draft::{Draft, put_integer, put_natural, put_text};
 use std::alloc::AllocError;
 use vms_kinds::Kind;
 
-// What comes after the path of a cell that stands in the stream.
+// Returns what follows the path of a cell that is in the stream.
 #[tactic(auto, using(crate::proofs::Tails::cell_same))]
 fn cell_tail(kind: Kind) -> &'static str
     ensures { result.now ≡ cell_tail kind }
@@ -28,7 +28,7 @@ fn cell_tail(kind: Kind) -> &'static str
     }
 }
 
-// What comes after the path of a cell that doesn't stand there, up to its default.
+// Returns what follows the path of a cell that isn't in the stream, up to its default.
 #[tactic(auto, using(crate::proofs::Tails::absent_same))]
 fn absent_tail(kind: Kind) -> &'static str
     ensures { result.now ≡ absent_tail kind }
@@ -47,7 +47,7 @@ fn absent_tail(kind: Kind) -> &'static str
     }
 }
 
-// Begins an entry, after another or as the first, up to its path.
+// Begins an entry up to its path, with a comma if it isn't the first.
 #[inline(always)]
 fn begin_entry(draft: &mut Draft) -> Result<(), AllocError>
     ensures { OnOk result (Begins draft.old draft.new (codes "{\"name\":\"")) }
@@ -59,7 +59,7 @@ fn begin_entry(draft: &mut Draft) -> Result<(), AllocError>
     }
 }
 
-// A cell that stands in the stream.
+// Writes a cell that is in the stream.
 #[inline(always)]
 fn write_present(draft: &mut Draft, kind: Kind) -> Result<(), AllocError>
     requires { IsPlain (string_bytes draft.old.path) }
@@ -73,7 +73,7 @@ fn write_present(draft: &mut Draft, kind: Kind) -> Result<(), AllocError>
     Ok(())
 }
 
-// The members of an entry after its path.
+// Appends the members of an entry after its path.
 fn put_size(text: &mut String, size: u64, word: &str) -> Result<(), AllocError>
     requires { IsPlain word.now }
     ensures { OnOk result (PutsSize text.old text.new size word.now) }
@@ -82,7 +82,7 @@ fn put_size(text: &mut String, size: u64, word: &str) -> Result<(), AllocError>
     put_text(text, "type", word)
 }
 
-// What stands in the stream.
+// Writes something that is in the stream.
 pub(crate) fn write_sent(draft: &mut Draft, size: u64, word: &str) -> Result<(), AllocError>
     requires path { IsPlain (string_bytes draft.old.path) }
     requires word { IsPlain word.now }
@@ -98,7 +98,7 @@ pub(crate) fn write_sent(draft: &mut Draft, size: u64, word: &str) -> Result<(),
     Ok(())
 }
 
-// A cell that doesn't stand there, and holds its default.
+// Writes a cell that isn't in the stream, with its default.
 fn write_absent(draft: &mut Draft, kind: Kind, default: i128) -> Result<(), AllocError>
     requires path { IsPlain (string_bytes draft.old.path) }
     requires wide { IsWide default }
@@ -114,7 +114,7 @@ fn write_absent(draft: &mut Draft, kind: Kind, default: i128) -> Result<(), Allo
     Ok(())
 }
 
-// A cell, which stands in the stream or doesn't and then holds its default.
+// Writes a cell. If it isn't in the stream, its default follows.
 #[inline(always)]
 pub(crate) fn write_cell(
     draft: &mut Draft,

@@ -1,4 +1,4 @@
-// The entries of the fields of a part, arrays and structures expanded.
+// The entries of the fields of a part, with arrays and structures expanded.
 ghost use Rattle.std.specs.Prelude.{◌≡◌, ◌<◌, ◌≤◌, ◌+◌, ◌*◌, length, take, OnOk, string_bytes};
 ghost use Rattle.std.specs.Str.{IsUtf8};
 ghost use Rattle.vms_spec.specs.Layout.{capacity_of, item_size, struct_cells};
@@ -19,14 +19,14 @@ use vms_desc::{Count, DescSet, Field, Part};
 use vms_image::Image;
 use vms_kinds::Item;
 
-// What the fields are gone over with.
+// What the walk over the fields needs.
 #[derive(Clone, Copy)]
 pub(crate) struct Lister<'a> {
     pub(crate) set: &'a DescSet,
     pub(crate) image: &'a Image,
 }
 
-// Where a part or an element stands: whether in the stream, and its first cell.
+// Whether a part or an element is in the stream, and its first cell.
 #[derive(Clone, Copy)]
 pub(crate) struct Place {
     pub(crate) sent: bool,
@@ -40,7 +40,7 @@ struct At {
     cell: u32,
 }
 
-// Goes on to the element of an array that has this number.
+// Extends the path to element `number` of an array.
 fn enter_element(path: &mut String, number: u32) -> Result<(), AllocError>
     ensures { OnOk result (string_bytes path.new ≡ element_path (string_bytes path.old) number) }
 {
@@ -50,7 +50,7 @@ fn enter_element(path: &mut String, number: u32) -> Result<(), AllocError>
     path.push_str("]")
 }
 
-// Goes back to the first bytes of a path.
+// Cuts the path to its first bytes.
 fn leave(path: &mut String, kept: usize)
     requires within { kept ≤ length (string_bytes path.old) }
     requires text { IsUtf8 (take kept (string_bytes path.old)) }
@@ -59,7 +59,7 @@ fn leave(path: &mut String, kept: usize)
     path.truncate(kept);
 }
 
-// One element of a field. The cycle closes at `list_part`.
+// Lists one element of a field. The cycle of calls closes at `list_part`.
 #[cycle(list)]
 #[inline(always)]
 fn list_item(
@@ -87,7 +87,7 @@ fn list_item(
     }
 }
 
-// What has no cell, where it stands in the stream.
+// Lists something without a cell, if it is in the stream.
 fn list_sent(draft: &mut Draft, sent: bool, size: u64, word: &str) -> Result<(), AllocError>
     requires path { IsPlain (string_bytes draft.old.path) }
     requires word { IsPlain word.now }
@@ -100,7 +100,7 @@ fn list_sent(draft: &mut Draft, sent: bool, size: u64, word: &str) -> Result<(),
     Ok(())
 }
 
-// Elements one after the other, as many as are printed.
+// Lists elements one after the other, as many as are printed.
 #[cycle(list)]
 fn list_elements(
     lister: &Lister,
@@ -126,7 +126,7 @@ fn list_elements(
     Ok(())
 }
 
-// Whether a field of a part stands in the stream.
+// Checks whether a field of a part is in the stream.
 fn is_sent(lister: &Lister, part: Part, within: Place, field: u32) -> bool
     requires place { IsPlace lister.now part within.cell }
     requires field { field < length (desc_at (set_in lister.now) part).fields }
@@ -141,7 +141,7 @@ fn is_sent(lister: &Lister, part: Part, within: Place, field: u32) -> bool
             .is_there(part, within.cell, field, version, lister.image)
 }
 
-// One field of a part that begins at a place.
+// Lists one field of a part.
 #[cycle(list)]
 fn list_field(
     lister: &Lister,
@@ -175,7 +175,7 @@ fn list_field(
     Ok(())
 }
 
-// The elements of a field under its path, of which an array has so many.
+// Lists the elements of a field under its path, of which an array has `count`.
 #[cycle(list)]
 fn list_run(
     lister: &Lister,
@@ -196,7 +196,7 @@ fn list_run(
     }
 }
 
-// The fields of a part, or of one element of a structure.
+// Lists the fields of a part, or of one element of a structure.
 #[cycle(list)]
 pub(crate) fn list_part(
     lister: &Lister,

@@ -1,4 +1,4 @@
-//! Self-descriptions: what a stream has, as JSON that is read without its set.
+//! Self-descriptions: what a stream holds, as JSON that can be read without the stream's set.
 #![tactic(auto)]
 
 mod devices;

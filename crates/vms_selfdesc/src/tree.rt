@@ -15,16 +15,26 @@ use vms_desc::DescSet;
 use vms_image::Image;
 use vms_io::NoMemory;
 
-// The room for a text at first, enough for that of a small board.
+// The first room for a text, enough for that of a small board.
 const FIRST_ROOM: usize = 8192;
 
-// And for each cell, enough for an entry with a short path.
+// The room for each cell, enough for an entry with a short path.
 const ROOM_OF_CELL: usize = 48;
 
-/// The self-description of the stream of these images, one for each device in the set's order: JSON
-/// without blanks, each object's keys in byte order. It says of each device what stands in its
-/// section, element by element with path, size in bytes and type, and the defaults of the cells that
-/// don't stand there. It has less than 16,777,216 bytes. Fails only where memory is wanting.
+/// Returns the self-description of the stream of `images`, one for each device of `set` in its
+/// order.
+///
+/// It is JSON without spaces, in which the keys of each object are in byte order. For each device
+/// it lists what its section holds, element by element with path, size in bytes and type, and the
+/// defaults of cells that aren't in the section. It has less than 16,777,216 bytes.
+///
+/// # Requires
+///
+/// `images` are ready under `set`: they can be written.
+///
+/// # Errors
+///
+/// [`NoMemory`] if memory runs out.
 pub fn describe(alloc: Global, set: &DescSet, images: &[Image]) -> Result<String, NoMemory>
     requires { AreReady (described set.now) (map state_of images.now) }
     ensures text { let text = described_text (described set.now) (map state_of images.now) in
@@ -44,7 +54,7 @@ pub fn describe(alloc: Global, set: &DescSet, images: &[Image]) -> Result<String
     Ok(text)
 }
 
-// Room that most texts of these images take no more than. A text that grows is copied, and leaves holes behind.
+// Returns a room that most texts of these images fit in. A text that grows is copied, and leaves holes in memory.
 fn room_for(images: &[Image]) -> usize {
     let mut room = FIRST_ROOM;
     for image in images {

@@ -74,7 +74,7 @@ pub in_course : (lines : List ScriptLine) (parts : List Part) (new : Session) (b
 in_course lines parts new board held out shelf told plays =
     record { holds = held; told = told; rest = plays; text = Appends-nil out.written; held = refl }
 
--- one part came to nothing, or so much of it was written once the shelf was as after it
+-- nothing of a part was done, or some of it was written once the shelf was as after it
 one_part : (out out' : Outlet) (shelf shelf' : Stock) (part : Part) → ComesTo out out' shelf shelf' (part ∷ [])
     → (Appends out.written out'.written [] × (shelf'.held ≡ shelf.held)) ⊎ ((n : ℕ) × Appends out.written out'.written (take n part.text) × (shelf'.held ≡ part.held))
 one_part out out' shelf shelf' part comes = by comes.begun comes.text comes.held
@@ -116,11 +116,11 @@ module _ (i : ℕ) (line : ScriptLine) (left : List ScriptLine) (parts : List Pa
         held = ends.1 ∙ sym (held_next (part_of line text between) course.rest.1 i shelf.held parts next);
       }
 
-  -- of the lines before this one all stands on out, where nothing of this one does
+  -- all of the lines before this one has been written, where this one writes nothing
   behind : Appends out'.written out''.written [] → Appends out.written out''.written (text_of (take i parts))
   behind none = subst (Appends out.written out''.written) (append-nil (text_of (take i parts))) (Appends-trans out.written out'.written out''.written (text_of (take i parts)) [] course.text none)
 
-  -- what this one comes to, all come to
+  -- the result of this one is the result of all
   comes_behind : ComesTo out' out'' shelf' shelf'' (part_of line text between ∷ []) → ComesTo out out'' shelf shelf'' parts
   comes_behind comes = by (one_part out' out'' shelf' shelf'' (part_of line text between) comes)
     where

@@ -26,9 +26,9 @@ use Rattle.vms_commands.specs.Fetching.{longest_file}
 use Rattle.vms_board.specs.Isa.{isa}
 use Rattle.vms_board.specs.Family.{MaySaveIn}
 
--- ---- what bytes come to
+-- ---- what bytes restore
 
--- bytes on which a restore comes to something
+-- bytes for which a restore has a result
 abbrev pub Comes : ℕ → List ℕ → Type 0
 Comes level bytes = (restore : Restore State) × Restores isa level bytes restore
 
@@ -66,7 +66,7 @@ either-comes level false bytes held new old = old
 
 -- ---- lines
 
--- a line does something, and each name still comes to something
+-- a line does something, and each name still has a result
 record LineEnds (line : ScriptLine) (old : Session) : Type 0 where
   text : List ℕ
   new : Session
@@ -144,7 +144,7 @@ line-ends (Loads name) old good s held = held-end name old (old.held name) refl 
 
 -- ---- scripts
 
--- at a level that stays
+-- at an unchanged level
 lines-end : (level : ℕ) (lines : List ScriptLine) (old : Session) → old.board.level ≡ level → AreLines (Some level) lines → IsSound old.board → still level old.held → HasAnEnd lines old
 lines-end level [] old at good s held = record { parts = []; new = old; plays = (refl, refl) }
 lines-end level (line ∷ lines) old at good s held =

@@ -29,7 +29,7 @@ module _ (part : Part) (rest : List Part) where
   rest_next (suc i) [] e = cc
   rest_next (suc i) (x ∷ parts) e = rest_next i parts e
 
-  -- a part of which so many bytes are written
+  -- a part of which a number of bytes is written
   pub begun_next : (i n : ℕ) (parts : List Part) → drop i parts ≡ part ∷ rest → text_begun parts (suc i) n ≡ text_of (take i parts) ++ take n part.text
   begun_next zero n [] e = cc
   begun_next zero n (x ∷ parts) e =
@@ -39,7 +39,7 @@ module _ (part : Part) (rest : List Part) where
   begun_next (suc i) n (x ∷ parts) e =
       ap (λ (t : List ℕ). x.text ++ t) (begun_next i n parts e) ∙ sym (append_assoc x.text (text_of (take i parts)) (take n part.text))
 
--- so many whole parts
+-- a number of complete parts
 pub begun_whole : (i n : ℕ) (parts : List Part) → length (text_of parts) ≤ n → text_begun parts i n ≡ text_of (take i parts)
 begun_whole zero n parts le = refl
 begun_whole (suc i) n [] le = refl

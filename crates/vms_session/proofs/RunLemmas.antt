@@ -31,7 +31,7 @@ first_event event rest events e are = let both : AreEvents (event ∷ rest) = su
 pub later_events : (event : Event) (rest events : List Event) → events ≡ event ∷ rest → AreEvents events → AreEvents rest
 later_events event rest events e are = let both : AreEvents (event ∷ rest) = subst AreEvents e are in both.1
 
--- lines that may stand in a script let events happen that there are
+-- valid lines of a script have valid events
 pub lines_are_events : (play : Option ℕ) (lines : List ScriptLine) → AreLines play lines → AreEvents (events_of lines)
 lines_are_events play [] are = tt
 lines_are_events play (Happens event ∷ lines) are = (event_is event (line_event play event are.0), lines_are_events play lines are.1)

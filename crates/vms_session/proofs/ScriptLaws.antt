@@ -1,4 +1,4 @@
--- A script of a session leaves one trace and one session, and what the shelf holds stays bytes.
+-- A script of a session leaves one trace and one session, and the shelf still holds bytes.
 use Rattle.std.proofs.Common.{◌≡◌, ℕ, List, [], ◌∷◌, Option, Some, None, refl, sym, ap, ◌∙◌, subst}
 use Rattle.dev_board.specs.Sound.{IsSound}
 use Rattle.vms_board.specs.Restoring.{Back, Refused}
@@ -19,7 +19,7 @@ use Rattle.vms_session.specs.Session.{Session, Does, IsLoaded, IsTooLarge, Loads
 use Rattle.vms_kinds.specs.Bytes.{IsBytes}
 use Rattle.vms_board.specs.Isa.{isa}
 
--- ---- what is held stays bytes
+-- ---- the shelf still holds bytes
 
 abbrev held-of : Session → Held
 held-of s = s.held

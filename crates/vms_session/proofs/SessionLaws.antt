@@ -1,4 +1,4 @@
--- The level of a session stays.
+-- The level of a session never changes.
 use Rattle.std.proofs.Common.{◌≡◌, ℕ, List, [], ◌∷◌, Option, Some, None, ap, ◌∙◌}
 use Rattle.dev_board.proofs.ClockLaws.{clock_goes_on}
 use Rattle.dev_board.proofs.RestoredLaws.{restored_is_sound}

@@ -1,4 +1,4 @@
--- What a stream of the shelf comes to, and a line that is written.
+-- The result of a stream on the shelf, and a line that is written.
 use Rattle.std.proofs.Common.{◌≡◌, ℕ, ◌≤◌, List, [], ◌∷◌, append-nil, length, take, inl, inr, Option, Some, None, Result, Ok, Err, arith, sym, ap, subst, ◌∙◌}
 use Rattle.std.specs.Io.KnownBytes.{Appends}
 use Rattle.std.proofs.KnownBytes.{Appends-nil}
@@ -21,7 +21,7 @@ use Rattle.vms_session.specs.Streams.{LooksUp, SavesUnder}
 use Rattle.vms_session.specs.declared.line.PlayFault.{PlayFault}
 use Rattle.vms_session.specs.declared.line.PlayFault.TheVariants.{WriteFault, ShelfFault, NoMemory}
 
--- bytes that a board reads come to what they restore
+-- bytes that a board reads have the result of their restore
 comes : (bytes : List ℕ) (old : Session) (text : List ℕ) (new : Session) (r : Restore State) → IsBytes bytes → length bytes ≤ longest_file → Restores isa old.board.level bytes r
     → LoadsBytes bytes old text new → ComesTo r old text new
 comes bytes old text new r ok few restores (IsTooLarge long left) = absurd (omega (arith, few, long))

@@ -5,22 +5,22 @@ use Rattle.vms_script.specs.Lines.{ScriptLine, Happens, Saves, Restores}
 use Rattle.vms_board.specs.Family.{Family}
 use Rattle.vms_board_streams.specs.Streams.{after_events, answers_to, trace_of}
 
--- what a line lets happen, before more events: one that saves or restores lets nothing happen
+-- The events of a line, before more events. A line that saves or restores has none.
 abbrev pub events_in : ScriptLine → List Event → List Event
 events_in (Happens event) events = event ∷ events
 events_in (Saves set name) events = events
 events_in (Restores name) events = events
 
--- what the lines let happen, in order
+-- The events of lines, in order.
 abbrev pub events_of : List ScriptLine → List Event
 events_of [] = []
 events_of (line ∷ lines) = events_in line (events_of lines)
 
--- the trace that events leave on a board of a kind
+-- The trace of events on a board of a kind.
 abbrev pub trace_from : {S : Type 0} → Family S → List Event → S → List ℕ
 trace_from f events m = trace_of (answers_to f events m)
 
--- a board after some first of the events
+-- A board as after some first events.
 pub record StopsAmong {S : Type 0} (f : Family S) (events : List Event) (old new : S) : Type 0 where
   pub count : ℕ
   pub within : count ≤ length events

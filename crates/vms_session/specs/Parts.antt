@@ -1,20 +1,20 @@
--- A session line by line: what each line leaves on out, and what the shelf holds after it.
+-- A session line by line: what each line writes, and what the shelf holds after it.
 use Rattle.std.specs.Prelude.{◌≡◌, ℕ, List, [], ◌∷◌, Option, Some, None}
 use Rattle.vms_commands.specs.Outcomes.{Part}
 use Rattle.vms_script.specs.Lines.{ScriptLine, Saves}
 use Rattle.vms_session.specs.Session.{Session, Does}
 
--- the name under which a line stores, if it stores
+-- The name under which a line stores, if it stores.
 abbrev pub stored_by : ScriptLine → Option (List ℕ)
 stored_by (Saves set name) = Some name
 stored_by line = None
 
--- the part that a line is, with its text and the session after it
+-- The part of a line, with its text and the session after it.
 abbrev pub part_of : ScriptLine → List ℕ → Session → Part
 part_of line text after = record { text = text; held = Some after.held; stores = stored_by line }
 
--- what lines do, one after the other: a part for each, and the session after the last. The trace that they leave is the parts'
--- text.
+-- What lines do, one after the other: a part for each, and the session after the last one. Their trace is the text
+-- of the parts.
 abbrev pub Plays : List ScriptLine → Session → List Part → Session → Type 0
 Plays [] old parts new = (parts ≡ []) × (new ≡ old)
 Plays (line ∷ lines) old parts new =

@@ -12,7 +12,7 @@ use Rattle.vms_session.specs.Session.{Session}
 use Rattle.vms_session.specs.declared.line.PlayFault.{PlayFault}
 use Rattle.vms_session.specs.declared.line.PlayFault.TheVariants as faults
 
--- a board and what a shelf holds
+-- A board and what a shelf holds.
 abbrev pub session_of : State → Held → Session
 session_of board held = record { board = board; held = held }
 
@@ -22,9 +22,9 @@ pub record DoesSome (out out' : Outlet) (shelf shelf' : Stock) (parts : List Par
   pub text : Appends out.written out'.written (text_of (take done parts))
   pub held : shelf'.held ≡ held_after shelf.held (take done parts)
 
--- Lines that are these parts, or one line that is one part, and leave this session: all is done, or some of the parts are; at a
--- write fault a beginning of a text may stand behind theirs. Only after a shelf fault a name may not be told, that of a store that
--- failed.
+-- How lines end that have these parts and leave this session, or a line with its one part: all is done, or some of
+-- the parts. After a write fault a prefix of the next text may follow theirs. Only after a shelf fault a name may
+-- be unknown: that of a store that failed.
 abbrev pub LinesEnd : List Part → Session → (out out' : Outlet) (shelf shelf' : Stock) → State → Result Unit PlayFault → Type 0
 LinesEnd parts new out out' shelf shelf' board (Ok u) =
     Appends out.written out'.written (text_of parts) × (shelf'.held ≡ held_after shelf.held parts) × (board ≡ new.board)
@@ -32,20 +32,21 @@ LinesEnd parts new out out' shelf shelf' board (Err faults.WriteFault) = ComesTo
 LinesEnd parts new out out' shelf shelf' board (Err faults.ShelfFault) = DoesSome out out' shelf shelf' parts ⊎ FailsToStore out out' shelf shelf' parts
 LinesEnd parts new out out' shelf shelf' board (Err faults.NoMemory) = DoesSome out out' shelf shelf' parts
 
--- a write fault comes only where the sink's count rose, and a shelf fault only where the shelf's did
+-- A write fault comes only if the sink has counted a failure, and a shelf fault only if the shelf has.
 abbrev pub HasPlayCause : (out out' : Outlet) (shelf shelf' : Stock) → Result Unit PlayFault → Type 0
 HasPlayCause out out' shelf shelf' (Ok u) = Unit {0}
 HasPlayCause out out' shelf shelf' (Err faults.WriteFault) = Rose out.faults out'.faults
 HasPlayCause out out' shelf shelf' (Err faults.ShelfFault) = Rose shelf.faults shelf'.faults
 HasPlayCause out out' shelf shelf' (Err faults.NoMemory) = Unit {0}
 
--- what lines do to a sink and a shelf, however they end: no fault is forgotten, the promises stay, and each fault has its cause
+-- What lines do to a sink and a shelf, however they end: no recorded failure is lost, the promises stay, and each
+-- fault has its cause.
 pub record Goes (out out' : Outlet) (shelf shelf' : Stock) (result : Result Unit PlayFault) : Type 0 where
   pub serves : Serves out out'
   pub reaches : Reaches shelf shelf'
   pub cause : HasPlayCause out out' shelf shelf' result
 
--- a text is written, or some first bytes of it before a write fault
+-- A text has been written, or a prefix of it before a write fault.
 abbrev pub WritesText : List ℕ → Outlet → Outlet → Result Unit PlayFault → Type 0
 WritesText text out out' (Ok u) = Puts out out' text
 WritesText text out out' (Err faults.WriteFault) = Stops out out' text

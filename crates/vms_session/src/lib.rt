@@ -1,5 +1,5 @@
-//! Sessions: what the lines of a script do to a board and to the shelf, and what goes over events and lines:
-//! events on a board of any kind, their trace, and whole sessions.
+//! Sessions: what the lines of a script do to a board and to the shelf. It also runs events on a
+//! board of any kind, with or without their trace.
 #![tactic(auto)]
 
 mod laws;

@@ -20,16 +20,20 @@ use vms_script::{Line, SessionLine, print_answer};
 /// Why a session stopped.
 #[derive(Clone, Copy, Debug, PartialEq, Eq)]
 pub enum PlayFault {
-    /// The sink failed, after some of a line's text; its count of faults has risen.
+    /// The sink failed and has counted a failure. Part of a line's text may have been written.
     WriteFault,
-    /// The shelf failed; its count of faults has risen. After a store that failed what is held under that name is not
-    /// told.
+    /// The shelf failed and has counted a failure. If a store failed, what its name holds is
+    /// unknown.
     ShelfFault,
-    /// Memory is wanting; the line was not begun.
+    /// Out of memory. The line was not begun.
     NoMemory,
 }
 
-/// Does a line of a session, and appends its text.
+/// Runs `line` of a session and appends its text to `out`.
+///
+/// # Errors
+///
+/// The errors of [`play`](crate::play).
 pub(crate) fn play_line<K: Sink, H: Shelf>(
     alloc: Global,
     line: &Line,
@@ -53,7 +57,7 @@ pub(crate) fn play_line<K: Sink, H: Shelf>(
     }
 }
 
-// Does a line that only a session has, and appends its text.
+// Runs a line that only a session has and appends its text.
 fn play_session<K: Sink, H: Shelf>(
     alloc: Global,
     line: &SessionLine,

@@ -1,4 +1,4 @@
-// Lines of a session, one after the other.
+// The lines of a session, one after the other.
 ghost use Rattle.std.specs.Prelude.{◌≡◌, List, Some};
 ghost use Rattle.dev_board.specs.Sound.{IsSound};
 ghost use Rattle.vms_io.specs.Shelves.{Held};
@@ -16,10 +16,20 @@ use vms_board::Board;
 use vms_io::{Shelf, Sink};
 use vms_script::Line;
 
-/// Plays the lines of a session on a board and a shelf, and appends their trace.
+/// Plays `lines` on `board` and `shelf`, and appends their trace to `out`.
 ///
-/// After an error the shelf is as after some first lines, and of their trace all stands on the sink but for some bytes
-/// of the last one's text at a write fault. After a shelf fault what is held under one name may not be told.
+/// # Requires
+///
+/// Each line is one that [`read_script`](vms_script::read_script) reads for the level of `board`.
+///
+/// # Errors
+///
+/// After an error the shelf is as after some first lines, and their trace has been written.
+///
+/// - [`PlayFault::WriteFault`]: `out` failed. A prefix of the last line's text may have been
+///   written too.
+/// - [`PlayFault::ShelfFault`]: `shelf` failed. What one name holds may be unknown.
+/// - [`PlayFault::NoMemory`]: out of memory.
 pub fn play<K: Sink, H: Shelf>(
     alloc: Global,
     lines: &[Line],

@@ -1,4 +1,4 @@
-// The lines that a session's own lines leave in its trace, each made whole without memory.
+// The lines that a session's own lines leave in its trace. Each is built without an allocation.
 ghost use Rattle.std.specs.Prelude.{◌≡◌, ◌≤◌, ◌++◌, [], ◌∷◌, length};
 ghost use Rattle.std.specs.Fmt.{decimal};
 ghost use Rattle.vms_desc.specs.Described.{described};
@@ -10,7 +10,7 @@ use vms_desc::DescSet;
 use vms_load::Refusal;
 use vms_words::append;
 
-/// A line that says the same in any case.
+/// Returns a line with the fixed text `text`.
 pub(crate) fn mark(text: &[u8]) -> NoteLine
     requires { length text.now ≤ 256 }
     ensures { result.items ≡ text.now }
@@ -20,21 +20,21 @@ pub(crate) fn mark(text: &[u8]) -> NoteLine
     line
 }
 
-/// The line of a stream of so many bytes that was stored.
+/// Returns the line of a stored stream of `count` bytes.
 pub(crate) fn saved_mark(count: u64) -> NoteLine
     ensures { result.items ≡ saved_line count }
 {
     counted_mark(b"saved ", count)
 }
 
-/// The line of a stream of so many bytes that was taken.
+/// Returns the line of a restored stream of `count` bytes.
 pub(crate) fn restored_mark(count: u64) -> NoteLine
     ensures { result.items ≡ restored_line count }
 {
     counted_mark(b"restored ", count)
 }
 
-// A number behind a word.
+// Returns the line of a number after a word.
 fn counted_mark(word: &[u8], count: u64) -> NoteLine
     requires { length word.now ≤ 16 }
     ensures { result.items ≡ word.now ++ (decimal count ++ 10 ∷ []) }
@@ -46,7 +46,7 @@ fn counted_mark(word: &[u8], count: u64) -> NoteLine
     line
 }
 
-/// The line of a stream that was refused: where, in which device of the set, and why.
+/// Returns the line of a refused stream: the offset, the device of `set` and the reason.
 pub(crate) fn refused_mark(set: &DescSet, refusal: &Refusal) -> NoteLine
     ensures { let r = refusal.now in
         result.items ≡ refused_line (described set.now) r.at r.section r.reason }

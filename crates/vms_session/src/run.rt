@@ -1,4 +1,4 @@
-// Events, on a board.
+// Events on a board.
 ghost use Rattle.std.specs.Prelude.{◌≡◌, OnErr, OnOk};
 ghost use Rattle.dev_board.specs.Laws.{AreEvents, IsEvent};
 ghost use Rattle.vms_board_streams.specs.Streams.{after_events};
@@ -12,7 +12,11 @@ use vms_board::{Machine, MachineBoard};
 use vms_io::{Sink, WriteFault};
 use vms_script::print_answer;
 
-/// Lets events happen to a board, one after the other.
+/// Runs `events` on `board`, one after the other.
+///
+/// # Requires
+///
+/// The numbers of each event are in their ranges.
 pub fn run_events<M: Machine>(board: &mut MachineBoard<M>, events: &[Event])
     requires { AreEvents events.now }
     ensures state { board.new.state ≡ after_events M.family events.now board.old.state }
@@ -24,8 +28,16 @@ pub fn run_events<M: Machine>(board: &mut MachineBoard<M>, events: &[Event])
     }
 }
 
-/// Lets events happen to a board, one after the other, and appends the line of each answer. After an error some
-/// first bytes of their trace were appended, and the board is as after some first events.
+/// Runs `events` on `board`, one after the other, and appends the line of each answer to `out`.
+///
+/// # Requires
+///
+/// The numbers of each event are in their ranges.
+///
+/// # Errors
+///
+/// [`WriteFault`] if `out` fails. A prefix of the trace has been written then, and `board` is as
+/// after some first events.
 pub fn trace<M: Machine, K: Sink>(
     board: &mut MachineBoard<M>,
     events: &[Event],
@@ -47,7 +59,7 @@ pub fn trace<M: Machine, K: Sink>(
     Ok(())
 }
 
-// Lets an event happen to a board, and appends the line of its answer.
+// Runs an event on a board, and appends the line of its answer.
 #[tactic(auto, using(dev_board::proofs::WireBits::names))]
 fn trace_event<M: Machine, K: Sink>(
     board: &mut MachineBoard<M>,

@@ -18,7 +18,12 @@ use vms_board_streams::{restore_from, stream_of};
 use vms_commands::{LONGEST_FILE, NoteLine};
 use vms_io::{FetchFault, Shelf, StoreFault};
 
-/// Stores a board's stream under a set and a name; answers how many bytes it has.
+/// Stores the stream of `board` under the set `set` as `name`. Returns the number of its bytes.
+///
+/// # Errors
+///
+/// - [`PlayFault::ShelfFault`]: `shelf` failed.
+/// - [`PlayFault::NoMemory`]: out of memory. Nothing has been stored.
 pub(crate) fn save<H: Shelf>(
     alloc: Global,
     board: &Board,
@@ -41,7 +46,12 @@ pub(crate) fn save<H: Shelf>(
     }
 }
 
-/// Makes a board the one that the stream of a name restores, if it restores one; answers the line of what it came to.
+/// Restores `board` from the stream `name`, if it restores one. Returns the line about it.
+///
+/// # Errors
+///
+/// - [`PlayFault::ShelfFault`]: `shelf` failed.
+/// - [`PlayFault::NoMemory`]: out of memory.
 pub(crate) fn restore<H: Shelf>(
     alloc: Global,
     board: &mut Board,
@@ -63,7 +73,7 @@ pub(crate) fn restore<H: Shelf>(
     }
 }
 
-// Makes a board the one that a stream restores, if it restores one; answers the line of what it came to.
+// Restores a board from a stream, if it restores one. Returns the line about it.
 fn load(alloc: Global, board: &mut Board, stream: Vec<u8>) -> NoteLine
     requires { length stream.items ≤ longest_file }
     ensures text { (held : Held) (text : List ℕ) (new : Session)

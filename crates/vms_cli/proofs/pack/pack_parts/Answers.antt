@@ -22,7 +22,7 @@ bytes text = text.items
 abbrev rest : SetText → List ℕ → Step Parts
 rest text values = next (set_in text) (λ set. Gives (record { set = set; values = values }))
 
--- behind the set's text, and behind the values text, comes what the words name
+-- after the set's text and the values text comes what the words name
 module _ (held held' : Option Held) (same : held' ≡ held) (word : SetWord) (name : List ℕ) (t : Fetched) (first : StepAs text_of (fetched_set held word) (Ok t)) (r : Result PackParts Ending) where
   behind_text : StepAs parts_of (with_values held' name (text_of t)) r → StepAs parts_of (named_parts held word name) r
   behind_text h =
