@@ -1,6 +1,7 @@
 -- What a newer set makes of the images of an older one. Present fields are paired by position. A cell of the newer
 -- set has the older number if its field is paired with one of the same kind and the older cell is in the bytes. Any
--- other cell has its default. Versions and the present subsections are the older ones.
+-- other cell has its default. Versions and the present subsections are the older ones. See docs/compatibility.md,
+-- "What an accepted check means".
 use Rattle.std.specs.Prelude.{ℕ, zero, suc, ◌+◌, if◌then◌else◌, List, [], ◌∷◌, ◌++◌, length, get_or, map, Option, Some, None, ℤ, pos}
 use Rattle.std.specs.List.{flat_map, slice_get}
 use Rattle.vms_kinds.specs.declared.Item.{Item}

@@ -1,5 +1,5 @@
 -- Which sets are compatible: the first rule that fails, with a place on each side. Present fields are paired by
--- position. Bytes play no part.
+-- position. Bytes play no part. docs/compatibility.md, "The rules", lists the rules.
 use Rattle.std.specs.Prelude.{ℕ, suc, ◌+◌, ◌*◌, Bool, true, false, ◌&&◌, ◌||◌, ◌==◌, nat_le, min, if◌then◌else◌, List, [], ◌∷◌, ◌++◌, length, get_or, Option, Some, None, ℤ, pos, negsuc, ◌≡◌}
 use Rattle.std.specs.List.{slice_get, list_all, list_any}
 use Rattle.std.specs.Str.{bytes_eq}

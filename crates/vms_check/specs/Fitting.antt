@@ -1,5 +1,5 @@
--- The fifteen rules as a relation. Comparing.antt has the walk that finds the first rule that fails. A law says
--- that it finds none exactly if these hold.
+-- The fifteen rules as a relation. Comparing.antt has the walk that finds the first rule that fails. A law says that
+-- it finds none exactly if these hold. docs/compatibility.md, "The rules", lists them.
 use Rattle.std.specs.Prelude.{◌≡◌, ◌⊎◌, ◌≤◌, ◌<◌, ℕ, Bool, true, false, List, length, get_or, Option, Some}
 use Rattle.std.specs.List.{slice_get, list_any}
 use Rattle.vms_kinds.specs.declared.Item.TheVariants.{Struct}

@@ -1,5 +1,6 @@
 -- The cell of a newer device with which each cell of an older one is paired. Present fields are paired by position,
--- elements by number, structures field by field; only numbers of one kind are paired.
+-- elements by number, structures field by field; only numbers of one kind are paired. See docs/compatibility.md,
+-- "Pairs of fields".
 use Rattle.std.specs.Prelude.{ℕ, zero, suc, ◌+◌, ◌*◌, if◌then◌else◌, List, [], ◌∷◌, ◌++◌, length, get_or, replicate, Option, Some, None}
 use Rattle.std.specs.List.{flat_map}
 use Rattle.vms_kinds.specs.declared.Item.{Item}

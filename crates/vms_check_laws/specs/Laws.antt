@@ -1,4 +1,5 @@
--- The laws of an upgrade, each as a statement: what it means that two sets are compatible.
+-- The laws of an upgrade, each as a statement: what it means that two sets are compatible. See
+-- docs/compatibility.md, "What an accepted check means".
 use Rattle.std.specs.Prelude.{◌≡◌, ℕ, ◌<◌, ◌≤◌, true, List, length, Option, Some, None, IfSome}
 use Rattle.std.specs.List.{slice_get}
 use Rattle.vms_spec.specs.Sets.{Sub, Device, Set}

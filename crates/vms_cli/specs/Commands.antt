@@ -1,4 +1,4 @@
--- The commands that the arguments can form.
+-- The commands that the arguments can form. See docs/commands.md, "Arguments".
 use Rattle.std.specs.Prelude.{ℕ, if◌then◌else◌, nat_le, List, [], ◌∷◌, Option, Some, None, Result, Ok, Err, codes}
 use Rattle.std.specs.Option.{option_map}
 use Rattle.std.specs.Str.{bytes_eq}

@@ -1,4 +1,5 @@
--- The statuses that each command can return, and what it touches with each.
+-- The statuses that each command can return, and what it touches with each. See docs/commands.md, "Statuses and
+-- error lines".
 use Rattle.std.specs.Prelude.{ℕ, Bool, false, List, [], ◌∷◌, Option, Some, None}
 use Rattle.vms_commands.specs.Courses.{Course, is_among, text_course}
 use Rattle.vms_commands.specs.Fetching.{is_on_shelf}

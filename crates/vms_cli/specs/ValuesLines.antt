@@ -1,4 +1,4 @@
--- The line of a refused values text.
+-- The line of a refused values text. See docs/commands.md, "Statuses and error lines".
 use Rattle.std.specs.Prelude.{ℕ, List, [], ◌∷◌, ◌++◌, codes}
 use Rattle.std.specs.Fmt.{decimal}
 use Rattle.vms_spec.specs.declared.ValuesReason.{ValuesReason}

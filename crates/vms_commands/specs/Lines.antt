@@ -1,4 +1,4 @@
--- The lines on standard error.
+-- The lines on standard error. See docs/commands.md, "Statuses and error lines".
 use Rattle.std.specs.Prelude.{ℕ, List, [], ◌∷◌, ◌++◌, Option, Some, None, codes}
 use Rattle.std.specs.List.{slice_get}
 use Rattle.std.specs.Fmt.{decimal}

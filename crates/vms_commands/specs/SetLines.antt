@@ -1,4 +1,4 @@
--- The lines about sets.
+-- The lines about sets. See docs/commands.md, "Statuses and error lines".
 use Rattle.std.specs.Prelude.{ℕ, List, [], ◌∷◌, ◌++◌, Option, Some, None, codes}
 use Rattle.std.specs.Fmt.{decimal}
 use Rattle.vms_spec.specs.declared.Part.{Part}

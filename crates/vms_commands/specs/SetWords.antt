@@ -1,4 +1,4 @@
--- Arguments that name a set.
+-- Arguments that name a set. See docs/commands.md, "Arguments".
 use Rattle.std.specs.Prelude.{ℕ, zero, suc, ◌++◌, if◌then◌else◌, List, Option, Some, None, codes}
 use Rattle.std.specs.Fmt.{decimal}
 use Rattle.std.specs.Option.{option_map}

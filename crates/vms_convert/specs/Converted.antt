@@ -1,4 +1,5 @@
--- The stream of an older set for the images of a newer one.
+-- The stream of an older set for the images of a newer one. See docs/compatibility.md, "Going back to an older
+-- program".
 use Rattle.std.specs.Prelude.{◌≡◌, ℕ, List, [], ◌∷◌, length, get_or, Option, Some, ℤ}
 use Rattle.std.specs.List.{slice_get}
 use Rattle.vms_spec.specs.Sets.{Device, Set}

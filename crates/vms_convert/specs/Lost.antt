@@ -1,4 +1,5 @@
--- What an older set doesn't keep of the images of a newer one: the first cell, device or machine.
+-- What an older set doesn't keep of the images of a newer one: the first cell, device or machine. See
+-- docs/compatibility.md, "Going back to an older program".
 use Rattle.std.specs.Prelude.{◌≡◌, ℕ, ◌<◌, false, true, List, [], ◌∷◌, length, get_or, map, Option, Some, None, IfSome, ℤ, pos}
 use Rattle.std.specs.List.{slice_get}
 use Rattle.vms_spec.specs.Sets.{Device, Set}

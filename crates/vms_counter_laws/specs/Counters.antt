@@ -1,5 +1,5 @@
 -- The answer to an older and a newer set: they are compatible; or a state that the older set writes and the newer
--- one refuses; or no candidate is such a state.
+-- one refuses; or no candidate is such a state. See docs/compatibility.md, "A state that shows it".
 use Rattle.std.specs.Prelude.{◌≡◌, ℕ, List, [], ◌∷◌, Option, Some, None}
 use Rattle.vms_spec.specs.declared.Reason.{Reason}
 use Rattle.vms_spec.specs.Sets.{Set}

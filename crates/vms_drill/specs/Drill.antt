@@ -1,4 +1,4 @@
--- Drills, with the streams of their saves.
+-- Drills, with the streams of their saves. See docs/scripts.md, "Drills".
 use Rattle.std.specs.Prelude.{ℕ, zero, suc, ◌+◌, ◌-◌, if◌then◌else◌, length}
 use Rattle.dev_board.specs.State.{State}
 use Rattle.dev_board.specs.Step.{step}

@@ -1,4 +1,4 @@
--- The spelling of a script, and the law that exactly such texts are read.
+-- The spelling of a script, and the law that exactly such texts are read. docs/scripts.md lists the lines.
 use Rattle.std.specs.Prelude.{◌≡◌, ℕ, ◌/◌, ◌%◌, ◌<◌, ◌++◌, true, List, [], ◌∷◌, codes, Option, Some, None, Ok}
 use Rattle.std.specs.Fmt.{decimal}
 use Rattle.dev_board.specs.declared.event.Event.{Event}

@@ -1,4 +1,4 @@
--- A line of a script, and how it is read.
+-- A line of a script, and how it is read. docs/scripts.md lists the lines.
 use Rattle.std.specs.Prelude.{ℕ, ◌&&◌, nat_le, if◌then◌else◌, Bool, List, drop, codes, Option, Some, None, Result, Ok, Err, ℤ, pos, negsuc}
 use Rattle.std.specs.Str.{bytes_eq}
 use Rattle.dev_base.specs.declared.limits.TheConstants.{NEWEST}

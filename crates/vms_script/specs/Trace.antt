@@ -1,4 +1,4 @@
--- The line of an answer in a trace.
+-- The line of an answer in a trace. See docs/scripts.md, "The trace".
 use Rattle.std.specs.Prelude.{ℕ, ◌++◌, if◌then◌else◌, Bool, List, [], ◌∷◌, codes, Option, Some, None}
 use Rattle.dev_board.specs.declared.event.Answer.{Answer}
 use Rattle.vms_script.specs.Words.{byte_text}

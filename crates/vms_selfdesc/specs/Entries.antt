@@ -1,6 +1,7 @@
 -- What the self-description says about the fields of a part: an entry for each element in the stream, in order, and
 -- one for each cell that isn't in the stream and that the values text prints. The entries are derived from the
--- elements of the part, like its cells, its slots and the lines of the values text.
+-- elements of the part, like its cells, its slots and the lines of the values text. See docs/format.md, "The
+-- self-description".
 use Rattle.std.specs.Prelude.{ℕ, Bool, true, false, ◌&&◌, List, [], ◌∷◌, ◌++◌, Option, Some, None, ℤ, codes}
 use Rattle.vms_kinds.specs.declared.Kind.{Kind}
 use Rattle.vms_kinds.specs.Codes.{width}

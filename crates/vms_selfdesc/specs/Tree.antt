@@ -1,5 +1,5 @@
--- The self-description of a stream, as JSON: what a reader learns about the devices without their set. An object
--- has its keys in byte order, whatever the order in which they are put.
+-- The self-description of a stream, as JSON: what a reader learns about the devices without their set. An object has
+-- its keys in byte order, whatever the order in which they are put. See docs/format.md, "The self-description".
 use Rattle.std.specs.Prelude.{ℕ, ◌+◌, Bool, true, is_some, List, [], ◌∷◌, length, map, Option, Some, None, ℤ, codes}
 use Rattle.serde_json.specs.Data.{Data, number, unsigned, string, boolean, array, object, Members, no_members, put}
 use Rattle.serde_json.specs.Find.{of_integer}

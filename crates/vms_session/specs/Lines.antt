@@ -1,4 +1,4 @@
--- The lines that a session's own lines leave in its trace.
+-- The lines that a session's own lines leave in its trace. See docs/scripts.md, "Sessions".
 use Rattle.std.specs.Prelude.{ℕ, List, [], ◌∷◌, ◌++◌, Option, codes}
 use Rattle.std.specs.Fmt.{decimal}
 use Rattle.vms_commands.specs.Lines.{refusal_text}

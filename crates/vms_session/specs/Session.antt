@@ -1,4 +1,5 @@
--- Sessions: what the lines of a script do to a board and to the shelf, and their trace.
+-- Sessions: what the lines of a script do to a board and to the shelf, and their trace. See docs/scripts.md,
+-- "Sessions".
 use Rattle.std.specs.Prelude.{◌≡◌, ℕ, ◌<◌, ◌≤◌, ◌++◌, List, [], ◌∷◌, length, Option, Some, None}
 use Rattle.dev_base.specs.declared.limits.TheConstants.{NEWEST}
 use Rattle.dev_board.specs.State.{State, power_on}
