@@ -16,7 +16,7 @@ pub enum SetWord<'a> {
 /// A shipped set.
 #[derive(Clone, Copy)]
 pub enum ShippedSet {
-    /// `@0` to `@4`: a set of the boards `isa-1` to `isa-4`.
+    /// `@0` to the newest: a set of the boards `isa-1` to `isa-4`.
     Isa(IsaSet),
     /// `@c1` or `@c2`: a set of the boards `clk-1` and `clk-2`.
     Clock(ClockSet),
@@ -25,7 +25,7 @@ pub enum ShippedSet {
 /// A shipped set of the boards `isa-1` to `isa-4`.
 #[derive(Clone, Copy)]
 pub struct IsaSet {
-    /// The number of the set, 0 to 4.
+    /// The number of the set, from 0 to the newest.
     pub number: u8,
     ghost shipped: { number ≤ NEWEST },
 }
@@ -33,7 +33,7 @@ pub struct IsaSet {
 /// A shipped set of the boards `clk-1` and `clk-2`.
 #[derive(Clone, Copy)]
 pub struct ClockSet {
-    /// The number of the set, 1 or 2.
+    /// The number of the set, from 1 to the newest.
     pub number: u8,
     ghost shipped: { IsUpTo NEWEST_CLOCK number },
 }

@@ -10,7 +10,8 @@ pub fn short_law()
     ensures { ShortLaw }
 {}
 
-/// States that the self-description of a set `@0` to `@4` has less than 60,000 bytes.
+/// States that the self-description of a shipped set of the boards `isa-1` to `isa-4` has less than
+/// 60,000 bytes.
 #[tactic(auto, using(crate::proofs::Bounds::shipped_holds))]
 pub fn shipped_law()
     ensures { ShippedLaw }
