@@ -84,7 +84,7 @@ pub fn load(loader: &mut Loader, alloc: Global, stream: Vec<u8>) -> Result<Optio
     loader.load(&mut source, None)
 }
 
-/// Returns the lamp in the first image, if that is one.
+/// Returns the lamp in the first of `images`, if that is one.
 pub fn lamp_of(images: &[Image]) -> Option<Lamp> {
     let image = images.first()?;
     let mut cells = ArrayVec::new();

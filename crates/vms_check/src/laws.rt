@@ -8,20 +8,22 @@ pub fn reduced_law()
     ensures { ReducedLaw }
 {}
 
-/// States that the check finds no failing rule exactly if all fifteen rules hold as they are
-/// worded, for every older set and every well-formed newer one.
+/// States that [`check`](crate::check) finds no failing rule exactly if all fifteen rules hold as
+/// they are worded.
+///
+/// This is so for every older set and every well-formed newer one.
 #[tactic(auto, using(crate::proofs::SetsFit::rules_hold))]
 pub fn rules_law()
     ensures { RulesLaw }
 {}
 
-/// States that every well-formed set is compatible with itself.
+/// States that [`check`](crate::check) accepts every well-formed set with itself.
 #[tactic(auto, using(crate::proofs::SelfLaws::reflexive))]
 pub fn reflexive_law()
     ensures { ReflexiveLaw }
 {}
 
-/// States that each shipped set from `@1` on is compatible with each later one.
+/// States that [`check`](crate::check) accepts each shipped set from `@1` on with each later one.
 #[tactic(auto, using(crate::proofs::ShippedLaws::shipped_compatible))]
 pub fn shipped_law()
     ensures { ShippedLaw }

@@ -58,7 +58,7 @@ impl Ending {
         }
     }
 
-    /// Returns the exit status of the program, 0 to 11.
+    /// Returns the exit status of the program, 0 for [`Ending::Done`] and up to 11.
     pub fn status(&self) -> u8
         ensures { result ≡ status_of self.now }
     {

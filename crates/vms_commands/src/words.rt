@@ -23,7 +23,8 @@ pub fn set_word(word: &str) -> Option<SetWord<'_>>
     }
 }
 
-/// Returns the shipped set whose word is `word`: `@` and the number of a set, or `@c` and the number of a clock set.
+/// Returns the shipped set whose word is `word`: `@` and the number of a set, or `@c` and the
+/// number of a clock set.
 pub fn shipped_set(word: &str) -> Option<ShippedSet>
     ensures { option_map shipped_asked result ≡ shipped_word word.now }
 {

@@ -10,7 +10,8 @@ pub fn progress_law()
     ensures { ProgressIsSame }
 {}
 
-/// States that the streams of a drill have together at most 65,536 bytes for each of its events.
+/// States that the streams of a [`drill`](crate::drill) have together at most 65,536 bytes for each
+/// of its events.
 #[tactic(auto, using(crate::proofs::DrillLaws::sizes_are_small))]
 pub fn size_law()
     ensures { SizesAreSmall }

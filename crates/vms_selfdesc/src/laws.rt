@@ -1,23 +1,25 @@
 // Laws of self-descriptions.
 ghost use Rattle.vms_selfdesc.specs.Laws.{ClockLaw, ShippedLaw, ShortLaw};
 
-/// States that the self-description of a well-formed set has less than the 16,777,216 bytes that a
-/// description section may have, whatever the images are.
+/// States that the text of [`describe`](crate::describe) has less than the 16,777,216 bytes that a
+/// description section may have.
 ///
-/// The instance ids and versions of the set have at most four bytes.
+/// This is so for a well-formed set whose instance ids and versions have at most four bytes,
+/// whatever the images are.
 #[tactic(auto, using(crate::proofs::Bounds::short_holds))]
 pub fn short_law()
     ensures { ShortLaw }
 {}
 
-/// States that the self-description of a shipped set of the boards `isa-1` to `isa-4` has less than
-/// 60,000 bytes.
+/// States that the text of [`describe`](crate::describe) has less than 60,000 bytes for a shipped
+/// set of the boards `isa-1` to `isa-4`.
 #[tactic(auto, using(crate::proofs::Bounds::shipped_holds))]
 pub fn shipped_law()
     ensures { ShippedLaw }
 {}
 
-/// States that the self-description of a set of the clock boards has less than 60,000 bytes.
+/// States that the text of [`describe`](crate::describe) has less than 60,000 bytes for a set of
+/// the clock boards.
 #[tactic(auto, using(crate::proofs::Bounds::clock_holds))]
 pub fn clock_law()
     ensures { ClockLaw }
