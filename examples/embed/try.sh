@@ -1,10 +1,10 @@
 #!/bin/sh
 # Builds both static libraries and the programs over them, and runs these under valgrind: sh examples/embed/try.sh [FOLDER]
 #
-# A library can only be built proved, and so is all below it: from nothing that takes two hours of processor time. The libraries are
-# kept in crates/vmstate_c/out and crates/vmstate_board_c/out, and a second run takes seconds. FOLDER has libvmstate_c.a and
-# libvmstate_board_c.a already, and nothing is proved then. Needs rt, gcc, cargo and valgrind; `vmstate` on the path, if it is there,
-# is started for comparison.
+# A library is built only once it and every crate below it are proved: from nothing that takes about an hour of processor time. The
+# libraries are kept in crates/vmstate_c/out and crates/vmstate_board_c/out, and the next run takes seconds. If FOLDER is given, it has
+# libvmstate_c.a and libvmstate_board_c.a already, and nothing is proved. Needs rt, gcc, cargo and valgrind. If `vmstate` is on the
+# path, it is started for comparison.
 set -eu
 here=$(cd "$(dirname "$0")" && pwd)
 top=$(cd "$here/../.." && pwd)
@@ -16,7 +16,7 @@ if [ $# -gt 0 ]; then
     board_library=$library
 else
     for crate in vmstate_c vmstate_board_c; do
-        echo "-- $crate: proved and built, where it isn't there yet"
+        echo "-- $crate: proved and built, unless it's there already"
         (cd "$top/crates/$crate" && rt lib)
     done
     library=$top/crates/vmstate_c/out
