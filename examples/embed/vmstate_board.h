@@ -1,14 +1,14 @@
 /* A board of emulated devices for C and C++: the static library of the crate vmstate_board_c.
  *
  * Who needs it: a virtual machine monitor that wants a pair of 8259A, an 8254 and a 16550A (`isa-1` to `isa-4`), with a clock chip
- * beside them (`clk-1`, `clk-2`), and whose guest goes on in another program. docs/devices.md says what the devices do.
+ * beside them (`clk-1`, `clk-2`), and whose guest may resume in another program. docs/devices.md says what the devices do.
  *
- * What the library's calls do is proved of the library. Nothing checks a C caller: that these declarations fit, that pointers and
- * lengths name memory, that a handle is all zeros or as a call left it, that it isn't copied and freed twice by its copy, and
- * that one call at a time uses it.
+ * What each call does is proved. Nothing checks a C caller: that these declarations match the library, that pointers and lengths
+ * name memory, that a handle is all zeros or as a call left it, that it isn't copied and freed twice by its copy, and that one
+ * call at a time uses it.
  *
- * Memory: vmstate_board_new takes all that events and restores need, but a copy of the stream that vmstate_board_restore makes.
- * vmstate_board_save takes memory too, and gives it back. No other call takes memory. No call blocks, and none calls back.
+ * Memory: vmstate_board_new takes all the memory that events and restores need. vmstate_board_save takes memory too, and frees it
+ * before it returns. No other call takes memory. No call blocks, and none calls back.
  *
  * Time: a moment is a number of nanoseconds since power on. The board has no clock of its own: each access says the moment at
  * which it happens, and time passes on the board up to it first. It passes up to VMSTATE_BOARD_LAST at most. */
@@ -35,7 +35,7 @@ enum vmstate_board_kind {
     VMSTATE_BOARD_CLK = 1  /* clk-1 and clk-2: an isa-4 with a clock chip at ports 70 and 71 */
 };
 
-/* What a call answers. At any status but 0 the board is as it was. */
+/* What a call answers. At any status but 0 the board is unchanged. */
 enum vmstate_board_status {
     VMSTATE_BOARD_DONE = 0,
     VMSTATE_BOARD_REFUSED = 1,    /* the stream is refused */
@@ -49,9 +49,9 @@ enum vmstate_board_status {
 /* The last moment that a board has: that of 4,000,000,000 seconds. */
 #define VMSTATE_BOARD_LAST UINT64_C(4000000000000000000)
 
-/* What an event answers: the value of a read or an acknowledge, else 0; 1 where the interrupt output is high after the event, else
- * 0; and the bytes that left the serial port, first out first, at most 17. Bytes of `sent` from `count` on are 0. At any status
- * but 0 all else is 0. */
+/* What an event answers. `value` is that of a read or an acknowledge, else 0. `output` is 1 if the interrupt output is high after
+ * the event, else 0. `sent` has the bytes that left the serial port, in order; there are `count` of them, at most 17, and the rest
+ * of `sent` is 0. At any status but 0 everything else is 0. */
 struct vmstate_board_answer {
     uint32_t status;
     uint8_t value;
@@ -60,14 +60,14 @@ struct vmstate_board_answer {
     uint8_t sent[17];
 };
 
-/* A status and a number, which is 0 at any status but 0 where nothing else is said. */
+/* A status and a number. At any status but 0 the number is 0, unless the call says something else. */
 struct vmstate_board_number {
     uint32_t status;
     uint64_t number;
 };
 
-/* Makes the board of a kind and a level at power on, at moment 0. `level` is 1 to 4 of ISA, 1 or 2 of CLK. A board that the handle
- * has is freed. Statuses: DONE, NONE_SUCH, NO_MEMORY. */
+/* Makes the board of a kind and a level at power on, at moment 0. `level` is 1 to 4 for ISA, 1 or 2 for CLK. A board that the handle
+ * already has is freed. Statuses: DONE, NONE_SUCH, NO_MEMORY. */
 uint32_t vmstate_board_new(struct vmstate_board *board, uint8_t kind, uint8_t level);
 
 /* Frees the board, if there is one; the handle is all zeros then. A second call does nothing. */
@@ -92,7 +92,7 @@ struct vmstate_board_answer vmstate_board_wire(struct vmstate_board *board, uint
 /* Only time passes. */
 struct vmstate_board_answer vmstate_board_advance(struct vmstate_board *board, uint64_t moment);
 
-/* The processor acknowledges an interrupt, at the board's moment: the value is the vector. Call it where the output is high and
+/* The processor acknowledges an interrupt, at the board's moment: the value is the vector. Call it when the output is high and
  * the processor takes an interrupt. Statuses: DONE, NO_BOARD. */
 struct vmstate_board_answer vmstate_board_ack(struct vmstate_board *board);
 
@@ -123,10 +123,10 @@ struct vmstate_board_number vmstate_board_level(struct vmstate_board *board);
 
 /* ---- Migration */
 
-/* Writes the board's stream under a set of its kind, from its level to the newest, to the beginning of `room`; `describe` tells
- * whether the stream ends with the description of itself. The number is the stream's length; where the room is too small it is
- * the length that is needed. At any status but DONE the room is as it was, and bytes after the stream always are. `room` may be
- * null where `size` is 0.
+/* Writes the board's stream to the beginning of `room`, a buffer of `size` bytes. `set` is a set of the board's kind, from its level
+ * to the newest; `describe` says whether the stream ends with the description of itself. The number is the stream's length; if
+ * the room is too small, it is the required length. At any status but DONE the room is unchanged, and bytes after the stream
+ * always are. `room` may be null if `size` is 0.
  * Statuses: DONE, NONE_SUCH, NO_BOARD, NO_MEMORY, TOO_SMALL. */
 struct vmstate_board_number vmstate_board_save(struct vmstate_board *board, uint8_t set, bool describe, uint8_t *room, size_t size);
 
@@ -135,7 +135,7 @@ struct vmstate_board_number vmstate_board_save(struct vmstate_board *board, uint
 
 /* What a restore answers. At DONE `offset` is the stream's length. At REFUSED `offset` is where the stream is refused, `device` the
  * device of the newest set, from 0, or VMSTATE_BOARD_NO_DEVICE, `reason` one of vmstate_board_reason, and `rule` the number of the
- * device's rule (docs/format.md) where the reason is UNSOUND, else 0. All else is 0. */
+ * device's rule (docs/devices.md) if the reason is UNSOUND, else 0. Everything else is 0. */
 struct vmstate_board_restored {
     uint32_t status;
     uint32_t device;
@@ -144,8 +144,8 @@ struct vmstate_board_restored {
     uint32_t rule;
 };
 
-/* Restores the board from a stream that names its machine or none. At any status but DONE the board is as it was.
- * Statuses: DONE, REFUSED, NO_BOARD, NO_MEMORY. */
+/* Restores the board from a stream that names its machine or none. At any status but DONE the board is unchanged.
+ * Statuses: DONE, REFUSED, NO_BOARD. */
 struct vmstate_board_restored vmstate_board_restore(struct vmstate_board *board, const uint8_t *stream, size_t size);
 
 /* Why a stream is refused, in the words of `vmstate load`. */
