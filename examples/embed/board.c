@@ -1,5 +1,5 @@
-/* A board in a program: a guest's accesses, its interrupt, a byte on the serial line, and the board handed on by a stream. What can go
- * wrong is asked for too. */
+/* A board in a program: a guest's accesses, its interrupt, a byte on the serial line, and a second board that resumes from the stream
+ * of the first. Calls that fail are made too. */
 #include <stdio.h>
 #include <stdlib.h>
 #include <string.h>
@@ -27,8 +27,8 @@ static void restored(const char *what, struct vmstate_board_restored answer)
            (unsigned long long)answer.offset, (int)answer.device, answer.reason, answer.rule);
 }
 
-/* What a guest does first: the master's vectors from 8 on, all inputs open but the slave's, a tick each 10,000 clocks, FIFOs, and an
- * interrupt for each byte that comes. */
+/* What a guest does first: the master's vectors from 8 on, all inputs enabled except the slave's, a tick each 10,000 clocks, FIFOs,
+ * and an interrupt for each byte that arrives. */
 static void start(struct vmstate_board *board)
 {
     static const struct {

@@ -1,4 +1,4 @@
-/* Bad input at the border: what the call answers is printed, and what stands in the rooms then. */
+/* Bad input at the border: prints what the call answers, and what the buffers hold afterwards. */
 #include <stdio.h>
 #include <stdlib.h>
 #include <string.h>
@@ -12,7 +12,7 @@ enum { ROOM = 40 };
 
 static void call(const char *what, const struct vmstate_request *request, size_t out_room, size_t notes_room)
 {
-    /* rooms of exactly this length, so that valgrind sees a byte that is written behind them */
+    /* buffers of exactly this length, so that valgrind reports a byte that is written after them */
     uint8_t *out = out_room ? malloc(out_room) : NULL, *notes = notes_room ? malloc(notes_room) : NULL;
     if (out)
         memset(out, '.', out_room);

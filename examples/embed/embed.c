@@ -1,8 +1,8 @@
-/* Loads a snapshot, refuses a damaged one with its place, asks again where a room was too small, and writes the state of a
+/* Loads a snapshot, refuses a damaged one with its offset, calls again if a buffer was too small, and writes the state of a
  * board for an older program.
  *
  *     embed SET STREAM SAVED          a description file, a stream of it, and what a board saved
- *     embed SET STREAM SAVED CALLS    makes so many calls and tells the time of one and how far memory grew
+ *     embed SET STREAM SAVED CALLS    makes CALLS calls, and prints the time of one and by how much memory grew
  */
 #include <stdio.h>
 #include <stdlib.h>
@@ -50,7 +50,7 @@ static struct vmstate_bytes damaged(struct vmstate_bytes stream)
     return (struct vmstate_bytes){stream.at, stream.length - stream.length / 4};
 }
 
-/* Prints it, and what notes say. */
+/* Prints what `show` answers for `stream`, on standard output and on standard error. */
 static void tell(const char *what, struct vmstate_bytes set, struct vmstate_bytes stream)
 {
     size_t room = FIRST_ROOM;
@@ -76,7 +76,7 @@ static struct vmstate_answer convert(const char *target, struct vmstate_bytes sa
     return vmstate_call(&request, out, room, notes, NOTES_ROOM);
 }
 
-/* Writes it under an older set, in just the room that it wants, or says what would be lost. */
+/* Writes the board's stream under an older set, into a buffer of exactly the required length, or says what would be lost. */
 static void rewrite(const char *target, struct vmstate_bytes saved)
 {
     uint8_t notes[NOTES_ROOM], *out = NULL;
