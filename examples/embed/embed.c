@@ -76,7 +76,8 @@ static struct vmstate_answer convert(const char *target, struct vmstate_bytes sa
     return vmstate_call(&request, out, room, notes, NOTES_ROOM);
 }
 
-/* Writes the board's stream under an older set, into a buffer of exactly the required length, or says what would be lost. */
+/* Converts the board's stream for an older set, into a buffer of exactly the required length. Prints the status and the length, and
+ * what would be lost. */
 static void rewrite(const char *target, struct vmstate_bytes saved)
 {
     uint8_t notes[NOTES_ROOM], *out = NULL;
