@@ -1,5 +1,5 @@
 -- Which devices and which subsections came.
-use Rattle.std.proofs.Common.{◌≡◌, sym, ◌∙◌, refl, ap, subst, arith, ◌==◌, ℕ, zero, suc, ◌<◌, List, [], ◌∷◌, ◌++◌, length, map, slice_set, Option, Some, None, Bool, true, false}
+use Rattle.std.proofs.Common.{◌≡◌, sym, ◌∙◌, refl, ap, arith, ◌==◌, ℕ, zero, suc, ◌<◌, List, [], ◌∷◌, ◌++◌, length, map, slice_set, Option, Some, None, Bool, true, false}
 use Rattle.std.specs.List.{slice_get}
 use Rattle.std.proofs.lemmas.Bool.{eqb-true, eq-eqb}
 use Rattle.vms_spec.specs.Sets.{Device, Set, Sub}
@@ -48,15 +48,13 @@ same_lists [] (y ∷ ys) e h = absurd (omega arith)
 same_lists (x ∷ xs) [] e h = absurd (omega arith)
 same_lists (x ∷ xs) (y ∷ ys) e h =
     let a : Some x ≡ Some y = h 0 (omega arith) in
-    let b : x ≡ y = cc in
-    let c : xs ≡ ys = same_lists xs ys (omega arith) (λ k lt. h (suc k) (omega arith)) in
+    let c = same_lists xs ys (omega arith) (λ k lt. h (suc k) (omega arith)) in
     cc
 
 pub agrees : (images now : List Image) (came : List Bool) (k j : ℕ) (image : Image) → k < length now → slice_get images k ≡ Some image
     → (slice_get came j ≡ Some true → slice_get now j ≡ slice_get images j) → slice_get (slice_set came k true) j ≡ Some true
     → (b : Bool) → (j == k) ≡ b → slice_get (slice_set now k image) j ≡ slice_get images j
-agrees images now came k j image lt found agree e true same =
-    subst (λ (i : ℕ). slice_get (slice_set now k image) i ≡ slice_get images i) (sym (eqb-true j k same)) (at_set now k image lt ∙ sym found)
+agrees images now came k j image lt found agree e true same = rw (eqb-true j k same) (at_set now k image lt ∙ sym found)
 agrees images now came k j image lt found agree e false other =
     let ne : j ≡ k → ⊥ = λ x. (let f = eq-eqb j k x in cc) in
     at_other now k j image ne ∙ agree (sym (at_other came k j true ne) ∙ e)
@@ -68,7 +66,6 @@ none_versions [] = tt
 none_versions (s ∷ subs) = none_versions subs
 
 pub sub_front : (set : Set) (d : Device) (image : Image) (j w : ℕ) (s : Sub) (body : List ℕ) (o : Option Sub) (p : Option (Option ℕ)) → Some s ≡ o → Some (Some w) ≡ p
-    → Spells image.numbers (sub_slots set s w image.numbers (part_place set d j)) body → Streams.SubSpells set d image j o p (sub_head s.desc.name w ++ body)
-sub_front set d image j w s body o p e f h =
-    subst (λ (o : Option Sub). Streams.SubSpells set d image j o p (sub_head s.desc.name w ++ body)) e
-    (subst (λ (p : Option (Option ℕ)). Streams.SubSpells set d image j (Some s) p (sub_head s.desc.name w ++ body)) f (body, h, refl))
+    → Spells image.numbers (sub_slots set s w image.numbers (part_place set d j)) body
+    → Streams.SubSpells set d image j o p (sub_head s.desc.name w ++ body)
+sub_front set d image j w s body o p e f h = rw (← e, ← f) (body, h, refl)

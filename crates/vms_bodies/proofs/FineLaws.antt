@@ -1,14 +1,13 @@
 -- An image whose parts so far are read is normal and valid so far, and stays so when one part more is read.
-use Rattle.std.proofs.Common.{◌≡◌, ℕ, ◌+◌, ◌<◌, ◌≤◌, List, length, get_or, slice_set, Option, Some, None, ℤ, pos, refl, sym, ap, ◌∙◌, subst, arith, Bool, true, false, nat_lt, ◌==◌, ◌||◌}
+use Rattle.std.proofs.Common.{◌≡◌, ℕ, ◌+◌, ◌<◌, List, length, get_or, slice_set, Option, Some, None, ℤ, pos, refl, sym, ◌∙◌, arith, Bool, true, false, ◌==◌}
 use Rattle.std.specs.List.{slice_get}
-use Rattle.std.proofs.lemmas.Bool.{eqb-true, eq-eqb, ltb-true, ltb-false, or_parts}
+use Rattle.std.proofs.lemmas.Bool.{eqb-true, eq-eqb, or_parts}
 use Rattle.vms_spec.specs.Sets.{Sub, Device, Set}
 use Rattle.vms_spec.specs.Layout.{Slot, Cell, no_cell, device_cells}
 use Rattle.vms_spec.specs.Images.{Image, sub_place, sub_slots, own_slots, own_cells, came_slots, image_slots, RulesHold, has_cell, AreVersionsOf, IsVersionOf, IsNormal, IsValid, FitsCell}
-use Rattle.vms_spec.specs.Streams
 use Rattle.vms_bodies.specs.Cells.{AreCells}
 use Rattle.vms_spec.specs.Sound.{IsSound, AreSound}
-use Rattle.vms_bodies.proofs.Names.{names_append}
+use Rattle.vms_bodies.proofs.Names.{none_in_both, none_joined}
 use Rattle.vms_bodies.proofs.CellLaws.{cells_append}
 use Rattle.vms_bodies.proofs.SpellLaws.{FitSlots, fit_append, rules_append}
 use Rattle.vms_bodies.proofs.SectionLaws.{own_are}
@@ -16,9 +15,9 @@ use Rattle.vms_bodies.proofs.NormalFound.{named_fits}
 use Rattle.vms_spec.specs.Good.{DefaultsFit}
 use Rattle.vms_bodies.proofs.BodyLaws.{at_set}
 use Rattle.vms_bodies.proofs.SettledLaws.{SameIn}
-use Rattle.vms_bodies.proofs.AgreeLaws.{its_same, its_fit, its_hold, its_below, its_above}
+use Rattle.vms_bodies.proofs.AgreeLaws.{its_same, its_fit, its_hold, its_below, its_outside}
 use Rattle.std.proofs.lemmas.Option.{slice_get_within}
-use Rattle.vms_bodies.proofs.PartLaws.{at_other, sub_size, sub_place_up, places_apart, sub_are, parts_together, part_apart, names_next, versions_next}
+use Rattle.vms_bodies.proofs.PartLaws.{at_other, sub_size, sub_place_up, parts_apart, sub_are, parts_together, part_apart, names_next, versions_next}
 
 -- where subsection j begins
 abbrev pub part_place : Set → Device → ℕ → ℕ
@@ -51,46 +50,30 @@ stays_refl set d came n = record { own = in_refl 0 (0 + own_cells set d) n; part
 
 -- what came is another than what did not
 other_part : (came : List (Option ℕ)) (i j x : ℕ) → slice_get came i ≡ Some (Some x) → slice_get came j ≡ Some None → i ≡ j → ⊥
-other_part came i j x e f same = let g = sym e ∙ ap (slice_get came) same ∙ f in cc
+other_part came i j x e f same = cc
 
-pub came_still : (came : List (Option ℕ)) (i j x w : ℕ) → slice_get came i ≡ Some (Some x) → slice_get came j ≡ Some None → slice_get (slice_set came j (Some w)) i ≡ Some (Some x)
+pub came_still : (came : List (Option ℕ)) (i j x w : ℕ) → slice_get came i ≡ Some (Some x) → slice_get came j ≡ Some None
+    → slice_get (slice_set came j (Some w)) i ≡ Some (Some x)
 came_still came i j x w e f = at_other came j i (Some w) (other_part came i j x e f) ∙ e
 
-pub stays_on : (set : Set) (d : Device) (came : List (Option ℕ)) (j w : ℕ) (n m k : List ℤ) → slice_get came j ≡ Some None → Stays set d came n m → Stays set d (slice_set came j (Some w)) m k → Stays set d came n k
+pub stays_on : (set : Set) (d : Device) (came : List (Option ℕ)) (j w : ℕ) (n m k : List ℤ) → slice_get came j ≡ Some None → Stays set d came n m
+    → Stays set d (slice_set came j (Some w)) m k → Stays set d came n k
 stays_on set d came j w n m k f a b = record {
-  own = in_trans 0 (0 + own_cells set d) n m k a.own b.own;
-  parts = λ i s x e g. in_trans (part_place set d i) (part_place set d i + sub_size set s) n m k (a.parts i s x e g) (b.parts i s x e (came_still came i j x w g f));
+  own = in_trans _ _ n m k a.own b.own;
+  parts = λ i s x e g. in_trans _ _ n m k (a.parts i s x e g) (b.parts i s x e (came_still came i j x w g f));
 }
 
 -- a part's body changes its own cells alone
 pub stays_next : (set : Set) (d : Device) (came : List (Option ℕ)) (j w : ℕ) (t : Sub) (n m : List ℤ) → slice_get d.subs j ≡ Some t → slice_get came j ≡ Some None
     → ((c : ℕ) → has_cell (sub_slots set t w m (part_place set d j)) c ≡ false → get_or m c (pos 0) ≡ get_or n c (pos 0)) → Stays set d came n m
 stays_next set d came j w t n m there new kept =
-    let place = part_place set d j in
-    let below : (c : ℕ) → c < place → get_or m c (pos 0) ≡ get_or n c (pos 0) = λ c lt. kept c (its_below set t.desc w place m c lt) in
-    let above : (c : ℕ) → place + sub_size set t ≤ c → get_or m c (pos 0) ≡ get_or n c (pos 0) = λ c le. kept c (its_above set t.desc w place m c le) in
+    let first = own_cells set d in
     record {
-      own = record { same = λ c up lt. below c (omega (arith, sub_place_up set (own_cells set d) d.subs j)) };
-      parts = λ i s x e f. record { same = λ c up lt. part i s c e (other_part came i j x f new) up lt below above (nat_lt i j) refl };
+      own = record { same = λ c up lt. kept c (its_below set t.desc w (part_place set d j) m c (omega (arith, sub_place_up set first d.subs j))) };
+      parts = λ i s x e f. record {
+        same = λ c up lt. kept c (its_outside set t.desc w (part_place set d j) m c (parts_apart set first d.subs i j s t e there (other_part came i j x f new) c up lt));
+      };
     }
-  where
-    part : (i : ℕ) (s : Sub) (c : ℕ) → slice_get d.subs i ≡ Some s → (i ≡ j → ⊥) → part_place set d i ≤ c → c < part_place set d i + sub_size set s
-        → ((c : ℕ) → c < part_place set d j → get_or m c (pos 0) ≡ get_or n c (pos 0)) → ((c : ℕ) → part_place set d j + sub_size set t ≤ c → get_or m c (pos 0) ≡ get_or n c (pos 0))
-        → (b : Bool) → nat_lt i j ≡ b → get_or m c (pos 0) ≡ get_or n c (pos 0)
-    part i s c e ne up lt below above true l =
-        let less : i < j = ltb-true i j l in
-        below c (omega (arith, places_apart set (own_cells set d) d.subs i j s e less))
-    part i s c e ne up lt below above false l =
-        let le : j ≤ i = ltb-false i j l in
-        let less : j < i = order i j le ne in
-        above c (omega (arith, places_apart set (own_cells set d) d.subs j i t there less))
-      where
-        order : (i j : ℕ) → j ≤ i → (i ≡ j → ⊥) → j < i
-        order i j le ne = go (nat_lt j i) refl
-          where
-            go : (b : Bool) → nat_lt j i ≡ b → j < i
-            go true l = ltb-true j i l
-            go false l = let g : i ≤ j = ltb-false j i l in absurd (ne (omega arith))
 
 -- what holds of the new part and of those before holds of all
 pub next_parts : (subs : List Sub) (came : List (Option ℕ)) (j w : ℕ) (t : Sub) (P : ℕ → Sub → ℕ → Type 0) → slice_get subs j ≡ Some t → slice_get came j ≡ Some None
@@ -101,26 +84,24 @@ next_parts subs came j w t P there new here before i s x e f = go (i == j) refl
     go : (b : Bool) → (i == j) ≡ b → P i s x
     go true l =
         let same : i ≡ j = eqb-true i j l in
-        let a : Some t ≡ Some s = sym there ∙ ap (slice_get subs) (sym same) ∙ e in
+        let g = at_set came j (Some w) (slice_get_within came j None new) in
         let ts : t ≡ s = cc in
-        let g : Some (Some w) ≡ Some (Some x) = sym (at_set came j (Some w) (slice_get_within came j None new)) ∙ ap (slice_get (slice_set came j (Some w))) (sym same) ∙ f in
         let wx : w ≡ x = cc in
-        subst (λ (i : ℕ). P i s x) (sym same) (subst (λ (s : Sub). P j s x) ts (subst (λ (x : ℕ). P j t x) wx here))
-    go false l =
-        let ne : i ≡ j → ⊥ = λ same. (let g = eq-eqb i j same in cc) in
-        before i s x e (sym (at_other came j i (Some w) ne) ∙ f)
+        rw (same, ← ts, ← wx) here
+    go false l = before i s x e (sym (at_other came j i (Some w) (λ same. let g = eq-eqb i j same in cc)) ∙ f)
 
 -- the slots of the parts that came name the same cells
-pub names_stay : (set : Set) (d : Device) (came : List (Option ℕ)) (n m : List ℤ) (c : ℕ) → AreSound set.structs → ((j : ℕ) (s : Sub) → slice_get d.subs j ≡ Some s → IsSound s.desc) → Stays set d came n m
+pub names_stay : (set : Set) (d : Device) (came : List (Option ℕ)) (n m : List ℤ) (c : ℕ) → AreSound set.structs
+    → ((j : ℕ) (s : Sub) → slice_get d.subs j ≡ Some s → IsSound s.desc) → Stays set d came n m
     → has_cell (came_slots set d m (own_cells set d) d.subs came) c ≡ false → has_cell (came_slots set d n (own_cells set d) d.subs came) c ≡ false
 names_stay set d came n m c structs sound stays h =
-    parts_together set d n (λ xs. has_cell xs c ≡ false) refl (λ xs ys p q. names_append xs ys c ∙ ap (λ (b : Bool). b || has_cell ys c) p ∙ q) (own_cells set d) d.subs came
-    (λ i s x e f. ap (λ (xs : List Slot). has_cell xs c) (sym (its_same set s.desc x (part_place set d i) structs (sound i s e) n m (stays.parts i s x e f)))
-    ∙ part_apart set d m (λ xs. has_cell xs c ≡ false) (λ xs ys p. or_parts (has_cell xs c) (has_cell ys c) (sym (names_append xs ys c) ∙ p)) (own_cells set d) d.subs came h i s x e f)
+    parts_together set d n (λ xs. has_cell xs c ≡ false) refl (none_joined c) (own_cells set d) d.subs came (λ i s x e f.
+    rw (← (its_same set s.desc x (part_place set d i) structs (sound i s e) n m (stays.parts i s x e f)))
+    (part_apart set d m (λ xs. has_cell xs c ≡ false) (none_in_both c) (own_cells set d) d.subs came h i s x e f))
 
-pub fine_next : (set : Set) (d : Device) (v : ℕ) (came : List (Option ℕ)) (n m : List ℤ) (j w : ℕ) (t : Sub) → AreSound set.structs → IsSound d.desc → ((j : ℕ) (s : Sub) → slice_get d.subs j ≡ Some s → IsSound s.desc)
-    → slice_get d.subs j ≡ Some t → slice_get came j ≡ Some None → IsVersionOf t.desc w → length m ≡ length n
-    → FitSlots m (sub_slots set t w m (part_place set d j)) → RulesHold (sub_slots set t w m (part_place set d j))
+pub fine_next : (set : Set) (d : Device) (v : ℕ) (came : List (Option ℕ)) (n m : List ℤ) (j w : ℕ) (t : Sub) → AreSound set.structs → IsSound d.desc
+    → ((j : ℕ) (s : Sub) → slice_get d.subs j ≡ Some s → IsSound s.desc) → slice_get d.subs j ≡ Some t → slice_get came j ≡ Some None → IsVersionOf t.desc w
+    → length m ≡ length n → FitSlots m (sub_slots set t w m (part_place set d j)) → RulesHold (sub_slots set t w m (part_place set d j))
     → ((c : ℕ) → has_cell (sub_slots set t w m (part_place set d j)) c ≡ false → get_or m c (pos 0) ≡ get_or n c (pos 0))
     → Fine set d v came n → Fine set d v (slice_set came j (Some w)) m
 fine_next set d v came n m j w t structs own sound there new version long fits rules kept f =
@@ -131,47 +112,44 @@ fine_next set d v came n m j w t structs own sound there new version long fits r
       own_fits = its_fit set d.desc v 0 structs own n m stays.own f.own_fits;
       own_rules = its_hold set d.desc v 0 structs own n m stays.own f.own_rules;
       fits = next_parts d.subs came j w t (λ i s x. FitSlots m (sub_slots set s x m (part_place set d i))) there new fits
-          (λ i s x e g. its_fit set s.desc x (part_place set d i) structs (sound i s e) n m (stays.parts i s x e g) (f.fits i s x e g));
+          (λ i s x e g. its_fit set s.desc x _ structs (sound i s e) n m (stays.parts i s x e g) (f.fits i s x e g));
       rules = next_parts d.subs came j w t (λ i s x. RulesHold (sub_slots set s x m (part_place set d i))) there new rules
-          (λ i s x e g. its_hold set s.desc x (part_place set d i) structs (sound i s e) n m (stays.parts i s x e g) (f.rules i s x e g));
+          (λ i s x e g. its_hold set s.desc x _ structs (sound i s e) n m (stays.parts i s x e g) (f.rules i s x e g));
       absent = λ c a b.
-          let both = or_parts (has_cell (sub_slots set t w m (part_place set d j)) c) (has_cell (came_slots set d m (own_cells set d) d.subs came) c)
-          (sym (names_next set d m c (own_cells set d) d.subs came j t w there new) ∙ b) in
-          kept c both.0 ∙ f.absent c (ap (λ (xs : List Slot). has_cell xs c) (sym (its_same set d.desc v 0 structs own n m stays.own)) ∙ a) (names_stay set d came n m c structs sound stays both.1);
+          let both = or_parts _ _ (sym (names_next set d m c (own_cells set d) d.subs came j t w there new) ∙ b) in
+          kept c both.0 ∙ f.absent c (rw (its_same set d.desc v 0 structs own n m stays.own) at a) (names_stay set d came n m c structs sound stays both.1);
     }
 
 -- ---- the image at last
 
 pub image_are : (set : Set) (d : Device) (image : Image) → AreCells (device_cells set d) (image_slots set d image)
 image_are set d image =
-    cells_append (device_cells set d) (own_slots set d image.version image.numbers) (came_slots set d image.numbers (own_cells set d) d.subs image.came) (own_are set d image.version image.numbers)
-    (parts_together set d image.numbers (AreCells (device_cells set d)) tt (λ xs ys p q. cells_append (device_cells set d) xs ys p q) (own_cells set d) d.subs image.came
+    cells_append (device_cells set d) (own_slots set d image.version image.numbers) _ (own_are set d image.version image.numbers)
+    (parts_together set d image.numbers (AreCells (device_cells set d)) tt (cells_append (device_cells set d)) (own_cells set d) d.subs image.came
     (λ j s w e f. sub_are set d j s w image.numbers e))
+
+-- the number of a cell fits if it is named or at its default
+cell_fits : (all : List Cell) (n : List ℤ) (slots : List Slot) → DefaultsFit all → AreCells all slots → FitSlots n slots
+    → ((c : ℕ) → has_cell slots c ≡ false → get_or n c (pos 0) ≡ (get_or all c no_cell).default) → (c : ℕ) → c < length all → FitsCell (get_or all c no_cell) (get_or n c (pos 0))
+cell_fits all n slots fine a f h c lt = go (has_cell slots c) refl
+  where
+    go : (b : Bool) → has_cell slots c ≡ b → FitsCell (get_or all c no_cell) (get_or n c (pos 0))
+    go true e = named_fits all n slots c e f a
+    go false e = rw (h c e) (fine c lt)
 
 pub fine_normal : (set : Set) (d : Device) (v : ℕ) (came : List (Option ℕ)) (n : List ℤ) → IsVersionOf d.desc v → DefaultsFit (device_cells set d) → Fine set d v came n
     → IsNormal set d (record { version = v; came = came; numbers = n })
 fine_normal set d v came n version defaults f =
-    let all = device_cells set d in
     let image : Image = record { version = v; came = came; numbers = n } in
-    let slots = image_slots set d image in
-    let parts = came_slots set d n (own_cells set d) d.subs came in
-    let own = own_slots set d v n in
-    let fits : FitSlots n slots = fit_append n own parts f.own_fits (parts_together set d n (FitSlots n) tt (λ xs ys p q. fit_append n xs ys p q) (own_cells set d) d.subs came f.fits) in
-    let absent : (c : ℕ) → has_cell slots c ≡ false → get_or n c (pos 0) ≡ (get_or all c no_cell).default = λ c e.
-    let both = or_parts (has_cell own c) (has_cell parts c) (sym (names_append own parts c) ∙ e) in f.absent c both.0 both.1 in
+    let fits : FitSlots n (image_slots set d image) = fit_append n (own_slots set d v n) _ f.own_fits (parts_together set d n (FitSlots n) tt (fit_append n) (own_cells set d) d.subs came f.fits) in
+    let absent : (c : ℕ) → has_cell (image_slots set d image) c ≡ false → get_or n c (pos 0) ≡ (get_or (device_cells set d) c no_cell).default = λ c e.
+    let both = none_in_both c (own_slots set d v n) _ e in f.absent c both.0 both.1 in
     record {
       version = version;
       subs = f.versions;
-      cells = record { long = f.long; fits = λ c lt. cell all slots c lt defaults (image_are set d image) fits (absent c) (has_cell slots c) refl };
+      cells = record { long = f.long; fits = cell_fits (device_cells set d) n (image_slots set d image) defaults (image_are set d image) fits absent };
       absent = λ c lt e. absent c e;
     }
-  where
-    cell : (all : List Cell) (slots : List Slot) (c : ℕ) → c < length all → DefaultsFit all → AreCells all slots → FitSlots n slots → (has_cell slots c ≡ false → get_or n c (pos 0) ≡ (get_or all c no_cell).default)
-        → (b : Bool) → has_cell slots c ≡ b → FitsCell (get_or all c no_cell) (get_or n c (pos 0))
-    cell all slots c lt fine a f h true e = named_fits all n slots c e f a
-    cell all slots c lt fine a f h false e = subst (λ (z : ℤ). FitsCell (get_or all c no_cell) z) (sym (h e)) (fine c lt)
 
 pub fine_valid : (set : Set) (d : Device) (v : ℕ) (came : List (Option ℕ)) (n : List ℤ) → Fine set d v came n → IsValid set d (record { version = v; came = came; numbers = n })
-fine_valid set d v came n f =
-    rules_append (own_slots set d v n) (came_slots set d n (own_cells set d) d.subs came) f.own_rules
-    (parts_together set d n RulesHold tt (λ xs ys p q. rules_append xs ys p q) (own_cells set d) d.subs came f.rules)
+fine_valid set d v came n f = rules_append (own_slots set d v n) _ f.own_rules (parts_together set d n RulesHold tt rules_append (own_cells set d) d.subs came f.rules)

@@ -1,5 +1,5 @@
 -- What was taken as a description is a body of it.
-use Rattle.std.proofs.Common.{◌≡◌, ℕ, ◌+◌, ◌≤◌, List, [], ◌++◌, length, get_or, Ok, ℤ, pos, refl, sym, ap, ◌∙◌, subst, append-nil, false}
+use Rattle.std.proofs.Common.{◌≡◌, ℕ, ◌+◌, ◌≤◌, List, [], ◌++◌, length, get_or, Ok, ℤ, pos, refl, ◌∙◌, subst, append-nil, false}
 use Rattle.vms_kinds.specs.Bytes.{IsBytes}
 use Rattle.vms_spec.specs.Sets.{Desc}
 use Rattle.vms_spec.specs.Layout.{Slot, Cell, meanings, desc_slots, desc_cells}
@@ -24,24 +24,22 @@ pub record IsBody (slots : List ℤ → List Slot) (end : ℕ) (p q : Progress) 
 
 body_of : (slots : List ℤ → List Slot) (end : ℕ) (p q : Progress) → ComesTo slots (Spelled p) Anything end (λ m. []) (Ok q) → IsBody slots end p q
 body_of slots end p q c =
-    let done = c.0 in
     let h = c.1.holds in
-    let is : (m : List ℤ) → SameBelow end q.numbers m → done ≡ slots m = λ m s. sym (c.1.split m s ∙ append-nil done) in
+    let is : (m : List ℤ) → SameBelow end q.numbers m → slots m ≡ c.0 = λ m s. c.1.split m s ∙ append-nil c.0 in
     record {
       bytes = h.bytes;
       front = h.front;
       place = h.place;
-      spells = λ m s. subst (λ (xs : List Slot). Spells m xs h.bytes) (is m s) (h.spells m s);
-      fits = λ m s. subst (λ (xs : List Slot). FitSlots m xs) (is m s) (h.fits m s);
-      rules = λ m s. subst (λ (xs : List Slot). RulesHold xs) (is m s) h.rules;
+      spells = λ m s. rw (is m s) (h.spells m s);
+      fits = λ m s. rw (is m s) (h.fits m s);
+      rules = λ m s. rw (is m s) h.rules;
       long = h.long;
-      kept = λ m s k e. h.kept k (ap (λ (xs : List Slot). has_cell xs k) (is m s) ∙ e);
+      kept = λ m s k e. h.kept k (rw (is m s) at e);
     }
 
 -- a description of a set that is taken has this body
-pub body_found : (all : List Cell) (ds : List Desc) → AreSound ds → (d : Desc) (v base : ℕ) (p q : Progress) → IsSound d → IsBytes p.rest → length all ≤ length p.numbers
-    → ((m : List ℤ) → AreCells all (desc_slots (meanings ds (length ds)) d v m base))
-    → take_desc (takers ds (length ds)) d v base p ≡ Ok q
+pub body_found : (all : List Cell) (ds : List Desc) → AreSound ds → (d : Desc) (v base : ℕ) (p q : Progress) → IsSound d → IsBytes p.rest
+    → length all ≤ length p.numbers → ((m : List ℤ) → AreCells all (desc_slots (meanings ds (length ds)) d v m base)) → take_desc (takers ds (length ds)) d v base p ≡ Ok q
     → IsBody (λ m. desc_slots (meanings ds (length ds)) d v m base) (base + length (desc_cells (cells_of (takers ds (length ds))) d)) p q
 body_found all ds structs d v base p q sound ok room cells e =
     let slots : List ℤ → List Slot = λ m. desc_slots (meanings ds (length ds)) d v m base in

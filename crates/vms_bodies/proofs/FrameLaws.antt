@@ -1,5 +1,5 @@
 -- Readings: the allowed number of units doesn't matter, if it is enough.
-use Rattle.std.proofs.Common.{◌≡◌, ℕ, zero, suc, ◌+◌, ◌<◌, ◌≤◌, List, ◌++◌, length, drop, Option, refl, ap, ◌∙◌, drop_at, arith, length-drop}
+use Rattle.std.proofs.Common.{◌≡◌, ℕ, zero, suc, ◌+◌, ◌<◌, List, ◌++◌, length, drop, Option, refl, ◌∙◌, drop_at, arith, length-drop}
 use Rattle.vms_spec.specs.Readings.{Verdict, Goes, Faulty, Over, Reading, reading_from, reading_after}
 use Rattle.vms_bodies.specs.Whole.{reading_on, Advances}
 
@@ -17,24 +17,19 @@ enough judge a zero k state at rest h i = absurd (omega arith)
 enough judge a (suc m) zero state at rest h i = absurd (omega arith)
 enough judge a (suc m) (suc k) state at rest h i =
     after_same (reading_from judge m) (reading_from judge k) at rest (judge state rest) (λ n next e.
-    let b : (0 < n) × (n ≤ length rest) = a.goes state rest n next e in
-    let p : 0 < n = b.0 in
-    let q : n ≤ length rest = b.1 in
-    enough judge a m k next (at + n) (drop n rest) (omega (arith, length-drop n rest)) (omega (arith, length-drop n rest)))
+    let b = a.goes state rest n next e in
+    enough judge a m k next (at + n) (drop n rest) (omega (arith, b, length-drop n rest)) (omega (arith, b, length-drop n rest)))
 
 -- one unit, and the rest
 pub one_unit : {S : Type 0} (judge : S → List ℕ → Verdict S) → Advances judge → (state : S) (at : ℕ) (rest : List ℕ)
     → reading_on judge state at rest ≡ reading_after (reading_on judge) at rest (judge state rest)
 one_unit judge a state at rest =
     after_same (reading_from judge (length rest)) (reading_on judge) at rest (judge state rest) (λ n next e.
-    let b : (0 < n) × (n ≤ length rest) = a.goes state rest n next e in
-    let p : 0 < n = b.0 in
-    let q : n ≤ length rest = b.1 in
-    enough judge a (length rest) (suc (length (drop n rest))) next (at + n) (drop n rest) (omega (arith, length-drop n rest)) (omega arith))
+    let b = a.goes state rest n next e in
+    enough judge a (length rest) (suc (length (drop n rest))) next (at + n) (drop n rest) (omega (arith, b, length-drop n rest)) (omega arith))
 
 -- a unit that is spelled is read
 pub unit_read : {S : Type 0} (judge : S → List ℕ → Verdict S) → Advances judge → (state next : S) (at : ℕ) (unit rest : List ℕ) → judge state (unit ++ rest) ≡ Goes (length unit) next
     → reading_on judge state at (unit ++ rest) ≡ reading_on judge next (at + length unit) rest
 unit_read judge a state next at unit rest e =
-    one_unit judge a state at (unit ++ rest) ∙ ap (reading_after (reading_on judge) at (unit ++ rest)) e
-    ∙ ap (λ (l : List ℕ). reading_on judge next (at + length unit) l) (drop_at unit rest (length unit) refl)
+    one_unit judge a state at (unit ++ rest) ∙ rw (e, drop_at unit rest (length unit) refl) refl

@@ -1,10 +1,11 @@
 -- A section head that is read is spelled so.
-use Rattle.std.proofs.Common.{◌≡◌, ℕ, zero, suc, ◌+◌, ◌<◌, ◌≤◌, List, ◌∷◌, ◌++◌, length, get_or, take, drop, Some, refl, sym, ap, ◌∙◌, arith, append_assoc, length-drop, get_or-drop, Bool, true, false, if◌then◌else◌, ◌==◌, ◌&&◌, []}
+use Rattle.std.proofs.Common.{◌≡◌, ℕ, zero, suc, ◌+◌, ◌<◌, ◌≤◌, List, ◌∷◌, ◌++◌, length, get_or, slice_index, take, drop, Some, refl, sym, ap, ◌∙◌, arith, append_assoc, length-drop, Bool, true, false, if◌then◌else◌, ◌==◌, ◌&&◌, []}
 use Rattle.std.specs.List.{slice_get}
 use Rattle.std.specs.Str.{bytes_eq}
-use Rattle.std.proofs.lemmas.List.{drop-drop, take-append-drop, length-take-le}
+use Rattle.std.proofs.lemmas.List.{drop-drop, take-append-drop, length-take-le, get_or-take}
+use Rattle.std.proofs.Math.Seq.{drop-cons}
 use Rattle.std.proofs.lemmas.Bool.{eqb-true, and_parts}
-use Rattle.byteorder.specs.Endian.{big_number, big_bytes}
+use Rattle.byteorder.specs.Endian.{big_number, big_from, big_bytes}
 use Rattle.vms_kinds.specs.declared.Kind.TheVariants.{U32}
 use Rattle.vms_kinds.proofs.CodeLemmas.{again}
 use Rattle.vms_kinds.proofs.ByteLemmas.{bytes_first}
@@ -12,7 +13,6 @@ use Rattle.vms_kinds.specs.Bytes.{IsBytes}
 use Rattle.vms_spec.specs.Sets.{Device}
 use Rattle.vms_spec.specs.Streams.{be32, section_head}
 use Rattle.vms_spec.specs.Lookup.{number_at, bytes_at, find_device}
-use Rattle.vms_bodies.proofs.UnitLaws.{number_take}
 
 -- ---- bytes
 
@@ -28,35 +28,46 @@ pub split_one : (xs : List ℕ) → 1 ≤ length xs → xs ≡ get_or xs 0 0 ∷
 split_one [] h = absurd (omega arith)
 split_one (x ∷ xs) h = refl
 
+big_from_take : (i k : ℕ) (xs : List ℕ) (m : ℕ) → i + k ≤ m → big_from i k (take m xs) ≡ big_from i k xs
+big_from_take i zero xs m le = refl
+big_from_take i (suc k) xs m le =
+    let e : slice_index (take m xs) i ≡ slice_index xs i = get_or-take m xs i 0 (omega arith) in
+    let f : big_from (suc i) k (take m xs) ≡ big_from (suc i) k xs = big_from_take (suc i) k xs m (omega arith) in
+    rw (e, f) refl
+
+number_take : (k : ℕ) (xs : List ℕ) → big_number k (take k xs) ≡ big_number k xs
+number_take k xs = big_from_take 0 k xs k (omega arith)
+
 pub split_four : (xs : List ℕ) → IsBytes xs → 4 ≤ length xs → xs ≡ be32 (big_number 4 xs) ++ drop 4 xs
 split_four xs ok long =
     sym (take-append-drop 4 xs)
     ∙ ap (λ (l : List ℕ). l ++ drop 4 xs) (sym (again U32 (take 4 xs) (length-take-le 4 xs long) (bytes_first 4 xs ok)) ∙ ap (big_bytes 4) (number_take 4 xs))
 
+pub four_at : (k after : ℕ) (rest : List ℕ) → IsBytes rest → after ≡ k + 4 → after ≤ length rest → drop k rest ≡ be32 (number_at 4 k rest) ++ drop after rest
+four_at k after rest ok e le =
+    split_four (drop k rest) (is_bytes_drop k rest ok) (omega (arith, length-drop k rest)) ∙ ap (λ (l : List ℕ). be32 (number_at 4 k rest) ++ l) (drop-drop 4 k rest ∙ rw e refl)
+
+pub text_at : (n k : ℕ) (rest : List ℕ) → drop k rest ≡ bytes_at n k rest ++ drop (k + n) rest
+text_at n k rest = sym (take-append-drop n (drop k rest)) ∙ ap (λ (l : List ℕ). bytes_at n k rest ++ l) (drop-drop n k rest)
+
+pub text_long : (n k : ℕ) (rest : List ℕ) → k + n ≤ length rest → length (bytes_at n k rest) ≡ n
+text_long n k rest le = length-take-le n (drop k rest) (omega (arith, length-drop k rest))
+
 pub head_bytes : (rest : List ℕ) (n : ℕ) → IsBytes rest → get_or rest 0 0 ≡ 0x04 → get_or rest 5 0 ≡ n → 14 + n ≤ length rest
     → rest ≡ section_head (number_at 4 1 rest) (bytes_at n 6 rest) (number_at 4 (6 + n) rest) (number_at 4 (10 + n) rest) ++ drop (14 + n) rest
 head_bytes rest n ok mark size long =
-    let id = number_at 4 1 rest in
+    let id = be32 (number_at 4 1 rest) in
     let name = bytes_at n 6 rest in
-    let instance = number_at 4 (6 + n) rest in
-    let v = number_at 4 (10 + n) rest in
+    let instance = be32 (number_at 4 (6 + n) rest) in
+    let v = be32 (number_at 4 (10 + n) rest) in
     let tail = drop (14 + n) rest in
-    let four : (k : ℕ) → k + 4 ≤ length rest → drop k rest ≡ be32 (number_at 4 k rest) ++ drop (k + 4) rest = λ k le.
-    split_four (drop k rest) (is_bytes_drop k rest ok) (omega (arith, length-drop k rest)) ∙ ap (λ (l : List ℕ). be32 (number_at 4 k rest) ++ l) (drop-drop 4 k rest) in
-    let e1 : rest ≡ 0x04 ∷ drop 1 rest = split_one rest (omega arith) ∙ ap (λ (b : ℕ). b ∷ drop 1 rest) mark in
-    let e2 : drop 1 rest ≡ be32 id ++ drop 5 rest = four 1 (omega arith) in
-    let e3 : drop 5 rest ≡ n ∷ drop 6 rest =
-    split_one (drop 5 rest) (omega (arith, length-drop 5 rest)) ∙ ap (λ (b : ℕ). b ∷ drop 1 (drop 5 rest)) (get_or-drop 5 rest 0 0 ∙ size) ∙ ap (λ (l : List ℕ). n ∷ l) (drop-drop 1 5 rest) in
-    let e4 : drop 6 rest ≡ name ++ drop (6 + n) rest = sym (take-append-drop n (drop 6 rest)) ∙ ap (λ (l : List ℕ). name ++ l) (drop-drop n 6 rest) in
-    let e5 : drop (6 + n) rest ≡ be32 instance ++ drop (10 + n) rest = four (6 + n) (omega arith) ∙ ap (λ (k : ℕ). be32 instance ++ drop k rest) (shift 6 n 10 refl) in
-    let e6 : drop (10 + n) rest ≡ be32 v ++ tail = four (10 + n) (omega arith) ∙ ap (λ (k : ℕ). be32 v ++ drop k rest) (shift 10 n 14 refl) in
-    e1 ∙ ap (λ (l : List ℕ). 0x04 ∷ l) e2 ∙ ap (λ (l : List ℕ). 0x04 ∷ (be32 id ++ l)) e3
-    ∙ ap (λ (l : List ℕ). 0x04 ∷ (be32 id ++ (n ∷ l))) (e4 ∙ ap (λ (l : List ℕ). name ++ l) (e5 ∙ ap (λ (l : List ℕ). be32 instance ++ l) e6)
-    ∙ sym (append_assoc name (be32 instance) (be32 v ++ tail)) ∙ sym (append_assoc (name ++ be32 instance) (be32 v) tail))
-    ∙ ap (λ (k : ℕ). 0x04 ∷ (be32 id ++ (k ∷ (((name ++ be32 instance) ++ be32 v) ++ tail)))) (sym (length-take-le n (drop 6 rest) (omega (arith, length-drop 6 rest))))
-  where
-    shift : (a n b : ℕ) → a + 4 ≡ b → (a + n) + 4 ≡ b + n
-    shift a n b e = omega arith
+    let e3 : drop 5 rest ≡ n ∷ drop 6 rest = drop-cons rest 5 0 (omega arith) ∙ ap (λ (b : ℕ). b ∷ drop 6 rest) size in
+    let e5 : drop (6 + n) rest ≡ instance ++ (v ++ tail) =
+    four_at (6 + n) (10 + n) rest ok (omega arith) (omega arith) ∙ ap (λ (l : List ℕ). instance ++ l) (four_at (10 + n) (14 + n) rest ok (omega arith) long) in
+    split_one rest (omega arith) ∙ ap (λ (b : ℕ). b ∷ drop 1 rest) mark
+    ∙ ap (λ (l : List ℕ). 0x04 ∷ l) (four_at 1 5 rest ok (omega arith) (omega arith) ∙ ap (λ (l : List ℕ). id ++ l) (e3 ∙ ap (λ (l : List ℕ). n ∷ l) (text_at n 6 rest ∙ ap (λ (l : List ℕ). name ++ l) e5
+    ∙ sym (append_assoc name instance (v ++ tail)) ∙ sym (append_assoc (name ++ instance) v tail))))
+    ∙ ap (λ (k : ℕ). 0x04 ∷ (id ++ (k ∷ (((name ++ instance) ++ v) ++ tail)))) (sym (text_long n 6 rest (omega arith)))
 
 -- ---- the device that is found
 
@@ -73,15 +84,13 @@ found_here : (d : Device) (devices : List Device) (j : ℕ) (name : List ℕ) (i
     → (b : Bool) → (bytes_eq d.desc.name name && d.instance == instance) ≡ b → (if b then Some j else find_device (suc j) devices name instance) ≡ Some k
     → Found (d ∷ devices) j name instance k
 found_here d devices j name instance k later true t e =
-    let h = and_parts (bytes_eq d.desc.name name) (d.instance == instance) t in
+    let h = and_parts (bytes_eq d.desc.name name) _ t in
     let same : j ≡ k = cc in
     record { i = 0; is = omega arith; device = d; there = refl; name_is = h.0; instance_is = eqb-true d.instance instance h.1 }
 found_here d devices j name instance k later false f e =
     let h = later e in
-    let same : k ≡ suc j + h.i = h.is in
-    record { i = suc h.i; is = omega arith; device = h.device; there = h.there; name_is = h.name_is; instance_is = h.instance_is }
+    record { i = suc h.i; is = omega (arith, h.is); device = h.device; there = h.there; name_is = h.name_is; instance_is = h.instance_is }
 
 pub found_is : (devices : List Device) (j : ℕ) (name : List ℕ) (instance k : ℕ) → find_device j devices name instance ≡ Some k → Found devices j name instance k
 found_is [] j name instance k e = cc
-found_is (d ∷ devices) j name instance k e =
-    found_here d devices j name instance k (found_is devices (suc j) name instance k) (bytes_eq d.desc.name name && d.instance == instance) refl e
+found_is (d ∷ devices) j name instance k e = found_here d devices j name instance k (found_is devices (suc j) name instance k) _ refl e

@@ -1,5 +1,5 @@
 -- What the reader of a body leaves: the bytes from its offset on, also if a unit is invalid.
-use Rattle.std.proofs.Common.{◌≡◌, ℕ, ◌+◌, ◌-◌, ◌≤◌, List, [], ◌∷◌, ◌++◌, length, drop, Ok, Err, ℤ, refl, ap, ◌∙◌, arith}
+use Rattle.std.proofs.Common.{◌≡◌, ℕ, ◌+◌, ◌-◌, ◌≤◌, List, [], ◌∷◌, ◌++◌, length, drop, Ok, Err, ℤ, refl, arith}
 use Rattle.std.proofs.lemmas.List.{drop-drop}
 use Rattle.vms_spec.specs.Sets.{Desc}
 use Rattle.vms_spec.specs.Layout.{Slot, Number, meanings, desc_slots}
@@ -20,8 +20,8 @@ module _ (at : ℕ) (input : List ℕ) where
 
   further : (n : ℕ) (p : Progress) → IsLeft p.place p.rest → IsLeft (p.place + n) (drop n p.rest)
   further n p h =
-      let sum : p.place - at + n ≡ p.place + n - at = omega (arith, h.from) in
-      record { from = omega (arith, h.from); is = ap (drop n) h.is ∙ drop-drop n (p.place - at) input ∙ ap (λ (k : ℕ). drop k input) sum }
+      let sum : p.place + n - at ≡ p.place - at + n = omega (arith, h.from) in
+      record { from = omega (arith, h.from); is = rw (sum, h.is) (drop-drop n (p.place - at) input) }
 
   slot_left : (slot : Slot) (p : Progress) → IsLeft p.place p.rest → Leaves (take_slot slot p)
   slot_left slot p h = slot_gives Leaves p (λ reason n. h) slot (λ n numbers s. further n p h) h
@@ -40,8 +40,8 @@ module _ (at : ℕ) (input : List ℕ) where
     keeping : Keeping total Holds Fails
     keeping = record {
       less = λ cell further done left p le up l. l.holds;
-      number = λ cell kind caps done left p up l. gives (cell + 1) (done ++ Number cell kind caps ∷ []) (take_slot (Number cell kind caps) p) (slot_left (Number cell kind caps) p l.holds);
-      other = λ cell slot done left p o up l. gives cell (done ++ slot ∷ []) (take_slot slot p) (slot_left slot p l.holds);
+      number = λ cell kind caps done left p up l. gives (cell + 1) (done ++ Number cell kind caps ∷ []) _ (slot_left (Number cell kind caps) p l.holds);
+      other = λ cell slot done left p o up l. gives cell (done ++ slot ∷ []) _ (slot_left slot p l.holds);
     }
 
     leaves : (cell : ℕ) (left : List ℤ → List Slot) (t : Taken) → ComesTo total Holds Fails cell left t → Leaves t
@@ -49,10 +49,11 @@ module _ (at : ℕ) (input : List ℕ) where
     leaves cell left (Err e) c = c
 
 -- from the front of the input on
-pub desc_leaves : (structs : List Desc) → AreSound structs → (d : Desc) (v base : ℕ) (p : Progress) → IsSound d → Leaves p.place p.rest (take_desc (takers structs (length structs)) d v base p)
+pub desc_leaves : (structs : List Desc) → AreSound structs → (d : Desc) (v base : ℕ) (p : Progress) → IsSound d
+    → Leaves p.place p.rest (take_desc (takers structs (length structs)) d v base p)
 desc_leaves structs sound d v base p good =
     let total : List ℤ → List Slot = λ m. desc_slots (meanings structs (length structs)) d v m base in
-    let none : 0 ≡ p.place - p.place = omega arith in
-    let here : IsLeft p.place p.rest p.place p.rest = record { from = omega arith; is = ap (λ (n : ℕ). drop n p.rest) none } in
-    let c = set_desc_comes total (Holds p.place p.rest) (Fails p.place p.rest) (keeping p.place p.rest total) structs sound d v base p good (λ m. refl) here in
-    leaves p.place p.rest total _ (λ m. []) (take_desc (takers structs (length structs)) d v base p) c.comes
+    let none : p.place - p.place ≡ 0 = omega arith in
+    let c = set_desc_comes total (Holds p.place p.rest) (Fails p.place p.rest) (keeping p.place p.rest total) structs sound d v base p good (λ m. refl)
+    (record { from = omega arith; is = rw none refl }) in
+    leaves p.place p.rest total _ (λ m. []) _ c.comes

@@ -24,7 +24,6 @@ pub mod Stated
 pub mod StepLaws
 pub mod SubHeads
 pub mod SubsOnly
-pub mod UnitLaws
 pub mod WalkLaws
 pub mod Widths
 pub mod WrittenLaws

@@ -1,11 +1,11 @@
 -- Where fields begin, and which tests don't change.
-use Rattle.std.proofs.Common.{◌≡◌, ℕ, zero, suc, ◌+◌, ◌*◌, ◌<◌, ◌≤◌, List, [], ◌∷◌, length, get_or, drop, Option, Some, None, ℤ, pos, refl, ap, ◌∙◌, arith, length-append, Bool, not, ◌&&◌, ◌||◌, bit_and, min}
+use Rattle.std.proofs.Common.{◌≡◌, ℕ, zero, suc, ◌+◌, ◌*◌, ◌<◌, ◌≤◌, List, [], ◌∷◌, length, get_or, drop, Option, Some, None, ℤ, pos, refl, ap, ◌∙◌, arith, length-append, not, bit_and, min}
 use Rattle.std.specs.List.{AllByRecursion}
 use Rattle.vms_kinds.specs.declared.Item.{Item}
-use Rattle.vms_kinds.specs.declared.Item.TheVariants.{Num, Equal, Unused, Struct}
+use Rattle.vms_kinds.specs.declared.Item.TheVariants.{Num}
 use Rattle.vms_kinds.specs.Codes.{width, residue}
 use Rattle.vms_spec.specs.declared.Count.{Count}
-use Rattle.vms_spec.specs.declared.Count.TheVariants.{One, Fixed, Counted}
+use Rattle.vms_spec.specs.declared.Count.TheVariants.{One, Counted}
 use Rattle.vms_spec.specs.declared.Whose.TheVariants.{Own, Parent}
 use Rattle.vms_spec.specs.Sets.{Formula, AtLeast, Below, Cell, Not, And, Or, Field, Desc}
 use Rattle.vms_spec.specs.Tests.{truth, is_there, compares}
@@ -30,11 +30,8 @@ same_trans cell n m k s t = record { same = λ c h. t.same c h ∙ s.same c h }
 
 one_cell : (cs : List (List OneCell)) (item : Item) (c : Count) → IsNumber item → IsOne c → capacity_of c * item_size cs item ≡ 1
 one_cell cs (Num kind) One p q = refl
-one_cell cs (Num kind) (Fixed n) p q = absurd q
-one_cell cs (Num kind) (Counted by most) p q = absurd q
-one_cell cs (Equal kind z) c p q = absurd p
-one_cell cs (Unused n) c p q = absurd p
-one_cell cs (Struct j) c p q = absurd p
+one_cell cs (Num kind) _ p q = absurd q
+one_cell cs _ c p q = absurd p
 
 place_zero : (cs : List (List OneCell)) (fields : List Field) (i at : ℕ) (fs : List Field) → place_of cs fields i at fs zero ≡ at
 place_zero cs fields i at [] = refl
@@ -61,12 +58,10 @@ place_next cs fields i at [] (suc k) f more e = cc
 place_next cs fields i at (g ∷ fs) zero f more e =
     let same : g ≡ f = cc in
     let z : i ≡ i + 0 = omega arith in
-    place_zero cs fields (suc i) (at + length (field_cells cs fields i g)) fs
-    ∙ ap (λ (h : Field). at + length (field_cells cs fields i h)) same ∙ ap (λ (k : ℕ). at + length (field_cells cs fields k f)) z
+    rw (← z, ← same) (place_zero cs fields (suc i) (at + length (field_cells cs fields i g)) fs)
 place_next cs fields i at (g ∷ fs) (suc k) f more e =
-    let z : suc i + k ≡ i + suc k = omega arith in
-    place_next cs fields (suc i) (at + length (field_cells cs fields i g)) fs k f more e
-    ∙ ap (λ (n : ℕ). place_of cs fields (suc i) (at + length (field_cells cs fields i g)) fs k + length (field_cells cs fields n f)) z
+    let z : i + suc k ≡ suc i + k = omega arith in
+    rw z (place_next cs fields (suc i) (at + length (field_cells cs fields i g)) fs k f more e)
 
 pub place_end : (cs : List (List OneCell)) (fields : List Field) (i at : ℕ) (fs : List Field) → place_of cs fields i at fs (length fs) ≡ at + length (cells_from cs fields i fs)
 place_end cs fields i at [] = omega arith
@@ -81,31 +76,26 @@ own_same cs d base i cell j n m e s x =
     ap (λ (z : ℤ). residue (width (kind_of (get_or d.fields j no_field).item)) z)
     (s.same (place_of cs d.fields 0 base d.fields j) (omega (arith, place_below cs d.fields 0 base d.fields j i x.earlier x.there x.number x.one)))
 
-pub truth_same : (fields : List Field) (i v : ℕ) (own now : ℕ → ℕ) → ((j : ℕ) → IsEarlier fields i j → now j ≡ own j) → (t : Formula) → NamesEarlier fields i t
-    → truth t v now no_parent ≡ truth t v own no_parent
-truth_same fields i v own now h (AtLeast n) x = refl
-truth_same fields i v own now h (Below n) x = refl
-truth_same fields i v own now h (Cell Own j mask rel value) x = ap (λ (k : ℕ). compares rel (bit_and k mask) value) (h j x)
-truth_same fields i v own now h (Cell Parent j mask rel value) x = refl
-truth_same fields i v own now h (Not t) x = ap not (truth_same fields i v own now h t x)
-truth_same fields i v own now h (And s t) x =
-    ap (λ (b : Bool). b && truth t v now no_parent) (truth_same fields i v own now h s x.0) ∙ ap (λ (b : Bool). truth s v own no_parent && b) (truth_same fields i v own now h t x.1)
-truth_same fields i v own now h (Or s t) x =
-    ap (λ (b : Bool). b || truth t v now no_parent) (truth_same fields i v own now h s x.0) ∙ ap (λ (b : Bool). truth s v own no_parent || b) (truth_same fields i v own now h t x.1)
+module _ (fields : List Field) (i v : ℕ) (own now : ℕ → ℕ) (h : (j : ℕ) → IsEarlier fields i j → now j ≡ own j) where
+  pub truth_same : (t : Formula) → NamesEarlier fields i t → truth t v now no_parent ≡ truth t v own no_parent
+  truth_same (AtLeast n) x = refl
+  truth_same (Below n) x = refl
+  truth_same (Cell Own j mask rel value) x = ap (λ (k : ℕ). compares rel (bit_and k mask) value) (h j x)
+  truth_same (Cell Parent j mask rel value) x = refl
+  truth_same (Not t) x = ap not (truth_same t x)
+  truth_same (And s t) x = rw (truth_same s x.0, truth_same t x.1) refl
+  truth_same (Or s t) x = rw (truth_same s x.0, truth_same t x.1) refl
 
-pub there_same : (fields : List Field) (i v since : ℕ) (own now : ℕ → ℕ) → ((j : ℕ) → IsEarlier fields i j → now j ≡ own j) → (t : Option Formula) → IsSoundTest fields i t
-    → is_there t since v now no_parent ≡ is_there t since v own no_parent
+  pub hold_same : (ts : List Formula) → AllByRecursion (NamesEarlier fields i) ts → all_hold ts v now ≡ all_hold ts v own
+  hold_same [] x = refl
+  hold_same (t ∷ ts) x = rw (truth_same t x.0, hold_same ts x.1) refl
+
+pub there_same : (fields : List Field) (i v since : ℕ) (own now : ℕ → ℕ) → ((j : ℕ) → IsEarlier fields i j → now j ≡ own j) → (t : Option Formula)
+    → IsSoundTest fields i t → is_there t since v now no_parent ≡ is_there t since v own no_parent
 there_same fields i v since own now h None x = refl
 there_same fields i v since own now h (Some t) x = truth_same fields i v own now h t x
 
-pub elements_same : (fields : List Field) (i : ℕ) (own now : ℕ → ℕ) → ((j : ℕ) → IsEarlier fields i j → now j ≡ own j) → (c : Count) → IsSoundCount fields i c
-    → elements_of c now ≡ elements_of c own
-elements_same fields i own now h One x = refl
-elements_same fields i own now h (Fixed n) x = refl
+pub elements_same : (fields : List Field) (i : ℕ) (own now : ℕ → ℕ) → ((j : ℕ) → IsEarlier fields i j → now j ≡ own j) → (c : Count)
+    → IsSoundCount fields i c → elements_of c now ≡ elements_of c own
 elements_same fields i own now h (Counted by most) x = ap (λ (k : ℕ). min k most) (h by x)
-
-pub hold_same : (fields : List Field) (i v : ℕ) (own now : ℕ → ℕ) → ((j : ℕ) → IsEarlier fields i j → now j ≡ own j) → (ts : List Formula) → AllByRecursion (NamesEarlier fields i) ts
-    → all_hold ts v now ≡ all_hold ts v own
-hold_same fields i v own now h [] x = refl
-hold_same fields i v own now h (t ∷ ts) x =
-    ap (λ (b : Bool). b && all_hold ts v now) (truth_same fields i v own now h t x.0) ∙ ap (λ (b : Bool). truth t v own no_parent && b) (hold_same fields i v own now h ts x.1)
+elements_same fields i own now h _ x = refl

@@ -1,5 +1,5 @@
 -- The tests of readiness are the relations.
-use Rattle.std.proofs.Common.{◌≡◌, ℕ, zero, suc, ◌+◌, ◌<◌, List, ◌∷◌, length, get_or, Option, Some, None, ℤ, pos, negsuc, ◌≤ℤ◌, refl, sym, ap, ◌∙◌, subst, arith, Bool, true, false, not, ◌&&◌, ◌==◌, nat_le, [], ◌||◌}
+use Rattle.std.proofs.Common.{◌≡◌, ℕ, zero, suc, ◌+◌, ◌<◌, List, ◌∷◌, length, get_or, Option, Some, None, ℤ, pos, negsuc, ◌≤ℤ◌, refl, ap, arith, Bool, true, false, not, ◌&&◌, ◌==◌, nat_le, [], ◌||◌}
 use Rattle.std.specs.List.{AllByRecursion}
 use Rattle.std.proofs.lemmas.Bool.{and_parts, not-true, leb-true, le-leb, eqb-true, eq-eqb, and_from, not_from_false}
 use Rattle.std.proofs.lemmas.Int.{ints}
@@ -7,7 +7,7 @@ use Rattle.vms_kinds.specs.declared.Kind.{Kind}
 use Rattle.vms_kinds.specs.Codes.{lowest, highest, InRange}
 use Rattle.vms_spec.specs.Numbers.{same_number}
 use Rattle.vms_spec.specs.Sets.{Desc, Sub, Device, Set}
-use Rattle.vms_spec.specs.Layout.{Cell, no_cell, device_cells, Slot, Number, Constant, Filler, Rule}
+use Rattle.vms_spec.specs.Layout.{Cell, no_cell, device_cells, Slot, Rule}
 use Rattle.vms_spec.specs.Images.{Image, has_cell, image_slots, IsVersionOf, AreVersionsOf, FitsCell, FitCells, IsNormal, RulesHold}
 use Rattle.vms_spec.specs.Streams.{is_needed, ComeAsNeeded, IsReady}
 use Rattle.vms_spec.specs.Rules.{int_le, in_range, counts_well}
@@ -25,36 +25,36 @@ below_int (negsuc a) (pos b) h = refl
 below_int (negsuc a) (negsuc b) h = le-leb b a (omega (arith, ints))
 
 pub is_same : (z u : ℤ) → z ≡ u → same_number z u ≡ true
-is_same z u e = subst (λ (u : ℤ). same_number z u ≡ true) e (same_number_itself z)
+is_same z u e = rw (← e) (same_number_itself z)
 
 pub ranged : (kind : Kind) (z : ℤ) → InRange kind z → in_range kind z ≡ true
-ranged kind z h = and_from (int_le (lowest kind) z) (int_le z (highest kind)) (below_int (lowest kind) z h.0) (below_int z (highest kind) h.1)
+ranged kind z h = and_from _ _ (below_int (lowest kind) z h.0) (below_int z (highest kind) h.1)
 
 pub counted_well : (caps : List ℕ) (z : ℤ) → AllByRecursion (λ most. z ≤ℤ pos most) caps → counts_well caps z ≡ true
 counted_well [] z h = refl
-counted_well (m ∷ caps) z h = and_from (int_le z (pos m)) (counts_well caps z) (below_int z (pos m) h.0) (counted_well caps z h.1)
+counted_well (m ∷ caps) z h = and_from _ _ (below_int z (pos m) h.0) (counted_well caps z h.1)
 
 -- ---- versions
 
 pub version_is : (d : Desc) (v : ℕ) → is_version_of d v ≡ true → IsVersionOf d v
-version_is d v e = let p = and_parts (nat_le d.minimum v) (nat_le v d.version) e in (leb-true d.minimum v p.0, leb-true v d.version p.1)
+version_is d v e = let p = and_parts (nat_le d.minimum v) _ e in (leb-true d.minimum v p.0, leb-true v d.version p.1)
 
 pub is_version : (d : Desc) (v : ℕ) → IsVersionOf d v → is_version_of d v ≡ true
-is_version d v h = and_from (nat_le d.minimum v) (nat_le v d.version) (le-leb d.minimum v h.0) (le-leb v d.version h.1)
+is_version d v h = and_from _ _ (le-leb d.minimum v h.0) (le-leb v d.version h.1)
 
 versions_are : (subs : List Sub) (came : List (Option ℕ)) → are_versions_of subs came ≡ true → AreVersionsOf subs came
 versions_are [] [] e = tt
 versions_are [] (o ∷ came) e = cc
 versions_are (s ∷ subs) [] e = cc
 versions_are (s ∷ subs) (None ∷ came) e = versions_are subs came e
-versions_are (s ∷ subs) (Some v ∷ came) e = let p = and_parts (is_version_of s.desc v) (are_versions_of subs came) e in (version_is s.desc v p.0, versions_are subs came p.1)
+versions_are (s ∷ subs) (Some v ∷ came) e = let p = and_parts (is_version_of s.desc v) _ e in (version_is s.desc v p.0, versions_are subs came p.1)
 
 are_versions : (subs : List Sub) (came : List (Option ℕ)) → AreVersionsOf subs came → are_versions_of subs came ≡ true
 are_versions [] [] h = refl
 are_versions [] (o ∷ came) h = absurd h
 are_versions (s ∷ subs) [] h = absurd h
 are_versions (s ∷ subs) (None ∷ came) h = are_versions subs came h
-are_versions (s ∷ subs) (Some v ∷ came) h = and_from (is_version_of s.desc v) (are_versions_of subs came) (is_version s.desc v h.0) (are_versions subs came h.1)
+are_versions (s ∷ subs) (Some v ∷ came) h = and_from _ _ (is_version s.desc v h.0) (are_versions subs came h.1)
 
 -- ---- cells
 
@@ -63,161 +63,127 @@ cells_fit [] [] e = record { long = refl; fits = λ c lt. absurd (omega arith) }
 cells_fit [] (z ∷ numbers) e = cc
 cells_fit (cell ∷ cells) [] e = cc
 cells_fit (cell ∷ cells) (z ∷ numbers) e =
-    let p = and_parts (fits_cell cell z) (fit_cells cells numbers) e in
-    let q = and_parts (in_range cell.kind z) (counts_well cell.capacities z) p.0 in
+    let p = and_parts (fits_cell cell z) _ e in
+    let q = and_parts (in_range cell.kind z) _ p.0 in
     let h = cells_fit cells numbers p.1 in
-    record { long = ap suc h.long; fits = by_place cell z cells numbers (ranges cell.kind z q.0, within cell.capacities z q.1) h.fits }
+    record { long = ap suc h.long; fits = by_place (ranges cell.kind z q.0, within cell.capacities z q.1) h.fits }
   where
-    by_place : (cell : Cell) (z : ℤ) (cells : List Cell) (numbers : List ℤ) → FitsCell cell z → ((c : ℕ) → c < length cells → FitsCell (get_or cells c no_cell) (get_or numbers c (pos 0)))
+    by_place : FitsCell cell z → ((c : ℕ) → c < length cells → FitsCell (get_or cells c no_cell) (get_or numbers c (pos 0)))
         → (c : ℕ) → c < length (cell ∷ cells) → FitsCell (get_or (cell ∷ cells) c no_cell) (get_or (z ∷ numbers) c (pos 0))
-    by_place cell z cells numbers a b zero lt = a
-    by_place cell z cells numbers a b (suc c) lt = b c (omega arith)
+    by_place a b zero lt = a
+    by_place a b (suc c) lt = b c (omega arith)
 
 fit : (cells : List Cell) (numbers : List ℤ) → FitCells cells numbers → fit_cells cells numbers ≡ true
 fit [] [] h = refl
-fit [] (z ∷ numbers) h = let l = h.long in absurd (omega arith)
-fit (cell ∷ cells) [] h = let l = h.long in absurd (omega arith)
+fit [] (z ∷ numbers) h = absurd (omega arith)
+fit (cell ∷ cells) [] h = absurd (omega arith)
 fit (cell ∷ cells) (z ∷ numbers) h =
-    let l : suc (length numbers) ≡ suc (length cells) = h.long in
     let a : FitsCell cell z = h.fits 0 (omega arith) in
-    and_from (fits_cell cell z) (fit_cells cells numbers)
-    (and_from (in_range cell.kind z) (counts_well cell.capacities z) (ranged cell.kind z a.0) (counted_well cell.capacities z a.1))
+    and_from _ _ (and_from _ _ (ranged cell.kind z a.0) (counted_well cell.capacities z a.1))
     (fit cells numbers (record { long = omega arith; fits = λ c lt. h.fits (suc c) (omega arith) }))
 
 -- what is at its default if it has no byte, from a cell on
 abbrev pub Settled : List Slot → ℕ → List Cell → List ℤ → Type 0
-Settled slots from cells numbers = (c : ℕ) → c < length numbers → has_cell slots (from + c) ≡ false → get_or numbers c (pos 0) ≡ (get_or cells c no_cell).default
+Settled slots from cells numbers =
+    (c k : ℕ) → c < length numbers → k ≡ from + c → has_cell slots k ≡ false → get_or numbers c (pos 0) ≡ (get_or cells c no_cell).default
 
-pub settled_are : (slots : List Slot) (from : ℕ) (cells : List Cell) (numbers : List ℤ) → length numbers ≡ length cells → are_settled slots from cells numbers ≡ true → Settled slots from cells numbers
-settled_are slots from [] [] l e = λ c lt bare. absurd (omega arith)
+pub settled_are : (slots : List Slot) (from : ℕ) (cells : List Cell) (numbers : List ℤ) → length numbers ≡ length cells → are_settled slots from cells numbers ≡ true
+    → Settled slots from cells numbers
+settled_are slots from [] [] l e = λ c k lt is bare. absurd (omega arith)
 settled_are slots from [] (z ∷ numbers) l e = absurd (omega arith)
 settled_are slots from (cell ∷ cells) [] l e = absurd (omega arith)
 settled_are slots from (cell ∷ cells) (z ∷ numbers) l e =
-    let p = and_parts (has_cell slots from || same_number z cell.default) (are_settled slots (suc from) cells numbers) e in
+    let p = and_parts (has_cell slots from || same_number z cell.default) _ e in
     by_place p.0 (settled_are slots (suc from) cells numbers (omega arith) p.1)
   where
     by_place : (has_cell slots from || same_number z cell.default) ≡ true → Settled slots (suc from) cells numbers → Settled slots from (cell ∷ cells) (z ∷ numbers)
-    by_place a b zero lt bare =
-        let plus : from ≡ from + 0 = omega arith in
-        same_number_is z cell.default (or_second (has_cell slots from) (same_number z cell.default) a (ap (has_cell slots) plus ∙ bare))
-    by_place a b (suc c) lt bare =
-        let plus : suc from + c ≡ from + suc c = omega arith in
-        b c (omega arith) (ap (has_cell slots) plus ∙ bare)
+    by_place a b zero k lt is bare =
+        let same : k ≡ from = omega arith in
+        same_number_is z cell.default (or_second (has_cell slots from) _ a (rw same at bare))
+    by_place a b (suc c) k lt is bare = b c k (omega arith) (omega arith) bare
 
 are_settled_all : (slots : List Slot) (from : ℕ) (cells : List Cell) (numbers : List ℤ) → Settled slots from cells numbers → are_settled slots from cells numbers ≡ true
 are_settled_all slots from [] numbers h = refl
 are_settled_all slots from (cell ∷ cells) [] h = refl
 are_settled_all slots from (cell ∷ cells) (z ∷ numbers) h =
-    and_from (has_cell slots from || same_number z cell.default) (are_settled slots (suc from) cells numbers)
-    (here (has_cell slots from) refl)
-    (are_settled_all slots (suc from) cells numbers (λ c lt bare. later c lt bare))
+    and_from _ _ (here (has_cell slots from) refl)
+    (are_settled_all slots (suc from) cells numbers (λ c k lt is bare. h (suc c) k (omega arith) (omega arith) bare))
   where
     here : (b : Bool) → has_cell slots from ≡ b → (b || same_number z cell.default) ≡ true
     here true e = refl
-    here false e =
-        let plus : from + 0 ≡ from = omega arith in
-        is_same z cell.default (h 0 (omega arith) (ap (has_cell slots) plus ∙ e))
-
-    later : (c : ℕ) → c < length numbers → has_cell slots (suc from + c) ≡ false → get_or numbers c (pos 0) ≡ (get_or cells c no_cell).default
-    later c lt bare =
-        let plus : from + suc c ≡ suc from + c = omega arith in
-        h (suc c) (omega arith) (ap (has_cell slots) plus ∙ bare)
-
-zero_plus : (c : ℕ) → 0 + c ≡ c
-zero_plus c = omega arith
+    here false e = is_same z cell.default (h 0 from (omega arith) (omega arith) e)
 
 -- ---- normal, valid
 
 normal_is : (set : Set) (d : Device) (image : Image) → is_normal set d image ≡ true → IsNormal set d image
 normal_is set d image e =
-    let cells = device_cells set d in
-    let slots = image_slots set d image in
     let version = is_version_of d.desc image.version in
     let versions = are_versions_of d.subs image.came in
-    let a = and_parts (version && versions && fit_cells cells image.numbers) (are_settled slots 0 cells image.numbers) e in
-    let b = and_parts (version && versions) (fit_cells cells image.numbers) a.0 in
-    let c = and_parts version versions b.0 in
-    let fits = cells_fit cells image.numbers b.1 in
+    let a = and_parts (version && versions && fit_cells (device_cells set d) image.numbers) _ e in
+    let b = and_parts (version && versions) _ a.0 in
+    let c = and_parts version _ b.0 in
+    let fits = cells_fit (device_cells set d) image.numbers b.1 in
     record {
       version = version_is d.desc image.version c.0;
       subs = versions_are d.subs image.came c.1;
       cells = fits;
-      absent = λ k lt bare. settled_are slots 0 cells image.numbers fits.long a.1 k lt (ap (has_cell slots) (zero_plus k) ∙ bare);
+      absent = λ k lt bare. settled_are (image_slots set d image) 0 (device_cells set d) image.numbers fits.long a.1 k k lt (omega arith) bare;
     }
 
 is_normal_all : (set : Set) (d : Device) (image : Image) → IsNormal set d image → is_normal set d image ≡ true
 is_normal_all set d image h =
-    let cells = device_cells set d in
-    let slots = image_slots set d image in
-    let version = is_version_of d.desc image.version in
-    let versions = are_versions_of d.subs image.came in
-    and_from (version && versions && fit_cells cells image.numbers) (are_settled slots 0 cells image.numbers)
-    (and_from (version && versions) (fit_cells cells image.numbers)
-    (and_from version versions (is_version d.desc image.version h.version) (are_versions d.subs image.came h.subs))
-    (fit cells image.numbers h.cells))
-    (are_settled_all slots 0 cells image.numbers (λ k lt bare. h.absent k lt (ap (has_cell slots) (sym (zero_plus k)) ∙ bare)))
+    and_from _ _
+    (and_from _ _ (and_from _ _ (is_version d.desc image.version h.version) (are_versions d.subs image.came h.subs)) (fit (device_cells set d) image.numbers h.cells))
+    (are_settled_all (image_slots set d image) 0 (device_cells set d) image.numbers
+    (λ c k lt is bare. let same : k ≡ c = omega arith in h.absent c lt (rw same at bare)))
 
 pub rules_are : (slots : List Slot) → rules_are_true slots ≡ true → RulesHold slots
 rules_are [] e = tt
 rules_are (Rule true ∷ slots) e = (refl, rules_are slots e)
 rules_are (Rule false ∷ slots) e = cc
-rules_are (Number c kind caps ∷ slots) e = rules_are slots e
-rules_are (Constant kind z ∷ slots) e = rules_are slots e
-rules_are (Filler n ∷ slots) e = rules_are slots e
+rules_are (_ ∷ slots) e = rules_are slots e
 
 pub are_rules : (slots : List Slot) → RulesHold slots → rules_are_true slots ≡ true
 are_rules [] h = refl
 are_rules (Rule true ∷ slots) h = are_rules slots h.1
 are_rules (Rule false ∷ slots) h = let e : false ≡ true = h.0 in cc
-are_rules (Number c kind caps ∷ slots) h = are_rules slots h
-are_rules (Constant kind z ∷ slots) h = are_rules slots h
-are_rules (Filler n ∷ slots) h = are_rules slots h
+are_rules (_ ∷ slots) h = are_rules slots h
 
 -- ---- ready
 
-pub needed_are : (set : Set) (d : Device) (image : Image) (j : ℕ) (subs : List Sub) (came : List (Option ℕ)) → come_as_needed set d image j subs came ≡ true → ComeAsNeeded set d image j subs came
-needed_are set d image j [] [] e = refl
-needed_are set d image j [] (o ∷ came) e = cc
-needed_are set d image j (s ∷ subs) [] e = cc
-needed_are set d image j (s ∷ subs) (None ∷ came) e =
-    let p = and_parts (not (is_needed set d image s j)) (come_as_needed set d image (suc j) subs came) e in
-    (not-true (is_needed set d image s j) p.0, needed_are set d image (suc j) subs came p.1)
-needed_are set d image j (s ∷ subs) (Some v ∷ came) e =
-    let p = and_parts (is_needed set d image s j && v == s.desc.version) (come_as_needed set d image (suc j) subs came) e in
-    let q = and_parts (is_needed set d image s j) (v == s.desc.version) p.0 in
-    (q.0, eqb-true v s.desc.version q.1, needed_are set d image (suc j) subs came p.1)
+module _ (set : Set) (d : Device) (image : Image) where
+  pub needed_are : (j : ℕ) (subs : List Sub) (came : List (Option ℕ)) → come_as_needed set d image j subs came ≡ true → ComeAsNeeded set d image j subs came
+  needed_are j [] [] e = refl
+  needed_are j [] (o ∷ came) e = cc
+  needed_are j (s ∷ subs) [] e = cc
+  needed_are j (s ∷ subs) (None ∷ came) e =
+      let p = and_parts (not (is_needed set d image s j)) _ e in (not-true _ p.0, needed_are (suc j) subs came p.1)
+  needed_are j (s ∷ subs) (Some v ∷ came) e =
+      let p = and_parts (is_needed set d image s j && v == s.desc.version) _ e in
+      let q = and_parts (is_needed set d image s j) _ p.0 in
+      (q.0, eqb-true v s.desc.version q.1, needed_are (suc j) subs came p.1)
 
-pub are_needed : (set : Set) (d : Device) (image : Image) (j : ℕ) (subs : List Sub) (came : List (Option ℕ)) → ComeAsNeeded set d image j subs came → come_as_needed set d image j subs came ≡ true
-are_needed set d image j [] [] h = refl
-are_needed set d image j [] (o ∷ came) h = cc
-are_needed set d image j (s ∷ subs) [] h = absurd h
-are_needed set d image j (s ∷ subs) (None ∷ came) h =
-    and_from (not (is_needed set d image s j)) (come_as_needed set d image (suc j) subs came) (not_from_false (is_needed set d image s j) h.0) (are_needed set d image (suc j) subs came h.1)
-are_needed set d image j (s ∷ subs) (Some v ∷ came) h =
-    and_from (is_needed set d image s j && v == s.desc.version) (come_as_needed set d image (suc j) subs came)
-    (and_from (is_needed set d image s j) (v == s.desc.version) h.0 (eq-eqb v s.desc.version h.1))
-    (are_needed set d image (suc j) subs came h.2)
+  pub are_needed : (j : ℕ) (subs : List Sub) (came : List (Option ℕ)) → ComeAsNeeded set d image j subs came → come_as_needed set d image j subs came ≡ true
+  are_needed j [] [] h = refl
+  are_needed j [] (o ∷ came) h = cc
+  are_needed j (s ∷ subs) [] h = absurd h
+  are_needed j (s ∷ subs) (None ∷ came) h = and_from _ _ (not_from_false _ h.0) (are_needed (suc j) subs came h.1)
+  are_needed j (s ∷ subs) (Some v ∷ came) h = and_from _ _ (and_from _ _ h.0 (eq-eqb v s.desc.version h.1)) (are_needed (suc j) subs came h.2)
 
-pub ready_is : (set : Set) (d : Device) (image : Image) → is_ready set d image ≡ true → IsReady set d image
-ready_is set d image e =
-    let normal = is_normal set d image in
-    let valid = is_valid set d image in
-    let a = and_parts (normal && valid && image.version == d.desc.version) (come_as_needed set d image 0 d.subs image.came) e in
-    let b = and_parts (normal && valid) (image.version == d.desc.version) a.0 in
-    let c = and_parts normal valid b.0 in
-    record {
-      normal = normal_is set d image c.0;
-      valid = rules_are (image_slots set d image) c.1;
-      version = eqb-true image.version d.desc.version b.1;
-      needed = needed_are set d image 0 d.subs image.came a.1;
-    }
+  pub ready_is : is_ready set d image ≡ true → IsReady set d image
+  ready_is e =
+      let a = and_parts (is_normal set d image && is_valid set d image && image.version == d.desc.version) _ e in
+      let b = and_parts (is_normal set d image && is_valid set d image) _ a.0 in
+      let c = and_parts (is_normal set d image) _ b.0 in
+      record {
+        normal = normal_is set d image c.0;
+        valid = rules_are (image_slots set d image) c.1;
+        version = eqb-true image.version d.desc.version b.1;
+        needed = needed_are 0 d.subs image.came a.1;
+      }
 
-pub is_ready_all : (set : Set) (d : Device) (image : Image) → IsReady set d image → is_ready set d image ≡ true
-is_ready_all set d image h =
-    let normal = is_normal set d image in
-    let valid = is_valid set d image in
-    and_from (normal && valid && image.version == d.desc.version) (come_as_needed set d image 0 d.subs image.came)
-    (and_from (normal && valid) (image.version == d.desc.version)
-    (and_from normal valid (is_normal_all set d image h.normal) (are_rules (image_slots set d image) h.valid))
-    (eq-eqb image.version d.desc.version h.version))
-    (are_needed set d image 0 d.subs image.came h.needed)
+  pub is_ready_all : IsReady set d image → is_ready set d image ≡ true
+  is_ready_all h =
+      and_from _ _
+      (and_from _ _ (and_from _ _ (is_normal_all set d image h.normal) (are_rules (image_slots set d image) h.valid)) (eq-eqb image.version d.desc.version h.version))
+      (are_needed 0 d.subs image.came h.needed)

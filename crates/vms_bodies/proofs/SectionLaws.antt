@@ -1,10 +1,9 @@
 -- A section's cells, defaults and footer.
-use Rattle.std.proofs.Common.{◌≡◌, ℕ, zero, suc, ◌≤ℤ◌, List, [], ◌∷◌, ◌++◌, length, get_or, map, ℤ, pos, refl, sym, ap, subst}
-use Rattle.std.specs.List.{AllByRecursion, flat_map}
-use Rattle.vms_kinds.specs.declared.Kind.{Kind}
+use Rattle.std.proofs.Common.{◌≡◌, ℕ, zero, suc, List, [], ◌∷◌, length, get_or, map, ℤ, pos, refl, ap}
+use Rattle.std.specs.List.{flat_map}
 use Rattle.vms_kinds.specs.Codes.{InRange}
 use Rattle.vms_spec.specs.Sets.{Device, Set}
-use Rattle.vms_spec.specs.Layout.{Slot, Number, Constant, Filler, Rule, Cell, no_cell, meanings, desc_cells, device_cells, struct_cells}
+use Rattle.vms_spec.specs.Layout.{Slot, Number, Constant, Cell, no_cell, desc_cells, device_cells, struct_cells}
 use Rattle.vms_spec.specs.Images.{own_slots, FitCells, FitsCell}
 use Rattle.vms_bodies.specs.Cells.{AreCells}
 use Rattle.vms_bodies.proofs.SpellLaws.{FitSlots}
@@ -13,33 +12,23 @@ use Rattle.vms_bodies.proofs.CellLaws.{desc_are, meanings_are, cells_first}
 -- each constant of the slots fits its kind
 abbrev pub AreConstants : List Slot → Type 0
 AreConstants [] = Unit {0}
-AreConstants (Number c kind caps ∷ slots) = AreConstants slots
 AreConstants (Constant kind z ∷ slots) = InRange kind z × AreConstants slots
-AreConstants (Filler n ∷ slots) = AreConstants slots
-AreConstants (Rule b ∷ slots) = AreConstants slots
+AreConstants (_ ∷ slots) = AreConstants slots
 
 pub fit_slots : (all : List Cell) (m : List ℤ) (slots : List Slot) → FitCells all m → AreCells all slots → AreConstants slots → FitSlots m slots
 fit_slots all m [] f c k = tt
 fit_slots all m (Number a kind caps ∷ slots) f c k =
-    let fits : FitsCell (get_or all a no_cell) (get_or m a (pos 0)) = f.fits a c.0.within in (
-      subst (λ (x : Kind). InRange x (get_or m a (pos 0))) c.0.kind fits.0,
-      subst (λ (x : List ℕ). AllByRecursion (λ most. get_or m a (pos 0) ≤ℤ pos most) x) c.0.capacities fits.1,
-      fit_slots all m slots f c.1 k,
-    )
+    let fits : FitsCell (get_or all a no_cell) (get_or m a (pos 0)) = f.fits a c.0.within in
+    (rw (c.0.kind) at fits.0, rw (c.0.capacities) at fits.1, fit_slots all m slots f c.1 k)
 fit_slots all m (Constant kind z ∷ slots) f c k = (k.0, fit_slots all m slots f c k.1)
-fit_slots all m (Filler n ∷ slots) f c k = fit_slots all m slots f c k
-fit_slots all m (Rule b ∷ slots) f c k = fit_slots all m slots f c k
+fit_slots all m (_ ∷ slots) f c k = fit_slots all m slots f c k
 
 -- a device's own slots are among its cells
 pub own_are : (set : Set) (d : Device) (v : ℕ) (m : List ℤ) → AreCells (device_cells set d) (own_slots set d v m)
 own_are set d v m =
-    let ds = set.structs in
-    let n = length ds in
-    desc_are (meanings ds n) (meanings_are ds n) d.desc v 0 m (device_cells set d)
-    (record {
-      more = flat_map (λ s. desc_cells (struct_cells set) s.desc) d.subs;
-      is = ap (λ (cs : List (List Cell)). desc_cells cs d.desc ++ flat_map (λ s. desc_cells (struct_cells set) s.desc) d.subs) (sym (cells_first ds n));
-    })
+    let n = length set.structs in
+    desc_are _ (meanings_are set.structs n) d.desc v 0 m (device_cells set d)
+    (record { more = flat_map (λ s. desc_cells (struct_cells set) s.desc) d.subs; is = rw (cells_first set.structs n) refl })
 
 pub defaults_at : (cells : List Cell) (c : ℕ) → get_or (map (λ (x : Cell). x.default) cells) c (pos 0) ≡ (get_or cells c no_cell).default
 defaults_at [] c = refl

@@ -4,7 +4,7 @@ use Rattle.std.proofs.Math.ListN.{get_or-map}
 use Rattle.std.proofs.Math.Nat.{mul-le-mul_right}
 use Rattle.vms_kinds.specs.Codes.{width, residue}
 use Rattle.vms_kinds.specs.declared.Item.{Item}
-use Rattle.vms_kinds.specs.declared.Item.TheVariants.{Num, Equal, Unused, Struct}
+use Rattle.vms_kinds.specs.declared.Item.TheVariants.{Struct}
 use Rattle.vms_spec.specs.Sets.{Field, Desc}
 use Rattle.vms_spec.specs.Tests.{is_there}
 use Rattle.vms_spec.specs.Layout.{Slot, Rule, Cell, Meaning, no_meaning, no_desc, item_slots, item_size, times, field_slots, slots_from, desc_slots, desc_cells, cells_from, field_cells, place_of, numbers_of, no_field, kind_of, elements_of, capacity_of, counted, all_hold, no_parent, first, meaning, meanings}
@@ -25,7 +25,7 @@ pub own_in : (cs : List (List Cell)) (d : Desc) (base i cell j : ℕ) (n m : Lis
     → IsEarlier d.fields i j → numbers_of cs d m base j ≡ numbers_of cs d n base j
 own_in cs d base i cell j n m e s x =
     ap (λ (z : ℤ). residue (width (kind_of (get_or d.fields j no_field).item)) z)
-    (s.same (place_of cs d.fields 0 base d.fields j) (place_up cs d.fields 0 base d.fields j) (omega (arith, place_below cs d.fields 0 base d.fields j i x.earlier x.there x.number x.one)))
+    (s.same _ (place_up cs d.fields 0 base d.fields j) (omega (arith, place_below cs d.fields 0 base d.fields j i x.earlier x.there x.number x.one)))
 
 pub record MeansSettled (m : Meaning) : Type 0 where
   pub means : (at low end : ℕ) (n k : List ℤ) → low ≤ at → at + length m.cells ≤ end → SameIn low end n k → m.slots k at ≡ m.slots n at
@@ -33,77 +33,79 @@ pub record MeansSettled (m : Meaning) : Type 0 where
 abbrev pub MeanSettled : List Meaning → Type 0
 MeanSettled ms = (j : ℕ) → MeansSettled (get_or ms j no_meaning)
 
-none_settled : MeansSettled no_meaning
-none_settled = record { means = λ at low end n k up le s. refl }
-
 abbrev pub cells_in : List Meaning → List (List Cell)
 cells_in ms = map (λ m. m.cells) ms
 
-pub item_settled : (ms : List Meaning) → MeanSettled ms → (item : Item) (caps : List ℕ) (at low end : ℕ) (n k : List ℤ) → low ≤ at → at + item_size (cells_in ms) item ≤ end → SameIn low end n k
-    → item_slots ms item caps k at ≡ item_slots ms item caps n at
-item_settled ms h (Num kind) caps at low end n k up le s = refl
-item_settled ms h (Equal kind z) caps at low end n k up le s = refl
-item_settled ms h (Unused c) caps at low end n k up le s = refl
-item_settled ms h (Struct j) caps at low end n k up le s = (h j).means at low end n k up (omega (arith, ap length (get_or-map (λ (m : Meaning). m.cells) ms j no_meaning))) s
+module _ (ms : List Meaning) (h : MeanSettled ms) where
+  pub item_settled : (item : Item) (caps : List ℕ) (at low end : ℕ) (n k : List ℤ) → low ≤ at → at + item_size (cells_in ms) item ≤ end → SameIn low end n k
+      → item_slots ms item caps k at ≡ item_slots ms item caps n at
+  item_settled (Struct j) caps at low end n k up le s =
+      (h j).means at low end n k up (omega (arith, ap length (get_or-map (λ (m : Meaning). m.cells) ms j no_meaning))) s
+  item_settled _ caps at low end n k up le s = refl
 
-items_settled : (ms : List Meaning) → MeanSettled ms → (item : Item) (caps : List ℕ) (c at low end : ℕ) (n k : List ℤ) → low ≤ at → at + c * item_size (cells_in ms) item ≤ end → SameIn low end n k
-    → times c (item_slots ms item caps k) at (item_size (cells_in ms) item) ≡ times c (item_slots ms item caps n) at (item_size (cells_in ms) item)
-items_settled ms h item caps zero at low end n k up le s = refl
-items_settled ms h item caps (suc c) at low end n k up le s =
-    let size = item_size (cells_in ms) item in
-    let e : suc c * size ≡ size + c * size = grind arith in
-    ap (λ (xs : List Slot). xs ++ times c (item_slots ms item caps k) (at + size) size) (item_settled ms h item caps at low end n k up (omega arith) s)
-    ∙ ap (λ (xs : List Slot). item_slots ms item caps n at ++ xs) (items_settled ms h item caps c (at + size) low end n k (omega arith) (omega arith) s)
+  items_settled : (item : Item) (caps : List ℕ) (c at low end : ℕ) (n k : List ℤ) → low ≤ at → at + c * item_size (cells_in ms) item ≤ end → SameIn low end n k
+      → times c (item_slots ms item caps k) at (item_size (cells_in ms) item) ≡ times c (item_slots ms item caps n) at (item_size (cells_in ms) item)
+  items_settled item caps zero at low end n k up le s = refl
+  items_settled item caps (suc c) at low end n k up le s =
+      let size = item_size (cells_in ms) item in
+      let e : suc c * size ≡ size + c * size = grind arith in
+      rw (item_settled item caps at low end n k up (omega arith) s, items_settled item caps c (at + size) low end n k (omega arith) (omega arith) s) refl
 
-pub field_settled : (ms : List Meaning) → MeanSettled ms → (d : Desc) (v base i cell low end : ℕ) (f : Field) (n k : List ℤ) → IsSoundField d.fields i f → low ≤ base → cell ≡ place_of (cells_in ms) d.fields 0 base d.fields i
-    → cell + length (field_cells (cells_in ms) d.fields i f) ≤ end → SameIn low end n k
-    → field_slots ms d.fields v (numbers_of (cells_in ms) d k base) k i cell f ≡ field_slots ms d.fields v (numbers_of (cells_in ms) d n base) n i cell f
-field_settled ms h d v base i cell low end f n k sound up here le s =
-    let cs = cells_in ms in
-    let own = numbers_of cs d n base in
-    let now = numbers_of cs d k base in
-    let size = item_size cs f.item in
-    let caps = counted i d.fields in
-    let first : base ≤ cell = omega (arith, here, place_up cs d.fields 0 base d.fields i) in
-    let below = in_less low base cell end n k up (omega arith) s in
-    let same : (j : ℕ) → IsEarlier d.fields i j → now j ≡ own j = λ j x. own_in cs d base i cell j n k here below x in
-    let most : elements_of f.count own * size ≤ capacity_of f.count * size = mul-le-mul_right {m = elements_of f.count own} {n = capacity_of f.count} size (elements_fit f.count own) in
-    ap (λ (b : Bool). if b then times (elements_of f.count now) (item_slots ms f.item caps k) cell size else []) (there_same d.fields i v f.since own now same f.test sound.test)
-    ∙ ap (λ (c : ℕ). if is_there f.test f.since v own no_parent then times c (item_slots ms f.item caps k) cell size else []) (elements_same d.fields i own now same f.count sound.count)
-    ∙ ap (λ (xs : List Slot). if is_there f.test f.since v own no_parent then xs else []) (items_settled ms h f.item caps (elements_of f.count own) cell low end n k (omega arith) (omega (arith, field_size cs d.fields i f)) s)
+  module _ (d : Desc) (v base : ℕ) where
+    abbrev own : List ℤ → ℕ → ℕ
+    own n = numbers_of (cells_in ms) d n base
 
-fields_settled : (ms : List Meaning) → MeanSettled ms → (d : Desc) (v base i cell low end : ℕ) (fs : List Field) (n k : List ℤ) → AreSoundFields d.fields i fs → low ≤ base → cell ≡ place_of (cells_in ms) d.fields 0 base d.fields i → drop i d.fields ≡ fs
-    → cell + length (cells_from (cells_in ms) d.fields i fs) ≤ end → SameIn low end n k
-    → slots_from ms d.fields v (numbers_of (cells_in ms) d k base) k i cell fs ≡ slots_from ms d.fields v (numbers_of (cells_in ms) d n base) n i cell fs
-fields_settled ms h d v base i cell low end [] n k sound up here is le s = refl
-fields_settled ms h d v base i cell low end (f ∷ fs) n k sound up here is le s =
-    let cs = cells_in ms in
-    let next = cell + length (field_cells cs d.fields i f) in
-    let parts = length-append (field_cells cs d.fields i f) (cells_from cs d.fields (suc i) fs) in
-    let there : next ≡ place_of cs d.fields 0 base d.fields (suc i) = omega (arith, place_next cs d.fields 0 base d.fields i f fs is, ap (λ (k : ℕ). length (field_cells cs d.fields k f)) (zero_plus i)) in
-    ap (λ (xs : List Slot). xs ++ slots_from ms d.fields v (numbers_of cs d k base) k (suc i) next fs) (field_settled ms h d v base i cell low end f n k sound.0 up here (omega (arith, parts)) s)
-    ∙ ap (λ (xs : List Slot). field_slots ms d.fields v (numbers_of cs d n base) n i cell f ++ xs)
-    (fields_settled ms h d v base (suc i) next low end fs n k sound.1 up there (drop_next d.fields i f fs is) (omega (arith, parts)) s)
+    pub field_settled : (i cell low end : ℕ) (f : Field) (n k : List ℤ) → IsSoundField d.fields i f → low ≤ base → cell ≡ place_of (cells_in ms) d.fields 0 base d.fields i
+        → cell + length (field_cells (cells_in ms) d.fields i f) ≤ end → SameIn low end n k
+        → field_slots ms d.fields v (own k) k i cell f ≡ field_slots ms d.fields v (own n) n i cell f
+    field_settled i cell low end f n k sound up here le s =
+        let cs = cells_in ms in
+        let size = item_size cs f.item in
+        let caps = counted i d.fields in
+        let there = is_there f.test f.since v (own n) no_parent in
+        let first : base ≤ cell = omega (arith, place_up cs d.fields 0 base d.fields i) in
+        let same : (j : ℕ) → IsEarlier d.fields i j → own k j ≡ own n j = λ j x. own_in cs d base i cell j n k here (in_less low base cell end n k up (omega arith) s) x in
+        let most : elements_of f.count (own n) * size ≤ capacity_of f.count * size =
+        mul-le-mul_right {m = elements_of f.count (own n)} {n = capacity_of f.count} size (elements_fit f.count (own n)) in
+        ap (λ (b : Bool). if b then times (elements_of f.count (own k)) (item_slots ms f.item caps k) cell size else []) (there_same d.fields i v f.since (own n) (own k) same f.test sound.test)
+        ∙ ap (λ (c : ℕ). if there then times c (item_slots ms f.item caps k) cell size else []) (elements_same d.fields i (own n) (own k) same f.count sound.count)
+        ∙ ap (λ (xs : List Slot). if there then xs else [])
+        (items_settled f.item caps (elements_of f.count (own n)) cell low end n k (omega arith) (omega (arith, field_size cs d.fields i f)) s)
 
-pub desc_settled : (ms : List Meaning) → MeanSettled ms → (d : Desc) (v base low end : ℕ) (n k : List ℤ) → IsSound d → low ≤ base → base + length (desc_cells (cells_in ms) d) ≤ end → SameIn low end n k
-    → desc_slots ms d v k base ≡ desc_slots ms d v n base
-desc_settled ms h d v base low end n k sound up le s =
-    let cs = cells_in ms in
-    let rule = hold_same d.fields (length d.fields) v (numbers_of cs d n base) (numbers_of cs d k base)
-    (λ j x. own_in cs d base (length d.fields) (base + length (desc_cells cs d)) j n k (sym (place_end cs d.fields 0 base d.fields)) (in_less low base (base + length (desc_cells cs d)) end n k up le s) x) d.validate sound.validate in
-    ap (λ (xs : List Slot). xs ++ Rule (all_hold d.validate v (numbers_of cs d k base)) ∷ [])
-    (fields_settled ms h d v base 0 base low end d.fields n k sound.fields up (sym (place_first cs d.fields 0 base d.fields)) refl le s)
-    ∙ ap (λ (b : Bool). slots_from ms d.fields v (numbers_of cs d n base) n 0 base d.fields ++ Rule b ∷ []) rule
+    fields_settled : (i cell low end : ℕ) (fs : List Field) (n k : List ℤ) → AreSoundFields d.fields i fs → low ≤ base
+        → cell ≡ place_of (cells_in ms) d.fields 0 base d.fields i → drop i d.fields ≡ fs → cell + length (cells_from (cells_in ms) d.fields i fs) ≤ end → SameIn low end n k
+        → slots_from ms d.fields v (own k) k i cell fs ≡ slots_from ms d.fields v (own n) n i cell fs
+    fields_settled i cell low end [] n k sound up here is le s = refl
+    fields_settled i cell low end (f ∷ fs) n k sound up here is le s =
+        let cs = cells_in ms in
+        let next = cell + length (field_cells cs d.fields i f) in
+        let parts = length-append (field_cells cs d.fields i f) (cells_from cs d.fields (suc i) fs) in
+        let there : next ≡ place_of cs d.fields 0 base d.fields (suc i) =
+        omega (arith, place_next cs d.fields 0 base d.fields i f fs is, ap (λ (k : ℕ). length (field_cells cs d.fields k f)) (zero_plus i)) in
+        ap (λ (xs : List Slot). xs ++ slots_from ms d.fields v (own k) k (suc i) next fs) (field_settled i cell low end f n k sound.0 up here (omega (arith, parts)) s)
+        ∙ ap (λ (xs : List Slot). field_slots ms d.fields v (own n) n i cell f ++ xs)
+        (fields_settled (suc i) next low end fs n k sound.1 up there (drop_next d.fields i f fs is) (omega (arith, parts)) s)
+
+    pub desc_settled : (low end : ℕ) (n k : List ℤ) → IsSound d → low ≤ base → base + length (desc_cells (cells_in ms) d) ≤ end → SameIn low end n k
+        → desc_slots ms d v k base ≡ desc_slots ms d v n base
+    desc_settled low end n k sound up le s =
+        let cs = cells_in ms in
+        let last = base + length (desc_cells cs d) in
+        ap (λ (xs : List Slot). xs ++ Rule (all_hold d.validate v (own k)) ∷ [])
+        (fields_settled 0 base low end d.fields n k sound.fields up (sym (place_first cs d.fields 0 base d.fields)) refl le s)
+        ∙ ap (λ (b : Bool). slots_from ms d.fields v (own n) n 0 base d.fields ++ Rule b ∷ [])
+        (hold_same d.fields (length d.fields) v (own n) (own k)
+        (λ j x. own_in cs d base (length d.fields) last j n k (sym (place_end cs d.fields 0 base d.fields)) (in_less low base last end n k up le s) x) d.validate sound.validate)
 
 pub meanings_settled : (ds : List Desc) → AreSound ds → (k : ℕ) → k ≤ length ds → MeanSettled (meanings ds k)
 unfolding first
-meanings_settled ds sound zero le = λ j. none_settled
+meanings_settled ds sound zero le = λ j. record { means = λ at low end n k up le s. refl }
 meanings_settled ds sound (suc k) le =
     let h : MeanSettled (meanings ds k) = meanings_settled ds sound k (omega arith) in
-    one_more MeansSettled no_meaning none_settled (meanings ds k) h (meaning (meanings ds k) (get_or ds k no_desc))
-    (record { means = λ at low end n m up fit s. desc_settled (meanings ds k) h (get_or ds k no_desc) (get_or ds k no_desc).version at low end n m (sound k (omega arith)) up fit s })
+    one_more MeansSettled no_meaning (record { means = λ at low end n k up le s. refl }) (meanings ds k) h (meaning (meanings ds k) (get_or ds k no_desc))
+    (record { means = λ at low end n m up fit s. desc_settled (meanings ds k) h (get_or ds k no_desc) _ at low end n m (sound k (omega arith)) up fit s })
 
 pub slots_within : (ds : List Desc) → AreSound ds → (d : Desc) (v base low end : ℕ) (n k : List ℤ) → IsSound d → low ≤ base
-    → base + length (desc_cells (map (λ (m : Meaning). m.cells) (meanings ds (length ds))) d) ≤ end → SameIn low end n k
+    → base + length (desc_cells (cells_in (meanings ds (length ds))) d) ≤ end → SameIn low end n k
     → desc_slots (meanings ds (length ds)) d v k base ≡ desc_slots (meanings ds (length ds)) d v n base
-slots_within ds structs d v base low end n k sound up le s = desc_settled (meanings ds (length ds)) (meanings_settled ds structs (length ds) (omega arith)) d v base low end n k sound up le s
+slots_within ds structs d v base low end n k sound up le s = desc_settled _ (meanings_settled ds structs (length ds) (omega arith)) d v base low end n k sound up le s

@@ -8,16 +8,16 @@ use Rattle.vms_bodies.specs.Laws.{CellLaw, ReadyLaw, ZeroedLaw}
 use Rattle.vms_bodies.proofs.WrittenLaws.{zeroed_spells}
 
 pub good_holds : GoodLaw
-good_holds set well heads = well_good set well heads
+good_holds = well_good
 
 pub shipped_holds : ShippedLaw
 shipped_holds = shipped_stands
 
 pub cell_holds : CellLaw
-cell_holds set k part path c e = cell_inside set k part path c e
+cell_holds = cell_inside
 
 pub ready_holds : ReadyLaw
 ready_holds set d image = record { holds = ready_is set d image; passes = is_ready_all set d image }
 
 pub zeroed_holds : ZeroedLaw
-zeroed_holds numbers slots = zeroed_spells numbers slots
+zeroed_holds = zeroed_spells

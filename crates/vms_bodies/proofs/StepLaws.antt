@@ -30,7 +30,7 @@ module _ {X : Type 0} (total : List ℤ → List Slot) (R : ℕ → Progress →
   given x cell done slot (Err e) h = h
   given x cell done slot (Ok q) h =
       let n : suc (length done) ≡ length (done ++ slot ∷ []) = omega (arith, length-append done (slot ∷ [])) in
-      h ∙ ap (λ (i : ℕ). R i q) n
+      rw (← n) h
 
   one_step : (w : Walks) (x : X) (cell : ℕ) (slot : Slot) (done : List Slot) (left : List ℤ → List Slot) (p : Progress)
       → Left total (Is x) (Refuses x) cell p done (λ m. slot ∷ left m) → x ≡ after (length done) (take_slot slot p)
@@ -42,6 +42,6 @@ module _ {X : Type 0} (total : List ℤ → List Slot) (R : ℕ → Progress →
   pub steps_keep : (w : Walks) (x : X) → Keeping total (Is x) (Refuses x)
   steps_keep w x = record {
     less = λ cell further done left p le up l. l.holds;
-    number = λ cell kind caps done left p up l. given x (cell + 1) done (Number cell kind caps) (take_slot (Number cell kind caps) p) (one_step w x cell (Number cell kind caps) done left p l);
-    other = λ cell slot done left p o up l. given x cell done slot (take_slot slot p) (one_step w x cell slot done left p l);
+    number = λ cell kind caps done left p up l. given x (cell + 1) done (Number cell kind caps) _ (one_step w x cell (Number cell kind caps) done left p l);
+    other = λ cell slot done left p o up l. given x cell done slot _ (one_step w x cell slot done left p l);
   }

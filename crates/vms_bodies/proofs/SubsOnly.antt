@@ -1,34 +1,32 @@
 -- A section with subsections in any order is read.
-use Rattle.std.proofs.Common.{◌≡◌, ℕ, zero, suc, ◌+◌, ◌<◌, ◌≤◌, List, ◌∷◌, ◌++◌, length, get_or, map, slice_set, Option, Some, None, Ok, ℤ, pos, refl, sym, ap, ◌∙◌, subst, arith, Bool, true, false, if◌then◌else◌, nat_lt, [], ◌||◌}
+use Rattle.std.proofs.Common.{◌≡◌, ℕ, zero, suc, ◌+◌, ◌<◌, ◌≤◌, List, ◌∷◌, ◌++◌, length, get_or, map, slice_set, Option, Some, None, Ok, ℤ, pos, refl, sym, ap, ◌∙◌, arith, Bool, true, false, if◌then◌else◌, nat_lt, ◌==◌, ◌||◌, []}
 use Rattle.std.specs.List.{slice_get}
 use Rattle.std.proofs.lemmas.List.{ext_get_or}
 use Rattle.std.proofs.Math.ListN.{get_or-eq_default}
-use Rattle.std.proofs.lemmas.Bool.{ltb-true, ltb-false, or_parts}
+use Rattle.std.proofs.lemmas.Bool.{ltb-true, ltb-false, eqb-true, eq-eqb}
 use Rattle.vms_spec.specs.Sets.{Device, Set, Sub}
-use Rattle.vms_spec.specs.Layout.{Slot, Number, Constant, Filler, Rule, Cell, no_cell, device_cells}
-use Rattle.vms_spec.specs.Images.{Image, default_image, own_slots, own_cells, sub_slots, came_slots, image_slots, Spells, RulesHold, has_cell, IsNormal, IsValid, IsVersionOf}
+use Rattle.vms_spec.specs.Layout.{Slot, Rule, Cell, no_cell, device_cells}
+use Rattle.vms_spec.specs.Images.{Image, default_image, own_slots, own_cells, sub_slots, came_slots, Spells, RulesHold, has_cell, IsNormal, IsValid, IsVersionOf}
 use Rattle.vms_spec.specs.Streams
 use Rattle.vms_spec.specs.Streams.{sub_head}
 use Rattle.vms_spec.specs.Taking.{take_desc, takers}
-use Rattle.vms_bodies.proofs.Names.{names_append}
+use Rattle.vms_bodies.proofs.Names.{names_append, none_in_both, none_joined}
 use Rattle.vms_bodies.proofs.BodyLaws.{at_set}
 use Rattle.vms_bodies.proofs.SpellLaws.{FitSlots}
 use Rattle.vms_bodies.proofs.BodyOnly.{body_only}
 use Rattle.vms_bodies.proofs.SectionLaws.{fit_slots, own_are, defaults_at, defaults_long}
 use Rattle.vms_bodies.proofs.SettledLaws.{SameIn}
-use Rattle.vms_bodies.proofs.AgreeLaws.{its_same, its_spelled, its_fit, its_hold, its_below, its_above}
+use Rattle.vms_bodies.proofs.AgreeLaws.{its_same, its_spelled, its_fit, its_hold, its_below, its_outside}
 use Rattle.std.proofs.lemmas.Option.{slice_get_within}
-use Rattle.vms_bodies.proofs.PartLaws.{sub_size, sub_are, sub_place_up, places_apart, parts_together, part_apart, names_next, none_of, none_came}
+use Rattle.vms_bodies.proofs.PartLaws.{sub_size, sub_are, sub_place_up, parts_apart, parts_together, part_apart, names_next, none_of, none_came}
 use Rattle.vms_bodies.proofs.FineLaws.{part_place}
 use Rattle.vms_spec.specs.Good.{IsGood}
 use Rattle.vms_bodies.proofs.ConstantLaws.{own_constants, part_constants}
 
 pub rules_split : (xs ys : List Slot) → RulesHold (xs ++ ys) → RulesHold xs × RulesHold ys
 rules_split [] ys h = (tt, h)
-rules_split (Number c kind caps ∷ xs) ys h = rules_split xs ys h
-rules_split (Constant kind z ∷ xs) ys h = rules_split xs ys h
-rules_split (Filler n ∷ xs) ys h = rules_split xs ys h
 rules_split (Rule b ∷ xs) ys h = let r = rules_split xs ys h.1 in ((h.0, r.0), r.1)
+rules_split (_ ∷ xs) ys h = rules_split xs ys h
 
 -- the numbers of the cells that are named, and the defaults of the others
 abbrev pub pick : List ℤ → List Slot → ℕ → List Cell → List ℤ
@@ -42,54 +40,38 @@ pick_long n xs i (x ∷ cells) = ap suc (pick_long n xs (suc i) cells)
 pick_from : (n : List ℤ) (xs : List Slot) (i j : ℕ) (cells : List Cell) (c : ℕ) → i + c ≡ j → c < length cells
     → get_or (pick n xs i cells) c (pos 0) ≡ (if has_cell xs j then get_or n j (pos 0) else (get_or cells c no_cell).default)
 pick_from n xs i j [] c e lt = absurd (omega arith)
-pick_from n xs i j (x ∷ cells) zero e lt = let same : i ≡ j = omega arith in ap (λ (k : ℕ). if has_cell xs k then get_or n k (pos 0) else x.default) same
+pick_from n xs i j (x ∷ cells) zero e lt = let same : i ≡ j = omega arith in rw same refl
 pick_from n xs i j (x ∷ cells) (suc c) e lt = pick_from n xs (suc i) j cells c (omega arith) (omega arith)
 
-pick_at : (n : List ℤ) (xs : List Slot) (cells : List Cell) (c : ℕ) → c < length cells
-    → get_or (pick n xs 0 cells) c (pos 0) ≡ (if has_cell xs c then get_or n c (pos 0) else (get_or cells c no_cell).default)
-pick_at n xs cells c lt = pick_from n xs 0 c cells c (omega arith) lt
-
-beyond : (m : List ℤ) (c : ℕ) → length m ≤ c → get_or m c (pos 0) ≡ pos 0
-beyond m c le = get_or-eq_default m (pos 0) le
+-- another list has the same number, if it has at each cell and is no longer than the cells
+picks : (n m : List ℤ) (xs : List Slot) (cells : List Cell) (c : ℕ) → length m ≡ length cells
+    → (c < length cells → (if has_cell xs c then get_or n c (pos 0) else (get_or cells c no_cell).default) ≡ get_or m c (pos 0))
+    → get_or (pick n xs 0 cells) c (pos 0) ≡ get_or m c (pos 0)
+picks n m xs cells c long h = go (nat_lt c (length cells)) refl
+  where
+    go : (b : Bool) → nat_lt c (length cells) ≡ b → get_or (pick n xs 0 cells) c (pos 0) ≡ get_or m c (pos 0)
+    go true l = let lt = ltb-true c (length cells) l in pick_from n xs 0 c cells c (omega arith) lt ∙ h lt
+    go false l =
+        let le : length cells ≤ c = ltb-false c (length cells) l in
+        get_or-eq_default (pick n xs 0 cells) (pos 0) (omega (arith, pick_long n xs 0 cells)) ∙ sym (get_or-eq_default m (pos 0) (omega arith))
 
 -- if the same cells are named, the same is picked
 pick_same : (n : List ℤ) (xs ys : List Slot) (cells : List Cell) (c : ℕ) → has_cell xs c ≡ has_cell ys c → get_or (pick n xs 0 cells) c (pos 0) ≡ get_or (pick n ys 0 cells) c (pos 0)
-pick_same n xs ys cells c e = go (nat_lt c (length cells)) refl
-  where
-    go : (b : Bool) → nat_lt c (length cells) ≡ b → get_or (pick n xs 0 cells) c (pos 0) ≡ get_or (pick n ys 0 cells) c (pos 0)
-    go true l =
-        let lt = ltb-true c (length cells) l in
-        pick_at n xs cells c lt ∙ ap (λ (b : Bool). if b then get_or n c (pos 0) else (get_or cells c no_cell).default) e ∙ sym (pick_at n ys cells c lt)
-    go false l =
-        let le : length cells ≤ c = ltb-false c (length cells) l in
-        beyond (pick n xs 0 cells) c (omega (arith, pick_long n xs 0 cells)) ∙ sym (beyond (pick n ys 0 cells) c (omega (arith, pick_long n ys 0 cells)))
+pick_same n xs ys cells c e = picks n _ xs cells c (pick_long n ys 0 cells) (λ lt. rw e (sym (pick_from n ys 0 c cells c (omega arith) lt)))
 
 -- what is not named is at its default
-pick_default : (n : List ℤ) (xs : List Slot) (cells : List Cell) (c : ℕ) → has_cell xs c ≡ false → get_or (pick n xs 0 cells) c (pos 0) ≡ get_or (map (λ (x : Cell). x.default) cells) c (pos 0)
-pick_default n xs cells c e = go (nat_lt c (length cells)) refl
-  where
-    go : (b : Bool) → nat_lt c (length cells) ≡ b → get_or (pick n xs 0 cells) c (pos 0) ≡ get_or (map (λ (x : Cell). x.default) cells) c (pos 0)
-    go true l =
-        let lt = ltb-true c (length cells) l in
-        pick_at n xs cells c lt ∙ ap (λ (b : Bool). if b then get_or n c (pos 0) else (get_or cells c no_cell).default) e ∙ sym (defaults_at cells c)
-    go false l =
-        let le : length cells ≤ c = ltb-false c (length cells) l in
-        beyond (pick n xs 0 cells) c (omega (arith, pick_long n xs 0 cells)) ∙ sym (beyond (map (λ (x : Cell). x.default) cells) c (omega (arith, defaults_long cells)))
+pick_default : (n : List ℤ) (xs : List Slot) (cells : List Cell) (c : ℕ) → has_cell xs c ≡ false
+    → get_or (pick n xs 0 cells) c (pos 0) ≡ get_or (map (λ (x : Cell). x.default) cells) c (pos 0)
+pick_default n xs cells c e = picks n _ xs cells c (defaults_long cells) (λ lt. rw e (sym (defaults_at cells c)))
 
 -- if what isn't picked is at its default, the numbers are picked as they are
-pick_all : (n : List ℤ) (xs : List Slot) (cells : List Cell) (c : ℕ) → length n ≡ length cells → (c < length n → has_cell xs c ≡ false → get_or n c (pos 0) ≡ (get_or cells c no_cell).default)
-    → get_or (pick n xs 0 cells) c (pos 0) ≡ get_or n c (pos 0)
-pick_all n xs cells c long h = go (nat_lt c (length cells)) refl
+pick_all : (n : List ℤ) (xs : List Slot) (cells : List Cell) (c : ℕ) → length n ≡ length cells
+    → (c < length n → has_cell xs c ≡ false → get_or n c (pos 0) ≡ (get_or cells c no_cell).default) → get_or (pick n xs 0 cells) c (pos 0) ≡ get_or n c (pos 0)
+pick_all n xs cells c long h = picks n n xs cells c long (λ lt. which (has_cell xs c) refl (omega arith))
   where
-    which : (b : Bool) → c < length cells → has_cell xs c ≡ b → get_or (pick n xs 0 cells) c (pos 0) ≡ get_or n c (pos 0)
-    which true lt e = pick_at n xs cells c lt ∙ ap (λ (b : Bool). if b then get_or n c (pos 0) else (get_or cells c no_cell).default) e
-    which false lt e = pick_at n xs cells c lt ∙ ap (λ (b : Bool). if b then get_or n c (pos 0) else (get_or cells c no_cell).default) e ∙ sym (h (omega arith) e)
-
-    go : (b : Bool) → nat_lt c (length cells) ≡ b → get_or (pick n xs 0 cells) c (pos 0) ≡ get_or n c (pos 0)
-    go true l = which (has_cell xs c) (ltb-true c (length cells) l) refl
-    go false l =
-        let le : length cells ≤ c = ltb-false c (length cells) l in
-        beyond (pick n xs 0 cells) c (omega (arith, pick_long n xs 0 cells)) ∙ sym (beyond n c (omega (arith, long)))
+    which : (b : Bool) → has_cell xs c ≡ b → c < length n → (if b then get_or n c (pos 0) else (get_or cells c no_cell).default) ≡ get_or n c (pos 0)
+    which true e lt = refl
+    which false e lt = sym (h lt e)
 
 -- what a subsection that is spelled has
 pub record IsSub (set : Set) (d : Device) (image : Image) (j w : ℕ) (front : List ℕ) : Type 0 where
@@ -103,74 +85,69 @@ pub record IsSub (set : Set) (d : Device) (image : Image) (j w : ℕ) (front : L
 pub sub_so : (set : Set) (d : Device) (image : Image) (j w : ℕ) (front : List ℕ) (s : Sub) → slice_get d.subs j ≡ Some s → IsVersionOf s.desc w → slice_get image.came j ≡ Some (Some w)
     → Streams.SubSpells set d image j (slice_get d.subs j) (slice_get image.came j) front → IsSub set d image j w front
 sub_so set d image j w front s e version f h =
-    let x : Streams.SubSpells set d image j (Some s) (Some (Some w)) front =
-    subst (λ (p : Option (Option ℕ)). Streams.SubSpells set d image j (Some s) p front) f (subst (λ (o : Option Sub). Streams.SubSpells set d image j o (slice_get image.came j) front) e h) in
+    let x : Streams.SubSpells set d image j (Some s) (Some (Some w)) front = rw (e, f) at h in
     record { sub = s; there = e; version = version; body = x.0; spells = x.1; is = x.2 }
 
 module _ (set : Set) (names : List (List ℕ)) (good : IsGood set) (k id : ℕ) (d : Device) (here : slice_get set.devices k ≡ Some d) (image : Image) (normal : IsNormal set d image) (valid : IsValid set d image) where
-  abbrev slots_so : List (Option ℕ) → List Slot
-  slots_so came = own_slots set d image.version image.numbers ++ came_slots set d image.numbers (own_cells set d) d.subs came
+  abbrev own : List Slot
+  own = own_slots set d image.version image.numbers
+
+  abbrev parts : List (Option ℕ) → List Slot
+  parts came = came_slots set d image.numbers (own_cells set d) d.subs came
+
+  -- the slots of part j at a version
+  abbrev part : ℕ → ℕ → Sub → List Slot
+  part j w s = sub_slots set s w image.numbers (part_place set d j)
 
   -- the numbers while these parts came
   abbrev pub so_far : List (Option ℕ) → List ℤ
-  so_far came = pick image.numbers (slots_so came) 0 (device_cells set d)
+  so_far came = pick image.numbers (own ++ parts came) 0 (device_cells set d)
 
   abbrev pub image_at : List (Option ℕ) → Image
   image_at came = record { version = image.version; came = came; numbers = so_far came }
 
-  -- a region in which nothing more comes
-  region : (came : List (Option ℕ)) (low end : ℕ) → ((c : ℕ) → low ≤ c → c < end → has_cell (slots_so came) c ≡ false → has_cell (image_slots set d image) c ≡ false) → SameIn low end image.numbers (so_far came)
-  region came low end h = record { same = λ c up lt. pick_all image.numbers (slots_so came) (device_cells set d) c normal.cells.long (λ inside e. normal.absent c inside (h c up lt e)) }
+  so_long : (came : List (Option ℕ)) → length (so_far came) ≡ length (device_cells set d)
+  so_long came = pick_long image.numbers (own ++ parts came) 0 (device_cells set d)
+
+  -- a region in which no other part has a cell
+  region : (came : List (Option ℕ)) (low end : ℕ) → ((c : ℕ) → low ≤ c → c < end → has_cell own c ≡ false → has_cell (parts came) c ≡ false
+      → (i : ℕ) (s : Sub) (x : ℕ) → slice_get d.subs i ≡ Some s → slice_get image.came i ≡ Some (Some x) → has_cell (part i x s) c ≡ false)
+      → SameIn low end image.numbers (so_far came)
+  region came low end h = record {
+    same = λ c up lt. pick_all image.numbers (own ++ parts came) (device_cells set d) c normal.cells.long (λ inside e.
+        let both = none_in_both c own (parts came) e in
+        normal.absent c inside (none_joined c own _ both.0
+        (parts_together set d image.numbers (λ xs. has_cell xs c ≡ false) refl (none_joined c) (own_cells set d) d.subs image.came (h c up lt both.0 both.1))));
+  }
 
   own_region : (came : List (Option ℕ)) → SameIn 0 (0 + own_cells set d) image.numbers (so_far came)
-  own_region came =
-      let own = own_slots set d image.version image.numbers in
-      let parts = came_slots set d image.numbers (own_cells set d) d.subs in
-      region came 0 (0 + own_cells set d) (λ c up lt e.
-      let both = or_parts (has_cell own c) (has_cell (parts came) c) (sym (names_append own (parts came) c) ∙ e) in
-      names_append own (parts image.came) c ∙ ap (λ (b : Bool). b || has_cell (parts image.came) c) both.0
-      ∙ parts_together set d image.numbers (λ xs. has_cell xs c ≡ false) refl (λ xs ys p q. names_append xs ys c ∙ ap (λ (b : Bool). b || has_cell ys c) p ∙ q) (own_cells set d) d.subs image.came
-      (λ i s x e f. its_below set s.desc x (part_place set d i) image.numbers c (omega (arith, sub_place_up set (own_cells set d) d.subs i))))
+  own_region came = region came 0 (0 + own_cells set d) (λ c up lt a b i s x e f.
+      its_below set s.desc x (part_place set d i) image.numbers c (omega (arith, sub_place_up set (own_cells set d) d.subs i)))
 
   part_region : (came : List (Option ℕ)) (j w : ℕ) (s : Sub) → slice_get d.subs j ≡ Some s → slice_get came j ≡ Some (Some w) → slice_get image.came j ≡ Some (Some w)
       → SameIn (part_place set d j) (part_place set d j + sub_size set s) image.numbers (so_far came)
-  part_region came j w s there f g =
-      let own = own_slots set d image.version image.numbers in
-      let parts = came_slots set d image.numbers (own_cells set d) d.subs in
-      region came (part_place set d j) (part_place set d j + sub_size set s) (λ c up lt e.
-      let both = or_parts (has_cell own c) (has_cell (parts came) c) (sym (names_append own (parts came) c) ∙ e) in
-      let mine = part_apart set d image.numbers (λ xs. has_cell xs c ≡ false) (λ xs ys p. or_parts (has_cell xs c) (has_cell ys c) (sym (names_append xs ys c) ∙ p)) (own_cells set d) d.subs came both.1 j s w there f in
-      names_append own (parts image.came) c ∙ ap (λ (b : Bool). b || has_cell (parts image.came) c) both.0
-      ∙ parts_together set d image.numbers (λ xs. has_cell xs c ≡ false) refl (λ xs ys p q. names_append xs ys c ∙ ap (λ (b : Bool). b || has_cell ys c) p ∙ q) (own_cells set d) d.subs image.came
-      (λ i t x e f. other i t x c e f up lt mine (nat_lt i j) (nat_lt j i) refl refl))
+  part_region came j w s there f g = region came (part_place set d j) (part_place set d j + sub_size set s) (λ c up lt a b i t x e f'.
+      other c i t x e f' up lt (part_apart set d image.numbers (λ xs. has_cell xs c ≡ false) (none_in_both c) (own_cells set d) d.subs came b j s w there f) (i == j) refl)
     where
-      other : (i : ℕ) (t : Sub) (x c : ℕ) → slice_get d.subs i ≡ Some t → slice_get image.came i ≡ Some (Some x) → part_place set d j ≤ c → c < part_place set d j + sub_size set s
-          → has_cell (sub_slots set s w image.numbers (part_place set d j)) c ≡ false → (b b' : Bool) → nat_lt i j ≡ b → nat_lt j i ≡ b' → has_cell (sub_slots set t x image.numbers (part_place set d i)) c ≡ false
-      other i t x c e f' up lt mine true b' l l' =
-          let less : i < j = ltb-true i j l in
-          its_above set t.desc x (part_place set d i) image.numbers c (omega (arith, places_apart set (own_cells set d) d.subs i j t e less))
-      other i t x c e f' up lt mine false true l l' =
-          let less : j < i = ltb-true j i l' in
-          its_below set t.desc x (part_place set d i) image.numbers c (omega (arith, places_apart set (own_cells set d) d.subs j i s there less))
-      other i t x c e f' up lt mine false false l l' =
-          let a : j ≤ i = ltb-false i j l in
-          let b : i ≤ j = ltb-false j i l' in
-          let same : i ≡ j = omega arith in
-          let ss : Some s ≡ Some t = sym there ∙ ap (slice_get d.subs) (sym same) ∙ e in
-          let st : s ≡ t = cc in
-          let ww : Some (Some w) ≡ Some (Some x) = sym g ∙ ap (slice_get image.came) (sym same) ∙ f' in
-          let wx : w ≡ x = cc in
-          subst (λ (i : ℕ). has_cell (sub_slots set t x image.numbers (part_place set d i)) c ≡ false) (sym same)
-          (subst (λ (t : Sub). has_cell (sub_slots set t x image.numbers (part_place set d j)) c ≡ false) st (subst (λ (x : ℕ). has_cell (sub_slots set s x image.numbers (part_place set d j)) c ≡ false) wx mine))
+      other : (c i : ℕ) (t : Sub) (x : ℕ) → slice_get d.subs i ≡ Some t → slice_get image.came i ≡ Some (Some x) → part_place set d j ≤ c → c < part_place set d j + sub_size set s
+          → has_cell (part j w s) c ≡ false → (b : Bool) → (i == j) ≡ b → has_cell (part i x t) c ≡ false
+      other c i t x e f' up lt mine true l =
+          let same : i ≡ j = eqb-true i j l in
+          let st : t ≡ s = cc in
+          let xw : x ≡ w = cc in
+          rw (same, st, xw) mine
+      other c i t x e f' up lt mine false l =
+          its_outside set t.desc x (part_place set d i) image.numbers c
+          (parts_apart set (own_cells set d) d.subs j i s t there e (λ same. let g = eq-eqb i j (sym same) in cc) c up lt)
 
   -- at last all numbers are there
   pub so_at_last : so_far image.came ≡ image.numbers
-  so_at_last = ext_get_or (pos 0) (so_far image.came) image.numbers (pick_long image.numbers (slots_so image.came) 0 (device_cells set d) ∙ sym normal.cells.long)
-      (λ c lt. pick_all image.numbers (slots_so image.came) (device_cells set d) c normal.cells.long (λ inside e. normal.absent c inside e))
+  so_at_last = ext_get_or (pos 0) (so_far image.came) image.numbers (so_long image.came ∙ sym normal.cells.long)
+      (λ c lt. pick_all image.numbers (own ++ parts image.came) (device_cells set d) c normal.cells.long (λ inside e. normal.absent c inside e))
 
   -- a part's body gives the numbers of one part more
-  pub part_taken : (came : List (Option ℕ)) (j w : ℕ) (s : Sub) (place : ℕ) (body tail : List ℕ) → slice_get d.subs j ≡ Some s → slice_get came j ≡ Some None → slice_get image.came j ≡ Some (Some w)
-      → Spells image.numbers (sub_slots set s w image.numbers (part_place set d j)) body
+  pub part_taken : (came : List (Option ℕ)) (j w : ℕ) (s : Sub) (place : ℕ) (body tail : List ℕ) → slice_get d.subs j ≡ Some s → slice_get came j ≡ Some None
+      → slice_get image.came j ≡ Some (Some w) → Spells image.numbers (sub_slots set s w image.numbers (part_place set d j)) body
       → take_desc (takers set.structs (length set.structs)) s.desc w (part_place set d j) (record { numbers = so_far came; place = place; rest = body ++ tail })
       ≡ Ok (record { numbers = so_far (slice_set came j (Some w)); place = place + length body; rest = tail })
   part_taken came j w s place body tail there new comes spells =
@@ -179,24 +156,19 @@ module _ (set : Set) (names : List (List ℕ)) (good : IsGood set) (k id : ℕ) 
       let n = image.numbers in
       let came1 = slice_set came j (Some w) in
       let m = so_far came1 in
-      let structs = good.structs in
       let sound = good.subs k j d s here there in
       let same = part_region came1 j w s there (at_set came j (Some w) (slice_get_within came j None new)) comes in
-      let long : length m ≡ length all = pick_long n (slots_so came1) 0 all in
-      let before : length (so_far came) ≡ length all = pick_long n (slots_so came) 0 all in
-      let own = own_slots set d image.version n in
-      let parts = came_slots set d n (own_cells set d) d.subs in
-      let split = rules_split own (parts image.came) valid in
-      let rules : RulesHold (sub_slots set s w n base) = part_apart set d n RulesHold rules_split (own_cells set d) d.subs image.came split.1 j s w there comes in
-      let fits : FitSlots n (sub_slots set s w n base) = fit_slots all n (sub_slots set s w n base) normal.cells (sub_are set d j s w n there) (part_constants set good k j d s here there w base n) in
-      body_only all set.structs structs s.desc w base m (record { numbers = so_far came; place = place; rest = body ++ tail }) body tail sound (omega (arith, long)) (before ∙ sym long)
-      (λ x. sub_are set d j s w x there)
-      (its_spelled set s.desc w base structs sound n m body same spells) (its_fit set s.desc w base structs sound n m same fits) (its_hold set s.desc w base structs sound n m same rules)
+      let rules : RulesHold (part j w s) =
+      part_apart set d n RulesHold rules_split (own_cells set d) d.subs image.came (rules_split own (parts image.came) valid).1 j s w there comes in
+      let fits : FitSlots n (part j w s) = fit_slots all n (part j w s) normal.cells (sub_are set d j s w n there) (part_constants set good k j d s here there w base n) in
+      body_only all set.structs good.structs s.desc w base m (record { numbers = so_far came; place = place; rest = body ++ tail }) body tail sound
+      (omega (arith, so_long came1)) (so_long came ∙ sym (so_long came1)) (λ x. sub_are set d j s w x there)
+      (its_spelled set s.desc w base good.structs sound n m body same spells) (its_fit set s.desc w base good.structs sound n m same fits)
+      (its_hold set s.desc w base good.structs sound n m same rules)
       (λ c e.
-      let f : has_cell (sub_slots set s w n base) c ≡ false = ap (λ (xs : List Slot). has_cell xs c) (sym (its_same set s.desc w base structs sound n m same)) ∙ e in
-      pick_same n (slots_so came1) (slots_so came) all c
-      (names_append own (parts came1) c
-      ∙ ap (λ (b : Bool). has_cell own c || b) (names_next set d n c (own_cells set d) d.subs came j s w there new ∙ ap (λ (b : Bool). b || has_cell (parts came) c) f)
+      let f : has_cell (part j w s) c ≡ false = rw (its_same set s.desc w base good.structs sound n m same) at e in
+      pick_same n (own ++ parts came1) (own ++ parts came) all c
+      (names_append own (parts came1) c ∙ ap (λ (b : Bool). has_cell own c || b) (names_next set d n c (own_cells set d) d.subs came j s w there new ∙ rw f refl)
       ∙ sym (names_append own (parts came) c)))
       refl
 
@@ -210,21 +182,14 @@ module _ (set : Set) (names : List (List ℕ)) (good : IsGood set) (k id : ℕ) 
       let v = image.version in
       let none = none_of d.subs in
       let m = so_far none in
-      let structs = good.structs in
       let sound = good.devices k d here in
       let same = own_region none in
-      let long : length m ≡ length all = pick_long n (slots_so none) 0 all in
-      let own = own_slots set d v n in
-      let parts = came_slots set d n (own_cells set d) d.subs in
-      let split = rules_split own (parts image.came) valid in
       let fits : FitSlots n own = fit_slots all n own normal.cells (own_are set d v n) (own_constants set good k d here v 0 n) in
-      body_only all set.structs structs d.desc v 0 m (record { numbers = (default_image set d).numbers; place = place; rest = body ++ tail }) body tail sound (omega (arith, long)) (defaults_long all ∙ sym long)
-      (own_are set d v)
-      (its_spelled set d.desc v 0 structs sound n m body same spells) (its_fit set d.desc v 0 structs sound n m same fits) (its_hold set d.desc v 0 structs sound n m same split.0)
+      body_only all set.structs good.structs d.desc v 0 m (record { numbers = (default_image set d).numbers; place = place; rest = body ++ tail }) body tail sound
+      (omega (arith, so_long none)) (defaults_long all ∙ sym (so_long none)) (own_are set d v)
+      (its_spelled set d.desc v 0 good.structs sound n m body same spells) (its_fit set d.desc v 0 good.structs sound n m same fits)
+      (its_hold set d.desc v 0 good.structs sound n m same (rules_split own (parts image.came) valid).0)
       (λ c e.
-      let f : has_cell own c ≡ false = ap (λ (xs : List Slot). has_cell xs c) (sym (its_same set d.desc v 0 structs sound n m same)) ∙ e in
-      pick_default n (slots_so none) all c
-      (names_append own (parts none) c ∙ ap (λ (b : Bool). b || has_cell (parts none) c) f
-      ∙ parts_together set d n (λ xs. has_cell xs c ≡ false) refl (λ xs ys p q. names_append xs ys c ∙ ap (λ (b : Bool). b || has_cell ys c) p ∙ q) (own_cells set d) d.subs none
-      (λ i s x e g. absurd (none_came d.subs i x g))))
+      pick_default n (own ++ parts none) all c (none_joined c own (parts none) (rw (its_same set d.desc v 0 good.structs sound n m same) at e)
+      (parts_together set d n (λ xs. has_cell xs c ≡ false) refl (none_joined c) (own_cells set d) d.subs none (λ i s x e g. absurd (none_came d.subs i x g)))))
       refl

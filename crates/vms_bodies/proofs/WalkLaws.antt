@@ -1,5 +1,5 @@
 -- What the structural reader takes, by the slots that it goes through: whatever each slot keeps, the whole keeps.
-use Rattle.std.proofs.Common.{◌≡◌, ◌≢◌, ℕ, zero, suc, ◌+◌, ◌*◌, ◌≤◌, List, ◌∷◌, ◌++◌, length, get_or, map, take, drop, Ok, Err, IfOk, ℤ, pos, refl, sym, ap, ◌∙◌, subst, arith, append_assoc, append-nil, length-append, Bool, true, false, not, if◌then◌else◌, nat_lt, slice_set, get_or-set_other, []}
+use Rattle.std.proofs.Common.{◌≡◌, ◌≢◌, ℕ, zero, suc, ◌+◌, ◌*◌, ◌≤◌, List, ◌∷◌, ◌++◌, length, get_or, map, take, drop, Ok, Err, IfOk, ℤ, refl, sym, ap, ◌∙◌, arith, append_assoc, append-nil, length-append, Bool, true, false, not, if◌then◌else◌, nat_lt, slice_set, get_or-set_other, []}
 use Rattle.std.proofs.Math.Nat.{mul-le-mul_right}
 use Rattle.vms_kinds.specs.declared.Kind.{Kind}
 use Rattle.vms_kinds.specs.declared.Item.{Item}
@@ -56,10 +56,8 @@ IsFrom cell (Number c kind capacities) = cell ≤ c
 IsFrom cell slot = Unit {0}
 
 sets_from : (cell : ℕ) (slot : Slot) (old new : List ℤ) → IsFrom cell slot → Sets slot old new → SameBelow cell old new
-sets_from cell (Number c kind capacities) old new le s = record { same = λ k h. let ne : k ≢ c = omega (arith, le, h) in ap (λ (l : List ℤ). get_or l k (pos 0)) s.1 ∙ (rw get_or-set_other) }
-sets_from cell (Constant kind z) old new le s = subst (SameBelow cell old) (sym s) (same_refl cell old)
-sets_from cell (Filler n) old new le s = subst (SameBelow cell old) (sym s) (same_refl cell old)
-sets_from cell (Rule b) old new le s = subst (SameBelow cell old) (sym s) (same_refl cell old)
+sets_from cell (Number c kind capacities) old new le s = record { same = λ k h. let ne : k ≢ c = omega (arith, le, h) in rw (s.1, get_or-set_other) refl }
+sets_from cell _ old new le s = rw s (same_refl cell old)
 
 -- the numbers below its cell are final
 pub slot_keeps : (cell : ℕ) (slot : Slot) (p : Progress) → IsFrom cell slot → Keeps cell p.numbers (take_slot slot p)
@@ -98,21 +96,23 @@ module _ (total : List ℤ → List Slot) (Holds : ℕ → List Slot → Progres
   IsOther (Number c kind capacities) = ⊥
   IsOther slot = Unit {0}
 
+  -- no slot that remains has a number below the cell
+  abbrev Up : ℕ → (List ℤ → List Slot) → Type 0
+  Up cell left = (m : List ℤ) → IsAbove cell (left m)
+
   -- what each slot keeps if it is the next, at its cell and with these slots done before it
   pub record Keeping : Type 0 where
-    pub less : (cell further : ℕ) (done : List Slot) (left : List ℤ → List Slot) (p : Progress) → cell ≤ further → ((m : List ℤ) → IsAbove further (left m)) → Left cell p done left → Holds further done p
+    pub less : (cell further : ℕ) (done : List Slot) (left : List ℤ → List Slot) (p : Progress) → cell ≤ further → ((m : List ℤ) → IsAbove further (left m))
+        → Left cell p done left → Holds further done p
     pub number : (cell : ℕ) (kind : Kind) (capacities : List ℕ) (done : List Slot) (left : List ℤ → List Slot) (p : Progress)
-        → ((m : List ℤ) → IsAbove (cell + 1) (left m)) → Left cell p done (λ m. Number cell kind capacities ∷ left m) → Gives (cell + 1) (done ++ Number cell kind capacities ∷ []) (take_slot (Number cell kind capacities) p)
+        → ((m : List ℤ) → IsAbove (cell + 1) (left m)) → Left cell p done (λ m. Number cell kind capacities ∷ left m)
+        → Gives (cell + 1) (done ++ Number cell kind capacities ∷ []) (take_slot (Number cell kind capacities) p)
     pub other : (cell : ℕ) (slot : Slot) (done : List Slot) (left : List ℤ → List Slot) (p : Progress) → IsOther slot
         → ((m : List ℤ) → IsAbove cell (left m)) → Left cell p done (λ m. slot ∷ left m) → Gives cell (done ++ slot ∷ []) (take_slot slot p)
 
-  left_ap : (cell : ℕ) (p : Progress) (done : List Slot) (left left' : List ℤ → List Slot)
+  left_ap : {cell : ℕ} {p : Progress} {done : List Slot} {left left' : List ℤ → List Slot}
       → ((m : List ℤ) → SameBelow cell p.numbers m → left m ≡ left' m) → Left cell p done left → Left cell p done left'
-  left_ap cell p done left left' e l = record { split = λ m s. l.split m s ∙ ap (λ (xs : List Slot). done ++ xs) (e m s); holds = l.holds }
-
-  left_less : (w : Keeping) (cell further : ℕ) (p : Progress) (done : List Slot) (left : List ℤ → List Slot) → cell ≤ further
-      → ((m : List ℤ) → IsAbove further (left m)) → Left cell p done left → Left further p done left
-  left_less w cell further p done left le up l = record { split = λ m s. l.split m (same_less cell further p.numbers m le s); holds = w.less cell further done left p le up l }
+  left_ap {done = done} e l = record { split = λ m s. l.split m s ∙ ap (λ (xs : List Slot). done ++ xs) (e m s); holds = l.holds }
 
   abbrev pub ComesTo : ℕ → (List ℤ → List Slot) → Taken → Type 0
   ComesTo cell left (Err e) = Fails e
@@ -122,9 +122,6 @@ module _ (total : List ℤ → List Slot) (Holds : ℕ → List Slot → Progres
   pub record Comes (cell : ℕ) (left : List ℤ → List Slot) (t : Taken) : Type 0 where
     pub comes : ComesTo cell left t
 
-  stay : (cell : ℕ) (left : List ℤ → List Slot) (done : List Slot) (p : Progress) → Left cell p done left → Comes cell left (Ok p)
-  stay cell left done p l = record { comes = (done, l) }
-
   then_comes : (cell further : ℕ) (left left' : List ℤ → List Slot) (t : Taken) (f : Progress → Taken) → Comes cell left t
       → ((q : Progress) (done : List Slot) → Left cell q done left → Comes further left' (f q)) → Comes further left' (t >>= f)
   then_comes cell further left left' (Err e) f c h = record { comes = c.comes }
@@ -133,51 +130,30 @@ module _ (total : List ℤ → List Slot) (Holds : ℕ → List Slot → Progres
   slot_comes : (cell further : ℕ) (slot : Slot) (done : List Slot) (left : List ℤ → List Slot) (p : Progress) (t : Taken) → cell ≤ further
       → Left cell p done (λ m. slot ∷ left m) → Keeps cell p.numbers t → Gives further (done ++ slot ∷ []) t → Comes further left t
   slot_comes cell further slot done left p (Err e) le l k x = record { comes = x }
-  slot_comes cell further slot done left p (Ok q) le l k x =
+  slot_comes cell further slot done left p (Ok q) le l k x = record {
+    comes = (
+      done ++ slot ∷ [],
       record {
-        comes = (
-          done ++ slot ∷ [],
-          record {
-            split = λ m s. l.split m (same_trans cell p.numbers q.numbers m k.kept (same_less cell further q.numbers m le s)) ∙ sym (append_assoc done (slot ∷ []) (left m));
-            holds = x;
-          },
-        );
-      }
-
-  comes_less : (w : Keeping) (cell further : ℕ) (left : List ℤ → List Slot) (t : Taken) → cell ≤ further → ((m : List ℤ) → IsAbove further (left m)) → Comes cell left t → Comes further left t
-  comes_less w cell further left (Err e) le up c = record { comes = c.comes }
-  comes_less w cell further left (Ok q) le up c = record { comes = (c.comes.0, left_less w cell further q c.comes.0 left le up c.comes.1) }
-
-  one_number : (w : Keeping) (cell : ℕ) (kind : Kind) (caps : List ℕ) (done : List Slot) (left : List ℤ → List Slot) (p : Progress)
-      → ((m : List ℤ) → IsAbove (cell + 1) (left m)) → Left cell p done (λ m. Number cell kind caps ∷ left m) → Comes (cell + 1) left (take_slot (Number cell kind caps) p)
-  one_number w cell kind caps done left p up l =
-      slot_comes cell (cell + 1) (Number cell kind caps) done left p (take_slot (Number cell kind caps) p) (omega arith) l (slot_keeps cell (Number cell kind caps) p (omega arith)) (w.number cell kind caps done left p up l)
+        split = λ m s. rw append_assoc (l.split m (same_trans cell p.numbers q.numbers m k.kept (same_less cell further q.numbers m le s)));
+        holds = x;
+      },
+    );
+  }
 
   other_from : (cell : ℕ) (slot : Slot) → IsOther slot → IsFrom cell slot
   other_from cell (Number c kind capacities) o = absurd o
-  other_from cell (Constant kind z) o = tt
-  other_from cell (Filler n) o = tt
-  other_from cell (Rule b) o = tt
-
-  -- a slot without a cell, which is this one whatever comes
-  one_other : (w : Keeping) (cell further : ℕ) (slot : Slot) (done : List Slot) (left : List ℤ → List Slot) (p : Progress) → cell ≤ further → IsOther slot
-      → ((m : List ℤ) → IsAbove further (left m)) → Left cell p done (λ m. slot ∷ left m) → Comes further left (take_slot slot p)
-  one_other w cell further slot done left p le o up l =
-      comes_less w cell further left (take_slot slot p) le up
-      (slot_comes cell cell slot done left p (take_slot slot p) (omega arith) l (slot_keeps cell slot p (other_from cell slot o)) (w.other cell slot done left p o (λ m. above_less cell further (left m) le (up m)) l))
+  other_from cell _ o = tt
 
   -- ---- structures
 
   pub record TakesSlots (t : Taker) (m : Meaning) : Type 0 where
-    pub takes : (cell : ℕ) (p : Progress) (done : List Slot) (left : List ℤ → List Slot) → ((n : List ℤ) → IsAbove (cell + length t.cells) (left n))
-        → Left cell p done (λ n. m.slots n cell ++ left n)
-        → Comes (cell + length t.cells) left (t.takes cell p)
+    pub takes : (cell end : ℕ) (p : Progress) (done : List Slot) (left : List ℤ → List Slot) → end ≡ cell + length t.cells → Up end left
+        → Left cell p done (λ n. m.slots n cell ++ left n) → Comes end left (t.takes cell p)
 
   abbrev pub Pairs : List Taker → List Meaning → Type 0
   Pairs [] [] = Unit {0}
   Pairs (t ∷ ts) (m ∷ ms) = (t.cells ≡ m.cells) × TakesSlots t m × Pairs ts ms
-  Pairs [] (m ∷ ms) = ⊥
-  Pairs (t ∷ ts) [] = ⊥
+  Pairs _ _ = ⊥
 
   pairs_cells : (ts : List Taker) (ms : List Meaning) → Pairs ts ms → map (λ (m : Meaning). m.cells) ms ≡ cells_of ts
   pairs_cells [] [] p = refl
@@ -191,158 +167,156 @@ module _ (total : List ℤ → List Slot) (Holds : ℕ → List Slot → Progres
   pairs_append [] (y ∷ ms) t m p e h = absurd p
   pairs_append (x ∷ ts) [] t m p e h = absurd p
 
-  none_takes : (w : Keeping) → TakesSlots no_taker no_meaning
-  none_takes w = record { takes = λ cell p done left up l. stay (cell + 0) left done p (left_less w cell (cell + 0) p done left (omega arith) up l) }
-
-  pair_at : (w : Keeping) (ts : List Taker) (ms : List Meaning) (j : ℕ) → Pairs ts ms → TakesSlots (get_or ts j no_taker) (get_or ms j no_meaning)
-  pair_at w [] [] j p = none_takes w
-  pair_at w (t ∷ ts) (m ∷ ms) zero p = p.1
-  pair_at w (t ∷ ts) (m ∷ ms) (suc j) p = pair_at w ts ms j p.2
-  pair_at w [] (m ∷ ms) j p = absurd p
-  pair_at w (t ∷ ts) [] j p = absurd p
-
   cells_get : (ts : List Taker) (j : ℕ) → (get_or ts j no_taker).cells ≡ get_or (cells_of ts) j []
   cells_get [] j = refl
   cells_get (t ∷ ts) zero = refl
   cells_get (t ∷ ts) (suc j) = cells_get ts j
 
-  item_comes : (w : Keeping) (ts : List Taker) (ms : List Meaning) → Pairs ts ms → (item : Item) (caps : List ℕ) (cell : ℕ) (p : Progress) (done : List Slot) (left : List ℤ → List Slot)
-      → ((m : List ℤ) → IsAbove (cell + item_size (cells_of ts) item) (left m)) → Left cell p done (λ m. item_slots ms item caps m cell ++ left m)
-      → Comes (cell + item_size (cells_of ts) item) left (take_item ts item caps cell p)
-  item_comes w ts ms pairs (Num kind) caps cell p done left up l =
-      one_number w cell kind caps done left p up l
-  item_comes w ts ms pairs (Equal kind z) caps cell p done left up l =
-      one_other w cell (cell + 0) (Constant kind z) done left p (omega arith) tt up l
-  item_comes w ts ms pairs (Unused n) caps cell p done left up l =
-      one_other w cell (cell + 0) (Filler n) done left p (omega arith) tt up l
-  item_comes w ts ms pairs (Struct j) caps cell p done left up l =
-      subst (λ (cs : List Cell). Comes (cell + length cs) left ((get_or ts j no_taker).takes cell p)) (cells_get ts j)
-      ((pair_at w ts ms j pairs).takes cell p done left (λ n. subst (λ (cs : List Cell). IsAbove (cell + length cs) (left n)) (sym (cells_get ts j)) (up n)) l)
+  module _ (w : Keeping) where
+    left_less : (cell further : ℕ) (p : Progress) (done : List Slot) (left : List ℤ → List Slot) → cell ≤ further → Up further left → Left cell p done left
+        → Left further p done left
+    left_less cell further p done left le up l = record { split = λ m s. l.split m (same_less cell further p.numbers m le s); holds = w.less cell further done left p le up l }
 
-  items_comes : (w : Keeping) (ts : List Taker) (ms : List Meaning) → Pairs ts ms → MeanAbove ms → (item : Item) (caps : List ℕ) (n cell : ℕ) (p : Progress) (done : List Slot) (left : List ℤ → List Slot)
-      → ((m : List ℤ) → IsAbove (cell + n * item_size (cells_of ts) item) (left m))
-      → Left cell p done (λ m. times n (item_slots ms item caps m) cell (item_size (cells_of ts) item) ++ left m)
-      → Comes (cell + n * item_size (cells_of ts) item) left (take_items ts item caps (item_size (cells_of ts) item) n cell p)
-  items_comes w ts ms pairs ab item caps zero cell p done left up l =
-      stay (cell + 0 * item_size (cells_of ts) item) left done p (left_less w cell (cell + 0 * item_size (cells_of ts) item) p done left (omega arith) up l)
-  items_comes w ts ms pairs ab item caps (suc n) cell p done left up l =
-      let size = item_size (cells_of ts) item in
-      let later : List ℤ → List Slot = λ m. times n (item_slots ms item caps m) (cell + size) size ++ left m in
-      let e : cell + suc n * size ≡ (cell + size) + n * size = grind arith in
-      let up' : (m : List ℤ) → IsAbove ((cell + size) + n * size) (left m) = λ m. subst (λ (k : ℕ). IsAbove k (left m)) e (up m) in
-      let high : (m : List ℤ) → IsAbove (cell + size) (later m) = λ m.
-      above_append (cell + size) (times n (item_slots ms item caps m) (cell + size) size) (left m) (items_above ms ab item caps m n (cell + size) size)
-      (above_less (cell + size) ((cell + size) + n * size) (left m) (omega arith) (up' m)) in
-      subst (λ (k : ℕ). Comes k left (take_items ts item caps size (suc n) cell p)) (sym e)
-      (then_comes (cell + size) ((cell + size) + n * size) later left (take_item ts item caps cell p) (λ q. take_items ts item caps size n (cell + size) q)
-      (item_comes w ts ms pairs item caps cell p done later high
-      (left_ap cell p done (λ m. times (suc n) (item_slots ms item caps m) cell size ++ left m) (λ m. item_slots ms item caps m cell ++ later m)
-      (λ m s. append_assoc (item_slots ms item caps m cell) (times n (item_slots ms item caps m) (cell + size) size) (left m)) l))
-      (λ q done' l'. items_comes w ts ms pairs ab item caps n (cell + size) q done' left up' l'))
+    comes_less : (cell further : ℕ) (left : List ℤ → List Slot) (t : Taken) → cell ≤ further → Up further left → Comes cell left t → Comes further left t
+    comes_less cell further left (Err e) le up c = record { comes = c.comes }
+    comes_less cell further left (Ok q) le up c = record { comes = (c.comes.0, left_less cell further q _ left le up c.comes.1) }
 
-  -- whether a field is there, and how many elements it has, by the numbers before it
-  field_comes : (w : Keeping) (ts : List Taker) (ms : List Meaning) → Pairs ts ms → MeanAbove ms → (d : Desc) (v base i cell : ℕ) (f : Field) (p : Progress) (done : List Slot) (left : List ℤ → List Slot)
-      → IsSoundField d.fields i f → cell ≡ place_of (cells_of ts) d.fields 0 base d.fields i
-      → ((m : List ℤ) → IsAbove (cell + length (field_cells (cells_of ts) d.fields i f)) (left m))
-      → Left cell p done (λ m. field_slots ms d.fields v (numbers_of (map (λ (m : Meaning). m.cells) ms) d m base) m i cell f ++ left m)
-      → Comes (cell + length (field_cells (cells_of ts) d.fields i f)) left (take_field ts d v base i cell f p)
-  field_comes w ts ms pairs ab d v base i cell f p done left sound here up l =
-      let cs = cells_of ts in
-      let own = numbers_of cs d p.numbers base in
-      let size = item_size cs f.item in
-      let caps = counted i d.fields in
-      let n = elements_of f.count own in
-      let b = is_there f.test f.since v own no_parent in
-      let slots : Bool → List ℤ → List Slot = λ b m. if b then times n (item_slots ms f.item caps m) cell size else [] in
-      let e : (m : List ℤ) → SameBelow cell p.numbers m → field_slots ms d.fields v (numbers_of (map (λ (m : Meaning). m.cells) ms) d m base) m i cell f ++ left m ≡ slots b m ++ left m = λ m s.
-      let now = numbers_of cs d m base in
-      let h : (j : ℕ) → IsEarlier d.fields i j → now j ≡ own j = λ j x. own_same cs d base i cell j p.numbers m here s x in
-      ap (λ (cs : List (List Cell)). (if is_there f.test f.since v (numbers_of cs d m base) no_parent then times (elements_of f.count (numbers_of cs d m base)) (item_slots ms f.item caps m) cell (item_size cs f.item) else []) ++ left m) (pairs_cells ts ms pairs)
-      ∙ ap (λ (b : Bool). (if b then times (elements_of f.count now) (item_slots ms f.item caps m) cell size else []) ++ left m) (there_same d.fields i v f.since own now h f.test sound.test)
-      ∙ ap (λ (n : ℕ). (if b then times n (item_slots ms f.item caps m) cell size else []) ++ left m) (elements_same d.fields i own now h f.count sound.count) in
-      let go : (b : Bool) → Left cell p done (λ m. slots b m ++ left m)
-      → Comes (cell + length (field_cells cs d.fields i f)) left (if b then take_items ts f.item caps size n cell p else Ok p) = λ b.
-      elim b as (λ b. Left cell p done (λ m. slots b m ++ left m) → Comes (cell + length (field_cells cs d.fields i f)) left (if b then take_items ts f.item caps size n cell p else Ok p)) [
-        | true ↦ λ l.
-            let le : n * size ≤ capacity_of f.count * size = mul-le-mul_right {m = n} {n = capacity_of f.count} size (elements_fit f.count own) in
-            let more : cell + n * size ≤ cell + length (field_cells cs d.fields i f) = omega (arith, field_size cs d.fields i f) in
-            comes_less w (cell + n * size) (cell + length (field_cells cs d.fields i f)) left (take_items ts f.item caps size n cell p) more up
-            (items_comes w ts ms pairs ab f.item caps n cell p done left (λ m. above_less (cell + n * size) (cell + length (field_cells cs d.fields i f)) (left m) more (up m)) l)
-        | false ↦ λ l. stay (cell + length (field_cells cs d.fields i f)) left done p (left_less w cell (cell + length (field_cells cs d.fields i f)) p done left (omega arith) up l)
-      ] in
-      go b (left_ap cell p done _ (λ m. slots b m ++ left m) e l)
+    stay : (cell further : ℕ) (left : List ℤ → List Slot) (done : List Slot) (p : Progress) → cell ≤ further → Up further left → Left cell p done left → Comes further left (Ok p)
+    stay cell further left done p le up l = record { comes = (done, left_less cell further p done left le up l) }
 
-  -- ---- descriptions
+    -- a slot without a cell, which is this one whatever comes
+    one_other : (cell further : ℕ) (slot : Slot) (done : List Slot) (left : List ℤ → List Slot) (p : Progress) → cell ≤ further → IsOther slot → Up further left
+        → Left cell p done (λ m. slot ∷ left m) → Comes further left (take_slot slot p)
+    one_other cell further slot done left p le o up l =
+        comes_less cell further left _ le up
+        (slot_comes cell cell slot done left p _ (omega arith) l (slot_keeps cell slot p (other_from cell slot o)) (w.other cell slot done left p o (λ m. above_less cell further _ le (up m)) l))
 
-  fields_comes : (w : Keeping) (ts : List Taker) (ms : List Meaning) → Pairs ts ms → MeanAbove ms → (d : Desc) (v base i cell : ℕ) (fs : List Field) (p : Progress) (done : List Slot) (left : List ℤ → List Slot)
-      → AreSoundFields d.fields i fs → cell ≡ place_of (cells_of ts) d.fields 0 base d.fields i → drop i d.fields ≡ fs
-      → ((m : List ℤ) → IsAbove (cell + length (cells_from (cells_of ts) d.fields i fs)) (left m))
-      → Left cell p done (λ m. slots_from ms d.fields v (numbers_of (map (λ (m : Meaning). m.cells) ms) d m base) m i cell fs ++ left m)
-      → Comes (cell + length (cells_from (cells_of ts) d.fields i fs)) left (take_fields ts d v base i cell fs p)
-  fields_comes w ts ms pairs ab d v base i cell [] p done left sound here is up l =
-      stay (cell + 0) left done p (left_less w cell (cell + 0) p done left (omega arith) up l)
-  fields_comes w ts ms pairs ab d v base i cell (f ∷ fs) p done left sound here is up l =
-      let cs = cells_of ts in
-      let next = cell + length (field_cells cs d.fields i f) in
-      let own : List ℤ → ℕ → ℕ = λ m. numbers_of (map (λ (m : Meaning). m.cells) ms) d m base in
-      let later : List ℤ → List Slot = λ m. slots_from ms d.fields v (own m) m (suc i) next fs ++ left m in
-      let e : cell + length (cells_from cs d.fields i (f ∷ fs)) ≡ next + length (cells_from cs d.fields (suc i) fs) =
-      omega (arith, length-append (field_cells cs d.fields i f) (cells_from cs d.fields (suc i) fs)) in
-      let there : next ≡ place_of cs d.fields 0 base d.fields (suc i) = omega (arith, place_next cs d.fields 0 base d.fields i f fs is, ap (λ (k : ℕ). length (field_cells cs d.fields k f)) (zero_plus i)) in
-      let rest : drop (suc i) d.fields ≡ fs = drop_next d.fields i f fs is in
-      let end = next + length (cells_from cs d.fields (suc i) fs) in
-      let up' : (m : List ℤ) → IsAbove end (left m) = λ m. subst (λ (k : ℕ). IsAbove k (left m)) e (up m) in
-      let high : (m : List ℤ) → IsAbove next (later m) = λ m.
-      above_append next (slots_from ms d.fields v (own m) m (suc i) next fs) (left m)
-      (subst (λ (cs : List (List Cell)). IsAbove (cell + length (field_cells cs d.fields i f)) (slots_from ms d.fields v (own m) m (suc i) (cell + length (field_cells cs d.fields i f)) fs)) (pairs_cells ts ms pairs)
-      (fields_above ms ab d.fields v (own m) m (suc i) (cell + length (field_cells (map (λ (m : Meaning). m.cells) ms) d.fields i f)) fs))
-      (above_less next end (left m) (omega arith) (up' m)) in
-      subst (λ (k : ℕ). Comes k left (take_fields ts d v base i cell (f ∷ fs) p)) (sym e)
-      (then_comes next (next + length (cells_from cs d.fields (suc i) fs)) later left (take_field ts d v base i cell f p) (λ q. take_fields ts d v base (suc i) next fs q)
-      (field_comes w ts ms pairs ab d v base i cell f p done later sound.0 here high
-      (left_ap cell p done _ (λ m. field_slots ms d.fields v (own m) m i cell f ++ later m)
-      (λ m s. ap (λ (cs : List (List Cell)). (field_slots ms d.fields v (own m) m i cell f ++ slots_from ms d.fields v (own m) m (suc i) (cell + length (field_cells cs d.fields i f)) fs) ++ left m) (pairs_cells ts ms pairs)
-      ∙ append_assoc (field_slots ms d.fields v (own m) m i cell f) (slots_from ms d.fields v (own m) m (suc i) next fs) (left m)) l))
-      (λ q done' l'. fields_comes w ts ms pairs ab d v base (suc i) next fs q done' left sound.1 there rest up' l'))
+    pair_at : (ts : List Taker) (ms : List Meaning) (j : ℕ) → Pairs ts ms → TakesSlots (get_or ts j no_taker) (get_or ms j no_meaning)
+    pair_at [] [] j p = record { takes = λ cell end p done left e up l. stay cell end left done p (omega arith) up l }
+    pair_at (t ∷ ts) (m ∷ ms) zero p = p.1
+    pair_at (t ∷ ts) (m ∷ ms) (suc j) p = pair_at ts ms j p.2
+    pair_at [] (m ∷ ms) j p = absurd p
+    pair_at (t ∷ ts) [] j p = absurd p
 
-  -- reading a description's slots is taking it
-  pub desc_comes : (w : Keeping) (ts : List Taker) (ms : List Meaning) → Pairs ts ms → MeanAbove ms → (d : Desc) (v base : ℕ) (p : Progress) (done : List Slot) (left : List ℤ → List Slot)
-      → IsSound d → ((m : List ℤ) → IsAbove (base + length (desc_cells (cells_of ts) d)) (left m)) → Left base p done (λ m. desc_slots ms d v m base ++ left m)
-      → Comes (base + length (desc_cells (cells_of ts) d)) left (take_desc ts d v base p)
-  unfolding take_desc
-  desc_comes w ts ms pairs ab d v base p done left sound up l =
-      let cs = cells_of ts in
-      let end = base + length (desc_cells cs d) in
-      let own : List ℤ → ℕ → ℕ = λ m. numbers_of (map (λ (m : Meaning). m.cells) ms) d m base in
-      let rule : List ℤ → List Slot = λ m. Rule (all_hold d.validate v (own m)) ∷ left m in
-      let z : base ≡ place_of cs d.fields 0 base d.fields 0 = sym (place_first cs d.fields 0 base d.fields) in
-      then_comes end end rule left (take_fields ts d v base 0 base d.fields p) (check_rules ts d v base)
-      (fields_comes w ts ms pairs ab d v base 0 base d.fields p done rule sound.fields z refl (λ m. above_append end (Rule (all_hold d.validate v (own m)) ∷ []) (left m) (record { below = λ c lt. refl }) (up m))
-      (left_ap base p done _ (λ m. slots_from ms d.fields v (own m) m 0 base d.fields ++ rule m)
-      (λ m s. append_assoc (slots_from ms d.fields v (own m) m 0 base d.fields) (Rule (all_hold d.validate v (own m)) ∷ []) (left m)) l))
-      (λ q done' l'.
-      one_other w end end (Rule (all_hold d.validate v (numbers_of cs d q.numbers base))) done' left q (omega arith) tt up
-      (left_ap end q done' rule (λ m. Rule (all_hold d.validate v (numbers_of cs d q.numbers base)) ∷ left m)
-      (λ m s. ap (λ (cs : List (List Cell)). Rule (all_hold d.validate v (numbers_of cs d m base)) ∷ left m) (pairs_cells ts ms pairs)
-      ∙ ap (λ (b : Bool). Rule b ∷ left m) (hold_same d.fields (length d.fields) v (numbers_of cs d q.numbers base) (numbers_of cs d m base)
-      (λ j x. own_same cs d base (length d.fields) end j q.numbers m (sym (place_end cs d.fields 0 base d.fields)) s x) d.validate sound.validate)) l'))
+    module _ (ts : List Taker) (ms : List Meaning) (pairs : Pairs ts ms) (ab : MeanAbove ms) where
+      item_comes : (item : Item) (caps : List ℕ) (cell end : ℕ) (p : Progress) (done : List Slot) (left : List ℤ → List Slot) → end ≡ cell + item_size (cells_of ts) item
+          → Up end left → Left cell p done (λ m. item_slots ms item caps m cell ++ left m) → Comes end left (take_item ts item caps cell p)
+      item_comes (Num kind) caps cell end p done left e up l =
+          comes_less (cell + 1) end left _ (omega arith) up
+          (slot_comes cell (cell + 1) (Number cell kind caps) done left p _ (omega arith) l (slot_keeps cell (Number cell kind caps) p (omega arith))
+          (w.number cell kind caps done left p (λ m. above_less (cell + 1) end _ (omega arith) (up m)) l))
+      item_comes (Equal kind z) caps cell end p done left e up l = one_other cell end (Constant kind z) done left p (omega arith) tt up l
+      item_comes (Unused n) caps cell end p done left e up l = one_other cell end (Filler n) done left p (omega arith) tt up l
+      item_comes (Struct j) caps cell end p done left e up l = (pair_at ts ms j pairs).takes cell end p done left (omega (arith, ap length (cells_get ts j))) up l
 
-  pub pairs_first : (w : Keeping) (ds : List Desc) → AreSound ds → (k : ℕ) → k ≤ length ds → Pairs (takers ds k) (meanings ds k)
-  unfolding first
-  pairs_first w ds sound zero le = tt
-  pairs_first w ds sound (suc k) le =
-      let pairs : Pairs (takers ds k) (meanings ds k) = pairs_first w ds sound k (omega arith) in
-      let d = get_or ds k no_desc in
-      pairs_append (takers ds k) (meanings ds k) (taker_of (takers ds k) d) (meaning (meanings ds k) d) pairs
-      (ap (λ (cs : List (List Cell)). desc_cells cs d) (sym (pairs_cells (takers ds k) (meanings ds k) pairs)))
-      (record { takes = λ cell p done left up l. desc_comes w (takers ds k) (meanings ds k) pairs (meanings_above ds k) d d.version cell p done left (sound k (omega arith)) up l })
+      items_comes : (item : Item) (caps : List ℕ) (n cell end : ℕ) (p : Progress) (done : List Slot) (left : List ℤ → List Slot)
+          → end ≡ cell + n * item_size (cells_of ts) item → Up end left
+          → Left cell p done (λ m. times n (item_slots ms item caps m) cell (item_size (cells_of ts) item) ++ left m)
+          → Comes end left (take_items ts item caps (item_size (cells_of ts) item) n cell p)
+      items_comes item caps zero cell end p done left e up l = stay cell end left done p (omega arith) up l
+      items_comes item caps (suc n) cell end p done left e up l =
+          let size = item_size (cells_of ts) item in
+          let later : List ℤ → List Slot = λ m. times n (item_slots ms item caps m) (cell + size) size ++ left m in
+          let e' : end ≡ (cell + size) + n * size = grind arith in
+          then_comes (cell + size) end later left (take_item ts item caps cell p) (λ q. take_items ts item caps size n (cell + size) q)
+          (item_comes item caps cell (cell + size) p done later refl
+          (λ m. above_append (cell + size) _ (left m) (items_above ms ab item caps m n (cell + size) size) (above_less (cell + size) end _ (omega arith) (up m)))
+          (left_ap (λ m s. append_assoc (item_slots ms item caps m cell) _ (left m)) l))
+          (λ q done' l'. items_comes item caps n (cell + size) end q done' left e' up l')
 
-  -- the same with all structures of a set, from the front on
-  pub set_desc_comes : (w : Keeping) (ds : List Desc) → AreSound ds → (d : Desc) (v base : ℕ) (p : Progress) → IsSound d
-      → ((m : List ℤ) → total m ≡ desc_slots (meanings ds (length ds)) d v m base) → Holds base [] p
-      → Comes (base + length (desc_cells (cells_of (takers ds (length ds))) d)) (λ m. []) (take_desc (takers ds (length ds)) d v base p)
-  set_desc_comes w ds structs d v base p sound is h =
-      let n = length ds in
-      desc_comes w (takers ds n) (meanings ds n) (pairs_first w ds structs n (omega arith)) (meanings_above ds n) d v base p [] (λ m. []) sound
-      (λ m. above_none (base + length (desc_cells (cells_of (takers ds n)) d)))
-      (record { split = λ m s. is m ∙ sym (append-nil (desc_slots (meanings ds n) d v m base)); holds = h })
+      if_comes : (b : Bool) (cell end : ℕ) (t : Taken) (p : Progress) (done : List Slot) (slots left : List ℤ → List Slot) → cell ≤ end → Up end left
+          → (Left cell p done (λ m. slots m ++ left m) → Comes end left t) → Left cell p done (λ m. (if b then slots m else []) ++ left m)
+          → Comes end left (if b then t else Ok p)
+      if_comes true cell end t p done slots left le up h l = h l
+      if_comes false cell end t p done slots left le up h l = stay cell end left done p le up l
+
+      module _ (d : Desc) (v base : ℕ) where
+        abbrev own : List ℤ → ℕ → ℕ
+        own m = numbers_of (map (λ (m : Meaning). m.cells) ms) d m base
+
+        -- whether a field is there, and how many elements it has, by the numbers before it
+        field_comes : (i cell end : ℕ) (f : Field) (p : Progress) (done : List Slot) (left : List ℤ → List Slot)
+            → IsSoundField d.fields i f → cell ≡ place_of (cells_of ts) d.fields 0 base d.fields i
+            → end ≡ cell + length (field_cells (cells_of ts) d.fields i f) → Up end left
+            → Left cell p done (λ m. field_slots ms d.fields v (own m) m i cell f ++ left m) → Comes end left (take_field ts d v base i cell f p)
+        field_comes i cell end f p done left sound here e up l =
+            let cs = cells_of ts in
+            let old = numbers_of cs d p.numbers base in
+            let size = item_size cs f.item in
+            let caps = counted i d.fields in
+            let n = elements_of f.count old in
+            let b = is_there f.test f.since v old no_parent in
+            let le : n * size ≤ capacity_of f.count * size = mul-le-mul_right {m = n} {n = capacity_of f.count} size (elements_fit f.count old) in
+            let more : cell + n * size ≤ end = omega (arith, field_size cs d.fields i f) in
+            if_comes b cell end (take_items ts f.item caps size n cell p) p done (λ m. times n (item_slots ms f.item caps m) cell size) left (omega arith) up
+            (λ l. comes_less (cell + n * size) end left _ more up
+            (items_comes f.item caps n cell (cell + n * size) p done left refl (λ m. above_less (cell + n * size) end _ more (up m)) l))
+            (left_ap (λ m s.
+            let now = numbers_of cs d m base in
+            let h : (j : ℕ) → IsEarlier d.fields i j → now j ≡ old j = λ j x. own_same cs d base i cell j p.numbers m here s x in
+            ap (λ (cs : List (List Cell)).
+            (if is_there f.test f.since v (numbers_of cs d m base) no_parent
+            then times (elements_of f.count (numbers_of cs d m base)) (item_slots ms f.item caps m) cell (item_size cs f.item) else []) ++ left m) (pairs_cells ts ms pairs)
+            ∙ ap (λ (b : Bool). (if b then times (elements_of f.count now) (item_slots ms f.item caps m) cell size else []) ++ left m)
+            (there_same d.fields i v f.since old now h f.test sound.test)
+            ∙ ap (λ (n : ℕ). (if b then times n (item_slots ms f.item caps m) cell size else []) ++ left m) (elements_same d.fields i old now h f.count sound.count)) l)
+
+        fields_comes : (i cell end : ℕ) (fs : List Field) (p : Progress) (done : List Slot) (left : List ℤ → List Slot)
+            → AreSoundFields d.fields i fs → cell ≡ place_of (cells_of ts) d.fields 0 base d.fields i → drop i d.fields ≡ fs
+            → end ≡ cell + length (cells_from (cells_of ts) d.fields i fs) → Up end left
+            → Left cell p done (λ m. slots_from ms d.fields v (own m) m i cell fs ++ left m) → Comes end left (take_fields ts d v base i cell fs p)
+        fields_comes i cell end [] p done left sound here is e up l = stay cell end left done p (omega arith) up l
+        fields_comes i cell end (f ∷ fs) p done left sound here is e up l =
+            let cs = cells_of ts in
+            let size = length (field_cells cs d.fields i f) in
+            let next = cell + size in
+            let same : length (field_cells (map (λ (m : Meaning). m.cells) ms) d.fields i f) ≡ size =
+            ap (λ (cs : List (List Cell)). length (field_cells cs d.fields i f)) (pairs_cells ts ms pairs) in
+            let later : List ℤ → List Slot = λ m. slots_from ms d.fields v (own m) m (suc i) next fs ++ left m in
+            let e' : end ≡ next + length (cells_from cs d.fields (suc i) fs) = omega (arith, length-append (field_cells cs d.fields i f) (cells_from cs d.fields (suc i) fs)) in
+            let there : next ≡ place_of cs d.fields 0 base d.fields (suc i) =
+            omega (arith, place_next cs d.fields 0 base d.fields i f fs is, ap (λ (k : ℕ). length (field_cells cs d.fields k f)) (zero_plus i)) in
+            then_comes next end later left (take_field ts d v base i cell f p) (λ q. take_fields ts d v base (suc i) next fs q)
+            (field_comes i cell next f p done later sound.0 here refl
+            (λ m. above_append next _ (left m) (fields_above ms ab d.fields v (own m) m (suc i) next fs) (above_less next end _ (omega arith) (up m)))
+            (left_ap (λ m s.
+            ap (λ (k : ℕ). (field_slots ms d.fields v (own m) m i cell f ++ slots_from ms d.fields v (own m) m (suc i) (cell + k) fs) ++ left m) same
+            ∙ append_assoc (field_slots ms d.fields v (own m) m i cell f) _ (left m)) l))
+            (λ q done' l'. fields_comes (suc i) next end fs q done' left sound.1 there (drop_next d.fields i f fs is) e' up l')
+
+        -- reading a description's slots is taking it
+        pub desc_comes : (end : ℕ) (p : Progress) (done : List Slot) (left : List ℤ → List Slot) → IsSound d → end ≡ base + length (desc_cells (cells_of ts) d) → Up end left
+            → Left base p done (λ m. desc_slots ms d v m base ++ left m) → Comes end left (take_desc ts d v base p)
+        unfolding take_desc
+        desc_comes end p done left sound e up l =
+            let cs = cells_of ts in
+            let rule : List ℤ → List Slot = λ m. Rule (all_hold d.validate v (own m)) ∷ left m in
+            let last : end ≡ place_of cs d.fields 0 base d.fields (length d.fields) = omega (arith, place_end cs d.fields 0 base d.fields) in
+            then_comes end end rule left (take_fields ts d v base 0 base d.fields p) (check_rules ts d v base)
+            (fields_comes 0 base end d.fields p done rule sound.fields (sym (place_first cs d.fields 0 base d.fields)) refl e
+            (λ m. above_append end (Rule (all_hold d.validate v (own m)) ∷ []) (left m) (record { below = λ c lt. refl }) (up m))
+            (left_ap (λ m s. append_assoc (slots_from ms d.fields v (own m) m 0 base d.fields) _ (left m)) l))
+            (λ q done' l'.
+            one_other end end (Rule (all_hold d.validate v (numbers_of cs d q.numbers base))) done' left q (omega arith) tt up
+            (left_ap (λ m s.
+            ap (λ (cs : List (List Cell)). Rule (all_hold d.validate v (numbers_of cs d m base)) ∷ left m) (pairs_cells ts ms pairs)
+            ∙ ap (λ (b : Bool). Rule b ∷ left m) (hold_same d.fields (length d.fields) v (numbers_of cs d q.numbers base) (numbers_of cs d m base)
+            (λ j x. own_same cs d base (length d.fields) end j q.numbers m last s x) d.validate sound.validate)) l'))
+
+    pub pairs_first : (ds : List Desc) → AreSound ds → (k : ℕ) → k ≤ length ds → Pairs (takers ds k) (meanings ds k)
+    unfolding first
+    pairs_first ds sound zero le = tt
+    pairs_first ds sound (suc k) le =
+        let pairs : Pairs (takers ds k) (meanings ds k) = pairs_first ds sound k (omega arith) in
+        let d = get_or ds k no_desc in
+        pairs_append (takers ds k) (meanings ds k) (taker_of (takers ds k) d) (meaning (meanings ds k) d) pairs
+        (ap (λ (cs : List (List Cell)). desc_cells cs d) (sym (pairs_cells (takers ds k) (meanings ds k) pairs)))
+        (record { takes = λ cell end p done left e up l. desc_comes _ _ pairs (meanings_above ds k) d d.version cell end p done left (sound k (omega arith)) e up l })
+
+    -- the same with all structures of a set, from the front on
+    pub set_desc_comes : (ds : List Desc) → AreSound ds → (d : Desc) (v base : ℕ) (p : Progress) → IsSound d
+        → ((m : List ℤ) → total m ≡ desc_slots (meanings ds (length ds)) d v m base) → Holds base [] p
+        → Comes (base + length (desc_cells (cells_of (takers ds (length ds))) d)) (λ m. []) (take_desc (takers ds (length ds)) d v base p)
+    set_desc_comes ds structs d v base p sound is h =
+        desc_comes _ _ (pairs_first ds structs (length ds) (omega arith)) (meanings_above ds (length ds)) d v base _ p [] (λ m. []) sound refl (λ m. above_none _)
+        (record { split = λ m s. is m ∙ sym (append-nil (desc_slots (meanings ds (length ds)) d v m base)); holds = h })
