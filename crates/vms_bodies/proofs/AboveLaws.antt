@@ -43,7 +43,8 @@ module _ (ms : List Meaning) (h : MeanAbove ms) where
   pub field_above : (fields : List Field) (v : ℕ) (own : ℕ → ℕ) (numbers : List ℤ) (i at : ℕ) (f : Field)
       → IsAbove at (field_slots ms fields v own numbers i at f)
   field_above fields v own numbers i at f =
-      if_there (IsAbove at) (above_none at) (is_there f.test f.since v own no_parent) _ (items_above f.item (counted i fields) numbers (elements_of f.count own) at _)
+      if_there (IsAbove at) (above_none at) (is_there f.test f.since v own no_parent) _
+      (items_above f.item (counted i fields) numbers (elements_of f.count own) at _)
 
   pub fields_above : (fields : List Field) (v : ℕ) (own : ℕ → ℕ) (numbers : List ℤ) (i at : ℕ) (fs : List Field)
       → IsAbove at (slots_from ms fields v own numbers i at fs)
@@ -59,5 +60,6 @@ pub meanings_above : (ds : List Desc) (k : ℕ) → MeanAbove (meanings ds k)
 unfolding first
 meanings_above ds zero = λ j. record { means = λ at numbers. above_none at }
 meanings_above ds (suc k) =
-    one_more MeansAbove no_meaning (record { means = λ at numbers. above_none at }) (meanings ds k) (meanings_above ds k) (meaning (meanings ds k) (get_or ds k no_desc))
+    one_more MeansAbove no_meaning (record { means = λ at numbers. above_none at }) (meanings ds k) (meanings_above ds k)
+    (meaning (meanings ds k) (get_or ds k no_desc))
     (record { means = λ at numbers. desc_above (meanings ds k) (meanings_above ds k) (get_or ds k no_desc) _ numbers at })

@@ -15,7 +15,8 @@ use Rattle.vms_spec.proofs.ListLaws.{either_of}
 named : (c : ℕ) (xs : List Slot) → (c == c || has_cell xs c) ≡ true
 named c xs = or_left (c == c) _ (eq-eqb c c refl)
 
-pub spells_agree : (n k : List ℤ) (xs : List Slot) (bytes : List ℕ) → ((c : ℕ) → has_cell xs c ≡ true → get_or k c (pos 0) ≡ get_or n c (pos 0)) → Spells n xs bytes → Spells k xs bytes
+pub spells_agree : (n k : List ℤ) (xs : List Slot) (bytes : List ℕ) → ((c : ℕ) → has_cell xs c ≡ true → get_or k c (pos 0) ≡ get_or n c (pos 0))
+    → Spells n xs bytes → Spells k xs bytes
 spells_agree n k [] bytes h s = s
 spells_agree n k (Number c kind caps ∷ xs) bytes h s =
     (s.0, rw (h c (named c xs)) s.1, spells_agree n k xs s.0 (λ j e. h j (or_right (c == j) _ e)) s.2)
@@ -92,7 +93,8 @@ module _ (set : Set) (d : Desc) (v base : ℕ) where
   module _ (structs : AreSound set.structs) (sound : IsSound d) (n k : List ℤ) where
     pub its_same : SameIn base (base + size) n k → its k ≡ its n
     its_same s =
-        let same : length (desc_cells (cells_in (meanings set.structs (length set.structs))) d) ≡ size = rw (cells_first set.structs (length set.structs)) refl in
+        let same : length (desc_cells (cells_in (meanings set.structs (length set.structs))) d) ≡ size =
+        rw (cells_first set.structs (length set.structs)) refl in
         slots_within set.structs structs d v base base (base + size) n k sound (omega arith) (omega arith) s
 
     pub its_spelled : (bytes : List ℕ) → SameIn base (base + size) n k → Spells n (its n) bytes → Spells k (its k) bytes

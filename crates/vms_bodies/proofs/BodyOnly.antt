@@ -99,7 +99,8 @@ module _ (all : List Cell) (total : List ℤ → List Slot) (n : List ℤ) (end 
 
   rest_of : (cell : ℕ) (done : List Slot) (left : List ℤ → List Slot) (q : Progress) → Here cell q done left → Rest n end tail (left n) q
   rest_of cell done left q l =
-      subst (λ (xs : List Slot). Rest n end tail xs q) (append_cancel_left done l.holds.more (left n) (sym l.holds.split ∙ split_of cell done left q l)) l.holds.rest
+      subst (λ (xs : List Slot). Rest n end tail xs q)
+      (append_cancel_left done l.holds.more (left n) (sym l.holds.split ∙ split_of cell done left q l)) l.holds.rest
 
   -- at a cell that was set to its number, and at each other
   number_same : (cell c : ℕ) (numbers : List ℤ) → cell < length numbers → ((cell == c) ≡ false → get_or n c (pos 0) ≡ get_or numbers c (pos 0))
@@ -111,7 +112,8 @@ module _ (all : List Cell) (total : List ℤ → List Slot) (n : List ℤ) (end 
       go false e = h e ∙ sym (set_other numbers c cell (get_or n cell (pos 0)) (λ same. let f = eq-eqb cell c (sym same) in cc))
 
   -- a slot that is taken leaves the others
-  passed : (cell further : ℕ) (slot : Slot) (done : List Slot) (left : List ℤ → List Slot) (p : Progress) (q : Progress) → ((m : List ℤ) → IsAbove further (left m))
+  passed : (cell further : ℕ) (slot : Slot) (done : List Slot) (left : List ℤ → List Slot) (p : Progress) (q : Progress)
+      → ((m : List ℤ) → IsAbove further (left m))
       → Here cell p done (λ m. slot ∷ left m) → take_slot slot p ≡ Ok q → Rest n end tail (left n) q
       → Gives total (Spelling total n end tail) Never further (done ++ slot ∷ []) (take_slot slot p)
   passed cell further slot done left p q up l is r =
@@ -125,8 +127,14 @@ module _ (all : List Cell) (total : List ℤ → List Slot) (n : List ℤ) (end 
       let r = rest_of cell done (λ m. Number cell kind caps ∷ left m) p l in
       let z = get_or n cell (pos 0) in
       let inside : cell < length p.numbers =
-      omega (arith, r.long, (cell_in all done (left n) cell kind caps (rw (split_of cell done (λ m. Number cell kind caps ∷ left m) p l) at (cells n))).within) in
-      passed cell (cell + 1) (Number cell kind caps) done left p (record { numbers = slice_set p.numbers cell z; place = p.place + width kind; rest = r.spells.0 ++ tail }) up l
+      omega (
+        arith,
+        r.long,
+        (cell_in all done (left n) cell kind caps
+            (rw (split_of cell done (λ m. Number cell kind caps ∷ left m) p l) at (cells n))).within,
+      ) in
+      passed cell (cell + 1) (Number cell kind caps) done left p
+      (record { numbers = slice_set p.numbers cell z; place = p.place + width kind; rest = r.spells.0 ++ tail }) up l
       (value_taken kind reasons.CountTooLarge (exceeds caps) (slice_set p.numbers cell) z p _ r.fits.0 (not_exceeds caps z r.fits.1)
       (r.front ∙ rw (r.spells.1, append_assoc) refl))
       (record {
@@ -141,7 +149,8 @@ module _ (all : List Cell) (total : List ℤ → List Slot) (n : List ℤ) (end 
       })
 
   -- a slot without a cell changes no number
-  unchanged : (slot : Slot) (left : List Slot) (p : Progress) (size : ℕ) (bytes : List ℕ) → Rest n end tail (slot ∷ left) p → p.place + size + length bytes ≡ end
+  unchanged : (slot : Slot) (left : List Slot) (p : Progress) (size : ℕ) (bytes : List ℕ) → Rest n end tail (slot ∷ left) p
+      → p.place + size + length bytes ≡ end
       → Spells n left bytes → FitSlots n left → RulesHold left → ((c : ℕ) → has_cell (slot ∷ left) c ≡ has_cell left c)
       → Rest n end tail left (record { numbers = p.numbers; place = p.place + size; rest = bytes ++ tail })
   unchanged slot left p size bytes r long spells fits rules none =
@@ -184,7 +193,8 @@ module _ (all : List Cell) (total : List ℤ → List Slot) (n : List ℤ) (end 
   }
 
 -- what a body of these numbers gives
-ends_so : (total : List ℤ → List Slot) (n : List ℤ) (end cell : ℕ) (tail : List ℕ) (t : Taken) → ComesTo total (Spelling total n end tail) Never cell (λ m. []) t
+ends_so : (total : List ℤ → List Slot) (n : List ℤ) (end cell : ℕ) (tail : List ℕ) (t : Taken)
+    → ComesTo total (Spelling total n end tail) Never cell (λ m. []) t
     → t ≡ Ok (record { numbers = n; place = end; rest = tail })
 ends_so total n end cell tail (Err e) c = absurd c
 ends_so total n end cell tail (Ok q) c =

@@ -76,14 +76,16 @@ module _ (ms : List Meaning) (h : MeanCells ms) where
       cells_append all (field_slots ms fields v own numbers i at f) _ (field_are fields v own numbers i at f all (front_stands all at _ _ s))
       (fields_are fields v own numbers (suc i) _ fs all (rest_stands all at (field_cells (cells_in ms) fields i f) _ s))
 
-  pub desc_are : (d : Desc) (v at : ℕ) (numbers : List ℤ) (all : List Cell) → Stands all at (desc_cells (cells_in ms) d) → AreCells all (desc_slots ms d v numbers at)
+  pub desc_are : (d : Desc) (v at : ℕ) (numbers : List ℤ) (all : List Cell) → Stands all at (desc_cells (cells_in ms) d)
+      → AreCells all (desc_slots ms d v numbers at)
   desc_are d v at numbers all s = cells_append all (slots_from ms d.fields v _ numbers 0 at d.fields) _ (fields_are d.fields v _ numbers 0 at d.fields all s) tt
 
 pub meanings_are : (ds : List Desc) (k : ℕ) → MeanCells (meanings ds k)
 unfolding first
 meanings_are ds zero = λ j. record { means = λ all at numbers s. tt }
 meanings_are ds (suc k) =
-    one_more MeansCells no_meaning (record { means = λ all at numbers s. tt }) (meanings ds k) (meanings_are ds k) (meaning (meanings ds k) (get_or ds k no_desc))
+    one_more MeansCells no_meaning (record { means = λ all at numbers s. tt }) (meanings ds k) (meanings_are ds k)
+    (meaning (meanings ds k) (get_or ds k no_desc))
     (record { means = λ all at numbers s. desc_are (meanings ds k) (meanings_are ds k) (get_or ds k no_desc) _ at numbers all s })
 
 -- the cells of the first k structures, made either way

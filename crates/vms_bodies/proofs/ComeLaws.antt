@@ -65,7 +65,8 @@ pub none_versions : (subs : List Sub) → AreVersionsOf subs (none_of subs)
 none_versions [] = tt
 none_versions (s ∷ subs) = none_versions subs
 
-pub sub_front : (set : Set) (d : Device) (image : Image) (j w : ℕ) (s : Sub) (body : List ℕ) (o : Option Sub) (p : Option (Option ℕ)) → Some s ≡ o → Some (Some w) ≡ p
+pub sub_front : (set : Set) (d : Device) (image : Image) (j w : ℕ) (s : Sub) (body : List ℕ) (o : Option Sub) (p : Option (Option ℕ)) → Some s ≡ o
+    → Some (Some w) ≡ p
     → Spells image.numbers (sub_slots set s w image.numbers (part_place set d j)) body
     → Streams.SubSpells set d image j o p (sub_head s.desc.name w ++ body)
 sub_front set d image j w s body o p e f h = rw (← e, ← f) (body, h, refl)

@@ -37,7 +37,8 @@ pub record Fine (set : Set) (d : Device) (v : ℕ) (came : List (Option ℕ)) (n
 -- the cells of the parts that came are the same
 pub record Stays (set : Set) (d : Device) (came : List (Option ℕ)) (n m : List ℤ) : Type 0 where
   pub own : SameIn 0 (0 + own_cells set d) n m
-  pub parts : (i : ℕ) (s : Sub) (x : ℕ) → slice_get d.subs i ≡ Some s → slice_get came i ≡ Some (Some x) → SameIn (part_place set d i) (part_place set d i + sub_size set s) n m
+  pub parts : (i : ℕ) (s : Sub) (x : ℕ) → slice_get d.subs i ≡ Some s → slice_get came i ≡ Some (Some x)
+      → SameIn (part_place set d i) (part_place set d i + sub_size set s) n m
 
 pub in_trans : (low end : ℕ) (n m k : List ℤ) → SameIn low end n m → SameIn low end m k → SameIn low end n k
 in_trans low end n m k a b = record { same = λ c up lt. b.same c up lt ∙ a.same c up lt }
@@ -46,7 +47,8 @@ pub in_refl : (low end : ℕ) (n : List ℤ) → SameIn low end n n
 in_refl low end n = record { same = λ c up lt. refl }
 
 pub stays_refl : (set : Set) (d : Device) (came : List (Option ℕ)) (n : List ℤ) → Stays set d came n n
-stays_refl set d came n = record { own = in_refl 0 (0 + own_cells set d) n; parts = λ i s x e f. in_refl (part_place set d i) (part_place set d i + sub_size set s) n }
+stays_refl set d came n =
+    record { own = in_refl 0 (0 + own_cells set d) n; parts = λ i s x e f. in_refl (part_place set d i) (part_place set d i + sub_size set s) n }
 
 -- what came is another than what did not
 other_part : (came : List (Option ℕ)) (i j x : ℕ) → slice_get came i ≡ Some (Some x) → slice_get came j ≡ Some None → i ≡ j → ⊥
@@ -64,19 +66,22 @@ stays_on set d came j w n m k f a b = record {
 }
 
 -- a part's body changes its own cells alone
-pub stays_next : (set : Set) (d : Device) (came : List (Option ℕ)) (j w : ℕ) (t : Sub) (n m : List ℤ) → slice_get d.subs j ≡ Some t → slice_get came j ≡ Some None
+pub stays_next : (set : Set) (d : Device) (came : List (Option ℕ)) (j w : ℕ) (t : Sub) (n m : List ℤ) → slice_get d.subs j ≡ Some t
+    → slice_get came j ≡ Some None
     → ((c : ℕ) → has_cell (sub_slots set t w m (part_place set d j)) c ≡ false → get_or m c (pos 0) ≡ get_or n c (pos 0)) → Stays set d came n m
 stays_next set d came j w t n m there new kept =
     let first = own_cells set d in
     record {
       own = record { same = λ c up lt. kept c (its_below set t.desc w (part_place set d j) m c (omega (arith, sub_place_up set first d.subs j))) };
       parts = λ i s x e f. record {
-        same = λ c up lt. kept c (its_outside set t.desc w (part_place set d j) m c (parts_apart set first d.subs i j s t e there (other_part came i j x f new) c up lt));
+        same = λ c up lt. kept c (its_outside set t.desc w (part_place set d j) m c
+            (parts_apart set first d.subs i j s t e there (other_part came i j x f new) c up lt));
       };
     }
 
 -- what holds of the new part and of those before holds of all
-pub next_parts : (subs : List Sub) (came : List (Option ℕ)) (j w : ℕ) (t : Sub) (P : ℕ → Sub → ℕ → Type 0) → slice_get subs j ≡ Some t → slice_get came j ≡ Some None
+pub next_parts : (subs : List Sub) (came : List (Option ℕ)) (j w : ℕ) (t : Sub) (P : ℕ → Sub → ℕ → Type 0) → slice_get subs j ≡ Some t
+    → slice_get came j ≡ Some None
     → P j t w → ((i : ℕ) (s : Sub) (x : ℕ) → slice_get subs i ≡ Some s → slice_get came i ≡ Some (Some x) → P i s x)
     → (i : ℕ) (s : Sub) (x : ℕ) → slice_get subs i ≡ Some s → slice_get (slice_set came j (Some w)) i ≡ Some (Some x) → P i s x
 next_parts subs came j w t P there new here before i s x e f = go (i == j) refl
@@ -130,18 +135,21 @@ image_are set d image =
 
 -- the number of a cell fits if it is named or at its default
 cell_fits : (all : List Cell) (n : List ℤ) (slots : List Slot) → DefaultsFit all → AreCells all slots → FitSlots n slots
-    → ((c : ℕ) → has_cell slots c ≡ false → get_or n c (pos 0) ≡ (get_or all c no_cell).default) → (c : ℕ) → c < length all → FitsCell (get_or all c no_cell) (get_or n c (pos 0))
+    → ((c : ℕ) → has_cell slots c ≡ false → get_or n c (pos 0) ≡ (get_or all c no_cell).default) → (c : ℕ) → c < length all
+    → FitsCell (get_or all c no_cell) (get_or n c (pos 0))
 cell_fits all n slots fine a f h c lt = go (has_cell slots c) refl
   where
     go : (b : Bool) → has_cell slots c ≡ b → FitsCell (get_or all c no_cell) (get_or n c (pos 0))
     go true e = named_fits all n slots c e f a
     go false e = rw (h c e) (fine c lt)
 
-pub fine_normal : (set : Set) (d : Device) (v : ℕ) (came : List (Option ℕ)) (n : List ℤ) → IsVersionOf d.desc v → DefaultsFit (device_cells set d) → Fine set d v came n
+pub fine_normal : (set : Set) (d : Device) (v : ℕ) (came : List (Option ℕ)) (n : List ℤ) → IsVersionOf d.desc v → DefaultsFit (device_cells set d)
+    → Fine set d v came n
     → IsNormal set d (record { version = v; came = came; numbers = n })
 fine_normal set d v came n version defaults f =
     let image : Image = record { version = v; came = came; numbers = n } in
-    let fits : FitSlots n (image_slots set d image) = fit_append n (own_slots set d v n) _ f.own_fits (parts_together set d n (FitSlots n) tt (fit_append n) (own_cells set d) d.subs came f.fits) in
+    let fits : FitSlots n (image_slots set d image) =
+    fit_append n (own_slots set d v n) _ f.own_fits (parts_together set d n (FitSlots n) tt (fit_append n) (own_cells set d) d.subs came f.fits) in
     let absent : (c : ℕ) → has_cell (image_slots set d image) c ≡ false → get_or n c (pos 0) ≡ (get_or (device_cells set d) c no_cell).default = λ c e.
     let both = none_in_both c (own_slots set d v n) _ e in f.absent c both.0 both.1 in
     record {
@@ -151,5 +159,7 @@ fine_normal set d v came n version defaults f =
       absent = λ c lt e. absent c e;
     }
 
-pub fine_valid : (set : Set) (d : Device) (v : ℕ) (came : List (Option ℕ)) (n : List ℤ) → Fine set d v came n → IsValid set d (record { version = v; came = came; numbers = n })
-fine_valid set d v came n f = rules_append (own_slots set d v n) _ f.own_rules (parts_together set d n RulesHold tt rules_append (own_cells set d) d.subs came f.rules)
+pub fine_valid : (set : Set) (d : Device) (v : ℕ) (came : List (Option ℕ)) (n : List ℤ) → Fine set d v came n
+    → IsValid set d (record { version = v; came = came; numbers = n })
+fine_valid set d v came n f =
+    rules_append (own_slots set d v n) _ f.own_rules (parts_together set d n RulesHold tt rules_append (own_cells set d) d.subs came f.rules)

@@ -29,7 +29,8 @@ one_unit judge a state at rest =
     enough judge a (length rest) (suc (length (drop n rest))) next (at + n) (drop n rest) (omega (arith, b, length-drop n rest)) (omega arith))
 
 -- a unit that is spelled is read
-pub unit_read : {S : Type 0} (judge : S → List ℕ → Verdict S) → Advances judge → (state next : S) (at : ℕ) (unit rest : List ℕ) → judge state (unit ++ rest) ≡ Goes (length unit) next
+pub unit_read : {S : Type 0} (judge : S → List ℕ → Verdict S) → Advances judge → (state next : S) (at : ℕ) (unit rest : List ℕ)
+    → judge state (unit ++ rest) ≡ Goes (length unit) next
     → reading_on judge state at (unit ++ rest) ≡ reading_on judge next (at + length unit) rest
 unit_read judge a state next at unit rest e =
     one_unit judge a state at (unit ++ rest) ∙ rw (e, drop_at unit rest (length unit) refl) refl

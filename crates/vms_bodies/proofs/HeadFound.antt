@@ -45,7 +45,8 @@ split_four xs ok long =
 
 pub four_at : (k after : ℕ) (rest : List ℕ) → IsBytes rest → after ≡ k + 4 → after ≤ length rest → drop k rest ≡ be32 (number_at 4 k rest) ++ drop after rest
 four_at k after rest ok e le =
-    split_four (drop k rest) (is_bytes_drop k rest ok) (omega (arith, length-drop k rest)) ∙ ap (λ (l : List ℕ). be32 (number_at 4 k rest) ++ l) (drop-drop 4 k rest ∙ rw e refl)
+    split_four (drop k rest) (is_bytes_drop k rest ok) (omega (arith, length-drop k rest)) ∙ ap (λ (l : List ℕ). be32 (number_at 4 k rest) ++ l)
+    (drop-drop 4 k rest ∙ rw e refl)
 
 pub text_at : (n k : ℕ) (rest : List ℕ) → drop k rest ≡ bytes_at n k rest ++ drop (k + n) rest
 text_at n k rest = sym (take-append-drop n (drop k rest)) ∙ ap (λ (l : List ℕ). bytes_at n k rest ++ l) (drop-drop n k rest)
@@ -65,7 +66,9 @@ head_bytes rest n ok mark size long =
     let e5 : drop (6 + n) rest ≡ instance ++ (v ++ tail) =
     four_at (6 + n) (10 + n) rest ok (omega arith) (omega arith) ∙ ap (λ (l : List ℕ). instance ++ l) (four_at (10 + n) (14 + n) rest ok (omega arith) long) in
     split_one rest (omega arith) ∙ ap (λ (b : ℕ). b ∷ drop 1 rest) mark
-    ∙ ap (λ (l : List ℕ). 0x04 ∷ l) (four_at 1 5 rest ok (omega arith) (omega arith) ∙ ap (λ (l : List ℕ). id ++ l) (e3 ∙ ap (λ (l : List ℕ). n ∷ l) (text_at n 6 rest ∙ ap (λ (l : List ℕ). name ++ l) e5
+    ∙ ap (λ (l : List ℕ). 0x04 ∷ l)
+    (four_at 1 5 rest ok (omega arith) (omega arith) ∙ ap (λ (l : List ℕ). id ++ l)
+    (e3 ∙ ap (λ (l : List ℕ). n ∷ l) (text_at n 6 rest ∙ ap (λ (l : List ℕ). name ++ l) e5
     ∙ sym (append_assoc name instance (v ++ tail)) ∙ sym (append_assoc (name ++ instance) v tail))))
     ∙ ap (λ (k : ℕ). 0x04 ∷ (id ++ (k ∷ (((name ++ instance) ++ v) ++ tail)))) (sym (text_long n 6 rest (omega arith)))
 
@@ -80,7 +83,8 @@ pub record Found (devices : List Device) (j : ℕ) (name : List ℕ) (instance k
   pub name_is : bytes_eq device.desc.name name ≡ true
   pub instance_is : device.instance ≡ instance
 
-found_here : (d : Device) (devices : List Device) (j : ℕ) (name : List ℕ) (instance k : ℕ) → (find_device (suc j) devices name instance ≡ Some k → Found devices (suc j) name instance k)
+found_here : (d : Device) (devices : List Device) (j : ℕ) (name : List ℕ) (instance k : ℕ)
+    → (find_device (suc j) devices name instance ≡ Some k → Found devices (suc j) name instance k)
     → (b : Bool) → (bytes_eq d.desc.name name && d.instance == instance) ≡ b → (if b then Some j else find_device (suc j) devices name instance) ≡ Some k
     → Found (d ∷ devices) j name instance k
 found_here d devices j name instance k later true t e =

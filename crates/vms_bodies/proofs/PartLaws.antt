@@ -44,7 +44,8 @@ places_apart set from (t ∷ subs) (suc i) (suc j) s e lt = places_apart set (fr
 
 -- a cell of one part is before another or after it
 pub parts_apart : (set : Set) (from : ℕ) (subs : List Sub) (i j : ℕ) (s t : Sub) → slice_get subs i ≡ Some s → slice_get subs j ≡ Some t → (i ≡ j → ⊥) → (c : ℕ)
-    → sub_place set from subs i ≤ c → c < sub_place set from subs i + sub_size set s → sub_place set from subs j ≤ c → sub_place set from subs j + sub_size set t ≤ c
+    → sub_place set from subs i ≤ c → c < sub_place set from subs i + sub_size set s → sub_place set from subs j ≤ c
+    → sub_place set from subs j + sub_size set t ≤ c
 parts_apart set from subs i j s t e f ne c up lt le = go (nat_lt i j) refl
   where
     go : (b : Bool) → nat_lt i j ≡ b → sub_place set from subs j + sub_size set t ≤ c
@@ -55,11 +56,13 @@ parts_apart set from subs i j s t e f ne c up lt le = go (nat_lt i j) refl
 
 -- what holds of cells at a place, and so of their front and of the others, holds of a subsection's at its place
 pub cells_of_sub : (P : ℕ → List Cell → Type 0) → ((at : ℕ) (xs ys : List Cell) → P at (xs ++ ys) → P at xs)
-    → ((at : ℕ) (xs ys : List Cell) → P at (xs ++ ys) → P (at + length xs) ys) → (set : Set) (from : ℕ) (subs : List Sub) (j : ℕ) (s : Sub) → slice_get subs j ≡ Some s
+    → ((at : ℕ) (xs ys : List Cell) → P at (xs ++ ys) → P (at + length xs) ys) → (set : Set) (from : ℕ) (subs : List Sub) (j : ℕ) (s : Sub)
+    → slice_get subs j ≡ Some s
     → P from (flat_map (λ s. desc_cells (struct_cells set) s.desc) subs) → P (sub_place set from subs j) (desc_cells (struct_cells set) s.desc)
 cells_of_sub P front rest set from [] j s e h = cc
 cells_of_sub P front rest set from (t ∷ subs) zero s e h = let same : t ≡ s = cc in rw (← same) (front from _ (sub_cells set subs) h)
-cells_of_sub P front rest set from (t ∷ subs) (suc j) s e h = cells_of_sub P front rest set (from + sub_size set t) subs j s e (rest from (desc_cells (struct_cells set) t.desc) _ h)
+cells_of_sub P front rest set from (t ∷ subs) (suc j) s e h =
+    cells_of_sub P front rest set (from + sub_size set t) subs j s e (rest from (desc_cells (struct_cells set) t.desc) _ h)
 
 -- a subsection's slots are among the device's cells
 pub sub_are : (set : Set) (d : Device) (j : ℕ) (s : Sub) (v : ℕ) (m : List ℤ) → slice_get d.subs j ≡ Some s
@@ -83,7 +86,8 @@ module _ (set : Set) (d : Device) (n : List ℤ) (P : List Slot → Type 0) wher
   parts_together none both from (s ∷ subs) (Some v ∷ came) h =
       both (sub_slots set s v n from) _ (h 0 s v refl refl) (parts_together none both (from + sub_size set s) subs came (λ j t v e f. h (suc j) t v e f))
 
-  pub part_apart : ((xs ys : List Slot) → P (xs ++ ys) → P xs × P ys) → (from : ℕ) (subs : List Sub) (came : List (Option ℕ)) → P (came_slots set d n from subs came)
+  pub part_apart : ((xs ys : List Slot) → P (xs ++ ys) → P xs × P ys) → (from : ℕ) (subs : List Sub) (came : List (Option ℕ))
+      → P (came_slots set d n from subs came)
       → (j : ℕ) (s : Sub) (v : ℕ) → slice_get subs j ≡ Some s → slice_get came j ≡ Some (Some v) → P (sub_slots set s v n (sub_place set from subs j))
   part_apart split from [] came h j s v e f = cc
   part_apart split from (t ∷ subs) [] h j s v e f = cc
@@ -97,7 +101,8 @@ module _ (set : Set) (d : Device) (n : List ℤ) (P : List Slot → Type 0) wher
       part_apart split (from + sub_size set t) subs came (split (sub_slots set t w n from) (came_slots set d n _ subs came) h).1 j s v e f
 
 -- what is named when one part more came
-pub names_next : (set : Set) (d : Device) (n : List ℤ) (c from : ℕ) (subs : List Sub) (came : List (Option ℕ)) (j : ℕ) (s : Sub) (v : ℕ) → slice_get subs j ≡ Some s
+pub names_next : (set : Set) (d : Device) (n : List ℤ) (c from : ℕ) (subs : List Sub) (came : List (Option ℕ)) (j : ℕ) (s : Sub) (v : ℕ)
+    → slice_get subs j ≡ Some s
     → slice_get came j ≡ Some None
     → has_cell (came_slots set d n from subs (slice_set came j (Some v))) c
     ≡ (has_cell (sub_slots set s v n (sub_place set from subs j)) c || has_cell (came_slots set d n from subs came) c)
@@ -118,7 +123,8 @@ names_next set d n c from (t ∷ subs) (Some w ∷ came) (suc j) s v e f =
 
 -- ---- versions
 
-pub versions_next : (subs : List Sub) (came : List (Option ℕ)) (j : ℕ) (s : Sub) (v : ℕ) → slice_get subs j ≡ Some s → IsVersionOf s.desc v → AreVersionsOf subs came
+pub versions_next : (subs : List Sub) (came : List (Option ℕ)) (j : ℕ) (s : Sub) (v : ℕ) → slice_get subs j ≡ Some s → IsVersionOf s.desc v
+    → AreVersionsOf subs came
     → AreVersionsOf subs (slice_set came j (Some v))
 versions_next [] came j s v e i h = cc
 versions_next (t ∷ subs) [] j s v e i h = absurd h

@@ -23,7 +23,12 @@ place_room cs fields i base (g ∷ fs) zero f e =
     let same : g ≡ f = cc in
     rw (← same) (omega (arith, field_size cs fields i g, length-append (field_cells cs fields i g) (cells_from cs fields (suc i) fs)))
 place_room cs fields i base (g ∷ fs) (suc k) f e =
-    omega (arith, place_room cs fields (suc i) (base + length (field_cells cs fields i g)) fs k f e, length-append (field_cells cs fields i g) (cells_from cs fields (suc i) fs))
+    omega (
+      arith,
+      place_room cs fields (suc i) (base + length (field_cells cs fields i g)) fs k f e,
+      length-append (field_cells cs fields i g)
+          (cells_from cs fields (suc i) fs),
+    )
 
 -- ---- paths
 
@@ -84,7 +89,8 @@ module _ (set : Set) where
   sub_room : (base : ℕ) (subs : List Sub) (j : ℕ) (s : Sub) → slice_get subs j ≡ Some s
       → sub_place set base subs j + length (cells s.desc) ≤ base + length (flat_map (λ (s : Sub). cells s.desc) subs)
   sub_room base [] j s e = cc
-  sub_room base (t ∷ subs) zero s e = let same : t ≡ s = cc in rw (← same) (omega (arith, length-append (cells t.desc) (flat_map (λ (s : Sub). cells s.desc) subs)))
+  sub_room base (t ∷ subs) zero s e =
+      let same : t ≡ s = cc in rw (← same) (omega (arith, length-append (cells t.desc) (flat_map (λ (s : Sub). cells s.desc) subs)))
   sub_room base (t ∷ subs) (suc j) s e =
       omega (arith, sub_room (base + length (cells t.desc)) subs j s e, length-append (cells t.desc) (flat_map (λ (s : Sub). cells s.desc) subs))
 

@@ -63,10 +63,16 @@ place_next cs fields i at (g ∷ fs) (suc k) f more e =
     let z : i + suc k ≡ suc i + k = omega arith in
     rw z (place_next cs fields (suc i) (at + length (field_cells cs fields i g)) fs k f more e)
 
-pub place_end : (cs : List (List OneCell)) (fields : List Field) (i at : ℕ) (fs : List Field) → place_of cs fields i at fs (length fs) ≡ at + length (cells_from cs fields i fs)
+pub place_end : (cs : List (List OneCell)) (fields : List Field) (i at : ℕ) (fs : List Field)
+    → place_of cs fields i at fs (length fs) ≡ at + length (cells_from cs fields i fs)
 place_end cs fields i at [] = omega arith
 place_end cs fields i at (f ∷ fs) =
-    omega (arith, place_end cs fields (suc i) (at + length (field_cells cs fields i f)) fs, length-append (field_cells cs fields i f) (cells_from cs fields (suc i) fs))
+    omega (
+      arith,
+      place_end cs fields (suc i) (at + length (field_cells cs fields i f)) fs,
+      length-append (field_cells cs fields i f)
+          (cells_from cs fields (suc i) fs),
+    )
 
 -- ---- what earlier numbers settle
 

@@ -87,7 +87,8 @@ abbrev pub Settled : List Slot → ℕ → List Cell → List ℤ → Type 0
 Settled slots from cells numbers =
     (c k : ℕ) → c < length numbers → k ≡ from + c → has_cell slots k ≡ false → get_or numbers c (pos 0) ≡ (get_or cells c no_cell).default
 
-pub settled_are : (slots : List Slot) (from : ℕ) (cells : List Cell) (numbers : List ℤ) → length numbers ≡ length cells → are_settled slots from cells numbers ≡ true
+pub settled_are : (slots : List Slot) (from : ℕ) (cells : List Cell) (numbers : List ℤ) → length numbers ≡ length cells
+    → are_settled slots from cells numbers ≡ true
     → Settled slots from cells numbers
 settled_are slots from [] [] l e = λ c k lt is bare. absurd (omega arith)
 settled_are slots from [] (z ∷ numbers) l e = absurd (omega arith)
@@ -96,13 +97,15 @@ settled_are slots from (cell ∷ cells) (z ∷ numbers) l e =
     let p = and_parts (has_cell slots from || same_number z cell.default) _ e in
     by_place p.0 (settled_are slots (suc from) cells numbers (omega arith) p.1)
   where
-    by_place : (has_cell slots from || same_number z cell.default) ≡ true → Settled slots (suc from) cells numbers → Settled slots from (cell ∷ cells) (z ∷ numbers)
+    by_place : (has_cell slots from || same_number z cell.default) ≡ true → Settled slots (suc from) cells numbers
+        → Settled slots from (cell ∷ cells) (z ∷ numbers)
     by_place a b zero k lt is bare =
         let same : k ≡ from = omega arith in
         same_number_is z cell.default (or_second (has_cell slots from) _ a (rw same at bare))
     by_place a b (suc c) k lt is bare = b c k (omega arith) (omega arith) bare
 
-are_settled_all : (slots : List Slot) (from : ℕ) (cells : List Cell) (numbers : List ℤ) → Settled slots from cells numbers → are_settled slots from cells numbers ≡ true
+are_settled_all : (slots : List Slot) (from : ℕ) (cells : List Cell) (numbers : List ℤ) → Settled slots from cells numbers
+    → are_settled slots from cells numbers ≡ true
 are_settled_all slots from [] numbers h = refl
 are_settled_all slots from (cell ∷ cells) [] h = refl
 are_settled_all slots from (cell ∷ cells) (z ∷ numbers) h =
@@ -133,7 +136,8 @@ normal_is set d image e =
 is_normal_all : (set : Set) (d : Device) (image : Image) → IsNormal set d image → is_normal set d image ≡ true
 is_normal_all set d image h =
     and_from _ _
-    (and_from _ _ (and_from _ _ (is_version d.desc image.version h.version) (are_versions d.subs image.came h.subs)) (fit (device_cells set d) image.numbers h.cells))
+    (and_from _ _ (and_from _ _ (is_version d.desc image.version h.version) (are_versions d.subs image.came h.subs))
+    (fit (device_cells set d) image.numbers h.cells))
     (are_settled_all (image_slots set d image) 0 (device_cells set d) image.numbers
     (λ c k lt is bare. let same : k ≡ c = omega arith in h.absent c lt (rw same at bare)))
 
@@ -185,5 +189,6 @@ module _ (set : Set) (d : Device) (image : Image) where
   pub is_ready_all : IsReady set d image → is_ready set d image ≡ true
   is_ready_all h =
       and_from _ _
-      (and_from _ _ (and_from _ _ (is_normal_all set d image h.normal) (are_rules (image_slots set d image) h.valid)) (eq-eqb image.version d.desc.version h.version))
+      (and_from _ _ (and_from _ _ (is_normal_all set d image h.normal) (are_rules (image_slots set d image) h.valid))
+      (eq-eqb image.version d.desc.version h.version))
       (are_needed 0 d.subs image.came h.needed)

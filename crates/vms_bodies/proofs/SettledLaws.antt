@@ -55,7 +55,8 @@ module _ (ms : List Meaning) (h : MeanSettled ms) where
     abbrev own : List ℤ → ℕ → ℕ
     own n = numbers_of (cells_in ms) d n base
 
-    pub field_settled : (i cell low end : ℕ) (f : Field) (n k : List ℤ) → IsSoundField d.fields i f → low ≤ base → cell ≡ place_of (cells_in ms) d.fields 0 base d.fields i
+    pub field_settled : (i cell low end : ℕ) (f : Field) (n k : List ℤ) → IsSoundField d.fields i f → low ≤ base
+        → cell ≡ place_of (cells_in ms) d.fields 0 base d.fields i
         → cell + length (field_cells (cells_in ms) d.fields i f) ≤ end → SameIn low end n k
         → field_slots ms d.fields v (own k) k i cell f ≡ field_slots ms d.fields v (own n) n i cell f
     field_settled i cell low end f n k sound up here le s =
@@ -64,16 +65,20 @@ module _ (ms : List Meaning) (h : MeanSettled ms) where
         let caps = counted i d.fields in
         let there = is_there f.test f.since v (own n) no_parent in
         let first : base ≤ cell = omega (arith, place_up cs d.fields 0 base d.fields i) in
-        let same : (j : ℕ) → IsEarlier d.fields i j → own k j ≡ own n j = λ j x. own_in cs d base i cell j n k here (in_less low base cell end n k up (omega arith) s) x in
+        let same : (j : ℕ) → IsEarlier d.fields i j → own k j ≡ own n j =
+        λ j x. own_in cs d base i cell j n k here (in_less low base cell end n k up (omega arith) s) x in
         let most : elements_of f.count (own n) * size ≤ capacity_of f.count * size =
         mul-le-mul_right {m = elements_of f.count (own n)} {n = capacity_of f.count} size (elements_fit f.count (own n)) in
-        ap (λ (b : Bool). if b then times (elements_of f.count (own k)) (item_slots ms f.item caps k) cell size else []) (there_same d.fields i v f.since (own n) (own k) same f.test sound.test)
-        ∙ ap (λ (c : ℕ). if there then times c (item_slots ms f.item caps k) cell size else []) (elements_same d.fields i (own n) (own k) same f.count sound.count)
+        ap (λ (b : Bool). if b then times (elements_of f.count (own k)) (item_slots ms f.item caps k) cell size else [])
+        (there_same d.fields i v f.since (own n) (own k) same f.test sound.test)
+        ∙ ap (λ (c : ℕ). if there then times c (item_slots ms f.item caps k) cell size else [])
+        (elements_same d.fields i (own n) (own k) same f.count sound.count)
         ∙ ap (λ (xs : List Slot). if there then xs else [])
         (items_settled f.item caps (elements_of f.count (own n)) cell low end n k (omega arith) (omega (arith, field_size cs d.fields i f)) s)
 
     fields_settled : (i cell low end : ℕ) (fs : List Field) (n k : List ℤ) → AreSoundFields d.fields i fs → low ≤ base
-        → cell ≡ place_of (cells_in ms) d.fields 0 base d.fields i → drop i d.fields ≡ fs → cell + length (cells_from (cells_in ms) d.fields i fs) ≤ end → SameIn low end n k
+        → cell ≡ place_of (cells_in ms) d.fields 0 base d.fields i → drop i d.fields ≡ fs → cell + length (cells_from (cells_in ms) d.fields i fs) ≤ end
+        → SameIn low end n k
         → slots_from ms d.fields v (own k) k i cell fs ≡ slots_from ms d.fields v (own n) n i cell fs
     fields_settled i cell low end [] n k sound up here is le s = refl
     fields_settled i cell low end (f ∷ fs) n k sound up here is le s =
@@ -82,7 +87,8 @@ module _ (ms : List Meaning) (h : MeanSettled ms) where
         let parts = length-append (field_cells cs d.fields i f) (cells_from cs d.fields (suc i) fs) in
         let there : next ≡ place_of cs d.fields 0 base d.fields (suc i) =
         omega (arith, place_next cs d.fields 0 base d.fields i f fs is, ap (λ (k : ℕ). length (field_cells cs d.fields k f)) (zero_plus i)) in
-        ap (λ (xs : List Slot). xs ++ slots_from ms d.fields v (own k) k (suc i) next fs) (field_settled i cell low end f n k sound.0 up here (omega (arith, parts)) s)
+        ap (λ (xs : List Slot). xs ++ slots_from ms d.fields v (own k) k (suc i) next fs)
+        (field_settled i cell low end f n k sound.0 up here (omega (arith, parts)) s)
         ∙ ap (λ (xs : List Slot). field_slots ms d.fields v (own n) n i cell f ++ xs)
         (fields_settled (suc i) next low end fs n k sound.1 up there (drop_next d.fields i f fs is) (omega (arith, parts)) s)
 
@@ -95,7 +101,8 @@ module _ (ms : List Meaning) (h : MeanSettled ms) where
         (fields_settled 0 base low end d.fields n k sound.fields up (sym (place_first cs d.fields 0 base d.fields)) refl le s)
         ∙ ap (λ (b : Bool). slots_from ms d.fields v (own n) n 0 base d.fields ++ Rule b ∷ [])
         (hold_same d.fields (length d.fields) v (own n) (own k)
-        (λ j x. own_in cs d base (length d.fields) last j n k (sym (place_end cs d.fields 0 base d.fields)) (in_less low base last end n k up le s) x) d.validate sound.validate)
+        (λ j x. own_in cs d base (length d.fields) last j n k (sym (place_end cs d.fields 0 base d.fields))
+        (in_less low base last end n k up le s) x) d.validate sound.validate)
 
 pub meanings_settled : (ds : List Desc) → AreSound ds → (k : ℕ) → k ≤ length ds → MeanSettled (meanings ds k)
 unfolding first
@@ -108,4 +115,5 @@ meanings_settled ds sound (suc k) le =
 pub slots_within : (ds : List Desc) → AreSound ds → (d : Desc) (v base low end : ℕ) (n k : List ℤ) → IsSound d → low ≤ base
     → base + length (desc_cells (cells_in (meanings ds (length ds))) d) ≤ end → SameIn low end n k
     → desc_slots (meanings ds (length ds)) d v k base ≡ desc_slots (meanings ds (length ds)) d v n base
-slots_within ds structs d v base low end n k sound up le s = desc_settled _ (meanings_settled ds structs (length ds) (omega arith)) d v base low end n k sound up le s
+slots_within ds structs d v base low end n k sound up le s =
+    desc_settled _ (meanings_settled ds structs (length ds) (omega arith)) d v base low end n k sound up le s

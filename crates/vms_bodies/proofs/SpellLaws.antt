@@ -25,7 +25,8 @@ use Rattle.vms_bodies.proofs.WalkLaws.{Left, Gives, IsOther, Keeping, whole_give
 
 -- ---- a number's bytes
 
-pub value_law : (kind : Kind) (bs : List ℕ) → length bs ≡ width kind → IsBytes bs → is_bad_bool kind bs ≡ false → InRange kind (value_of kind bs) × (bs ≡ code kind (value_of kind bs))
+pub value_law : (kind : Kind) (bs : List ℕ) → length bs ≡ width kind → IsBytes bs → is_bad_bool kind bs ≡ false
+    → InRange kind (value_of kind bs) × (bs ≡ code kind (value_of kind bs))
 value_law kind bs len ok good = value_taken kind bs len ok (not_bad kind good)
   where
     not_bad : (kind : Kind) → is_bad_bool kind bs ≡ false → IsBadBool kind bs → ⊥
@@ -59,7 +60,8 @@ rules_append [] ys p q = q
 rules_append (Rule b ∷ xs) ys p q = (p.0, rules_append xs ys p.1 q)
 rules_append (_ ∷ xs) ys p q = rules_append xs ys p q
 
-pub cell_in : (all : List Cell) (xs ys : List Slot) (c : ℕ) (kind : Kind) (caps : List ℕ) → AreCells all (xs ++ Number c kind caps ∷ ys) → IsCell all c kind caps
+pub cell_in : (all : List Cell) (xs ys : List Slot) (c : ℕ) (kind : Kind) (caps : List ℕ) → AreCells all (xs ++ Number c kind caps ∷ ys)
+    → IsCell all c kind caps
 cell_in all [] ys c kind caps p = p.0
 cell_in all (Number a k b ∷ xs) ys c kind caps p = cell_in all xs ys c kind caps p.1
 cell_in all (_ ∷ xs) ys c kind caps p = cell_in all xs ys c kind caps p
@@ -142,7 +144,8 @@ module _ (all : List Cell) (total : List ℤ → List Slot) (start : Progress) w
         → is_bad_bool kind (take (width kind) p.rest) ≡ false
         → InRange kind (value_of kind (take (width kind) p.rest)) × (take (width kind) p.rest ≡ code kind (value_of kind (take (width kind) p.rest)))
     value_here {p = p} kind h e good =
-        value_law kind _ (length-take-le (width kind) p.rest (ltb-false _ _ e)) (bytes_first (width kind) p.rest (bytes_rest h.bytes p.rest (rw (h.front) at ok))) good
+        value_law kind _ (length-take-le (width kind) p.rest (ltb-false _ _ e))
+        (bytes_first (width kind) p.rest (bytes_rest h.bytes p.rest (rw (h.front) at ok))) good
 
     number_spelled : length all ≤ length start.numbers → ((m : List ℤ) → AreCells all (total m)) → (cell : ℕ) (kind : Kind) (caps : List ℕ) (done : List Slot)
         → (left : List ℤ → List Slot) (p : Progress) → Left total (Spelled start) Anything cell p done (λ m. Number cell kind caps ∷ left m)
@@ -170,7 +173,8 @@ module _ (all : List Cell) (total : List ℤ → List Slot) (start : Progress) w
         }))
 
     other_spelled : (cell : ℕ) (slot : Slot) (done : List Slot) (left : List ℤ → List Slot) (p : Progress) → IsOther total (Spelled start) Anything slot
-        → Left total (Spelled start) Anything cell p done (λ m. slot ∷ left m) → Gives total (Spelled start) Anything cell (done ++ slot ∷ []) (take_slot slot p)
+        → Left total (Spelled start) Anything cell p done (λ m. slot ∷ left m)
+        → Gives total (Spelled start) Anything cell (done ++ slot ∷ []) (take_slot slot p)
     other_spelled cell (Number c kind caps) done left p o l = absurd o
     other_spelled cell (Rule false) done left p o l = tt
     other_spelled cell (Rule true) done left p o l =

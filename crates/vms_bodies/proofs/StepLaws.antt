@@ -26,7 +26,8 @@ module _ {X : Type 0} (total : List ℤ → List Slot) (R : ℕ → Progress →
   abbrev pub Refuses : X → Refusal → Type 0
   Refuses x e = x ≡ refused e
 
-  given : (x : X) (cell : ℕ) (done : List Slot) (slot : Slot) (t : Taken) → x ≡ after (length done) t → Gives total (Is x) (Refuses x) cell (done ++ slot ∷ []) t
+  given : (x : X) (cell : ℕ) (done : List Slot) (slot : Slot) (t : Taken) → x ≡ after (length done) t
+      → Gives total (Is x) (Refuses x) cell (done ++ slot ∷ []) t
   given x cell done slot (Err e) h = h
   given x cell done slot (Ok q) h =
       let n : suc (length done) ≡ length (done ++ slot ∷ []) = omega (arith, length-append done (slot ∷ [])) in

@@ -19,7 +19,8 @@ sub_bytes rest n ok mark size long =
     let tail = drop (6 + n) rest in
     let e3 : drop 1 rest ≡ n ∷ drop 2 rest = drop-cons rest 1 0 (omega arith) ∙ ap (λ (b : ℕ). b ∷ drop 2 rest) size in
     split_one rest (omega arith) ∙ ap (λ (b : ℕ). b ∷ drop 1 rest) mark
-    ∙ ap (λ (l : List ℕ). 0x05 ∷ l) (e3 ∙ ap (λ (l : List ℕ). n ∷ l) (text_at n 2 rest ∙ ap (λ (l : List ℕ). name ++ l) (four_at (2 + n) (6 + n) rest ok (omega arith) long)
+    ∙ ap (λ (l : List ℕ). 0x05 ∷ l)
+    (e3 ∙ ap (λ (l : List ℕ). n ∷ l) (text_at n 2 rest ∙ ap (λ (l : List ℕ). name ++ l) (four_at (2 + n) (6 + n) rest ok (omega arith) long)
     ∙ sym (append_assoc name v tail)))
     ∙ ap (λ (k : ℕ). 0x05 ∷ (k ∷ ((name ++ v) ++ tail))) (sym (text_long n 2 rest (omega arith)))
 

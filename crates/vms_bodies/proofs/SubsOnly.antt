@@ -56,7 +56,8 @@ picks n m xs cells c long h = go (nat_lt c (length cells)) refl
         get_or-eq_default (pick n xs 0 cells) (pos 0) (omega (arith, pick_long n xs 0 cells)) ∙ sym (get_or-eq_default m (pos 0) (omega arith))
 
 -- if the same cells are named, the same is picked
-pick_same : (n : List ℤ) (xs ys : List Slot) (cells : List Cell) (c : ℕ) → has_cell xs c ≡ has_cell ys c → get_or (pick n xs 0 cells) c (pos 0) ≡ get_or (pick n ys 0 cells) c (pos 0)
+pick_same : (n : List ℤ) (xs ys : List Slot) (cells : List Cell) (c : ℕ) → has_cell xs c ≡ has_cell ys c
+    → get_or (pick n xs 0 cells) c (pos 0) ≡ get_or (pick n ys 0 cells) c (pos 0)
 pick_same n xs ys cells c e = picks n _ xs cells c (pick_long n ys 0 cells) (λ lt. rw e (sym (pick_from n ys 0 c cells c (omega arith) lt)))
 
 -- what is not named is at its default
@@ -82,13 +83,15 @@ pub record IsSub (set : Set) (d : Device) (image : Image) (j w : ℕ) (front : L
   pub spells : Spells image.numbers (sub_slots set sub w image.numbers (part_place set d j)) body
   pub is : front ≡ sub_head sub.desc.name w ++ body
 
-pub sub_so : (set : Set) (d : Device) (image : Image) (j w : ℕ) (front : List ℕ) (s : Sub) → slice_get d.subs j ≡ Some s → IsVersionOf s.desc w → slice_get image.came j ≡ Some (Some w)
+pub sub_so : (set : Set) (d : Device) (image : Image) (j w : ℕ) (front : List ℕ) (s : Sub) → slice_get d.subs j ≡ Some s → IsVersionOf s.desc w
+    → slice_get image.came j ≡ Some (Some w)
     → Streams.SubSpells set d image j (slice_get d.subs j) (slice_get image.came j) front → IsSub set d image j w front
 sub_so set d image j w front s e version f h =
     let x : Streams.SubSpells set d image j (Some s) (Some (Some w)) front = rw (e, f) at h in
     record { sub = s; there = e; version = version; body = x.0; spells = x.1; is = x.2 }
 
-module _ (set : Set) (names : List (List ℕ)) (good : IsGood set) (k id : ℕ) (d : Device) (here : slice_get set.devices k ≡ Some d) (image : Image) (normal : IsNormal set d image) (valid : IsValid set d image) where
+module _ (set : Set) (names : List (List ℕ)) (good : IsGood set) (k id : ℕ) (d : Device) (here : slice_get set.devices k ≡ Some d) (image : Image)
+    (normal : IsNormal set d image) (valid : IsValid set d image) where
   abbrev own : List Slot
   own = own_slots set d image.version image.numbers
 
@@ -124,12 +127,15 @@ module _ (set : Set) (names : List (List ℕ)) (good : IsGood set) (k id : ℕ) 
   own_region came = region came 0 (0 + own_cells set d) (λ c up lt a b i s x e f.
       its_below set s.desc x (part_place set d i) image.numbers c (omega (arith, sub_place_up set (own_cells set d) d.subs i)))
 
-  part_region : (came : List (Option ℕ)) (j w : ℕ) (s : Sub) → slice_get d.subs j ≡ Some s → slice_get came j ≡ Some (Some w) → slice_get image.came j ≡ Some (Some w)
+  part_region : (came : List (Option ℕ)) (j w : ℕ) (s : Sub) → slice_get d.subs j ≡ Some s → slice_get came j ≡ Some (Some w)
+      → slice_get image.came j ≡ Some (Some w)
       → SameIn (part_place set d j) (part_place set d j + sub_size set s) image.numbers (so_far came)
   part_region came j w s there f g = region came (part_place set d j) (part_place set d j + sub_size set s) (λ c up lt a b i t x e f'.
-      other c i t x e f' up lt (part_apart set d image.numbers (λ xs. has_cell xs c ≡ false) (none_in_both c) (own_cells set d) d.subs came b j s w there f) (i == j) refl)
+      other c i t x e f' up lt (part_apart set d image.numbers (λ xs. has_cell xs c ≡ false) (none_in_both c) (own_cells set d) d.subs came b j s w there f)
+      (i == j) refl)
     where
-      other : (c i : ℕ) (t : Sub) (x : ℕ) → slice_get d.subs i ≡ Some t → slice_get image.came i ≡ Some (Some x) → part_place set d j ≤ c → c < part_place set d j + sub_size set s
+      other : (c i : ℕ) (t : Sub) (x : ℕ) → slice_get d.subs i ≡ Some t → slice_get image.came i ≡ Some (Some x) → part_place set d j ≤ c
+          → c < part_place set d j + sub_size set s
           → has_cell (part j w s) c ≡ false → (b : Bool) → (i == j) ≡ b → has_cell (part i x t) c ≡ false
       other c i t x e f' up lt mine true l =
           let same : i ≡ j = eqb-true i j l in
@@ -160,7 +166,8 @@ module _ (set : Set) (names : List (List ℕ)) (good : IsGood set) (k id : ℕ) 
       let same = part_region came1 j w s there (at_set came j (Some w) (slice_get_within came j None new)) comes in
       let rules : RulesHold (part j w s) =
       part_apart set d n RulesHold rules_split (own_cells set d) d.subs image.came (rules_split own (parts image.came) valid).1 j s w there comes in
-      let fits : FitSlots n (part j w s) = fit_slots all n (part j w s) normal.cells (sub_are set d j s w n there) (part_constants set good k j d s here there w base n) in
+      let fits : FitSlots n (part j w s) =
+      fit_slots all n (part j w s) normal.cells (sub_are set d j s w n there) (part_constants set good k j d s here there w base n) in
       body_only all set.structs good.structs s.desc w base m (record { numbers = so_far came; place = place; rest = body ++ tail }) body tail sound
       (omega (arith, so_long came1)) (so_long came ∙ sym (so_long came1)) (λ x. sub_are set d j s w x there)
       (its_spelled set s.desc w base good.structs sound n m body same spells) (its_fit set s.desc w base good.structs sound n m same fits)
@@ -168,13 +175,15 @@ module _ (set : Set) (names : List (List ℕ)) (good : IsGood set) (k id : ℕ) 
       (λ c e.
       let f : has_cell (part j w s) c ≡ false = rw (its_same set s.desc w base good.structs sound n m same) at e in
       pick_same n (own ++ parts came1) (own ++ parts came) all c
-      (names_append own (parts came1) c ∙ ap (λ (b : Bool). has_cell own c || b) (names_next set d n c (own_cells set d) d.subs came j s w there new ∙ rw f refl)
+      (names_append own (parts came1) c ∙ ap (λ (b : Bool). has_cell own c || b)
+      (names_next set d n c (own_cells set d) d.subs came j s w there new ∙ rw f refl)
       ∙ sym (names_append own (parts came) c)))
       refl
 
   -- the own body
   pub own_taken : (place : ℕ) (body tail : List ℕ) → Spells image.numbers (own_slots set d image.version image.numbers) body
-      → take_desc (takers set.structs (length set.structs)) d.desc image.version 0 (record { numbers = (default_image set d).numbers; place = place; rest = body ++ tail })
+      → take_desc (takers set.structs (length set.structs)) d.desc image.version 0
+      (record { numbers = (default_image set d).numbers; place = place; rest = body ++ tail })
       ≡ Ok (record { numbers = so_far (none_of d.subs); place = place + length body; rest = tail })
   own_taken place body tail spells =
       let all = device_cells set d in
@@ -185,7 +194,8 @@ module _ (set : Set) (names : List (List ℕ)) (good : IsGood set) (k id : ℕ) 
       let sound = good.devices k d here in
       let same = own_region none in
       let fits : FitSlots n own = fit_slots all n own normal.cells (own_are set d v n) (own_constants set good k d here v 0 n) in
-      body_only all set.structs good.structs d.desc v 0 m (record { numbers = (default_image set d).numbers; place = place; rest = body ++ tail }) body tail sound
+      body_only all set.structs good.structs d.desc v 0 m
+      (record { numbers = (default_image set d).numbers; place = place; rest = body ++ tail }) body tail sound
       (omega (arith, so_long none)) (defaults_long all ∙ sym (so_long none)) (own_are set d v)
       (its_spelled set d.desc v 0 good.structs sound n m body same spells) (its_fit set d.desc v 0 good.structs sound n m same fits)
       (its_hold set d.desc v 0 good.structs sound n m same (rules_split own (parts image.came) valid).0)

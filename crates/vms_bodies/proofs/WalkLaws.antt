@@ -34,14 +34,17 @@ module _ (P : Taken → Type 0) (p : Progress) (bad : (reason : Reason) (n : ℕ
   whole_gives n t h = test (nat_lt (length p.rest) n) reasons.Truncated (length p.rest) t h
 
   pub value_gives : (kind : Kind) (reason : Reason) (fails : ℤ → Bool) (put : ℤ → List ℤ)
-      → (nat_lt (length p.rest) (width kind) ≡ false → is_bad_bool kind (take (width kind) p.rest) ≡ false → fails (value_of kind (take (width kind) p.rest)) ≡ false
+      → (nat_lt (length p.rest) (width kind) ≡ false → is_bad_bool kind (take (width kind) p.rest) ≡ false → fails
+      (value_of kind (take (width kind) p.rest)) ≡ false
       → P (on (width kind) (put (value_of kind (take (width kind) p.rest))) p)) → P (take_value kind reason fails put p)
   value_gives kind reason fails put h =
       let w = width kind in
-      whole_gives w _ (λ e1. test (is_bad_bool kind (take w p.rest)) reasons.BadBool w _ (λ e2. test (fails (value_of kind (take w p.rest))) reason w _ (h e1 e2)))
+      whole_gives w _ (λ e1. test (is_bad_bool kind (take w p.rest)) reasons.BadBool w _
+      (λ e2. test (fails (value_of kind (take w p.rest))) reason w _ (h e1 e2)))
 
   pub slot_gives : (slot : Slot) → ((n : ℕ) (numbers : List ℤ) → Sets slot p.numbers numbers → P (on n numbers p)) → P (Ok p) → P (take_slot slot p)
-  slot_gives (Number c kind capacities) h same = value_gives kind reasons.CountTooLarge (exceeds capacities) (slice_set p.numbers c) (λ e1 e2 e3. h (width kind) _ (_, refl))
+  slot_gives (Number c kind capacities) h same =
+      value_gives kind reasons.CountTooLarge (exceeds capacities) (slice_set p.numbers c) (λ e1 e2 e3. h (width kind) _ (_, refl))
   slot_gives (Constant kind z) h same = value_gives kind reasons.NotEqual (λ y. not (same_number y z)) (λ y. p.numbers) (λ e1 e2 e3. h (width kind) _ refl)
   slot_gives (Filler n) h same = whole_gives n _ (λ e. h n _ refl)
   slot_gives (Rule true) h same = same
@@ -161,7 +164,8 @@ module _ (total : List ℤ → List Slot) (Holds : ℕ → List Slot → Progres
   pairs_cells [] (m ∷ ms) p = absurd p
   pairs_cells (t ∷ ts) [] p = absurd p
 
-  pairs_append : (ts : List Taker) (ms : List Meaning) (t : Taker) (m : Meaning) → Pairs ts ms → (t.cells ≡ m.cells) → TakesSlots t m → Pairs (ts ++ t ∷ []) (ms ++ m ∷ [])
+  pairs_append : (ts : List Taker) (ms : List Meaning) (t : Taker) (m : Meaning) → Pairs ts ms → (t.cells ≡ m.cells) → TakesSlots t m
+      → Pairs (ts ++ t ∷ []) (ms ++ m ∷ [])
   pairs_append [] [] t m p e h = (e, h, tt)
   pairs_append (x ∷ ts) (y ∷ ms) t m p e h = (p.0, p.1, pairs_append ts ms t m p.2 e h)
   pairs_append [] (y ∷ ms) t m p e h = absurd p
@@ -175,13 +179,15 @@ module _ (total : List ℤ → List Slot) (Holds : ℕ → List Slot → Progres
   module _ (w : Keeping) where
     left_less : (cell further : ℕ) (p : Progress) (done : List Slot) (left : List ℤ → List Slot) → cell ≤ further → Up further left → Left cell p done left
         → Left further p done left
-    left_less cell further p done left le up l = record { split = λ m s. l.split m (same_less cell further p.numbers m le s); holds = w.less cell further done left p le up l }
+    left_less cell further p done left le up l =
+        record { split = λ m s. l.split m (same_less cell further p.numbers m le s); holds = w.less cell further done left p le up l }
 
     comes_less : (cell further : ℕ) (left : List ℤ → List Slot) (t : Taken) → cell ≤ further → Up further left → Comes cell left t → Comes further left t
     comes_less cell further left (Err e) le up c = record { comes = c.comes }
     comes_less cell further left (Ok q) le up c = record { comes = (c.comes.0, left_less cell further q _ left le up c.comes.1) }
 
-    stay : (cell further : ℕ) (left : List ℤ → List Slot) (done : List Slot) (p : Progress) → cell ≤ further → Up further left → Left cell p done left → Comes further left (Ok p)
+    stay : (cell further : ℕ) (left : List ℤ → List Slot) (done : List Slot) (p : Progress) → cell ≤ further → Up further left → Left cell p done left
+        → Comes further left (Ok p)
     stay cell further left done p le up l = record { comes = (done, left_less cell further p done left le up l) }
 
     -- a slot without a cell, which is this one whatever comes
@@ -189,7 +195,8 @@ module _ (total : List ℤ → List Slot) (Holds : ℕ → List Slot → Progres
         → Left cell p done (λ m. slot ∷ left m) → Comes further left (take_slot slot p)
     one_other cell further slot done left p le o up l =
         comes_less cell further left _ le up
-        (slot_comes cell cell slot done left p _ (omega arith) l (slot_keeps cell slot p (other_from cell slot o)) (w.other cell slot done left p o (λ m. above_less cell further _ le (up m)) l))
+        (slot_comes cell cell slot done left p _ (omega arith) l (slot_keeps cell slot p (other_from cell slot o))
+        (w.other cell slot done left p o (λ m. above_less cell further _ le (up m)) l))
 
     pair_at : (ts : List Taker) (ms : List Meaning) (j : ℕ) → Pairs ts ms → TakesSlots (get_or ts j no_taker) (get_or ms j no_meaning)
     pair_at [] [] j p = record { takes = λ cell end p done left e up l. stay cell end left done p (omega arith) up l }
@@ -199,7 +206,8 @@ module _ (total : List ℤ → List Slot) (Holds : ℕ → List Slot → Progres
     pair_at (t ∷ ts) [] j p = absurd p
 
     module _ (ts : List Taker) (ms : List Meaning) (pairs : Pairs ts ms) (ab : MeanAbove ms) where
-      item_comes : (item : Item) (caps : List ℕ) (cell end : ℕ) (p : Progress) (done : List Slot) (left : List ℤ → List Slot) → end ≡ cell + item_size (cells_of ts) item
+      item_comes : (item : Item) (caps : List ℕ) (cell end : ℕ) (p : Progress) (done : List Slot) (left : List ℤ → List Slot)
+          → end ≡ cell + item_size (cells_of ts) item
           → Up end left → Left cell p done (λ m. item_slots ms item caps m cell ++ left m) → Comes end left (take_item ts item caps cell p)
       item_comes (Num kind) caps cell end p done left e up l =
           comes_less (cell + 1) end left _ (omega arith) up
@@ -207,7 +215,8 @@ module _ (total : List ℤ → List Slot) (Holds : ℕ → List Slot → Progres
           (w.number cell kind caps done left p (λ m. above_less (cell + 1) end _ (omega arith) (up m)) l))
       item_comes (Equal kind z) caps cell end p done left e up l = one_other cell end (Constant kind z) done left p (omega arith) tt up l
       item_comes (Unused n) caps cell end p done left e up l = one_other cell end (Filler n) done left p (omega arith) tt up l
-      item_comes (Struct j) caps cell end p done left e up l = (pair_at ts ms j pairs).takes cell end p done left (omega (arith, ap length (cells_get ts j))) up l
+      item_comes (Struct j) caps cell end p done left e up l =
+          (pair_at ts ms j pairs).takes cell end p done left (omega (arith, ap length (cells_get ts j))) up l
 
       items_comes : (item : Item) (caps : List ℕ) (n cell end : ℕ) (p : Progress) (done : List Slot) (left : List ℤ → List Slot)
           → end ≡ cell + n * item_size (cells_of ts) item → Up end left
@@ -220,7 +229,8 @@ module _ (total : List ℤ → List Slot) (Holds : ℕ → List Slot → Progres
           let e' : end ≡ (cell + size) + n * size = grind arith in
           then_comes (cell + size) end later left (take_item ts item caps cell p) (λ q. take_items ts item caps size n (cell + size) q)
           (item_comes item caps cell (cell + size) p done later refl
-          (λ m. above_append (cell + size) _ (left m) (items_above ms ab item caps m n (cell + size) size) (above_less (cell + size) end _ (omega arith) (up m)))
+          (λ m. above_append (cell + size) _ (left m) (items_above ms ab item caps m n (cell + size) size)
+          (above_less (cell + size) end _ (omega arith) (up m)))
           (left_ap (λ m s. append_assoc (item_slots ms item caps m cell) _ (left m)) l))
           (λ q done' l'. items_comes item caps n (cell + size) end q done' left e' up l')
 
@@ -256,10 +266,12 @@ module _ (total : List ℤ → List Slot) (Holds : ℕ → List Slot → Progres
             let h : (j : ℕ) → IsEarlier d.fields i j → now j ≡ old j = λ j x. own_same cs d base i cell j p.numbers m here s x in
             ap (λ (cs : List (List Cell)).
             (if is_there f.test f.since v (numbers_of cs d m base) no_parent
-            then times (elements_of f.count (numbers_of cs d m base)) (item_slots ms f.item caps m) cell (item_size cs f.item) else []) ++ left m) (pairs_cells ts ms pairs)
+            then times (elements_of f.count (numbers_of cs d m base)) (item_slots ms f.item caps m) cell (item_size cs f.item) else []) ++ left m)
+            (pairs_cells ts ms pairs)
             ∙ ap (λ (b : Bool). (if b then times (elements_of f.count now) (item_slots ms f.item caps m) cell size else []) ++ left m)
             (there_same d.fields i v f.since old now h f.test sound.test)
-            ∙ ap (λ (n : ℕ). (if b then times n (item_slots ms f.item caps m) cell size else []) ++ left m) (elements_same d.fields i old now h f.count sound.count)) l)
+            ∙ ap (λ (n : ℕ). (if b then times n (item_slots ms f.item caps m) cell size else []) ++ left m)
+            (elements_same d.fields i old now h f.count sound.count)) l)
 
         fields_comes : (i cell end : ℕ) (fs : List Field) (p : Progress) (done : List Slot) (left : List ℤ → List Slot)
             → AreSoundFields d.fields i fs → cell ≡ place_of (cells_of ts) d.fields 0 base d.fields i → drop i d.fields ≡ fs
@@ -273,7 +285,8 @@ module _ (total : List ℤ → List Slot) (Holds : ℕ → List Slot → Progres
             let same : length (field_cells (map (λ (m : Meaning). m.cells) ms) d.fields i f) ≡ size =
             ap (λ (cs : List (List Cell)). length (field_cells cs d.fields i f)) (pairs_cells ts ms pairs) in
             let later : List ℤ → List Slot = λ m. slots_from ms d.fields v (own m) m (suc i) next fs ++ left m in
-            let e' : end ≡ next + length (cells_from cs d.fields (suc i) fs) = omega (arith, length-append (field_cells cs d.fields i f) (cells_from cs d.fields (suc i) fs)) in
+            let e' : end ≡ next + length (cells_from cs d.fields (suc i) fs) =
+            omega (arith, length-append (field_cells cs d.fields i f) (cells_from cs d.fields (suc i) fs)) in
             let there : next ≡ place_of cs d.fields 0 base d.fields (suc i) =
             omega (arith, place_next cs d.fields 0 base d.fields i f fs is, ap (λ (k : ℕ). length (field_cells cs d.fields k f)) (zero_plus i)) in
             then_comes next end later left (take_field ts d v base i cell f p) (λ q. take_fields ts d v base (suc i) next fs q)
@@ -285,7 +298,8 @@ module _ (total : List ℤ → List Slot) (Holds : ℕ → List Slot → Progres
             (λ q done' l'. fields_comes (suc i) next end fs q done' left sound.1 there (drop_next d.fields i f fs is) e' up l')
 
         -- reading a description's slots is taking it
-        pub desc_comes : (end : ℕ) (p : Progress) (done : List Slot) (left : List ℤ → List Slot) → IsSound d → end ≡ base + length (desc_cells (cells_of ts) d) → Up end left
+        pub desc_comes : (end : ℕ) (p : Progress) (done : List Slot) (left : List ℤ → List Slot) → IsSound d
+            → end ≡ base + length (desc_cells (cells_of ts) d) → Up end left
             → Left base p done (λ m. desc_slots ms d v m base ++ left m) → Comes end left (take_desc ts d v base p)
         unfolding take_desc
         desc_comes end p done left sound e up l =
@@ -311,12 +325,16 @@ module _ (total : List ℤ → List Slot) (Holds : ℕ → List Slot → Progres
         let d = get_or ds k no_desc in
         pairs_append (takers ds k) (meanings ds k) (taker_of (takers ds k) d) (meaning (meanings ds k) d) pairs
         (ap (λ (cs : List (List Cell)). desc_cells cs d) (sym (pairs_cells (takers ds k) (meanings ds k) pairs)))
-        (record { takes = λ cell end p done left e up l. desc_comes _ _ pairs (meanings_above ds k) d d.version cell end p done left (sound k (omega arith)) e up l })
+        (record {
+          takes = λ cell end p done left e up l. desc_comes _ _ pairs (meanings_above ds k) d d.version cell end p done left
+              (sound k (omega arith)) e up l;
+        })
 
     -- the same with all structures of a set, from the front on
     pub set_desc_comes : (ds : List Desc) → AreSound ds → (d : Desc) (v base : ℕ) (p : Progress) → IsSound d
         → ((m : List ℤ) → total m ≡ desc_slots (meanings ds (length ds)) d v m base) → Holds base [] p
         → Comes (base + length (desc_cells (cells_of (takers ds (length ds))) d)) (λ m. []) (take_desc (takers ds (length ds)) d v base p)
     set_desc_comes ds structs d v base p sound is h =
-        desc_comes _ _ (pairs_first ds structs (length ds) (omega arith)) (meanings_above ds (length ds)) d v base _ p [] (λ m. []) sound refl (λ m. above_none _)
+        desc_comes _ _ (pairs_first ds structs (length ds) (omega arith)) (meanings_above ds (length ds)) d v base _ p [] (λ m. []) sound refl
+        (λ m. above_none _)
         (record { split = λ m s. is m ∙ sym (append-nil (desc_slots (meanings ds (length ds)) d v m base)); holds = h })
