@@ -1,13 +1,15 @@
 -- The cells of a set, carried to the newest one, are the numbers that they came from.
-use Rattle.std.proofs.Common.{◌≡◌, ℕ, ◌<◌, ◌≤◌, ◌&&◌, not, true, Option, Some, None, refl, sym, subst, arith, ⊎_elim}
+use Rattle.std.proofs.Common.{◌≡◌, ℕ, ◌<◌, ◌≤◌, ◌&&◌, not, true, List, [], ◌∷◌, ◌++◌, replicate, pos, Option, Some, None, refl, sym, ap, ◌∙◌, subst, arith, ⊎_elim}
 use Rattle.std.proofs.lemmas.Bool.{cases_lt, leb-true, and_parts}
 use Rattle.std.specs.Prelude.{nat_le, is_some}
+use Rattle.dev_base.specs.Tables.{Origin, carried_by, default_of, places}
 use Rattle.dev_base.specs.declared.limits.TheConstants.{NEWEST}
 use Rattle.dev_serial.specs.Access.{is_empty}
-use Rattle.dev_serial.specs.Cells.{field_cells, array_cells, ring_cells, cells_of, carried, numbers_of}
+use Rattle.dev_serial.specs.Cells.{field_cells, array_cells, ring_cells, cells_of, origins, carried, numbers_of}
 use Rattle.dev_serial.specs.Port.{Port}
 use Rattle.dev_serial.specs.PortNumbers.{saved}
 use Rattle.dev_serial.specs.Sound.{IsSound, IsTimeout}
+use Rattle.dev_serial.specs.declared.numbers.TheConstants.{NEVER}
 use Rattle.dev_serial.specs.declared.trigger.Trigger.{Trigger}
 
 -- the newest set's cells are the numbers
@@ -15,14 +17,37 @@ pub numbers-back : (set now : ℕ) (port : Port) → numbers_of (cells_of 4 (sav
 unfolding numbers_of cells_of field_cells array_cells ring_cells saved
 numbers-back set now port = refl
 
+-- the tables of the sets 1 and 2 as literals: a rewriting computes with them
+abbrev table_1 : List Origin
+table_1 =
+    places 0 11 ++ (default_of (pos 0) ∷ []) ++ places 11 1 ++ replicate 34 (default_of (pos 0)) ++ (default_of (pos NEVER) ∷ [])
+    ++ replicate 36 (default_of (pos 0))
+
+abbrev table_2 : List Origin
+table_2 = places 0 47 ++ (default_of (pos NEVER) ∷ []) ++ replicate 36 (default_of (pos 0))
+
+same-1 : origins 1 ≡ table_1
+same-1 = refl
+
+same-2 : origins 2 ≡ table_2
+same-2 = refl
+
 module _ (now : ℕ) (port : Port) where
+  by-table-1 : port.fifos ≡ None → port.receiver.timeout ≡ None → carried_by table_1 (cells_of 1 (saved 1 now port)) ≡ cells_of 4 (saved 1 now port)
+  unfolding cells_of field_cells array_cells ring_cells saved
+  by-table-1 f t = rw (f, t) refl
+
+  by-table-2 : port.receiver.timeout ≡ None → carried_by table_2 (cells_of 2 (saved 2 now port)) ≡ cells_of 4 (saved 2 now port)
+  unfolding cells_of field_cells array_cells ring_cells saved
+  by-table-2 t = rw t refl
+
   carried-1 : port.fifos ≡ None → port.receiver.timeout ≡ None → carried 1 (cells_of 1 (saved 1 now port)) ≡ cells_of 4 (saved 1 now port)
-  unfolding carried cells_of field_cells array_cells ring_cells saved
-  carried-1 f t = rw (f, t) refl
+  unfolding carried
+  carried-1 f t = ap (λ (table : List Origin). carried_by table (cells_of 1 (saved 1 now port))) same-1 ∙ by-table-1 f t
 
   carried-2 : port.receiver.timeout ≡ None → carried 2 (cells_of 2 (saved 2 now port)) ≡ cells_of 4 (saved 2 now port)
-  unfolding carried cells_of field_cells array_cells ring_cells saved
-  carried-2 t = rw t refl
+  unfolding carried
+  carried-2 t = ap (λ (table : List Origin). carried_by table (cells_of 2 (saved 2 now port))) same-2 ∙ by-table-2 t
 
   carried-3 : carried 3 (cells_of 3 (saved 3 now port)) ≡ cells_of 4 (saved 3 now port)
   unfolding carried cells_of field_cells array_cells ring_cells saved

@@ -1,5 +1,5 @@
 -- The saved cells are cells of their set.
-use Rattle.std.proofs.Common.{◌≡◌, ℕ, ℤ, zero, suc, ◌+◌, ◌<◌, ◌≤◌, Bool, true, false, cond, List, [], ◌∷◌, ◌++◌, length, map, take, drop, replicate, pos, Option, Some, None, refl, ap, ◌∙◌, arith}
+use Rattle.std.proofs.Common.{◌≡◌, ℕ, ℤ, zero, suc, ◌+◌, ◌<◌, ◌≤◌, Bool, true, false, cond, List, [], ◌∷◌, ◌++◌, length, map, take, drop, replicate, pos, Option, Some, None, refl, sym, ap, subst, ◌∙◌, arith}
 use Rattle.std.proofs.lemmas.Int.{ints}
 use Rattle.std.proofs.lemmas.List.{get_or-append-add, get_or_append_left, get_or-map, get_or_past}
 use Rattle.std.proofs.lemmas.Nat.{and_le_r}
@@ -111,6 +111,29 @@ ring-of bytes s b =
 pub one : (kind : Kind) (cell : ℤ) → InRange kind cell → AreOf (kind ∷ []) (cell ∷ [])
 one kind cell h = of_more kind cell [] [] h of_none
 
+-- the kinds of a set by what it has: row by row, and part by part
+abbrev by_rows : Bool → Bool → Bool → List Kind
+by_rows fifos timeout rings =
+    field_kinds ++ (cond fifos (U8 ∷ []) [] ++ (I8 ∷
+    (cond fifos (U8 ∷ []) [] ++ (cond fifos (replicate 16 U8) [] ++ (cond fifos (U8 ∷ []) [] ++ (cond fifos (replicate 16 U8) [] ++ (cond timeout (Timer ∷ []) [] ++
+    (cond rings (replicate 16 U8) [] ++ (cond rings (U8 ∷ []) [] ++ (cond rings (U8 ∷ []) [] ++
+    (cond rings (replicate 16 U8) [] ++ (cond rings (U8 ∷ []) [] ++ (cond rings (U8 ∷ []) [] ++ [])))))))))))))
+
+abbrev by_parts : Bool → Bool → Bool → List Kind
+by_parts fifos timeout rings =
+    field_kinds ++ cond fifos (U8 ∷ []) [] ++ I8 ∷ [] ++ cond fifos (replicate ARRAY_CELLS U8) [] ++ cond fifos (replicate ARRAY_CELLS U8) []
+    ++ cond timeout (Timer ∷ []) [] ++ cond rings (replicate RING_CELLS U8) [] ++ cond rings (replicate RING_CELLS U8) []
+
+same-kinds : (fifos timeout rings : Bool) → by_rows fifos timeout rings ≡ by_parts fifos timeout rings
+same-kinds true true true = refl
+same-kinds true true false = refl
+same-kinds true false true = refl
+same-kinds true false false = refl
+same-kinds false true true = refl
+same-kinds false true false = refl
+same-kinds false false true = refl
+same-kinds false false false = refl
+
 module _ (set now : ℕ) (port : Port) (early : now ≤ LAST_MOMENT) (sound : IsSound now port) where
   fields-of : AreOf field_kinds (field_cells (saved set now port))
   unfolding field_cells saved
@@ -145,7 +168,8 @@ module _ (set now : ℕ) (port : Port) (early : now ≤ LAST_MOMENT) (sound : Is
       let timeout = of_where (nat_le 3 other) (Timer ∷ []) (pos (moment_number port.receiver.timeout) ∷ []) (one Timer (pos (moment_number port.receiver.timeout)) (timer _ (moment-range now _ port.receiver.timeout early sound.receiver.timeout))) in
       let fields = of_both _ _ _ _ (of_both _ _ _ _ fields-of fcr) latch in
       let arrays = of_both _ _ _ _ (of_both _ _ _ _ fields (array-part (nat_le 2 other) port.receiver.held sound.receiver.short sound.receiver.bytes)) (array-part (nat_le 2 other) port.transmitter.waiting sound.transmitter.short sound.transmitter.bytes) in
-      of_both _ _ _ _ (of_both _ _ _ _ (of_both _ _ _ _ arrays timeout) (ring-part (nat_le 4 other) port.receiver.held sound.receiver.short sound.receiver.bytes)) (ring-part (nat_le 4 other) port.transmitter.waiting sound.transmitter.short sound.transmitter.bytes)
+      subst (λ (l : List Kind). AreOf l (cells_of other (saved set now port))) (sym (same-kinds (nat_le 2 other) (nat_le 3 other) (nat_le 4 other)))
+      (of_both _ _ _ _ (of_both _ _ _ _ (of_both _ _ _ _ arrays timeout) (ring-part (nat_le 4 other) port.receiver.held sound.receiver.short sound.receiver.bytes)) (ring-part (nat_le 4 other) port.transmitter.waiting sound.transmitter.short sound.transmitter.bytes))
 
 -- a counted array by its index: the elements after the count are 0 from the count on
 zero-from : (front back : List ℤ) (bytes : List ℕ) (i : ℕ) → length bytes ≤ i → i < 16 → cell_at (front ++ (map pos (padded bytes) ++ back)) (length front + i) ≡ pos 0

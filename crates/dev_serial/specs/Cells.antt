@@ -1,19 +1,19 @@
 -- The cells of a port in each set (docs/devices.md lists them).
-use Rattle.std.specs.Prelude.{◌≡◌, ℕ, ℤ, pos, ◌+◌, ◌<◌, ◌≤◌, nat_le, if◌then◌else◌, List, [], ◌∷◌, ◌++◌, map, replicate}
+use Rattle.std.specs.Prelude.{◌≡◌, ℕ, ℤ, pos, ◌+◌, ◌<◌, ◌≤◌, List, [], ◌∷◌, ◌++◌, map, take, codes}
+use Rattle.vms_fields.specs.Fields.{kinds_under}
+use Rattle.vms_fields.specs.Serial.{serial_rows, place_of_serial}
+use Rattle.vms_fields.specs.declared.serial.TheConstants.{RX_COUNT, TX_COUNT}
 use Rattle.vms_kinds.specs.Codes.{InRange}
 use Rattle.vms_kinds.specs.declared.Kind.{Kind}
-use Rattle.vms_kinds.specs.declared.Kind.TheVariants.{U8, U16, I8, Timer}
+use Rattle.vms_kinds.specs.declared.Kind.TheVariants.{U8}
 use Rattle.dev_base.specs.Cells.{cell_at, number_at, AreOf, firsts}
-use Rattle.dev_base.specs.Tables.{Origin, default_of, places, where_had, since, carried_by}
+use Rattle.dev_base.specs.Tables.{Origin, since, carried_by, origins_under}
 use Rattle.dev_base.specs.declared.limits.TheConstants.{NEWEST}
 use Rattle.dev_serial.specs.declared.fifo.TheConstants.{FIFO_BYTES}
 use Rattle.dev_serial.specs.declared.levels.TheConstants.{FIFOS_SINCE, TIMEOUT_SINCE, RINGS_SINCE}
 use Rattle.dev_serial.specs.declared.numbers.PortNumbers.{PortNumbers}
 use Rattle.dev_serial.specs.declared.stored.Counted.{Counted}
 use Rattle.dev_serial.specs.declared.stored.Ring.{Ring}
-use Rattle.dev_serial.specs.declared.stored.TheConstants.{ARRAY_CELLS, RING_CELLS}
-use Rattle.dev_serial.specs.declared.place.TheConstants.{DIVISOR, IER, IIR, LCR, MCR, LSR, SCR, RBR, THR, TSR, TX_DUE, FCR, THR_IPENDING, RX_COUNT, TX_COUNT, TIMEOUT_AT, RX_RING, TX_RING}
-use Rattle.dev_serial.specs.declared.numbers.TheConstants.{NEVER}
 
 -- The cells of a counted array: its count and its sixteen elements.
 unfoldable pub array_cells : Counted → List ℤ
@@ -37,26 +37,17 @@ cells_of set n =
     ++ since TIMEOUT_SINCE set (pos n.timeout_at ∷ [])
     ++ since RINGS_SINCE set (ring_cells n.rx_ring) ++ since RINGS_SINCE set (ring_cells n.tx_ring)
 
--- The kinds of the fields that every set has.
-abbrev pub field_kinds : List Kind
-field_kinds = U16 ∷ replicate 9 U8 ++ Timer ∷ []
-
 -- The kinds of the cells of set `set`.
 abbrev pub kinds : ℕ → List Kind
-kinds set =
-    field_kinds ++ since FIFOS_SINCE set (U8 ∷ []) ++ I8 ∷ []
-    ++ since FIFOS_SINCE set (replicate ARRAY_CELLS U8) ++ since FIFOS_SINCE set (replicate ARRAY_CELLS U8)
-    ++ since TIMEOUT_SINCE set (Timer ∷ [])
-    ++ since RINGS_SINCE set (replicate RING_CELLS U8) ++ since RINGS_SINCE set (replicate RING_CELLS U8)
+kinds set = kinds_under serial_rows set
+
+-- those of the fields that every set has
+abbrev pub field_kinds : List Kind
+field_kinds = take 11 (kinds NEWEST)
 
 -- For each cell of the newest set, the index of the same cell in set `set`, or its default.
 abbrev pub origins : ℕ → List Origin
-origins set =
-    places 0 11 ++ where_had (nat_le FIFOS_SINCE set) (places 11 1) (default_of (pos 0) ∷ [])
-    ++ places (if nat_le FIFOS_SINCE set then 12 else 11) 1
-    ++ where_had (nat_le FIFOS_SINCE set) (places 13 34) (replicate 34 (default_of (pos 0)))
-    ++ where_had (nat_le TIMEOUT_SINCE set) (places 47 1) (default_of (pos NEVER) ∷ [])
-    ++ where_had (nat_le RINGS_SINCE set) (places 48 36) (replicate 36 (default_of (pos 0)))
+origins set = origins_under serial_rows set
 
 -- The cells of set `set` in the order of the newest set, with defaults for the others.
 unfoldable pub carried : ℕ → List ℤ → List ℤ
@@ -82,27 +73,30 @@ ring_at cells place = record {
   number = number_at cells (place + 17);
 }
 
--- The numbers in cells of the newest set.
+-- The number in the cell of the field `name`, in cells of the newest set.
+abbrev pub number_in : List ℤ → List ℕ → ℕ
+number_in cells name = number_at cells (place_of_serial name)
+
 unfoldable pub numbers_of : List ℤ → PortNumbers
 numbers_of cells = record {
-  divisor = number_at cells DIVISOR;
-  ier = number_at cells IER;
-  iir = number_at cells IIR;
-  lcr = number_at cells LCR;
-  mcr = number_at cells MCR;
-  lsr = number_at cells LSR;
-  scr = number_at cells SCR;
-  rbr = number_at cells RBR;
-  thr = number_at cells THR;
-  tsr = number_at cells TSR;
-  tx_due = number_at cells TX_DUE;
-  fcr = number_at cells FCR;
-  thr_ipending = cell_at cells THR_IPENDING;
-  rx = array_at cells RX_COUNT;
-  tx = array_at cells TX_COUNT;
-  timeout_at = number_at cells TIMEOUT_AT;
-  rx_ring = ring_at cells RX_RING;
-  tx_ring = ring_at cells TX_RING;
+  divisor = number_in cells (codes "divisor");
+  ier = number_in cells (codes "ier");
+  iir = number_in cells (codes "iir");
+  lcr = number_in cells (codes "lcr");
+  mcr = number_in cells (codes "mcr");
+  lsr = number_in cells (codes "lsr");
+  scr = number_in cells (codes "scr");
+  rbr = number_in cells (codes "rbr");
+  thr = number_in cells (codes "thr");
+  tsr = number_in cells (codes "tsr");
+  tx_due = number_in cells (codes "tx_due");
+  fcr = number_in cells (codes "fcr");
+  thr_ipending = cell_at cells (place_of_serial (codes "thr_ipending"));
+  rx = array_at cells (place_of_serial (codes "rx_count"));
+  tx = array_at cells (place_of_serial (codes "tx_count"));
+  timeout_at = number_in cells (codes "timeout_at");
+  rx_ring = ring_at cells (place_of_serial (codes "rx_data"));
+  tx_ring = ring_at cells (place_of_serial (codes "tx_data"));
 }
 
 -- The array whose count is at index `place`: at most sixteen elements, and 0 after the counted
