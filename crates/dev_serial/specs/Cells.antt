@@ -1,16 +1,15 @@
 -- The cells of a port in each set (docs/devices.md lists them).
 use Rattle.std.specs.Prelude.{◌≡◌, ℕ, ℤ, pos, ◌+◌, ◌<◌, ◌≤◌, List, [], ◌∷◌, ◌++◌, map, take, codes}
-use Rattle.vms_fields.specs.Fields.{kinds_under}
+use Rattle.vms_fields.specs.Fields.{Named, kinds_under, cells_under}
 use Rattle.vms_fields.specs.Serial.{serial_rows, place_of_serial}
 use Rattle.vms_fields.specs.declared.serial.TheConstants.{RX_COUNT, TX_COUNT}
 use Rattle.vms_kinds.specs.Codes.{InRange}
 use Rattle.vms_kinds.specs.declared.Kind.{Kind}
 use Rattle.vms_kinds.specs.declared.Kind.TheVariants.{U8}
 use Rattle.dev_base.specs.Cells.{cell_at, number_at, AreOf, firsts}
-use Rattle.dev_base.specs.Tables.{Origin, since, carried_by, origins_under}
+use Rattle.dev_base.specs.Tables.{Origin, carried_by, origins_under}
 use Rattle.dev_base.specs.declared.limits.TheConstants.{NEWEST}
 use Rattle.dev_serial.specs.declared.fifo.TheConstants.{FIFO_BYTES}
-use Rattle.dev_serial.specs.declared.levels.TheConstants.{FIFOS_SINCE, TIMEOUT_SINCE, RINGS_SINCE}
 use Rattle.dev_serial.specs.declared.numbers.PortNumbers.{PortNumbers}
 use Rattle.dev_serial.specs.declared.stored.Counted.{Counted}
 use Rattle.dev_serial.specs.declared.stored.Ring.{Ring}
@@ -23,25 +22,47 @@ array_cells array = pos array.count ∷ map pos array.bytes
 unfoldable pub ring_cells : Ring → List ℤ
 ring_cells ring = map pos ring.elements ++ pos ring.head ∷ pos ring.number ∷ []
 
--- The cells of the fields that every set has.
-unfoldable pub field_cells : PortNumbers → List ℤ
-field_cells n =
-    pos n.divisor ∷ pos n.ier ∷ pos n.iir ∷ pos n.lcr ∷ pos n.mcr ∷ pos n.lsr ∷ pos n.scr ∷ pos n.rbr ∷ pos n.thr ∷ pos n.tsr ∷ pos n.tx_due ∷ []
+-- The fields of the port by name, each with its numbers.
+abbrev pub named : PortNumbers → Named
+named n =
+    (codes "divisor", pos n.divisor ∷ [])
+    ∷ (codes "ier", pos n.ier ∷ [])
+    ∷ (codes "iir", pos n.iir ∷ [])
+    ∷ (codes "lcr", pos n.lcr ∷ [])
+    ∷ (codes "mcr", pos n.mcr ∷ [])
+    ∷ (codes "lsr", pos n.lsr ∷ [])
+    ∷ (codes "scr", pos n.scr ∷ [])
+    ∷ (codes "rbr", pos n.rbr ∷ [])
+    ∷ (codes "thr", pos n.thr ∷ [])
+    ∷ (codes "tsr", pos n.tsr ∷ [])
+    ∷ (codes "tx_due", pos n.tx_due ∷ [])
+    ∷ (codes "fcr", pos n.fcr ∷ [])
+    ∷ (codes "thr_ipending", n.thr_ipending ∷ [])
+    ∷ (codes "rx_count", pos n.rx.count ∷ [])
+    ∷ (codes "rx", map pos n.rx.bytes)
+    ∷ (codes "tx_count", pos n.tx.count ∷ [])
+    ∷ (codes "tx", map pos n.tx.bytes)
+    ∷ (codes "timeout_at", pos n.timeout_at ∷ [])
+    ∷ (codes "rx_data", map pos n.rx_ring.elements)
+    ∷ (codes "rx_head", pos n.rx_ring.head ∷ [])
+    ∷ (codes "rx_number", pos n.rx_ring.number ∷ [])
+    ∷ (codes "tx_data", map pos n.tx_ring.elements)
+    ∷ (codes "tx_head", pos n.tx_ring.head ∷ [])
+    ∷ (codes "tx_number", pos n.tx_ring.number ∷ []) ∷ []
 
--- The cells of set `set`: the fields, then the subsections' cells: the FIFO control, the latch, the
--- counted arrays, the timeout and the rings.
+-- The cells of set `set`.
 unfoldable pub cells_of : ℕ → PortNumbers → List ℤ
-cells_of set n =
-    field_cells n ++ since FIFOS_SINCE set (pos n.fcr ∷ []) ++ n.thr_ipending ∷ []
-    ++ since FIFOS_SINCE set (array_cells n.rx) ++ since FIFOS_SINCE set (array_cells n.tx)
-    ++ since TIMEOUT_SINCE set (pos n.timeout_at ∷ [])
-    ++ since RINGS_SINCE set (ring_cells n.rx_ring) ++ since RINGS_SINCE set (ring_cells n.tx_ring)
+cells_of set n = cells_under serial_rows set (named n)
+
+-- The cells of the fields before the FIFO control, which every set has.
+unfoldable pub field_cells : PortNumbers → List ℤ
+field_cells n = take 11 (cells_under serial_rows NEWEST (named n))
 
 -- The kinds of the cells of set `set`.
 abbrev pub kinds : ℕ → List Kind
 kinds set = kinds_under serial_rows set
 
--- those of the fields that every set has
+-- The kinds of these cells.
 abbrev pub field_kinds : List Kind
 field_kinds = take 11 (kinds NEWEST)
 

@@ -103,7 +103,6 @@ impl PortNumbers {
     /// Returns the cells of set `set`, in the order of its description.
     ///
     /// The fields come first, then the cells of each subsection that the set has.
-    #[tactic(auto, unfolding(crate::specs::Cells::cells_of))]
     pub fn cells(&self, set: u8) -> DevCells
         ensures cells { result.items ≡ cells_of set self.now }
         ensures count { length result.items ≤ PORT_CELLS }
