@@ -1,4 +1,4 @@
--- The cells of a set: what is in each row of the list of fields, and the parts that code appends.
+-- The cells of a set: the numbers in each row of the list of fields, and the parts that code appends.
 use Rattle.std.proofs.Common.{◌≡◌, ℕ, zero, suc, ◌+◌, ◌<◌, ◌≤◌, ◌^◌, Bool, true, false, cond, List, [], ◌∷◌, ◌++◌, map, replicate, ℤ, pos, refl, ap, ◌∙◌, arith, append_assoc}
 use Rattle.std.specs.List.{range_with_len}
 use Rattle.std.specs.Prelude.{nat_le}
@@ -15,7 +15,7 @@ use Rattle.dev_serial.specs.declared.numbers.PortNumbers.{PortNumbers}
 use Rattle.dev_serial.specs.declared.stored.Counted.{Counted}
 use Rattle.dev_serial.specs.declared.stored.Ring.{Ring}
 
--- sixteen bytes
+-- The sixteen elements are bytes.
 abbrev pub AreSixteen : List ℕ → Type 0
 AreSixteen bytes = AreOf (replicate 16 U8) (map pos bytes)
 
@@ -36,7 +36,7 @@ pub record IsRingOf (ring : Ring) : Type 0 where
   pub head : ring.head < 256
   pub number : ring.number < 256
 
--- numbers in the ranges of their kinds
+-- Each number is in the range of its kind.
 pub record InRanges (n : PortNumbers) : Type 0 where
   pub divisor : n.divisor < 2 ^ 16
   pub ier : n.ier < 256
@@ -80,7 +80,7 @@ of_kinds set n r = of_rows (named n) set serial_rows (holds n r)
 
 -- ---- parts
 
--- the rows of an array, and those of a ring
+-- A counted array is two rows, and a ring three.
 array_rows : (has : Bool) (count : ℤ) (bytes rest : List ℤ) → cond has (count ∷ bytes) [] ++ rest ≡ cond has (count ∷ []) [] ++ (cond has bytes [] ++ rest)
 array_rows true count bytes rest = refl
 array_rows false count bytes rest = refl
@@ -98,7 +98,7 @@ last_rows false elements head number = refl
 to_right : (a b c d e f g h : List ℤ) → a ++ b ++ c ++ d ++ e ++ f ++ g ++ h ≡ a ++ (b ++ (c ++ (d ++ (e ++ (f ++ (g ++ h))))))
 to_right a b c d e f g h = simp append_assoc refl
 
--- the cells, part by part
+-- The cells in the order in which code appends them.
 abbrev pub parts : ℕ → PortNumbers → List ℤ
 parts set n =
     field_cells n ++ since FIFOS_SINCE set (pos n.fcr ∷ []) ++ n.thr_ipending ∷ []

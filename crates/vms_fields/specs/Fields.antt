@@ -87,11 +87,12 @@ place_from at (row ∷ rows) name = if bytes_eq row.name name then at else place
 abbrev pub place_of : List Row → List ℕ → ℕ
 place_of rows name = place_from 0 rows name
 
--- where they begin under the set of a number
+-- The same under set `set`, where `at` is the index of the first of the rows.
 abbrev pub place_under_from : ℕ → List Row → ℕ → List ℕ → ℕ
 place_under_from at [] set name = at
 place_under_from at (row ∷ rows) set name =
     if bytes_eq row.name name then at else place_under_from (if is_in row.shape.first_set set then at + size_of row else at) rows set name
 
+-- The index of the first cell of the field `name` under set `set`.
 abbrev pub place_under : List Row → ℕ → List ℕ → ℕ
 place_under rows set name = place_under_from 0 rows set name
