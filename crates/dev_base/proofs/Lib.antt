@@ -1,5 +1,6 @@
 pub mod CellLaws
 pub mod Choices
+pub mod ListLaws
 pub mod PlaceLemmas
 pub mod Quotients
 pub mod RuleLaws

@@ -43,7 +43,7 @@ module _ (m : State) (s : IsSound m) where
       let pit_le : m.pit.level ≤ NEWEST = let l = s.devices.level.last in let e = s.devices.pit_level in omega (arith, l, e) in
       let serial_le : m.serial.level ≤ NEWEST = let l = s.devices.level.last in let e = s.devices.serial_level in omega (arith, l, e) in
       board-cells NEWEST m _ _ _ _ _ refl (chip-carried m.pair.level NEWEST _ m.pair.master pair_le s.pair.master) (chip-carried m.pair.level NEWEST _ m.pair.slave pair_le s.pair.slave)
-      (pit-carried NEWEST m.moment m.pit pit_le s.devices.pit) (serial-carried NEWEST m.moment m.serial s.devices.serial serial_le (omega arith))
+      (pit-carried NEWEST m.moment m.pit pit_le s.devices.pit) (serial-carried NEWEST m.moment m.serial s.devices.moment s.devices.serial serial_le)
 
   told : IsTold m
   told = record {

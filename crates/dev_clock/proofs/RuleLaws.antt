@@ -8,7 +8,7 @@ use Rattle.dev_board.proofs.RuleLaws.{sound_meets_rules as board-meets}
 use Rattle.dev_board.specs.Saved.{saved as board_saved, restored as board_restored}
 use Rattle.dev_board.specs.Sound.{IsSound as IsSoundBoard}
 use Rattle.dev_board.specs.State.{State}
-use Rattle.dev_pic.specs.Cells.{saved_cells as chip_cells, first_cells}
+use Rattle.dev_pic.specs.Cells.{saved_cells as chip_cells}
 use Rattle.dev_pic.specs.Pair.{lines_of}
 use Rattle.vms_rtc.proofs.RuleLaws.{sound_meets_rules as clock-meets, same-chip}
 use Rattle.vms_rtc.proofs.SavedLaws.{restored-own}
@@ -28,7 +28,7 @@ use Rattle.dev_clock.specs.declared.saved.TheConstants.{CLOCK_DEVICE}
 
 -- The slave's line among the saved cells of a sound board.
 slave-there : (board : State) → IsSoundBoard board → slave_line (board_saved NEWEST board).slave.items ≡ has (lines_of board.pair) 8
-unfolding board_saved chip_cells first_cells
+unfolding board_saved chip_cells
 slave-there board s = sym (slave-bit board.pair s.pair)
 
 -- Sound devices.

@@ -10,7 +10,7 @@ use Rattle.dev_board.specs.SavedLaws.{ComesBack as BoardComesBack}
 use Rattle.dev_board.specs.State.{State}
 use Rattle.dev_board.specs.declared.misfit.Misfit.{Misfit}
 use Rattle.dev_pic.proofs.SavedLaws.{carried-saved}
-use Rattle.dev_pic.specs.Cells.{saved_cells as chip_cells, first_cells, carried as pic_carried}
+use Rattle.dev_pic.specs.Cells.{saved_cells as chip_cells, carried as pic_carried}
 use Rattle.vms_hooks.specs.Numbers.{Numbers}
 use Rattle.vms_rtc.proofs.SavedLaws.{saved_are_cells as clock-saved, saved_is_restored}
 use Rattle.vms_rtc.specs.Cells.{saved_cells, carried as clock_carried}
@@ -70,7 +70,7 @@ module _ (set : ℕ) (m : ClockState) (s : IsSound m) (may : MaySaveUnder m.cloc
 
   -- The slave's line.
   lines-there : number_at (pic_carried NEWEST (chip_cells NEWEST m.board.pair.slave)) LINES_CELL ≡ m.board.pair.slave.lines
-  unfolding chip_cells first_cells
+  unfolding chip_cells
   lines-there = ap (λ (cells : List ℤ). number_at cells LINES_CELL) (carried-saved m.board.pair.level NEWEST _ m.board.pair.slave le s.board.pair.slave)
     where
       le : m.board.pair.level ≤ NEWEST

@@ -23,7 +23,7 @@ pub(crate) const CLOCK_DEVICE: u32 = 0;
 pub(crate) const LINE_RULE: u8 = 4;
 
 /// The place of the remembered lines among the cells of an 8259A.
-pub(crate) const LINES_CELL: usize = 3;
+pub(crate) const LINES_CELL: usize = vms_fields::pic::LINES;
 
 impl ClockDevices {
     ghost use Rattle.dev_clock.specs.Saved.{AreClockCells, MaySaveUnder, restored, saved};

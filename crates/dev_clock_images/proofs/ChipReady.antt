@@ -1,23 +1,32 @@
 -- The image of the chip's cells is ready.
-use Rattle.std.proofs.Common.{◌≡◌, Bool, true, false, List, get_or, ℤ, pos, refl, arith}
+use Rattle.std.proofs.Common.{◌≡◌, ℕ, Bool, true, false, List, get_or, ℤ, pos, codes, refl, arith}
 use Rattle.dev_base.specs.Cells.{AreOf}
 use Rattle.dev_images.proofs.ChipReady.{needs, unneeded}
 use Rattle.dev_images.proofs.ReadyOf.{are_kept, ready-plain}
 use Rattle.dev_images.specs.Images.{image_of}
 use Rattle.dev_images.specs.Laws.{ReadyOf}
+use Rattle.vms_fields.specs.Clock.{mc146818_rows}
+use Rattle.vms_fields.specs.Fields.{place_under}
 use Rattle.vms_rtc.specs.Cells.{kinds}
 use Rattle.vms_shipped.specs.ClockSets.{clock_1, clock_2, mc146818_at_1, mc146818_at_2}
 use Rattle.vms_spec.specs.Images.{image_slots, IsValid}
 use Rattle.vms_spec.specs.Layout.{first, device_cells}
 use Rattle.dev_clock_images.specs.Laws.{ChipIsReady}
 
+-- The place of the flag's cell in a clock set, and the number that it holds.
+abbrev pub flag_place : ℕ → ℕ
+flag_place set = place_under mc146818_rows set (codes "pf")
+
+abbrev pub flag_in : ℕ → List ℤ → ℤ
+flag_in set numbers = get_or numbers (flag_place set) (pos 0)
+
 -- The flag's cell, by whether its subsection is needed.
-kept-1 : (numbers : List ℤ) (needed : Bool) → needs (get_or numbers 65 (pos 0)) ≡ needed → (needed ≡ false → get_or numbers 65 (pos 0) ≡ pos 0) → (are_kept (image_slots clock_1 mc146818_at_1 (image_of clock_1 mc146818_at_1 numbers)) numbers 0 (device_cells clock_1 mc146818_at_1) ≡ true) × IsValid clock_1 mc146818_at_1 (image_of clock_1 mc146818_at_1 numbers)
+kept-1 : (numbers : List ℤ) (needed : Bool) → needs (flag_in 1 numbers) ≡ needed → (needed ≡ false → flag_in 1 numbers ≡ pos 0) → (are_kept (image_slots clock_1 mc146818_at_1 (image_of clock_1 mc146818_at_1 numbers)) numbers 0 (device_cells clock_1 mc146818_at_1) ≡ true) × IsValid clock_1 mc146818_at_1 (image_of clock_1 mc146818_at_1 numbers)
 unfolding first
 kept-1 numbers true e off = rw e (refl, (refl, (refl, tt)))
 kept-1 numbers false e off = rw (e, off refl) (refl, (refl, tt))
 
-kept-2 : (numbers : List ℤ) (needed : Bool) → needs (get_or numbers 66 (pos 0)) ≡ needed → (needed ≡ false → get_or numbers 66 (pos 0) ≡ pos 0) → (are_kept (image_slots clock_2 mc146818_at_2 (image_of clock_2 mc146818_at_2 numbers)) numbers 0 (device_cells clock_2 mc146818_at_2) ≡ true) × IsValid clock_2 mc146818_at_2 (image_of clock_2 mc146818_at_2 numbers)
+kept-2 : (numbers : List ℤ) (needed : Bool) → needs (flag_in 2 numbers) ≡ needed → (needed ≡ false → flag_in 2 numbers ≡ pos 0) → (are_kept (image_slots clock_2 mc146818_at_2 (image_of clock_2 mc146818_at_2 numbers)) numbers 0 (device_cells clock_2 mc146818_at_2) ≡ true) × IsValid clock_2 mc146818_at_2 (image_of clock_2 mc146818_at_2 numbers)
 unfolding first
 kept-2 numbers true e off = rw e (refl, (refl, (refl, tt)))
 kept-2 numbers false e off = rw (e, off refl) (refl, (refl, tt))
@@ -25,13 +34,13 @@ kept-2 numbers false e off = rw (e, off refl) (refl, (refl, tt))
 first-set : (numbers : List ℤ) → AreOf (kinds 1) numbers → ReadyOf clock_1 mc146818_at_1 numbers
 unfolding first
 first-set numbers are =
-    let both = kept-1 numbers (needs (get_or numbers 65 (pos 0))) refl (unneeded (get_or numbers 65 (pos 0)) (are.in_range 65 (omega arith))) in
+    let both = kept-1 numbers (needs (flag_in 1 numbers)) refl (unneeded (flag_in 1 numbers) (are.in_range (flag_place 1) (omega arith))) in
     ready-plain clock_1 mc146818_at_1 numbers (omega arith) (omega arith, tt) are refl both.0 both.1
 
 second-set : (numbers : List ℤ) → AreOf (kinds 2) numbers → ReadyOf clock_2 mc146818_at_2 numbers
 unfolding first
 second-set numbers are =
-    let both = kept-2 numbers (needs (get_or numbers 66 (pos 0))) refl (unneeded (get_or numbers 66 (pos 0)) (are.in_range 66 (omega arith))) in
+    let both = kept-2 numbers (needs (flag_in 2 numbers)) refl (unneeded (flag_in 2 numbers) (are.in_range (flag_place 2) (omega arith))) in
     ready-plain clock_2 mc146818_at_2 numbers (omega arith) (omega arith, tt) are refl both.0 both.1
 
 pub chip_is_ready : ChipIsReady

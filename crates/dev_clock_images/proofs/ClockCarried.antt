@@ -1,6 +1,6 @@
 -- What is saved of sound devices is carried to the newest clock set as their tables say, and can be
 -- restored.
-use Rattle.std.proofs.Common.{◌≡◌, ℕ, zero, suc, ◌≤◌, Bool, true, false, List, ◌∷◌, get_or, ℤ, pos, refl, sym, ap, subst, ◌∙◌, arith}
+use Rattle.std.proofs.Common.{◌≡◌, ℕ, zero, suc, ◌≤◌, Bool, true, false, List, ◌∷◌, ℤ, pos, refl, sym, ap, subst, ◌∙◌, arith}
 use Rattle.arrayvec.specs.ArrayVec.{ArrayVec}
 use Rattle.dev_base.specs.Cells.{AreOf}
 use Rattle.dev_base.specs.declared.limits.TheConstants.{NEWEST}
@@ -23,6 +23,7 @@ use Rattle.vms_shipped.specs.ClockSets.{clock_1, clock_2, mc146818_at_1, mc14681
 use Rattle.vms_spec.specs.Layout.{first}
 use Rattle.vms_spec.specs.Sets.{Set, Device}
 use Rattle.vms_spec.specs.Shipped.{set_4}
+use Rattle.dev_clock_images.proofs.ChipReady.{flag_place, flag_in}
 use Rattle.dev_clock_images.specs.Images.{cells_in}
 use Rattle.dev_clock_images.specs.Laws.{SavedIsCarried, ImagesComeBack}
 
@@ -30,21 +31,21 @@ use Rattle.dev_clock_images.specs.Laws.{SavedIsCarried, ImagesComeBack}
 abbrev chip_numbers : Set → Device → List ℤ → List ℤ
 chip_numbers set d numbers = (carried_device set clock_2 d mc146818_at_2 (image_of set d numbers)).numbers
 
-flag-1 : (numbers : List ℤ) (needed : Bool) → needs (get_or numbers 65 (pos 0)) ≡ needed → (needed ≡ false → get_or numbers 65 (pos 0) ≡ pos 0) → chip_numbers clock_1 mc146818_at_1 numbers ≡ chip_carried 1 numbers
+flag-1 : (numbers : List ℤ) (needed : Bool) → needs (flag_in 1 numbers) ≡ needed → (needed ≡ false → flag_in 1 numbers ≡ pos 0) → chip_numbers clock_1 mc146818_at_1 numbers ≡ chip_carried 1 numbers
 unfolding first
 flag-1 numbers true e off = rw e refl
 flag-1 numbers false e off = rw (e, off refl) refl
 
-flag-2 : (numbers : List ℤ) (needed : Bool) → needs (get_or numbers 66 (pos 0)) ≡ needed → (needed ≡ false → get_or numbers 66 (pos 0) ≡ pos 0) → chip_numbers clock_2 mc146818_at_2 numbers ≡ chip_carried 2 numbers
+flag-2 : (numbers : List ℤ) (needed : Bool) → needs (flag_in 2 numbers) ≡ needed → (needed ≡ false → flag_in 2 numbers ≡ pos 0) → chip_numbers clock_2 mc146818_at_2 numbers ≡ chip_carried 2 numbers
 unfolding first
 flag-2 numbers true e off = rw e refl
 flag-2 numbers false e off = rw (e, off refl) refl
 
 chip-1 : (numbers : List ℤ) → AreOf (kinds 1) numbers → chip_numbers clock_1 mc146818_at_1 numbers ≡ chip_carried 1 numbers
-chip-1 numbers are = flag-1 numbers (needs (get_or numbers 65 (pos 0))) refl (unneeded (get_or numbers 65 (pos 0)) (are.in_range 65 (omega arith)))
+chip-1 numbers are = flag-1 numbers (needs (flag_in 1 numbers)) refl (unneeded (flag_in 1 numbers) (are.in_range (flag_place 1) (omega arith)))
 
 chip-2 : (numbers : List ℤ) → AreOf (kinds 2) numbers → chip_numbers clock_2 mc146818_at_2 numbers ≡ chip_carried 2 numbers
-chip-2 numbers are = flag-2 numbers (needs (get_or numbers 66 (pos 0))) refl (unneeded (get_or numbers 66 (pos 0)) (are.in_range 66 (omega arith)))
+chip-2 numbers are = flag-2 numbers (needs (flag_in 2 numbers)) refl (unneeded (flag_in 2 numbers) (are.in_range (flag_place 2) (omega arith)))
 
 -- ---- the board's devices
 

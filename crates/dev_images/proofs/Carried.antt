@@ -2,12 +2,13 @@
 use Rattle.std.proofs.Common.{◌≡◌, ℕ, Bool, true, false, List, [], ◌∷◌, length, get_or, ℤ, pos, refl, arith}
 use Rattle.dev_base.specs.Cells.{AreOf}
 use Rattle.dev_board.specs.Saved.{timer_kinds}
-use Rattle.dev_pic.specs.Cells.{kinds as pic_kinds, carried as pic_carried}
+use Rattle.dev_base.specs.Tables.{carried_by, places}
+use Rattle.dev_pic.specs.Cells.{cell_count, kinds as pic_kinds, carried as pic_carried}
 use Rattle.vms_spec.specs.Layout.{first}
 use Rattle.vms_spec.specs.Sets.{Set}
 use Rattle.vms_spec.specs.Shipped.{set_1, set_2, set_3, set_4, timer, i8259_at_1, i8259_at_2, i8259_at_4}
 use Rattle.dev_images.specs.Laws.{carried_numbers, TimerIsCarried, ChipIsCarried}
-use Rattle.dev_images.proofs.ChipReady.{needs, unneeded}
+use Rattle.dev_images.proofs.ChipReady.{mode_place, mode_in, needs, unneeded}
 
 -- A list of one number.
 one : (numbers : List ℤ) → length numbers ≡ 1 → (get_or numbers 0 (pos 0) ∷ []) ≡ numbers
@@ -35,14 +36,14 @@ chip-3 : (instance : ℕ) (numbers : List ℤ) → AreOf (pic_kinds 3) numbers �
 unfolding first
 chip-3 instance numbers are = refl
 
-level-mode : (instance : ℕ) (numbers : List ℤ) (needed : Bool) → needs (get_or numbers 16 (pos 0)) ≡ needed → (needed ≡ false → get_or numbers 16 (pos 0) ≡ pos 0) → carried_numbers set_4 (i8259_at_4 instance) (i8259_at_4 instance) numbers ≡ pic_carried 4 numbers
+level-mode : (instance : ℕ) (numbers : List ℤ) (needed : Bool) → needs (mode_in numbers) ≡ needed → (needed ≡ false → mode_in numbers ≡ pos 0) → carried_numbers set_4 (i8259_at_4 instance) (i8259_at_4 instance) numbers ≡ carried_by (places 0 cell_count) numbers
 unfolding first
 level-mode instance numbers true e off = rw e refl
 level-mode instance numbers false e off = rw (e, off refl) refl
 
 chip-4 : (instance : ℕ) (numbers : List ℤ) → AreOf (pic_kinds 4) numbers → carried_numbers set_4 (i8259_at_4 instance) (i8259_at_4 instance) numbers ≡ pic_carried 4 numbers
 chip-4 instance numbers are =
-    level-mode instance numbers (needs (get_or numbers 16 (pos 0))) refl (unneeded (get_or numbers 16 (pos 0)) (are.in_range 16 (omega arith)))
+    level-mode instance numbers (needs (mode_in numbers)) refl (unneeded (mode_in numbers) (are.in_range mode_place (omega arith)))
 
 pub chip_is_carried : ChipIsCarried
 chip_is_carried = record {

@@ -1,7 +1,8 @@
 -- The image of a chip of the pair is ready.
-use Rattle.std.proofs.Common.{◌≡◌, ℕ, zero, suc, ◌==◌, Bool, true, false, List, get_or, ℤ, pos, negsuc, refl, arith}
+use Rattle.std.proofs.Common.{◌≡◌, ℕ, zero, suc, ◌==◌, Bool, true, false, List, get_or, ℤ, pos, negsuc, codes, refl, arith}
 use Rattle.std.proofs.lemmas.Int.{ints}
 use Rattle.std.specs.Prelude.{bit_and}
+use Rattle.vms_fields.specs.Pic.{place_of_pic}
 use Rattle.vms_kinds.specs.Codes.{residue, InRange}
 use Rattle.vms_kinds.specs.declared.Kind.TheVariants.{Bool as Truth}
 use Rattle.vms_spec.specs.Images.{image_slots, IsValid}
@@ -25,6 +26,13 @@ third-set : (instance : ℕ) (numbers : List ℤ) → AreOf (pic_kinds 3) number
 unfolding first
 third-set instance numbers are = ready-plain set_3 (i8259_at_2 instance) numbers (omega arith) tt are refl refl (refl, tt)
 
+-- The place of the level mode's cell in the newest set, and the number that it holds.
+abbrev pub mode_place : ℕ
+mode_place = place_of_pic (codes "ltim")
+
+abbrev pub mode_in : List ℤ → ℤ
+mode_in numbers = get_or numbers mode_place (pos 0)
+
 -- The level mode's cell, by whether its subsection is needed.
 abbrev pub needs : ℤ → Bool
 needs z = bit_and (residue 1 z) 1 == 1
@@ -35,7 +43,7 @@ unneeded (pos (suc zero)) r e = cc
 unneeded (pos (suc (suc n))) r e = absurd (let most = r.1 in omega (arith, ints, most))
 unneeded (negsuc n) r e = absurd (let least = r.0 in omega (arith, ints, least))
 
-kept-4 : (instance : ℕ) (numbers : List ℤ) (needed : Bool) → needs (get_or numbers 16 (pos 0)) ≡ needed → (needed ≡ false → get_or numbers 16 (pos 0) ≡ pos 0) → (are_kept (image_slots set_4 (i8259_at_4 instance) (image_of set_4 (i8259_at_4 instance) numbers)) numbers 0 (device_cells set_4 (i8259_at_4 instance)) ≡ true) × IsValid set_4 (i8259_at_4 instance) (image_of set_4 (i8259_at_4 instance) numbers)
+kept-4 : (instance : ℕ) (numbers : List ℤ) (needed : Bool) → needs (mode_in numbers) ≡ needed → (needed ≡ false → mode_in numbers ≡ pos 0) → (are_kept (image_slots set_4 (i8259_at_4 instance) (image_of set_4 (i8259_at_4 instance) numbers)) numbers 0 (device_cells set_4 (i8259_at_4 instance)) ≡ true) × IsValid set_4 (i8259_at_4 instance) (image_of set_4 (i8259_at_4 instance) numbers)
 unfolding first
 kept-4 instance numbers true e off = rw e (refl, (refl, (refl, tt)))
 kept-4 instance numbers false e off = rw (e, off refl) (refl, (refl, tt))
@@ -43,7 +51,7 @@ kept-4 instance numbers false e off = rw (e, off refl) (refl, (refl, tt))
 fourth-set : (instance : ℕ) (numbers : List ℤ) → AreOf (pic_kinds 4) numbers → ReadyOf set_4 (i8259_at_4 instance) numbers
 unfolding first
 fourth-set instance numbers are =
-    let both = kept-4 instance numbers (needs (get_or numbers 16 (pos 0))) refl (unneeded (get_or numbers 16 (pos 0)) (are.in_range 16 (omega arith))) in
+    let both = kept-4 instance numbers (needs (mode_in numbers)) refl (unneeded (mode_in numbers) (are.in_range mode_place (omega arith))) in
     ready-plain set_4 (i8259_at_4 instance) numbers (omega arith) (omega arith, tt) are refl both.0 both.1
 
 pub chip_is_ready : ChipIsReady

@@ -21,6 +21,7 @@ use Rattle.dev_base.specs.Cells.{AreOf, kind_at, nat_of}
 use Rattle.dev_images.proofs.NormalCells.{of-kinds}
 use Rattle.dev_images.proofs.ReadyOf.{has-none, neq, all_within, before-none}
 use Rattle.dev_serial.specs.Cells.{IsPortCells}
+use Rattle.vms_fields.specs.declared.serial.TheConstants.{THR_IPENDING, RX_COUNT, RX, TX_COUNT, TX, TIMEOUT_AT, RX_DATA}
 
 within-none : (low high : ℕ) (slots : List Slot) (c : ℕ) → all_within low high slots ≡ true → high ≤ c → has_cell slots c ≡ false
 within-none low high [] c e h = refl
@@ -43,21 +44,21 @@ elements-after zero at c h = refl
 elements-after (suc n) at c h = or_from (at == c) _ (neq at c (λ same. absurd (omega (arith, same, h)))) (elements-after n (at + 1) c (omega (arith, h)))
 
 -- The FIFOs' slots lack the cells after the elements of each array.
-rx-lack : (n m i : ℕ) → n ≤ i → i < 16 → has_cell (fifo_slots n m) (14 + i) ≡ false
+rx-lack : (n m i : ℕ) → n ≤ i → i < 16 → has_cell (fifo_slots n m) (RX + i) ≡ false
 rx-lack n m i l b =
-    has-none (inner_slots n m) (Rule true ∷ []) (14 + i)
-    (has-none (Number 13 U8 (16 ∷ []) ∷ []) (times n (element byte) 14 1 ++ second_slots m) (14 + i) (or_from (13 == 14 + i) false (neq 13 (14 + i) (λ same. absurd (omega (arith, same)))) refl)
-    (has-none (times n (element byte) 14 1) (second_slots m) (14 + i) (elements-before n 14 (14 + i) (omega (arith, l)))
-    (has-none (Number 30 U8 (16 ∷ []) ∷ []) (times m (element byte) 31 1 ++ []) (14 + i) (or_from (30 == 14 + i) false (neq 30 (14 + i) (λ same. absurd (omega (arith, same, b)))) refl)
-    (has-none (times m (element byte) 31 1) [] (14 + i) (elements-after m 31 (14 + i) (omega (arith, b))) refl)))) refl
+    has-none (inner_slots n m) (Rule true ∷ []) (RX + i)
+    (has-none (Number RX_COUNT U8 (16 ∷ []) ∷ []) (times n (element byte) RX 1 ++ second_slots m) (RX + i) (or_from (RX_COUNT == RX + i) false (neq RX_COUNT (RX + i) (λ same. absurd (omega (arith, same)))) refl)
+    (has-none (times n (element byte) RX 1) (second_slots m) (RX + i) (elements-before n RX (RX + i) (omega (arith, l)))
+    (has-none (Number TX_COUNT U8 (16 ∷ []) ∷ []) (times m (element byte) TX 1 ++ []) (RX + i) (or_from (TX_COUNT == RX + i) false (neq TX_COUNT (RX + i) (λ same. absurd (omega (arith, same, b)))) refl)
+    (has-none (times m (element byte) TX 1) [] (RX + i) (elements-after m TX (RX + i) (omega (arith, b))) refl)))) refl
 
-tx-lack : (n m i : ℕ) → n ≤ 16 → m ≤ i → i < 16 → has_cell (fifo_slots n m) (31 + i) ≡ false
+tx-lack : (n m i : ℕ) → n ≤ 16 → m ≤ i → i < 16 → has_cell (fifo_slots n m) (TX + i) ≡ false
 tx-lack n m i most l b =
-    has-none (inner_slots n m) (Rule true ∷ []) (31 + i)
-    (has-none (Number 13 U8 (16 ∷ []) ∷ []) (times n (element byte) 14 1 ++ second_slots m) (31 + i) (or_from (13 == 31 + i) false (neq 13 (31 + i) (λ same. absurd (omega (arith, same)))) refl)
-    (has-none (times n (element byte) 14 1) (second_slots m) (31 + i) (elements-before n 14 (31 + i) (omega (arith, most)))
-    (has-none (Number 30 U8 (16 ∷ []) ∷ []) (times m (element byte) 31 1 ++ []) (31 + i) (or_from (30 == 31 + i) false (neq 30 (31 + i) (λ same. absurd (omega (arith, same)))) refl)
-    (has-none (times m (element byte) 31 1) [] (31 + i) (elements-before m 31 (31 + i) (omega (arith, l))) refl)))) refl
+    has-none (inner_slots n m) (Rule true ∷ []) (TX + i)
+    (has-none (Number RX_COUNT U8 (16 ∷ []) ∷ []) (times n (element byte) RX 1 ++ second_slots m) (TX + i) (or_from (RX_COUNT == TX + i) false (neq RX_COUNT (TX + i) (λ same. absurd (omega (arith, same)))) refl)
+    (has-none (times n (element byte) RX 1) (second_slots m) (TX + i) (elements-before n RX (TX + i) (omega (arith, most)))
+    (has-none (Number TX_COUNT U8 (16 ∷ []) ∷ []) (times m (element byte) TX 1 ++ []) (TX + i) (or_from (TX_COUNT == TX + i) false (neq TX_COUNT (TX + i) (λ same. absurd (omega (arith, same)))) refl)
+    (has-none (times m (element byte) TX 1) [] (TX + i) (elements-before m TX (TX + i) (omega (arith, l))) refl)))) refl
 
 -- Subsections that came lack a cell that none of them has.
 abbrev SubsLack : Set → List ℤ → ℕ → ℕ → List Sub → Type 0
@@ -72,7 +73,7 @@ came-lack set d numbers c at (s ∷ subs) (None ∷ came) a h = came-lack set d 
 came-lack set d numbers c at (s ∷ subs) (Some v ∷ came) a h =
     has-none (sub_slots set s v numbers at) (came_slots set d numbers (at + length (sub_cells set s)) subs came) c (h.0 v a.0) (came-lack set d numbers c (at + length (sub_cells set s)) subs came a.1 h.1)
 
-own-within : (v : ℕ) (numbers : List ℤ) → 1 ≤ v → v ≤ NEWEST → all_within 0 12 (own_slots (shipped_set NEWEST) serial_at_4 v numbers) ≡ true
+own-within : (v : ℕ) (numbers : List ℤ) → 1 ≤ v → v ≤ NEWEST → all_within 0 THR_IPENDING (own_slots (shipped_set NEWEST) serial_at_4 v numbers) ≡ true
 unfolding first
 own-within zero numbers l h = absurd (omega (arith, l))
 own-within (suc zero) numbers l h = refl
@@ -107,65 +108,65 @@ module _ (image : Image) (n : IsNormal (shipped_set NEWEST) serial_at_4 image) w
   unfolding first
   byte-at place lt e = subst (λ (kind : Kind). InRange kind (get_or numbers place (pos 0))) e (are.in_range place (omega (arith, lt)))
 
-  rx-range : InRange U8 (get_or numbers 13 (pos 0))
+  rx-range : InRange U8 (get_or numbers RX_COUNT (pos 0))
   unfolding first
-  rx-range = byte-at 13 (omega arith) refl
+  rx-range = byte-at RX_COUNT (omega arith) refl
 
-  tx-range : InRange U8 (get_or numbers 30 (pos 0))
+  tx-range : InRange U8 (get_or numbers TX_COUNT (pos 0))
   unfolding first
-  tx-range = byte-at 30 (omega arith) refl
+  tx-range = byte-at TX_COUNT (omega arith) refl
 
   at-most : (z : ℤ) → InRange U8 z → z ≤ℤ pos 16 → nat_of z ≤ 16
   at-most (pos k) r l = omega (arith, ints, l)
   at-most (negsuc k) r l = omega arith
 
-  rx-fits : nat_of (get_or numbers 13 (pos 0)) ≤ 16
+  rx-fits : nat_of (get_or numbers RX_COUNT (pos 0)) ≤ 16
   unfolding first
-  rx-fits = let long = n.cells.long in at-most _ rx-range (n.cells.fits 13 (omega arith)).1.0
+  rx-fits = let long = n.cells.long in at-most _ rx-range (n.cells.fits RX_COUNT (omega arith)).1.0
 
-  tx-fits : nat_of (get_or numbers 30 (pos 0)) ≤ 16
+  tx-fits : nat_of (get_or numbers TX_COUNT (pos 0)) ≤ 16
   unfolding first
-  tx-fits = at-most _ tx-range (n.cells.fits 30 (omega arith)).1.0
+  tx-fits = at-most _ tx-range (n.cells.fits TX_COUNT (omega arith)).1.0
 
   abbrev rx_elements : ℕ
-  rx_elements = min (residue 1 (get_or numbers 13 (pos 0))) 16
+  rx_elements = min (residue 1 (get_or numbers RX_COUNT (pos 0))) 16
 
   abbrev tx_elements : ℕ
-  tx_elements = min (residue 1 (get_or numbers 30 (pos 0))) 16
+  tx_elements = min (residue 1 (get_or numbers TX_COUNT (pos 0))) 16
 
   -- A cell outside of the fields and of the other subsections that is in no slot of the FIFOs is in
   -- no slot.
-  lack : (c : ℕ) → 13 ≤ c → c < 47 → has_cell (fifo_slots rx_elements tx_elements) c ≡ false → has_cell (image_slots (shipped_set NEWEST) serial_at_4 image) c ≡ false
+  lack : (c : ℕ) → RX_COUNT ≤ c → c < TIMEOUT_AT → has_cell (fifo_slots rx_elements tx_elements) c ≡ false → has_cell (image_slots (shipped_set NEWEST) serial_at_4 image) c ≡ false
   unfolding first
   lack c low high e =
-      has-none (own_slots (shipped_set NEWEST) serial_at_4 image.version numbers) (came_slots (shipped_set NEWEST) serial_at_4 numbers 12 serial_at_4.subs image.came) c
-      (within-none 0 12 (own_slots (shipped_set NEWEST) serial_at_4 image.version numbers) c (own-within image.version numbers n.version.0 n.version.1) (omega (arith, low)))
-      (came-lack (shipped_set NEWEST) serial_at_4 numbers c 12 serial_at_4.subs image.came n.subs (
-        (λ v h. version-1 v (λ v. has_cell (sub_slots (shipped_set NEWEST) thr_ipending v numbers 12) c ≡ false) h.0 h.1 (within-none 12 13 (sub_slots (shipped_set NEWEST) thr_ipending 1 numbers 12) c refl low)),
+      has-none (own_slots (shipped_set NEWEST) serial_at_4 image.version numbers) (came_slots (shipped_set NEWEST) serial_at_4 numbers THR_IPENDING serial_at_4.subs image.came) c
+      (within-none 0 THR_IPENDING (own_slots (shipped_set NEWEST) serial_at_4 image.version numbers) c (own-within image.version numbers n.version.0 n.version.1) (omega (arith, low)))
+      (came-lack (shipped_set NEWEST) serial_at_4 numbers c THR_IPENDING serial_at_4.subs image.came n.subs (
+        (λ v h. version-1 v (λ v. has_cell (sub_slots (shipped_set NEWEST) thr_ipending v numbers THR_IPENDING) c ≡ false) h.0 h.1 (within-none THR_IPENDING RX_COUNT (sub_slots (shipped_set NEWEST) thr_ipending 1 numbers THR_IPENDING) c refl low)),
         (
-          (λ v h. version-1 v (λ v. has_cell (sub_slots (shipped_set NEWEST) fifo v numbers 13) c ≡ false) h.0 h.1 e),
+          (λ v h. version-1 v (λ v. has_cell (sub_slots (shipped_set NEWEST) fifo v numbers RX_COUNT) c ≡ false) h.0 h.1 e),
           (
-            (λ v h. version-1 v (λ v. has_cell (sub_slots (shipped_set NEWEST) timeout v numbers 47) c ≡ false) h.0 h.1 (before-none 47 48 (sub_slots (shipped_set NEWEST) timeout 1 numbers 47) c refl high)),
-            ((λ v h. version-1 v (λ v. has_cell (sub_slots (shipped_set NEWEST) ring v numbers 48) c ≡ false) h.0 h.1 (before-none 48 84 (sub_slots (shipped_set NEWEST) ring 1 numbers 48) c refl (omega (arith, high)))), tt),
+            (λ v h. version-1 v (λ v. has_cell (sub_slots (shipped_set NEWEST) timeout v numbers TIMEOUT_AT) c ≡ false) h.0 h.1 (before-none TIMEOUT_AT RX_DATA (sub_slots (shipped_set NEWEST) timeout 1 numbers TIMEOUT_AT) c refl high)),
+            ((λ v h. version-1 v (λ v. has_cell (sub_slots (shipped_set NEWEST) ring v numbers RX_DATA) c ≡ false) h.0 h.1 (before-none RX_DATA 84 (sub_slots (shipped_set NEWEST) ring 1 numbers RX_DATA) c refl (omega (arith, high)))), tt),
           ),
         ),
       ))
 
-  rx-zeros : (i : ℕ) → nat_of (get_or numbers 13 (pos 0)) ≤ i → i < 16 → get_or numbers (14 + i) (pos 0) ≡ pos 0
+  rx-zeros : (i : ℕ) → nat_of (get_or numbers RX_COUNT (pos 0)) ≤ i → i < 16 → get_or numbers (RX + i) (pos 0) ≡ pos 0
   unfolding first
   rx-zeros i l b =
-      let is = elements (get_or numbers 13 (pos 0)) rx-range rx-fits in
+      let is = elements (get_or numbers RX_COUNT (pos 0)) rx-range rx-fits in
       let long = n.cells.long in
-      n.absent (14 + i) (omega (arith, b, long)) (lack (14 + i) (omega arith) (omega (arith, b)) (rx-lack rx_elements tx_elements i (omega (arith, is, l)) b))
-      ∙ default-in (device_cells (shipped_set NEWEST) serial_at_4) 14 i 16 (14 + i) refl b refl
+      n.absent (RX + i) (omega (arith, b, long)) (lack (RX + i) (omega arith) (omega (arith, b)) (rx-lack rx_elements tx_elements i (omega (arith, is, l)) b))
+      ∙ default-in (device_cells (shipped_set NEWEST) serial_at_4) RX i 16 (RX + i) refl b refl
 
-  tx-zeros : (i : ℕ) → nat_of (get_or numbers 30 (pos 0)) ≤ i → i < 16 → get_or numbers (31 + i) (pos 0) ≡ pos 0
+  tx-zeros : (i : ℕ) → nat_of (get_or numbers TX_COUNT (pos 0)) ≤ i → i < 16 → get_or numbers (TX + i) (pos 0) ≡ pos 0
   unfolding first
   tx-zeros i l b =
-      let is = elements (get_or numbers 30 (pos 0)) tx-range tx-fits in
+      let is = elements (get_or numbers TX_COUNT (pos 0)) tx-range tx-fits in
       let long = n.cells.long in
-      n.absent (31 + i) (omega (arith, b, long)) (lack (31 + i) (omega arith) (omega (arith, b)) (tx-lack rx_elements tx_elements i (omega arith) (omega (arith, is, l)) b))
-      ∙ default-in (device_cells (shipped_set NEWEST) serial_at_4) 31 i 16 (31 + i) refl b refl
+      n.absent (TX + i) (omega (arith, b, long)) (lack (TX + i) (omega arith) (omega (arith, b)) (tx-lack rx_elements tx_elements i (omega arith) (omega (arith, is, l)) b))
+      ∙ default-in (device_cells (shipped_set NEWEST) serial_at_4) TX i 16 (TX + i) refl b refl
 
   pub port-of : IsPortCells numbers
   unfolding first

@@ -21,6 +21,9 @@ use Rattle.dev_serial.specs.Laws.{AreSaved}
 use Rattle.dev_images.specs.Laws.{ReadyOf, SerialIsReady, serial_at_1, serial_at_2, serial_at_3, serial_at_4}
 use Rattle.dev_images.proofs.Parts.{IsFineSub, ready-parts, zeros-kept, element, array-kept, rules-times}
 use Rattle.dev_images.proofs.ReadyOf.{are_kept, counts-none, counts-by, kept-left, kept-right, kept-both}
+use Rattle.vms_fields.specs.Fields.{place_under}
+use Rattle.vms_fields.specs.Serial.{serial_rows}
+use Rattle.vms_fields.specs.declared.serial.TheConstants.{THR_IPENDING, RX_COUNT, RX, TX_COUNT, TX, TIMEOUT_AT, RX_DATA, RX_NUMBER, TX_NUMBER}
 
 -- Whether a signed byte isn't -1, and whether a timer isn't "never".
 abbrev pub needs_sign : ℤ → Bool
@@ -64,19 +67,23 @@ new_name = codes "divisor"
 abbrev pub former_names : List (List ℕ)
 former_names = codes "divider" ∷ []
 
+-- The place of the latch's cell in set 1.
+abbrev pub old_latch : ℕ
+old_latch = place_under serial_rows 1 (codes "thr_ipending")
+
 -- The latch's cell, and the timeout's; no item of the port is a structure.
-thr-1 : (numbers : List ℤ) (needed : Bool) → needs_sign (get_or numbers 11 (pos 0)) ≡ needed → (needed ≡ false → get_or numbers 11 (pos 0) ≡ negsuc 0) → IsFineSub set_1 serial_at_1 numbers thr_ipending 0 11
+thr-1 : (numbers : List ℤ) (needed : Bool) → needs_sign (get_or numbers old_latch (pos 0)) ≡ needed → (needed ≡ false → get_or numbers old_latch (pos 0) ≡ negsuc 0) → IsFineSub set_1 serial_at_1 numbers thr_ipending 0 old_latch
 unfolding first
 thr-1 numbers true e off = record { kept = rw e refl; rules = rw e (refl, tt) }
 thr-1 numbers false e off = record { kept = rw (e, off refl) refl; rules = rw e tt }
 
 module _ (set : Set) (version : ℕ) (name : List ℕ) (former : List (List ℕ)) (more : List Sub) (numbers : List ℤ) where
-  thr : (needed : Bool) → needs_sign (get_or numbers 12 (pos 0)) ≡ needed → (needed ≡ false → get_or numbers 12 (pos 0) ≡ negsuc 0) → IsFineSub set (serial_since_2 version name former more) numbers thr_ipending 0 12
+  thr : (needed : Bool) → needs_sign (get_or numbers THR_IPENDING (pos 0)) ≡ needed → (needed ≡ false → get_or numbers THR_IPENDING (pos 0) ≡ negsuc 0) → IsFineSub set (serial_since_2 version name former more) numbers thr_ipending 0 THR_IPENDING
   unfolding first
   thr true e off = record { kept = rw e refl; rules = rw e (refl, tt) }
   thr false e off = record { kept = rw (e, off refl) refl; rules = rw e tt }
 
-  due : (needed : Bool) → needs_timer (get_or numbers 47 (pos 0)) ≡ needed → (needed ≡ false → get_or numbers 47 (pos 0) ≡ pos never) → IsFineSub set (serial_since_2 version new_name former_names (timeout ∷ more)) numbers timeout 2 47
+  due : (needed : Bool) → needs_timer (get_or numbers TIMEOUT_AT (pos 0)) ≡ needed → (needed ≡ false → get_or numbers TIMEOUT_AT (pos 0) ≡ pos never) → IsFineSub set (serial_since_2 version new_name former_names (timeout ∷ more)) numbers timeout 2 TIMEOUT_AT
   unfolding first
   due true e off = record { kept = rw e refl; rules = rw e (refl, tt) }
   due false e off = record { kept = rw (e, off refl) refl; rules = rw e tt }
@@ -110,10 +117,10 @@ abbrev count : Cell
 count = record { kind = U8; capacities = 16 ∷ []; default = pos 0 }
 
 abbrev pub second_slots : ℕ → List Slot
-second_slots m = (Number 30 U8 (16 ∷ []) ∷ []) ++ (times m (element byte) 31 1 ++ [])
+second_slots m = (Number TX_COUNT U8 (16 ∷ []) ∷ []) ++ (times m (element byte) TX 1 ++ [])
 
 abbrev pub inner_slots : ℕ → ℕ → List Slot
-inner_slots n m = (Number 13 U8 (16 ∷ []) ∷ []) ++ (times n (element byte) 14 1 ++ second_slots m)
+inner_slots n m = (Number RX_COUNT U8 (16 ∷ []) ∷ []) ++ (times n (element byte) RX 1 ++ second_slots m)
 
 abbrev pub fifo_slots : ℕ → ℕ → List Slot
 fifo_slots n m = inner_slots n m ++ Rule true ∷ []
@@ -121,114 +128,114 @@ fifo_slots n m = inner_slots n m ++ Rule true ∷ []
 abbrev fifo_cells : List Cell
 fifo_cells = (count ∷ []) ++ (replicate 16 byte ++ ((count ∷ []) ++ (replicate 16 byte ++ [])))
 
-module _ (numbers : List ℤ) (n m : ℕ) (rx : (i : ℕ) → n ≤ i → i < 16 → get_or numbers (14 + i) (pos 0) ≡ pos 0) (tx : (i : ℕ) → m ≤ i → i < 16 → get_or numbers (31 + i) (pos 0) ≡ pos 0) where
+module _ (numbers : List ℤ) (n m : ℕ) (rx : (i : ℕ) → n ≤ i → i < 16 → get_or numbers (RX + i) (pos 0) ≡ pos 0) (tx : (i : ℕ) → m ≤ i → i < 16 → get_or numbers (TX + i) (pos 0) ≡ pos 0) where
   lift : (from : ℕ) (cells : List Cell) → are_kept (inner_slots n m) numbers from cells ≡ true → are_kept (fifo_slots n m) numbers from cells ≡ true
   lift from cells e = kept-left (inner_slots n m) (Rule true ∷ []) numbers from cells e
 
   lift-second : (from : ℕ) (cells : List Cell) → are_kept (second_slots m) numbers from cells ≡ true → are_kept (fifo_slots n m) numbers from cells ≡ true
   lift-second from cells e =
-      lift from cells (kept-right (Number 13 U8 (16 ∷ []) ∷ []) (times n (element byte) 14 1 ++ second_slots m) numbers from cells (kept-right (times n (element byte) 14 1) (second_slots m) numbers from cells e))
+      lift from cells (kept-right (Number RX_COUNT U8 (16 ∷ []) ∷ []) (times n (element byte) RX 1 ++ second_slots m) numbers from cells (kept-right (times n (element byte) RX 1) (second_slots m) numbers from cells e))
 
-  fifo-kept : are_kept (fifo_slots n m) numbers 13 fifo_cells ≡ true
+  fifo-kept : are_kept (fifo_slots n m) numbers RX_COUNT fifo_cells ≡ true
   fifo-kept =
-      kept-both (fifo_slots n m) numbers 13 14 (count ∷ []) (replicate 16 byte ++ ((count ∷ []) ++ (replicate 16 byte ++ []))) refl refl
-      (kept-both (fifo_slots n m) numbers 14 30 (replicate 16 byte) ((count ∷ []) ++ (replicate 16 byte ++ [])) refl
-      (lift 14 (replicate 16 byte) (kept-right (Number 13 U8 (16 ∷ []) ∷ []) (times n (element byte) 14 1 ++ second_slots m) numbers 14 (replicate 16 byte) (kept-left (times n (element byte) 14 1) (second_slots m) numbers 14 (replicate 16 byte) (array-kept byte numbers n 16 14 refl rx))))
-      (kept-both (fifo_slots n m) numbers 30 31 (count ∷ []) (replicate 16 byte ++ []) refl (lift-second 30 (count ∷ []) refl)
-      (kept-both (fifo_slots n m) numbers 31 47 (replicate 16 byte) [] refl
-      (lift-second 31 (replicate 16 byte) (kept-right (Number 30 U8 (16 ∷ []) ∷ []) (times m (element byte) 31 1 ++ []) numbers 31 (replicate 16 byte) (kept-left (times m (element byte) 31 1) [] numbers 31 (replicate 16 byte) (array-kept byte numbers m 16 31 refl tx)))) refl)))
+      kept-both (fifo_slots n m) numbers RX_COUNT RX (count ∷ []) (replicate 16 byte ++ ((count ∷ []) ++ (replicate 16 byte ++ []))) refl refl
+      (kept-both (fifo_slots n m) numbers RX TX_COUNT (replicate 16 byte) ((count ∷ []) ++ (replicate 16 byte ++ [])) refl
+      (lift RX (replicate 16 byte) (kept-right (Number RX_COUNT U8 (16 ∷ []) ∷ []) (times n (element byte) RX 1 ++ second_slots m) numbers RX (replicate 16 byte) (kept-left (times n (element byte) RX 1) (second_slots m) numbers RX (replicate 16 byte) (array-kept byte numbers n 16 RX refl rx))))
+      (kept-both (fifo_slots n m) numbers TX_COUNT TX (count ∷ []) (replicate 16 byte ++ []) refl (lift-second TX_COUNT (count ∷ []) refl)
+      (kept-both (fifo_slots n m) numbers TX TIMEOUT_AT (replicate 16 byte) [] refl
+      (lift-second TX (replicate 16 byte) (kept-right (Number TX_COUNT U8 (16 ∷ []) ∷ []) (times m (element byte) TX 1 ++ []) numbers TX (replicate 16 byte) (kept-left (times m (element byte) TX 1) [] numbers TX (replicate 16 byte) (array-kept byte numbers m 16 TX refl tx)))) refl)))
 
   fifo-rules : RulesHold (fifo_slots n m)
   fifo-rules =
-      rules_append (inner_slots n m) (Rule true ∷ []) (rules_append (times n (element byte) 14 1) (second_slots m) (rules-times byte n 14) (rules_append (times m (element byte) 31 1) [] (rules-times byte m 31) tt)) (refl, tt)
+      rules_append (inner_slots n m) (Rule true ∷ []) (rules_append (times n (element byte) RX 1) (second_slots m) (rules-times byte n RX) (rules_append (times m (element byte) TX 1) [] (rules-times byte m TX) tt)) (refl, tt)
 
 -- What a set from 2 on has of the FIFOs.
 pub record HasFifo (numbers : List ℤ) : Type 0 where
-  pub rx_range : InRange U8 (get_or numbers 13 (pos 0))
-  pub tx_range : InRange U8 (get_or numbers 30 (pos 0))
-  pub rx : IsArray numbers 13
-  pub tx : IsArray numbers 30
-  pub none : nat_of (get_or numbers 13 (pos 0)) ≡ 0 → nat_of (get_or numbers 30 (pos 0)) ≡ 0 → take 34 (drop 13 numbers) ≡ replicate 34 (pos 0)
+  pub rx_range : InRange U8 (get_or numbers RX_COUNT (pos 0))
+  pub tx_range : InRange U8 (get_or numbers TX_COUNT (pos 0))
+  pub rx : IsArray numbers RX_COUNT
+  pub tx : IsArray numbers TX_COUNT
+  pub none : nat_of (get_or numbers RX_COUNT (pos 0)) ≡ 0 → nat_of (get_or numbers TX_COUNT (pos 0)) ≡ 0 → take 34 (drop RX_COUNT numbers) ≡ replicate 34 (pos 0)
 
 abbrev pub needs_fifo : List ℤ → Bool
-needs_fifo numbers = needs_count (get_or numbers 13 (pos 0)) || needs_count (get_or numbers 30 (pos 0))
+needs_fifo numbers = needs_count (get_or numbers RX_COUNT (pos 0)) || needs_count (get_or numbers TX_COUNT (pos 0))
 
 module _ (numbers : List ℤ) (h : HasFifo numbers) where
   abbrev pub rx_elements : ℕ
-  rx_elements = min (residue 1 (get_or numbers 13 (pos 0))) 16
+  rx_elements = min (residue 1 (get_or numbers RX_COUNT (pos 0))) 16
 
   abbrev pub tx_elements : ℕ
-  tx_elements = min (residue 1 (get_or numbers 30 (pos 0))) 16
+  tx_elements = min (residue 1 (get_or numbers TX_COUNT (pos 0))) 16
 
-  pub rx-zeros : (i : ℕ) → rx_elements ≤ i → i < 16 → get_or numbers (14 + i) (pos 0) ≡ pos 0
-  rx-zeros i l b = let is = elements (get_or numbers 13 (pos 0)) h.rx_range h.rx.fits in h.rx.zeros i (omega (arith, is, l)) b
+  pub rx-zeros : (i : ℕ) → rx_elements ≤ i → i < 16 → get_or numbers (RX + i) (pos 0) ≡ pos 0
+  rx-zeros i l b = let is = elements (get_or numbers RX_COUNT (pos 0)) h.rx_range h.rx.fits in h.rx.zeros i (omega (arith, is, l)) b
 
-  pub tx-zeros : (i : ℕ) → tx_elements ≤ i → i < 16 → get_or numbers (31 + i) (pos 0) ≡ pos 0
-  tx-zeros i l b = let is = elements (get_or numbers 30 (pos 0)) h.tx_range h.tx.fits in h.tx.zeros i (omega (arith, is, l)) b
+  pub tx-zeros : (i : ℕ) → tx_elements ≤ i → i < 16 → get_or numbers (TX + i) (pos 0) ≡ pos 0
+  tx-zeros i l b = let is = elements (get_or numbers TX_COUNT (pos 0)) h.tx_range h.tx.fits in h.tx.zeros i (omega (arith, is, l)) b
 
-  pub no-fifo : needs_fifo numbers ≡ false → take 34 (drop 13 numbers) ≡ replicate 34 (pos 0)
+  pub no-fifo : needs_fifo numbers ≡ false → take 34 (drop RX_COUNT numbers) ≡ replicate 34 (pos 0)
   no-fifo e =
-      h.none (no-count _ h.rx_range ((or_parts (needs_count (get_or numbers 13 (pos 0))) _ e).0)) (no-count _ h.tx_range ((or_parts (needs_count (get_or numbers 13 (pos 0))) _ e).1))
+      h.none (no-count _ h.rx_range ((or_parts (needs_count (get_or numbers RX_COUNT (pos 0))) _ e).0)) (no-count _ h.tx_range ((or_parts (needs_count (get_or numbers RX_COUNT (pos 0))) _ e).1))
 
   -- In any set from 2 on.
-  fifos : (set : Set) (version : ℕ) (name : List ℕ) (former : List (List ℕ)) (more : List Sub) (needed : Bool) → needs_fifo numbers ≡ needed → (needed ≡ false → take 34 (drop 13 numbers) ≡ replicate 34 (pos 0)) → IsFineSub set (serial_since_2 version name former more) numbers fifo 1 13
+  fifos : (set : Set) (version : ℕ) (name : List ℕ) (former : List (List ℕ)) (more : List Sub) (needed : Bool) → needs_fifo numbers ≡ needed → (needed ≡ false → take 34 (drop RX_COUNT numbers) ≡ replicate 34 (pos 0)) → IsFineSub set (serial_since_2 version name former more) numbers fifo 1 RX_COUNT
   unfolding first
   fifos set version name former more true e off = record { kept = rw e (fifo-kept numbers rx_elements tx_elements rx-zeros tx-zeros); rules = rw e (fifo-rules numbers rx_elements tx_elements rx-zeros tx-zeros) }
-  fifos set version name former more false e off = record { kept = rw e (zeros-kept [] numbers 13 fifo_cells refl (off refl)); rules = rw e tt }
+  fifos set version name former more false e off = record { kept = rw e (zeros-kept [] numbers RX_COUNT fifo_cells refl (off refl)); rules = rw e tt }
 
 serial-1 : (numbers : List ℤ) → AreSaved 1 numbers → ReadyOf set_1 serial_at_1 numbers
 unfolding first
 serial-1 numbers are =
     ready-parts set_1 serial_at_1 numbers (omega arith) (omega arith, tt) are.of_kinds (counts-none (device_cells set_1 serial_at_1) numbers refl) refl (refl, tt)
-    (thr-1 numbers _ refl (no-sign _ (are.of_kinds.in_range 11 (omega arith))), tt)
+    (thr-1 numbers _ refl (no-sign _ (are.of_kinds.in_range old_latch (omega arith))), tt)
 
 -- The FIFOs as rings.
 abbrev pub needs_ring : List ℤ → Bool
-needs_ring numbers = needs_count (get_or numbers 65 (pos 0)) || needs_count (get_or numbers 83 (pos 0))
+needs_ring numbers = needs_count (get_or numbers RX_NUMBER (pos 0)) || needs_count (get_or numbers TX_NUMBER (pos 0))
 
-ring-4 : (numbers : List ℤ) (needed : Bool) → needs_ring numbers ≡ needed → (needed ≡ false → take 36 (drop 48 numbers) ≡ replicate 36 (pos 0)) → IsFineSub set_4 serial_at_4 numbers ring 3 48
+ring-4 : (numbers : List ℤ) (needed : Bool) → needs_ring numbers ≡ needed → (needed ≡ false → take 36 (drop RX_DATA numbers) ≡ replicate 36 (pos 0)) → IsFineSub set_4 serial_at_4 numbers ring 3 RX_DATA
 unfolding first
 ring-4 numbers true e off = record { kept = rw e refl; rules = rw e (refl, tt) }
-ring-4 numbers false e off = record { kept = rw e (zeros-kept [] numbers 48 (replicate 36 byte) refl (off refl)); rules = rw e tt }
+ring-4 numbers false e off = record { kept = rw e (zeros-kept [] numbers RX_DATA (replicate 36 byte) refl (off refl)); rules = rw e tt }
 
 -- The counts of a set with FIFOs are within their capacities.
-well-rx : (numbers : List ℤ) (h : HasFifo numbers) → counts_well (16 ∷ []) (get_or numbers 13 (pos 0)) ≡ true
-well-rx numbers h = counted-well (get_or numbers 13 (pos 0)) h.rx_range h.rx.fits
+well-rx : (numbers : List ℤ) (h : HasFifo numbers) → counts_well (16 ∷ []) (get_or numbers RX_COUNT (pos 0)) ≡ true
+well-rx numbers h = counted-well (get_or numbers RX_COUNT (pos 0)) h.rx_range h.rx.fits
 
-well-tx : (numbers : List ℤ) (h : HasFifo numbers) → counts_well (16 ∷ []) (get_or numbers 30 (pos 0)) ≡ true
-well-tx numbers h = counted-well (get_or numbers 30 (pos 0)) h.tx_range h.tx.fits
+well-tx : (numbers : List ℤ) (h : HasFifo numbers) → counts_well (16 ∷ []) (get_or numbers TX_COUNT (pos 0)) ≡ true
+well-tx numbers h = counted-well (get_or numbers TX_COUNT (pos 0)) h.tx_range h.tx.fits
 
-pub has-fifo : (set : ℕ) → 2 ≤ set → (numbers : List ℤ) → AreSaved set numbers → InRange U8 (get_or numbers 13 (pos 0)) → InRange U8 (get_or numbers 30 (pos 0)) → HasFifo numbers
+pub has-fifo : (set : ℕ) → 2 ≤ set → (numbers : List ℤ) → AreSaved set numbers → InRange U8 (get_or numbers RX_COUNT (pos 0)) → InRange U8 (get_or numbers TX_COUNT (pos 0)) → HasFifo numbers
 has-fifo set since numbers are rx tx = record { rx_range = rx; tx_range = tx; rx = are.rx since; tx = are.tx since; none = are.no_fifo since }
 
 -- The FIFOs of the sets that have them.
 pub has-fifo-2 : (numbers : List ℤ) → AreSaved 2 numbers → HasFifo numbers
-has-fifo-2 numbers are = has-fifo 2 (omega arith) numbers are (are.of_kinds.in_range 13 (omega arith)) (are.of_kinds.in_range 30 (omega arith))
+has-fifo-2 numbers are = has-fifo 2 (omega arith) numbers are (are.of_kinds.in_range RX_COUNT (omega arith)) (are.of_kinds.in_range TX_COUNT (omega arith))
 
 pub has-fifo-3 : (numbers : List ℤ) → AreSaved 3 numbers → HasFifo numbers
-has-fifo-3 numbers are = has-fifo 3 (omega arith) numbers are (are.of_kinds.in_range 13 (omega arith)) (are.of_kinds.in_range 30 (omega arith))
+has-fifo-3 numbers are = has-fifo 3 (omega arith) numbers are (are.of_kinds.in_range RX_COUNT (omega arith)) (are.of_kinds.in_range TX_COUNT (omega arith))
 
 pub has-fifo-4 : (numbers : List ℤ) → AreSaved 4 numbers → HasFifo numbers
-has-fifo-4 numbers are = has-fifo 4 (omega arith) numbers are (are.of_kinds.in_range 13 (omega arith)) (are.of_kinds.in_range 30 (omega arith))
+has-fifo-4 numbers are = has-fifo 4 (omega arith) numbers are (are.of_kinds.in_range RX_COUNT (omega arith)) (are.of_kinds.in_range TX_COUNT (omega arith))
 
 serial-2 : (numbers : List ℤ) → AreSaved 2 numbers → ReadyOf set_2 serial_at_2 numbers
 unfolding first
 serial-2 numbers are =
     let h = has-fifo-2 numbers are in
     ready-parts set_2 serial_at_2 numbers (omega arith) (omega arith, (omega arith, tt)) are.of_kinds (counts-by (device_cells set_2 serial_at_2) numbers (rw (well-rx numbers h, well-tx numbers h) refl)) refl (refl, tt)
-    (thr set_2 2 (codes "divider") [] [] numbers _ refl (no-sign _ (are.of_kinds.in_range 12 (omega arith))), (fifos numbers h set_2 2 (codes "divider") [] [] _ refl (no-fifo numbers h), tt))
+    (thr set_2 2 (codes "divider") [] [] numbers _ refl (no-sign _ (are.of_kinds.in_range THR_IPENDING (omega arith))), (fifos numbers h set_2 2 (codes "divider") [] [] _ refl (no-fifo numbers h), tt))
 
 serial-3 : (numbers : List ℤ) → AreSaved 3 numbers → ReadyOf set_3 serial_at_3 numbers
 unfolding first
 serial-3 numbers are =
     let h = has-fifo-3 numbers are in
     ready-parts set_3 serial_at_3 numbers (omega arith) (omega arith, (omega arith, (omega arith, tt))) are.of_kinds (counts-by (device_cells set_3 serial_at_3) numbers (rw (well-rx numbers h, well-tx numbers h) refl)) refl (refl, tt)
-    (thr set_3 3 new_name former_names (timeout ∷ []) numbers _ refl (no-sign _ (are.of_kinds.in_range 12 (omega arith))), (fifos numbers h set_3 3 new_name former_names (timeout ∷ []) _ refl (no-fifo numbers h), (due set_3 3 new_name former_names [] numbers _ refl (no-timer _ (are.of_kinds.in_range 47 (omega arith))), tt)))
+    (thr set_3 3 new_name former_names (timeout ∷ []) numbers _ refl (no-sign _ (are.of_kinds.in_range THR_IPENDING (omega arith))), (fifos numbers h set_3 3 new_name former_names (timeout ∷ []) _ refl (no-fifo numbers h), (due set_3 3 new_name former_names [] numbers _ refl (no-timer _ (are.of_kinds.in_range TIMEOUT_AT (omega arith))), tt)))
 
-pub no-ring : (numbers : List ℤ) → AreSaved 4 numbers → needs_ring numbers ≡ false → take 36 (drop 48 numbers) ≡ replicate 36 (pos 0)
+pub no-ring : (numbers : List ℤ) → AreSaved 4 numbers → needs_ring numbers ≡ false → take 36 (drop RX_DATA numbers) ≡ replicate 36 (pos 0)
 no-ring numbers are e =
-    are.no_ring (omega arith) (no-count _ (are.of_kinds.in_range 65 (omega arith)) ((or_parts (needs_count (get_or numbers 65 (pos 0))) _ e).0))
-    (no-count _ (are.of_kinds.in_range 83 (omega arith)) ((or_parts (needs_count (get_or numbers 65 (pos 0))) _ e).1))
+    are.no_ring (omega arith) (no-count _ (are.of_kinds.in_range RX_NUMBER (omega arith)) ((or_parts (needs_count (get_or numbers RX_NUMBER (pos 0))) _ e).0))
+    (no-count _ (are.of_kinds.in_range TX_NUMBER (omega arith)) ((or_parts (needs_count (get_or numbers RX_NUMBER (pos 0))) _ e).1))
 
 serial-4 : (numbers : List ℤ) → AreSaved 4 numbers → ReadyOf set_4 serial_at_4 numbers
 unfolding first
@@ -236,7 +243,7 @@ serial-4 numbers are =
     let h = has-fifo-4 numbers are in
     let more = timeout ∷ ring ∷ [] in
     ready-parts set_4 serial_at_4 numbers (omega arith) (omega arith, (omega arith, (omega arith, (omega arith, tt)))) are.of_kinds (counts-by (device_cells set_4 serial_at_4) numbers (rw (well-rx numbers h, well-tx numbers h) refl)) refl (refl, tt)
-    (thr set_4 4 new_name former_names more numbers _ refl (no-sign _ (are.of_kinds.in_range 12 (omega arith))), (fifos numbers h set_4 4 new_name former_names more _ refl (no-fifo numbers h), (due set_4 4 new_name former_names (ring ∷ []) numbers _ refl (no-timer _ (are.of_kinds.in_range 47 (omega arith))), (ring-4 numbers _ refl (no-ring numbers are), tt))))
+    (thr set_4 4 new_name former_names more numbers _ refl (no-sign _ (are.of_kinds.in_range THR_IPENDING (omega arith))), (fifos numbers h set_4 4 new_name former_names more _ refl (no-fifo numbers h), (due set_4 4 new_name former_names (ring ∷ []) numbers _ refl (no-timer _ (are.of_kinds.in_range TIMEOUT_AT (omega arith))), (ring-4 numbers _ refl (no-ring numbers are), tt))))
 
 pub serial_is_ready : SerialIsReady
 serial_is_ready = record { first = serial-1; second = serial-2; third = serial-3; fourth = serial-4 }

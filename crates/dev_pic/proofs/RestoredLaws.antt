@@ -2,6 +2,7 @@
 use Rattle.std.proofs.Common.{◌≡◌, ℕ, ◌≤◌, ◌%◌, true, List, ℤ, take, drop, Result, Ok, Err, sym, subst, arith}
 use Rattle.std.proofs.lemmas.Bool.Decides.{nat_tests}
 use Rattle.dev_base.specs.Levels.{IsLevel}
+use Rattle.vms_fields.specs.declared.pic.TheConstants.{IRR, ISR, IMR, LINES, BASE, ELCR}
 use Rattle.vms_kinds.specs.declared.Kind.TheVariants.{U8}
 use Rattle.dev_base.proofs.CellLaws.{number-lt}
 use Rattle.dev_base.proofs.RuleLaws.{AllTrue, judged-ok, hook-ok}
@@ -29,14 +30,14 @@ pub sound : (level : ℕ) (role : Role) (cells : List ℤ) → IsChipCells cells
 unfolding chip_of
 sound level role cells is hold = record {
   registers = record {
-    irr = number-lt U8 _ (is.in_range 0 (omega arith));
-    isr = number-lt U8 _ (is.in_range 1 (omega arith));
-    imr = number-lt U8 _ (is.in_range 2 (omega arith));
-    lines = number-lt U8 _ (is.in_range 3 (omega arith));
+    irr = number-lt U8 _ (is.in_range IRR (omega arith));
+    isr = number-lt U8 _ (is.in_range ISR (omega arith));
+    imr = number-lt U8 _ (is.in_range IMR (omega arith));
+    lines = number-lt U8 _ (is.in_range LINES (omega arith));
     lowest = low_priority _ _ _ hold.0;
-    base = number-lt U8 _ (is.in_range 5 (omega arith));
+    base = number-lt U8 _ (is.in_range BASE (omega arith));
     vectors = clear_vectors _ _ _ hold.0;
-    elcr = number-lt U8 _ (is.in_range 15 (omega arith));
+    elcr = number-lt U8 _ (is.in_range ELCR (omega arith));
     levels = hold.1.0;
     mode = hold.1.1.1.0;
   };

@@ -1,18 +1,20 @@
 -- A saved pair is restored as it was.
-use Rattle.std.proofs.Common.{◌≡◌, ℕ, zero, suc, ◌+◌, ◌-◌, ◌<◌, ◌≤◌, ◌==◌, Bool, true, false, cond, List, [], ◌∷◌, ◌++◌, length, take, drop, Ok, refl, ap, sym, subst, ◌∙◌, arith, ℤ, pos}
+use Rattle.std.proofs.Common.{◌≡◌, ℕ, zero, suc, ◌+◌, ◌-◌, ◌<◌, ◌≤◌, ◌==◌, Bool, true, false, cond, List, [], ◌∷◌, ◌++◌, length, take, drop, Ok, refl, ap, sym, subst, ◌∙◌, arith, ℤ, pos, codes}
 use Rattle.std.proofs.lemmas.Bool.{false≢true}
 use Rattle.std.proofs.lemmas.Bool.Decides.{nat_tests}
 use Rattle.std.specs.Prelude.{nat_le}
+use Rattle.vms_fields.specs.Fields.{cells_under}
+use Rattle.vms_fields.specs.Pic.{i8259_rows}
 use Rattle.vms_hooks.specs.Numbers.{Numbers}
 use Rattle.vms_kinds.specs.declared.Kind.TheVariants.{U8, Bool as Truth}
-use Rattle.dev_base.specs.Cells.{cell_at, flag_at, flag_number, AreOf}
+use Rattle.dev_base.specs.Cells.{flag_number, AreOf}
 use Rattle.dev_base.specs.Levels.{MayRestore}
-use Rattle.dev_base.specs.Tables.{carried_by, places, default_of}
 use Rattle.dev_base.specs.declared.limits.TheConstants.{NEWEST}
 use Rattle.dev_base.proofs.Choices.{either}
-use Rattle.dev_base.proofs.CellLaws.{of_none, of_more, of_both, of_where, byte, flag, flag-back}
+use Rattle.dev_base.proofs.CellLaws.{byte, flag, flag-back}
+use Rattle.dev_base.proofs.ListLaws.{AllHold, one_holds, none_lacks, of_rows, carried_rows}
 use Rattle.dev_base.proofs.RuleLaws.{AllTrue, none_failing, all_true, judged-all, ok-hook}
-use Rattle.dev_pic.specs.Cells.{cell_count, kinds, state_number, state_of, first_cells, saved_cells, carried, IsChipCells, chip_of, registers_hold, levels_hold, mode_holds, rules, restored}
+use Rattle.dev_pic.specs.Cells.{cell_count, kinds, cell_in, flag_in, state_number, state_of, named, saved_cells, carried, IsChipCells, chip_of, registers_hold, levels_hold, mode_holds, rules, restored}
 use Rattle.dev_pic.specs.Laws.{SoundMeetsRules, SavedAreCells, SavedIsRestored, FaultsAreTold}
 use Rattle.dev_pic.specs.Saved.{CanSave, CanRestore, pair_cells, pair_carried, pair_of, restored_pair, by_number, hook_rule, fault_of, hook_restored}
 use Rattle.dev_pic.specs.Sound.{HasRegisters, IsSoundChip, MeetsRules, IsSoundPair}
@@ -41,7 +43,7 @@ state-le WantsIcw4 = omega arith
 
 -- A chip is that of its own cells.
 pub chip_of-saved : (chip : Chip) → chip_of (saved_cells NEWEST chip) ≡ chip
-unfolding chip_of saved_cells first_cells
+unfolding chip_of saved_cells
 chip_of-saved chip = simp (flag-back, state-back)
 
 -- Rule 1 holds for a chip with its registers.
@@ -55,31 +57,33 @@ registers-met level role chip h =
 
 -- All rules hold for a sound chip.
 met : (level : ℕ) (role : Role) (chip : Chip) → IsSoundChip level role chip → AllTrue (rules level role (saved_cells NEWEST chip))
-unfolding saved_cells first_cells
+unfolding saved_cells
 met level role chip s =
     let ltim = flag-back chip.ltim in
     (registers-met level role chip s.registers, (s.registers.levels, (rw ltim s.requests, (rw ltim s.registers.mode, tt))))
 
--- The cells of a chip, by whether the set has elcr and the level mode.
-first-of : (level : ℕ) (role : Role) (chip : Chip) → HasRegisters level role chip → AreOf (kinds 1) (first_cells chip)
-unfolding first_cells
-first-of level role chip h =
-    of_more _ _ _ _ (byte _ h.irr) (of_more _ _ _ _ (byte _ h.isr) (of_more _ _ _ _ (byte _ h.imr) (of_more _ _ _ _ (byte _ h.lines)
-    (of_more _ _ _ _ (byte _ (omega (arith, h.lowest))) (of_more _ _ _ _ (byte _ h.base) (of_more _ _ _ _ (byte _ (omega (arith, state-le chip.init_state)))
-    (of_more _ _ _ _ (flag _) (of_more _ _ _ _ (flag _) (of_more _ _ _ _ (flag _) (of_more _ _ _ _ (flag _)
-    (of_more _ _ _ _ (flag _) (of_more _ _ _ _ (flag _) (of_more _ _ _ _ (flag _) (of_more _ _ _ _ (flag _) of_none))))))))))))))
+-- Each field has as many numbers of its kind as it counts.
+holds : (level : ℕ) (role : Role) (chip : Chip) → HasRegisters level role chip → AllHold (named chip) i8259_rows
+holds level role chip h =
+    one_holds _ _ (byte _ h.irr) (one_holds _ _ (byte _ h.isr) (one_holds _ _ (byte _ h.imr) (one_holds _ _ (byte _ h.lines)
+    (one_holds _ _ (byte _ (omega (arith, h.lowest))) (one_holds _ _ (byte _ h.base) (one_holds _ _ (byte _ (omega (arith, state-le chip.init_state))) (one_holds _ _ (flag _)
+    (one_holds _ _ (flag _) (one_holds _ _ (flag _) (one_holds _ _ (flag _) (one_holds _ _ (flag _)
+    (one_holds _ _ (flag _) (one_holds _ _ (flag _) (one_holds _ _ (flag _) (one_holds _ _ (byte _ h.elcr)
+    (one_holds _ _ (flag _) tt))))))))))))))))
 
 pub set-of : (level set : ℕ) (role : Role) (chip : Chip) → HasRegisters level role chip → AreOf (kinds set) (saved_cells set chip)
-unfolding saved_cells first_cells
-set-of level set role chip h =
-    of_both (kinds 1) _ (first_cells chip) _ (first-of level role chip h)
-    (of_both _ _ _ _ (of_where (nat_le ELCR_SINCE set) (U8 ∷ []) (pos chip.elcr ∷ []) (of_more _ _ _ _ (byte _ h.elcr) of_none))
-    (of_where (nat_le LTIM_SINCE set) (Truth ∷ []) (pos (flag_number chip.ltim) ∷ []) (of_more _ _ _ _ (flag _) of_none)))
+unfolding saved_cells
+set-of level set role chip h = of_rows (named chip) set i8259_rows (holds level role chip h)
+
+-- the cells of a chip, by whether the set has elcr and the level mode
+abbrev by_sets : Bool → Bool → Chip → List ℤ
+by_sets a b chip =
+    cells_under i8259_rows 1 (named chip) ++ (cond a (pos chip.elcr ∷ []) [] ++ (cond b (pos (flag_number chip.ltim) ∷ []) [] ++ []))
 
 pub saved-count : (set : ℕ) (chip : Chip) → length (saved_cells set chip) ≡ length (kinds set)
-unfolding saved_cells first_cells
+unfolding saved_cells
 saved-count set chip = by_tests (nat_le ELCR_SINCE set) (nat_le LTIM_SINCE set) where
-  by_tests : (a b : Bool) → length (first_cells chip ++ cond a (pos chip.elcr ∷ []) [] ++ cond b (pos (flag_number chip.ltim) ∷ []) []) ≡ length (kinds 1 ++ cond a (U8 ∷ []) [] ++ cond b (Truth ∷ []) [])
+  by_tests : (a b : Bool) → length (by_sets a b chip) ≡ length (kinds 1 ++ (cond a (U8 ∷ []) [] ++ (cond b (Truth ∷ []) [] ++ [])))
   by_tests true true = refl
   by_tests true false = refl
   by_tests false true = refl
@@ -112,30 +116,26 @@ no-mode level true l h = absurd (let e : nat_le LTIM_SINCE level ≡ false = gri
 no-mode level false l h = refl
 
 -- Carried cells are those of the newest set.
-tests-carried : (chip : Chip) (a b : Bool) → (b ≡ true → a ≡ true) → (a ≡ false → chip.elcr ≡ 0) → (b ≡ false → chip.ltim ≡ false) → carried_by (places 0 15 ++ cond a (places 15 1) (default_of (pos 0) ∷ []) ++ cond b (places 16 1) (default_of (pos 0) ∷ [])) (first_cells chip ++ cond a (pos chip.elcr ∷ []) [] ++ cond b (pos (flag_number chip.ltim) ∷ []) []) ≡ first_cells chip ++ pos chip.elcr ∷ pos (flag_number chip.ltim) ∷ []
-unfolding first_cells
-tests-carried chip true true order elcr ltim = refl
-tests-carried chip true false order elcr ltim = rw (ltim refl) refl
-tests-carried chip false true order elcr ltim = absurd (false≢true (order refl))
-tests-carried chip false false order elcr ltim = rw (elcr refl, ltim refl) refl
-
 pub carried-saved : (level set : ℕ) (role : Role) (chip : Chip) → level ≤ set → IsSoundChip level role chip → carried set (saved_cells set chip) ≡ saved_cells NEWEST chip
-unfolding saved_cells first_cells
+unfolding saved_cells
 carried-saved level set role chip le s =
-    tests-carried chip (nat_le ELCR_SINCE set) (nat_le LTIM_SINCE set)
-    (λ e. grind (arith, nat_tests))
-    (λ e. let l : level < ELCR_SINCE = grind (arith, nat_tests) in no-levels level chip.elcr role l s.registers.levels)
-    (λ e. let l : level < LTIM_SINCE = grind (arith, nat_tests) in no-mode level chip.ltim l s.registers.mode)
+    let elcr : nat_le ELCR_SINCE set ≡ false → chip.elcr ≡ 0 =
+    λ e. let l : level < ELCR_SINCE = grind (arith, nat_tests) in no-levels level chip.elcr role l s.registers.levels in
+    let ltim : nat_le LTIM_SINCE set ≡ false → chip.ltim ≡ false =
+    λ e. let l : level < LTIM_SINCE = grind (arith, nat_tests) in no-mode level chip.ltim l s.registers.mode in
+    carried_rows (named chip) set i8259_rows (holds level role chip s.registers)
+    (none_lacks (named chip) set (take 15 i8259_rows) (drop 15 i8259_rows) refl (λ e. ap (λ (n : ℕ). pos n ∷ []) (elcr e), (λ e. ap (λ (b : Bool). pos (flag_number b) ∷ []) (ltim e), tt)))
+    [] 0 refl
 
 -- The level mode's cell if the subsection isn't needed.
 off : (ltim : Bool) → (flag_number ltim == 1) ≡ false → pos (flag_number ltim) ≡ pos 0
 off true e = absurd (false≢true (sym e))
 off false e = refl
 
-unneeded : (set : ℕ) (chip : Chip) → LTIM_SINCE ≤ set → flag_at (saved_cells set chip) 16 ≡ false → cell_at (saved_cells set chip) 16 ≡ pos 0
-unfolding saved_cells first_cells
+unneeded : (set : ℕ) (chip : Chip) → LTIM_SINCE ≤ set → flag_in (saved_cells set chip) (codes "ltim") ≡ false → cell_in (saved_cells set chip) (codes "ltim") ≡ pos 0
+unfolding saved_cells
 unneeded set chip h = by_tests (nat_le ELCR_SINCE set) (nat_le LTIM_SINCE set) (grind (arith, nat_tests)) (grind (arith, nat_tests)) where
-  by_tests : (a b : Bool) → a ≡ true → b ≡ true → flag_at (first_cells chip ++ cond a (pos chip.elcr ∷ []) [] ++ cond b (pos (flag_number chip.ltim) ∷ []) []) 16 ≡ false → cell_at (first_cells chip ++ cond a (pos chip.elcr ∷ []) [] ++ cond b (pos (flag_number chip.ltim) ∷ []) []) 16 ≡ pos 0
+  by_tests : (a b : Bool) → a ≡ true → b ≡ true → flag_in (by_sets a b chip) (codes "ltim") ≡ false → cell_in (by_sets a b chip) (codes "ltim") ≡ pos 0
   by_tests true true p q e = off chip.ltim e
   by_tests true false p q e = absurd (false≢true q)
   by_tests false b p q e = absurd (false≢true p)

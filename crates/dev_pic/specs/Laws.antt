@@ -1,12 +1,12 @@
 -- The laws of the pair in the data sheet's terms, of its steps, and of saving and restoring. The
 -- contract of a function names each.
-use Rattle.std.specs.Prelude.{◌≡◌, ◌≢◌, ℕ, ◌+◌, ◌-◌, ◌%◌, ◌^◌, ◌<◌, ◌≤◌, ◌==◌, Bool, true, false, ◌&&◌, ◌||◌, not, if◌then◌else◌, List, ℤ, pos, length, take, drop, Some, None, Ok, ◌↔◌, bit_and}
+use Rattle.std.specs.Prelude.{◌≡◌, ◌≢◌, ℕ, ◌+◌, ◌-◌, ◌%◌, ◌^◌, ◌<◌, ◌≤◌, ◌==◌, Bool, true, false, ◌&&◌, ◌||◌, not, if◌then◌else◌, List, ℤ, pos, codes, length, take, drop, Some, None, Ok, ◌↔◌, bit_and}
 use Rattle.vms_hooks.specs.Numbers.{Numbers}
-use Rattle.dev_base.specs.Cells.{cell_at, flag_at, AreOf}
+use Rattle.dev_base.specs.Cells.{AreOf}
 use Rattle.dev_base.specs.Levels.{IsLevel, MayRestore}
 use Rattle.dev_base.specs.declared.limits.TheConstants.{NEWEST}
 use Rattle.dev_base.specs.Bits.{has}
-use Rattle.dev_pic.specs.Cells.{kinds, saved_cells, IsChipCells}
+use Rattle.dev_pic.specs.Cells.{kinds, saved_cells, cell_in, flag_in, IsChipCells}
 use Rattle.dev_pic.specs.Chip.{cascade_input, level_inputs, level_inputs_of, ltim_after, in_service_of, served_of, winner_at, taken, read_of, settled, commanded, written_even, written_odd}
 use Rattle.dev_pic.specs.Pair.{power_on, is_port, slave_int_of, lines_of, acked, settled_pair, read_pair, written_pair}
 use Rattle.dev_pic.specs.Saved.{chip_at, CanSave, CanRestore, pair_cells, pair_carried, hook_rule, fault_of, hook_restored}
@@ -244,7 +244,7 @@ pub record SavedAreCells : Type 0 where
   pub of_kinds : (chip : ℕ) (numbers : Numbers) (pair : PicPair) → CanSave numbers pair
       → IsSoundPair pair → AreOf (kinds numbers.set) (saved_cells numbers.set (chip_at chip pair))
   pub unneeded : (set : ℕ) (chip : Chip) → LTIM_SINCE ≤ set
-      → flag_at (saved_cells set chip) 16 ≡ false → cell_at (saved_cells set chip) 16 ≡ pos 0
+      → flag_in (saved_cells set chip) (codes "ltim") ≡ false → cell_in (saved_cells set chip) (codes "ltim") ≡ pos 0
   pub master : (set : ℕ) (pair : PicPair)
       → take (length (kinds set)) (pair_cells set pair) ≡ saved_cells set pair.master
   pub slave : (set : ℕ) (pair : PicPair)

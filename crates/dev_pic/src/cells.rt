@@ -1,66 +1,42 @@
 // The cells that a chip is saved in.
 ghost use Rattle.std.specs.Prelude.{◌≡◌, ◌<◌, ◌≤◌, length, IfErr};
 ghost use Rattle.vms_kinds.specs.declared.Kind.{Kind};
-ghost use Rattle.dev_pic.specs.Cells.{place_of, cell_count, kind_of, number_at, flag_at as flag_at_of, IsChipCells, state_number as state_number_of, state_of as state_of_number, saved_cells, chip_of as chip_of_cells, registers_hold as registers_hold_of, levels_hold as levels_hold_of, requests_hold as requests_hold_of, mode_holds as mode_holds_of, restored};
+ghost use Rattle.dev_base.specs.Cells.{kind_at, number_at, flag_at as flag_at_of};
+ghost use Rattle.dev_base.specs.declared.limits.TheConstants.{NEWEST};
+ghost use Rattle.dev_pic.specs.Cells.{kinds, cell_count, IsChipCells, state_number as state_number_of, state_of as state_of_number, saved_cells, chip_of as chip_of_cells, registers_hold as registers_hold_of, levels_hold as levels_hold_of, requests_hold as requests_hold_of, mode_holds as mode_holds_of, restored};
 
 use crate::chip::{Chip, InitState, Role, level_inputs_by};
 use crate::levels::{ELCR_SINCE, LTIM_SINCE};
 use arrayvec::ArrayVec;
 use dev_base::first_failing;
+use vms_fields::pic::{
+    AUTO_EOI, BASE, ELCR, ICW4, IMR, INIT_STATE, IRR, ISR, LINES, LOWEST, LTIM, NESTED, POLL,
+    READ_ISR, ROTATE, SINGLE, SPECIAL_MASK,
+};
 use vms_kinds::DevCells;
 
-/// A cell of a chip, in the order of the newest set. It holds the field of [`Chip`] with its name.
-#[derive(Clone, Copy)]
-pub(crate) enum Cell {
-    Irr,
-    Isr,
-    Imr,
-    Lines,
-    Lowest,
-    Base,
-    InitState,
-    Icw4,
-    Single,
-    ReadIsr,
-    Poll,
-    SpecialMask,
-    AutoEoi,
-    Rotate,
-    Nested,
-    Elcr,
-    Ltim,
-}
-
-impl Cell {
-    /// Returns the cell's place among those of the newest set.
-    fn place(self) -> usize
-        ensures place { result ≡ place_of self }
-        ensures within { result < cell_count }
-    {
-        self as usize
-    }
-}
-
-// Returns the number of a cell that holds a byte.
-fn byte_at(cells: &DevCells, cell: Cell) -> u8
+// Returns the number of the cell at `place`, which holds a byte in the newest set.
+fn byte_at(cells: &DevCells, place: usize) -> u8
     requires cells { IsChipCells cells.now.items }
-    requires kind { kind_of cell ≡ Kind.U8 }
-    ensures { result ≡ number_at cells.now.items cell }
+    requires within { place < cell_count }
+    requires kind { kind_at (kinds NEWEST) place ≡ Kind.U8 }
+    ensures { result ≡ number_at cells.now.items place }
 {
-    dev_base::byte_at(cells, cell.place())
+    dev_base::byte_at(cells, place)
 }
 
-// Returns the truth value of a cell that holds one.
-fn flag_at(cells: &DevCells, cell: Cell) -> bool
+// Returns the truth value of the cell at `place`, which holds one in the newest set.
+fn flag_at(cells: &DevCells, place: usize) -> bool
     requires cells { IsChipCells cells.now.items }
-    requires kind { kind_of cell ≡ Kind.Bool }
-    ensures { result ≡ flag_at_of cells.now.items cell }
+    requires within { place < cell_count }
+    requires kind { kind_at (kinds NEWEST) place ≡ Kind.Bool }
+    ensures { result ≡ flag_at_of cells.now.items place }
 {
-    dev_base::flag_at(cells, cell.place())
+    dev_base::flag_at(cells, place)
 }
 
 /// Returns the cells of `chip` in set `set`.
-#[tactic(auto, unfolding(crate::specs::Cells::saved_cells, crate::specs::Cells::first_cells))]
+#[tactic(auto, unfolding(crate::specs::Cells::saved_cells))]
 pub(crate) fn save_chip(set: u8, chip: &Chip) -> DevCells
     ensures cells { result.items ≡ saved_cells set chip.now }
     ensures count { length result.items ≤ cell_count }
@@ -118,23 +94,23 @@ fn chip_of(cells: &DevCells) -> Chip
     ensures { result ≡ chip_of_cells cells.now.items }
 {
     Chip {
-        irr: byte_at(cells, Cell::Irr),
-        isr: byte_at(cells, Cell::Isr),
-        imr: byte_at(cells, Cell::Imr),
-        lines: byte_at(cells, Cell::Lines),
-        lowest: byte_at(cells, Cell::Lowest),
-        base: byte_at(cells, Cell::Base),
-        init_state: state_of(byte_at(cells, Cell::InitState)),
-        icw4: flag_at(cells, Cell::Icw4),
-        single: flag_at(cells, Cell::Single),
-        read_isr: flag_at(cells, Cell::ReadIsr),
-        poll: flag_at(cells, Cell::Poll),
-        special_mask: flag_at(cells, Cell::SpecialMask),
-        auto_eoi: flag_at(cells, Cell::AutoEoi),
-        rotate: flag_at(cells, Cell::Rotate),
-        nested: flag_at(cells, Cell::Nested),
-        elcr: byte_at(cells, Cell::Elcr),
-        ltim: flag_at(cells, Cell::Ltim),
+        irr: byte_at(cells, IRR),
+        isr: byte_at(cells, ISR),
+        imr: byte_at(cells, IMR),
+        lines: byte_at(cells, LINES),
+        lowest: byte_at(cells, LOWEST),
+        base: byte_at(cells, BASE),
+        init_state: state_of(byte_at(cells, INIT_STATE)),
+        icw4: flag_at(cells, ICW4),
+        single: flag_at(cells, SINGLE),
+        read_isr: flag_at(cells, READ_ISR),
+        poll: flag_at(cells, POLL),
+        special_mask: flag_at(cells, SPECIAL_MASK),
+        auto_eoi: flag_at(cells, AUTO_EOI),
+        rotate: flag_at(cells, ROTATE),
+        nested: flag_at(cells, NESTED),
+        elcr: byte_at(cells, ELCR),
+        ltim: flag_at(cells, LTIM),
     }
 }
 
@@ -185,18 +161,18 @@ pub(crate) fn restore_chip(level: u8, role: Role, cells: &DevCells) -> Result<Ch
     ensures restored { result ≡ restored level role cells.now.items }
     ensures rule { IfErr result (λ rule. rule ≤ 4) }
 {
-    let elcr = byte_at(cells, Cell::Elcr);
-    let ltim = flag_at(cells, Cell::Ltim);
+    let elcr = byte_at(cells, ELCR);
+    let ltim = flag_at(cells, LTIM);
     let rules = [
         registers_hold(
-            byte_at(cells, Cell::Lowest),
-            byte_at(cells, Cell::InitState),
-            byte_at(cells, Cell::Base),
+            byte_at(cells, LOWEST),
+            byte_at(cells, INIT_STATE),
+            byte_at(cells, BASE),
         ),
         levels_hold(level, role, elcr),
         requests_hold(
-            byte_at(cells, Cell::Irr),
-            byte_at(cells, Cell::Lines),
+            byte_at(cells, IRR),
+            byte_at(cells, LINES),
             level_inputs_by(ltim, elcr),
         ),
         mode_holds(level, ltim),

@@ -1,36 +1,25 @@
 -- The cells of a set, carried to the newest one, are the numbers that they came from.
-use Rattle.std.proofs.Common.{◌≡◌, ℕ, ◌<◌, ◌≤◌, ◌&&◌, not, true, Option, Some, None, refl, sym, subst, arith, ⊎_elim}
-use Rattle.std.proofs.lemmas.Bool.{cases_lt, leb-true, and_parts}
+use Rattle.std.proofs.Common.{◌≡◌, ℕ, ◌<◌, ◌≤◌, ◌&&◌, not, Bool, true, false, cond, List, [], ◌∷◌, length, take, drop, map, replicate, pos, Option, Some, None, refl, sym, ap, arith}
+use Rattle.std.proofs.lemmas.Bool.{false≢true, leb-true, and_parts}
+use Rattle.std.proofs.lemmas.Bool.Decides.{nat_tests}
 use Rattle.std.specs.Prelude.{nat_le, is_some}
-use Rattle.dev_base.specs.declared.limits.TheConstants.{NEWEST}
+use Rattle.vms_fields.specs.Serial.{serial_rows}
+use Rattle.dev_base.proofs.ListLaws.{AllLack, none_lacks, carried_rows}
+use Rattle.dev_base.specs.declared.limits.TheConstants.{LAST_MOMENT}
 use Rattle.dev_serial.specs.Access.{is_empty}
-use Rattle.dev_serial.specs.Cells.{field_cells, array_cells, ring_cells, cells_of, carried, numbers_of}
+use Rattle.dev_serial.specs.Cells.{named, cells_of, carried, numbers_of}
 use Rattle.dev_serial.specs.Port.{Port}
-use Rattle.dev_serial.specs.PortNumbers.{saved}
+use Rattle.dev_serial.specs.PortNumbers.{saved, fifo_bytes, in_array, in_ring, fcr_number, moment_number}
 use Rattle.dev_serial.specs.Sound.{IsSound, IsTimeout}
+use Rattle.dev_serial.specs.Stored.{padded}
 use Rattle.dev_serial.specs.declared.trigger.Trigger.{Trigger}
+use Rattle.dev_serial.proofs.FieldLaws.{holds}
+use Rattle.dev_serial.proofs.SavedCells.{in-ranges}
 
 -- the newest set's cells are the numbers
 pub numbers-back : (set now : ℕ) (port : Port) → numbers_of (cells_of 4 (saved set now port)) ≡ saved set now port
-unfolding numbers_of cells_of field_cells array_cells ring_cells saved
+unfolding numbers_of cells_of saved
 numbers-back set now port = refl
-
-module _ (now : ℕ) (port : Port) where
-  carried-1 : port.fifos ≡ None → port.receiver.timeout ≡ None → carried 1 (cells_of 1 (saved 1 now port)) ≡ cells_of 4 (saved 1 now port)
-  unfolding carried cells_of field_cells array_cells ring_cells saved
-  carried-1 f t = rw (f, t) refl
-
-  carried-2 : port.receiver.timeout ≡ None → carried 2 (cells_of 2 (saved 2 now port)) ≡ cells_of 4 (saved 2 now port)
-  unfolding carried cells_of field_cells array_cells ring_cells saved
-  carried-2 t = rw t refl
-
-  carried-3 : carried 3 (cells_of 3 (saved 3 now port)) ≡ cells_of 4 (saved 3 now port)
-  unfolding carried cells_of field_cells array_cells ring_cells saved
-  carried-3 = refl
-
-  carried-4 : carried 4 (cells_of 4 (saved 4 now port)) ≡ cells_of 4 (saved 4 now port)
-  unfolding carried cells_of field_cells array_cells ring_cells saved
-  carried-4 = refl
 
 -- a port of an early level lacks what an older set lacks
 off-early : (now : ℕ) (port : Port) → IsSound now port → port.level < 2 → port.fifos ≡ None
@@ -45,20 +34,65 @@ no-timeout now port s early = none_at port.receiver.timeout s.receiver.timeout w
   none_at None t = refl
   none_at (Some moment) t = let h = leb-true 3 port.level (and_parts _ _ t.runs_now).0 in absurd (omega arith)
 
--- a number from 1 to 4 is one of these
-pub each_set : (P : ℕ → Type 0) (set : ℕ) → 1 ≤ set → set ≤ NEWEST → (set ≡ 1 → P 1) → (set ≡ 2 → P 2) → (set ≡ 3 → P 3) → (set ≡ 4 → P 4) → P set
-each_set P set low high a b c d =
-    ⊎_elim (λ below. let e : set ≡ 1 = omega arith in subst P (sym e) (a e)) (λ from2.
-    ⊎_elim (λ below. let e : set ≡ 2 = omega arith in subst P (sym e) (b e)) (λ from3.
-    ⊎_elim (λ below. let e : set ≡ 3 = omega arith in subst P (sym e) (c e)) (λ from4. let e : set ≡ 4 = omega arith in subst P (sym e) (d e))
-    (cases_lt set 4)) (cases_lt set 3)) (cases_lt set 2)
+no-array : (set : ℕ) (bytes : List ℕ) → in_array set None bytes ≡ []
+no-array set bytes = at (nat_le 4 set) where
+  at : (is : Bool) → cond is [] (fifo_bytes None bytes) ≡ []
+  at true = refl
+  at false = refl
 
--- under every set from the port's level on, the cells are carried to those of the newest set
-pub carried-saved : (set now : ℕ) (port : Port) → IsSound now port → port.level ≤ set → set ≤ NEWEST → carried set (cells_of set (saved set now port)) ≡ cells_of 4 (saved set now port)
-carried-saved set now port s low high =
-    let first = s.registers.is_level.first in
-    each_set (λ (n : ℕ). carried n (cells_of n (saved n now port)) ≡ cells_of 4 (saved n now port)) set (omega arith) high
-    (λ e. carried-1 now port (off-early now port s (omega arith)) (no-timeout now port s (omega arith)))
-    (λ e. carried-2 now port (no-timeout now port s (omega arith)))
-    (λ e. carried-3 now port)
-    (λ e. carried-4 now port)
+module _ (set now : ℕ) (port : Port) (early : now ≤ LAST_MOMENT) (s : IsSound now port) (le : port.level ≤ set) where
+  off : nat_le 2 set ≡ false → port.fifos ≡ None
+  off e = off-early now port s (grind (arith, nat_tests))
+
+  empty : (bytes : List ℕ) → nat_le 2 set ≡ false → in_array set port.fifos bytes ≡ []
+  empty bytes e = rw (off e) (no-array set bytes)
+
+  no-ring : (bytes : List ℕ) → nat_le 4 set ≡ false → in_ring set port.fifos bytes ≡ []
+  no-ring bytes e = rw e refl
+
+  -- no bytes
+  none : (bytes : List ℕ) → bytes ≡ [] → map pos (padded bytes) ≡ replicate 16 (pos 0)
+  none bytes e = ap (λ (l : List ℕ). map pos (padded l)) e
+
+  count : (bytes : List ℕ) → bytes ≡ [] → (pos (length bytes) ∷ []) ≡ (pos 0 ∷ [])
+  count bytes e = ap (λ (l : List ℕ). pos (length l) ∷ []) e
+
+  lacks : AllLack (named (saved set now port)) set serial_rows
+  unfolding saved
+  lacks =
+      let n = named (saved set now port) in
+      let held = port.receiver.held in
+      let waiting = port.transmitter.waiting in
+      none_lacks n set (take 11 serial_rows) (drop 11 serial_rows) refl (
+        λ e. ap (λ (fifos : Option Trigger). pos (fcr_number fifos) ∷ []) (off e),
+        none_lacks n set (take 1 (drop 12 serial_rows)) (drop 13 serial_rows) refl (
+          λ e. count _ (empty held e),
+          (
+            λ e. none _ (empty held e),
+            (
+              λ e. count _ (empty waiting e),
+              (
+                λ e. none _ (empty waiting e),
+                (
+                  λ e. ap (λ (timeout : Option ℕ). pos (moment_number timeout) ∷ []) (no-timeout now port s (grind (arith, nat_tests))),
+                  (
+                    λ e. none _ (no-ring held e),
+                    (
+                      λ e. refl,
+                      (
+                        λ e. count _ (no-ring held e),
+                        (λ e. none _ (no-ring waiting e), (λ e. refl, (λ e. count _ (no-ring waiting e), tt))),
+                      ),
+                    ),
+                  ),
+                ),
+              ),
+            ),
+          ),
+        ),
+      )
+
+  -- under every set from the port's level on, the cells are carried to those of the newest set
+  pub carried-saved : carried set (cells_of set (saved set now port)) ≡ cells_of 4 (saved set now port)
+  unfolding carried cells_of
+  carried-saved = carried_rows (named (saved set now port)) set serial_rows (holds _ (in-ranges set now port early s)) lacks [] 0 refl

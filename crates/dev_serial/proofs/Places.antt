@@ -22,6 +22,6 @@ places_are = record {
   rx_count = refl;
   tx_count = refl;
   timeout_at = refl;
-  rx_ring = refl;
-  tx_ring = refl;
+  rx_data = refl;
+  tx_data = refl;
 }

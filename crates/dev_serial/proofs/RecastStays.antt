@@ -7,9 +7,10 @@ use Rattle.vms_kinds.specs.Codes.{InRange, is_signed}
 use Rattle.vms_kinds.specs.declared.Kind.{Kind}
 use Rattle.vms_kinds.specs.declared.Kind.TheVariants.{U8, U16, U32, U64, I8, I16, I32, I64, Bool as Truth, Timer}
 use Rattle.dev_base.specs.Cells.{cell_at, nat_of, number_at, kind_at, AreOf}
-use Rattle.dev_serial.specs.Cells.{array_cells, ring_cells, field_cells, cells_of, numbers_of, field_kinds, kinds}
+use Rattle.dev_serial.specs.Cells.{cells_of, numbers_of, field_kinds, kinds}
 use Rattle.dev_serial.specs.Recast.{is_in_ring, recast_cells, recast_port}
 use Rattle.dev_serial.specs.declared.numbers.PortNumbers.{PortNumbers}
+use Rattle.vms_fields.specs.declared.serial.TheConstants.{THR_IPENDING}
 
 -- ---- all cells but the latch have no sign
 
@@ -33,7 +34,7 @@ unsigned_but (kind ∷ front) back other zero f b e = unsigned_at (kind ∷ fron
 unsigned_but (kind ∷ front) back other (suc k) f b e =
     unsigned_but front back other k (and_parts (not (is_signed kind)) (are_unsigned front) f).1 b (λ h. e (omega (arith, h)))
 
-latch_alone : (k : ℕ) → (k ≡ 12 → ⊥) → is_signed (kind_at (kinds 4) k) ≡ false
+latch_alone : (k : ℕ) → (k ≡ THR_IPENDING → ⊥) → is_signed (kind_at (kinds 4) k) ≡ false
 latch_alone k e = unsigned_but (field_kinds ++ U8 ∷ []) (replicate 34 U8 ++ Timer ∷ replicate 36 U8) I8 k refl refl e
 
 not_negative : (kind : Kind) (z : ℤ) → is_signed kind ≡ false → InRange kind z → pos (nat_of z) ≡ z
@@ -52,10 +53,10 @@ not_negative Timer (negsuc n) e h = absurd (omega (arith, ints))
 -- ---- the cells of their numbers
 
 abbrev kept_at : List ℤ → ℕ → ℤ
-kept_at cells k = if k == 12 then cell_at cells k else pos (number_at cells k)
+kept_at cells k = if k == THR_IPENDING then cell_at cells k else pos (number_at cells k)
 
 as_run : (cells : List ℤ) → cells_of 4 (numbers_of cells) ≡ map (kept_at cells) (range_with_len 0 84)
-unfolding cells_of numbers_of field_cells array_cells ring_cells
+unfolding cells_of numbers_of
 as_run cells = refl
 
 run_is : (f : ℕ → ℤ) (a n : ℕ) (cells : List ℤ) → length cells ≡ n → ((k : ℕ) → k < n → cell_at cells k ≡ f (a + k)) → map f (range_with_len a n) ≡ cells
@@ -70,10 +71,10 @@ run_is f a (suc n) (z ∷ cells) e h =
 
 module _ (cells : List ℤ) (is : AreOf (kinds 4) cells) where
   kept : (k : ℕ) → k < 84 → cell_at cells k ≡ kept_at cells k
-  kept k lt = go (k == 12) refl where
-    go : (b : Bool) → (k == 12) ≡ b → cell_at cells k ≡ (if b then cell_at cells k else pos (number_at cells k))
+  kept k lt = go (k == THR_IPENDING) refl where
+    go : (b : Bool) → (k == THR_IPENDING) ≡ b → cell_at cells k ≡ (if b then cell_at cells k else pos (number_at cells k))
     go true e = refl
-    go false e = sym (not_negative (kind_at (kinds 4) k) (cell_at cells k) (latch_alone k (eqb-false k 12 e)) (is.in_range k lt))
+    go false e = sym (not_negative (kind_at (kinds 4) k) (cell_at cells k) (latch_alone k (eqb-false k THR_IPENDING e)) (is.in_range k lt))
 
   pub cells_back : cells_of 4 (numbers_of cells) ≡ cells
   cells_back = as_run cells ∙ run_is (kept_at cells) 0 84 cells is.count (λ k lt. let same : k ≡ 0 + k = omega arith in kept k lt ∙ ap (kept_at cells) same)

@@ -18,6 +18,7 @@ use Rattle.dev_serial.proofs.RestoredParts.{is_on, level-on, short, are_bytes, t
 use Rattle.dev_serial.proofs.RulesHold.{Hold, hold}
 use Rattle.dev_serial.proofs.StoredKinds.{in_arrays, ring-bytes}
 use Rattle.dev_serial.proofs.StoredLaws.{stored-empty, stored-short, stored-bytes, firsts-bytes}
+use Rattle.vms_fields.specs.declared.serial.TheConstants.{DIVISOR, LCR, SCR, RBR, THR, TSR, THR_IPENDING, RX_COUNT, RX, TX_COUNT, TX, TIMEOUT_AT, RX_DATA, TX_DATA}
 
 -- numbers in their kinds' ranges
 record HasRanges (n : PortNumbers) : Type 0 where
@@ -74,21 +75,21 @@ module _ (level now : ℕ) (n : PortNumbers) (is_level : IsLevel level) (ranges 
 
 -- the ranges of cells
 module _ (cells : List ℤ) (is : IsPortCells cells) where
-  array-bytes : (place : ℕ) → 12 < place → place + 16 ≤ 47 → AreBytes (bytes_at cells place)
+  array-bytes : (place : ℕ) → THR_IPENDING < place → place + 16 ≤ TIMEOUT_AT → AreBytes (bytes_at cells place)
   array-bytes place low high =
       firsts-bytes (λ i. number_at cells (place + i)) 0 16 (λ k l m. number-lt U8 (cell_at cells (place + k)) (in_arrays cells place 16 is.of_kinds (omega arith) high (place + k) (omega arith) (omega arith)))
 
   ranges-of : HasRanges (numbers_of cells)
   unfolding numbers_of
   ranges-of = record {
-    divisor = number-lt U16 _ (is.of_kinds.in_range 0 (omega arith));
-    lcr = number-lt U8 _ (is.of_kinds.in_range 3 (omega arith));
-    scr = number-lt U8 _ (is.of_kinds.in_range 6 (omega arith));
-    rbr = number-lt U8 _ (is.of_kinds.in_range 7 (omega arith));
-    thr = number-lt U8 _ (is.of_kinds.in_range 8 (omega arith));
-    tsr = number-lt U8 _ (is.of_kinds.in_range 9 (omega arith));
-    rx = stored-bytes (array_at cells 13) (ring_at cells 48) (array-bytes 14 (omega arith) (omega arith)) (ring-bytes cells is.of_kinds 48 (omega arith) (omega arith));
-    tx = stored-bytes (array_at cells 30) (ring_at cells 66) (array-bytes 31 (omega arith) (omega arith)) (ring-bytes cells is.of_kinds 66 (omega arith) (omega arith));
+    divisor = number-lt U16 _ (is.of_kinds.in_range DIVISOR (omega arith));
+    lcr = number-lt U8 _ (is.of_kinds.in_range LCR (omega arith));
+    scr = number-lt U8 _ (is.of_kinds.in_range SCR (omega arith));
+    rbr = number-lt U8 _ (is.of_kinds.in_range RBR (omega arith));
+    thr = number-lt U8 _ (is.of_kinds.in_range THR (omega arith));
+    tsr = number-lt U8 _ (is.of_kinds.in_range TSR (omega arith));
+    rx = stored-bytes (array_at cells RX_COUNT) (ring_at cells RX_DATA) (array-bytes RX (omega arith) (omega arith)) (ring-bytes cells is.of_kinds RX_DATA (omega arith) (omega arith));
+    tx = stored-bytes (array_at cells TX_COUNT) (ring_at cells TX_DATA) (array-bytes TX (omega arith) (omega arith)) (ring-bytes cells is.of_kinds TX_DATA (omega arith) (omega arith));
   }
 
 own-level : (level : ℕ) (n : PortNumbers) → (port_of level n).level ≡ level

@@ -1,20 +1,18 @@
 -- The saved cells are cells of their set.
-use Rattle.std.proofs.Common.{◌≡◌, ℕ, ℤ, zero, suc, ◌+◌, ◌<◌, ◌≤◌, Bool, true, false, cond, List, [], ◌∷◌, ◌++◌, length, map, take, drop, replicate, pos, Option, Some, None, refl, ap, ◌∙◌, arith}
+use Rattle.std.proofs.Common.{◌≡◌, ℕ, ℤ, ◌+◌, ◌<◌, ◌≤◌, Bool, true, false, cond, List, [], ◌∷◌, ◌++◌, length, map, take, drop, replicate, pos, Option, Some, None, refl, sym, ap, ◌∙◌, subst, arith, ⊎_elim}
+use Rattle.std.proofs.lemmas.Bool.{cases_lt}
 use Rattle.std.proofs.lemmas.Int.{ints}
 use Rattle.std.proofs.lemmas.List.{get_or-append-add, get_or_append_left, get_or-map, get_or_past}
 use Rattle.std.proofs.lemmas.Nat.{and_le_r}
-use Rattle.std.specs.List.{range_with_len}
 use Rattle.std.specs.Prelude.{nat_le, is_some}
 use Rattle.dev_base.specs.declared.limits.TheConstants.{NEWEST}
 use Rattle.vms_kinds.specs.Codes.{InRange}
-use Rattle.vms_kinds.specs.declared.Kind.{Kind}
-use Rattle.vms_kinds.specs.declared.Kind.TheVariants.{U8, U16, I8, Timer}
-use Rattle.dev_base.specs.Cells.{cell_at, AreOf}
+use Rattle.vms_kinds.specs.declared.Kind.TheVariants.{I8}
+use Rattle.dev_base.specs.Cells.{cell_at}
 use Rattle.dev_base.specs.declared.limits.TheConstants.{LAST_MOMENT}
-use Rattle.dev_base.proofs.CellLaws.{of_none, of_more, of_both, of_where, byte, word, timer}
 use Rattle.dev_serial.specs.Access.{lsr_of}
 use Rattle.dev_base.specs.Bits.{has}
-use Rattle.dev_serial.specs.Cells.{array_cells, ring_cells, field_cells, cells_of, field_kinds, kinds, IsPortCells}
+use Rattle.dev_serial.specs.Cells.{cells_of, IsPortCells}
 use Rattle.dev_serial.specs.Laws.{AreSaved, SavedAreCells}
 use Rattle.dev_serial.specs.Parts.{IsShort}
 use Rattle.dev_serial.specs.Port.{Port, interrupt, id_number, is_thr_empty}
@@ -24,13 +22,13 @@ use Rattle.dev_serial.specs.Stored.{byte_of, padded, counted_of, ring_of}
 use Rattle.dev_serial.specs.declared.interrupt.Interrupt.{Interrupt}
 use Rattle.dev_serial.specs.declared.interrupt.Interrupt.TheVariants.{LineStatus, ReceivedData, CharacterTimeout, ThrEmpty, NonePending}
 use Rattle.dev_serial.specs.declared.shift.Shift.{Shift}
-use Rattle.dev_serial.specs.declared.stored.TheConstants.{ARRAY_CELLS, RING_CELLS}
 use Rattle.dev_serial.specs.declared.trigger.Trigger.{Trigger}
 use Rattle.dev_serial.specs.declared.trigger.Trigger.TheVariants.{One, Four, Eight, Fourteen}
-use Rattle.dev_serial.proofs.CarriedLaw.{each_set}
+use Rattle.dev_serial.proofs.FieldLaws.{are_sixteen, IsArrayOf, IsRingOf, InRanges, of_kinds}
 use Rattle.dev_serial.proofs.SavedParts.{array-short, ring-short}
 use Rattle.dev_serial.proofs.StoredLaws.{byte_of-lt, byte_of-padded}
 use Rattle.dev_serial.proofs.TruthTables.{lsr-status}
+use Rattle.vms_fields.specs.declared.serial.TheConstants.{RX, TX_COUNT, TX, TIMEOUT_AT}
 
 -- the numbers of a sound port are in their kinds' ranges
 id-range : (interrupt : Interrupt) → id_number interrupt < 256
@@ -89,63 +87,55 @@ ring-bytes set fifos bytes b = at (nat_le 4 set) where
   at true = fifo-range fifos bytes b
   at false = tt
 
--- cells of their kinds
-run : (f : ℕ → ℕ) (a n : ℕ) → ((i : ℕ) → f i < 256) → AreOf (replicate n U8) (map pos (map f (range_with_len a n)))
-run f a zero h = of_none
-run f a (suc n) h = of_more U8 (pos (f a)) (replicate n U8) (map pos (map f (range_with_len (a + 1) n))) (byte (f a) (h a)) (run f (a + 1) n h)
-
 small : (n : ℕ) → n ≤ 16 → n < 256
 small n h = omega arith
 
-array-of : (bytes : List ℕ) → length bytes ≤ 16 → AreBytes bytes → AreOf (replicate ARRAY_CELLS U8) (array_cells (counted_of bytes))
-unfolding array_cells
-array-of bytes s b = of_more U8 (pos (length bytes)) (replicate 16 U8) (map pos (padded bytes)) (byte (length bytes) (small (length bytes) s)) (run (byte_of bytes) 0 16 (λ i. byte_of-lt bytes i b))
+array-of : (bytes : List ℕ) → length bytes ≤ 16 → AreBytes bytes → IsArrayOf (counted_of bytes)
+array-of bytes s b = record { count = small _ s; bytes = are_sixteen (byte_of bytes) (λ i l. byte_of-lt bytes i b) }
 
-ring-of : (bytes : List ℕ) → length bytes ≤ 16 → AreBytes bytes → AreOf (replicate RING_CELLS U8) (ring_cells (ring_of bytes))
-unfolding ring_cells
-ring-of bytes s b =
-    let zero-small : 0 < 256 = omega arith in
-    of_both (replicate 16 U8) (U8 ∷ U8 ∷ []) (map pos (padded bytes)) (pos 0 ∷ pos (length bytes) ∷ []) (run (byte_of bytes) 0 16 (λ i. byte_of-lt bytes i b))
-    (of_more U8 (pos 0) _ _ (byte 0 zero-small) (of_more U8 (pos (length bytes)) _ _ (byte (length bytes) (small (length bytes) s)) of_none))
-
-pub one : (kind : Kind) (cell : ℤ) → InRange kind cell → AreOf (kind ∷ []) (cell ∷ [])
-one kind cell h = of_more kind cell [] [] h of_none
+ring-of : (bytes : List ℕ) → length bytes ≤ 16 → AreBytes bytes → IsRingOf (ring_of bytes)
+ring-of bytes s b = record { elements = are_sixteen (byte_of bytes) (λ i l. byte_of-lt bytes i b); head = omega arith; number = small _ s }
 
 module _ (set now : ℕ) (port : Port) (early : now ≤ LAST_MOMENT) (sound : IsSound now port) where
-  fields-of : AreOf field_kinds (field_cells (saved set now port))
-  unfolding field_cells saved
-  fields-of =
+  array-part : (bytes : List ℕ) → IsShort (is_some port.fifos) bytes → AreBytes bytes → IsArrayOf (counted_of (in_array set port.fifos bytes))
+  array-part bytes s b = array-of _ (array-short set port.fifos bytes s) (array-bytes set port.fifos bytes b)
+
+  ring-part : (bytes : List ℕ) → IsShort (is_some port.fifos) bytes → AreBytes bytes → IsRingOf (ring_of (in_ring set port.fifos bytes))
+  ring-part bytes s b = ring-of _ (ring-short set port.fifos bytes s) (ring-bytes set port.fifos bytes b)
+
+  -- what a set saves
+  pub in-ranges : InRanges (saved set now port)
+  unfolding saved
+  in-ranges =
       let r = sound.registers in
-      let ier : port.ier < 256 = (let h = r.ier_range in omega arith) in
-      let mcr : port.mcr < 256 = (let h = r.mcr_range in omega arith) in
-      of_more U16 (pos port.divisor) _ _ (word port.divisor r.divisor_range)
-      (of_more U8 (pos port.ier) _ _ (byte port.ier ier)
-      (of_more U8 (pos (id_number (interrupt now port))) _ _ (byte _ (id-range (interrupt now port)))
-      (of_more U8 (pos port.lcr) _ _ (byte port.lcr r.lcr_range)
-      (of_more U8 (pos port.mcr) _ _ (byte port.mcr mcr)
-      (of_more U8 (pos (lsr_of port)) _ _ (byte (lsr_of port) (lsr-range now port early sound))
-      (of_more U8 (pos port.scr) _ _ (byte port.scr r.scr_range)
-      (of_more U8 (pos (single_byte port.fifos port.receiver.held)) _ _ (byte _ (single-range port.fifos port.receiver.held sound.receiver.bytes))
-      (of_more U8 (pos (single_byte port.fifos port.transmitter.waiting)) _ _ (byte _ (single-range port.fifos port.transmitter.waiting sound.transmitter.bytes))
-      (of_more U8 (pos (shift_number port.transmitter.shift)) _ _ (byte _ (shift-range now port.transmitter.shift sound.transmitter.shift))
-      (one Timer (pos (due_number port.transmitter.shift)) (timer _ (due-range now port.transmitter.shift early sound.transmitter.shift))))))))))))
+      record {
+        divisor = r.divisor_range;
+        ier = (let h = r.ier_range in omega arith);
+        iir = id-range (interrupt now port);
+        lcr = r.lcr_range;
+        mcr = (let h = r.mcr_range in omega arith);
+        lsr = lsr-range now port early sound;
+        scr = r.scr_range;
+        rbr = single-range port.fifos port.receiver.held sound.receiver.bytes;
+        thr = single-range port.fifos port.transmitter.waiting sound.transmitter.bytes;
+        tsr = shift-range now port.transmitter.shift sound.transmitter.shift;
+        tx_due = due-range now port.transmitter.shift early sound.transmitter.shift;
+        fcr = fcr-range port.fifos;
+        thr_ipending = ipending-range (has port.ier 1) port.thr_empty (is_thr_empty (interrupt now port));
+        rx = array-part port.receiver.held sound.receiver.short sound.receiver.bytes;
+        tx = array-part port.transmitter.waiting sound.transmitter.short sound.transmitter.bytes;
+        timeout_at = moment-range now _ port.receiver.timeout early sound.receiver.timeout;
+        rx_ring = ring-part port.receiver.held sound.receiver.short sound.receiver.bytes;
+        tx_ring = ring-part port.transmitter.waiting sound.transmitter.short sound.transmitter.bytes;
+      }
 
-  array-part : (is : Bool) (bytes : List ℕ) → IsShort (is_some port.fifos) bytes → AreBytes bytes → AreOf (cond is (replicate ARRAY_CELLS U8) []) (cond is (array_cells (counted_of (in_array set port.fifos bytes))) [])
-  array-part is bytes s b = of_where is (replicate ARRAY_CELLS U8) (array_cells (counted_of (in_array set port.fifos bytes))) (array-of (in_array set port.fifos bytes) (array-short set port.fifos bytes s) (array-bytes set port.fifos bytes b))
-
-  ring-part : (is : Bool) (bytes : List ℕ) → IsShort (is_some port.fifos) bytes → AreBytes bytes → AreOf (cond is (replicate RING_CELLS U8) []) (cond is (ring_cells (ring_of (in_ring set port.fifos bytes))) [])
-  ring-part is bytes s b = of_where is (replicate RING_CELLS U8) (ring_cells (ring_of (in_ring set port.fifos bytes))) (ring-of (in_ring set port.fifos bytes) (ring-short set port.fifos bytes s) (ring-bytes set port.fifos bytes b))
-
-  -- the saved numbers, as the cells of that set or of another
-  pub of-kinds : (other : ℕ) → AreOf (kinds other) (cells_of other (saved set now port))
-  unfolding cells_of saved
-  of-kinds other =
-      let fcr = of_where (nat_le 2 other) (U8 ∷ []) (pos (fcr_number port.fifos) ∷ []) (one U8 (pos (fcr_number port.fifos)) (byte _ (fcr-range port.fifos))) in
-      let latch = one I8 _ (ipending-range (has port.ier 1) port.thr_empty (is_thr_empty (interrupt now port))) in
-      let timeout = of_where (nat_le 3 other) (Timer ∷ []) (pos (moment_number port.receiver.timeout) ∷ []) (one Timer (pos (moment_number port.receiver.timeout)) (timer _ (moment-range now _ port.receiver.timeout early sound.receiver.timeout))) in
-      let fields = of_both _ _ _ _ (of_both _ _ _ _ fields-of fcr) latch in
-      let arrays = of_both _ _ _ _ (of_both _ _ _ _ fields (array-part (nat_le 2 other) port.receiver.held sound.receiver.short sound.receiver.bytes)) (array-part (nat_le 2 other) port.transmitter.waiting sound.transmitter.short sound.transmitter.bytes) in
-      of_both _ _ _ _ (of_both _ _ _ _ (of_both _ _ _ _ arrays timeout) (ring-part (nat_le 4 other) port.receiver.held sound.receiver.short sound.receiver.bytes)) (ring-part (nat_le 4 other) port.transmitter.waiting sound.transmitter.short sound.transmitter.bytes)
+-- a number from 1 to 4 is one of these
+each_set : (P : ℕ → Type 0) (set : ℕ) → 1 ≤ set → set ≤ NEWEST → (set ≡ 1 → P 1) → (set ≡ 2 → P 2) → (set ≡ 3 → P 3) → (set ≡ 4 → P 4) → P set
+each_set P set low high a b c d =
+    ⊎_elim (λ below. let e : set ≡ 1 = omega arith in subst P (sym e) (a e)) (λ from2.
+    ⊎_elim (λ below. let e : set ≡ 2 = omega arith in subst P (sym e) (b e)) (λ from3.
+    ⊎_elim (λ below. let e : set ≡ 3 = omega arith in subst P (sym e) (c e)) (λ from4. let e : set ≡ 4 = omega arith in subst P (sym e) (d e))
+    (cases_lt set 4)) (cases_lt set 3)) (cases_lt set 2)
 
 -- a counted array by its index: the elements after the count are 0 from the count on
 zero-from : (front back : List ℤ) (bytes : List ℕ) (i : ℕ) → length bytes ≤ i → i < 16 → cell_at (front ++ (map pos (padded bytes) ++ back)) (length front + i) ≡ pos 0
@@ -156,14 +146,14 @@ zero-from front back bytes i low high =
     ∙ ap pos (byte_of-padded bytes i high ∙ get_or_past bytes i 0 low)
 
 -- no bytes
-no-arrays : (first second : List ℕ) → length first ≡ 0 → length second ≡ 0 → array_cells (counted_of first) ++ array_cells (counted_of second) ≡ replicate 34 (pos 0)
-unfolding array_cells
+no-arrays : (first second : List ℕ) → length first ≡ 0 → length second ≡ 0
+    → (pos (length first) ∷ map pos (padded first)) ++ (pos (length second) ∷ map pos (padded second)) ≡ replicate 34 (pos 0)
 no-arrays [] [] a b = refl
 no-arrays [] (x ∷ second) a b = absurd (omega arith)
 no-arrays (x ∷ first) second a b = absurd (omega arith)
 
-no-rings : (first second : List ℕ) → length first ≡ 0 → length second ≡ 0 → ring_cells (ring_of first) ++ ring_cells (ring_of second) ≡ replicate 36 (pos 0)
-unfolding ring_cells
+no-rings : (first second : List ℕ) → length first ≡ 0 → length second ≡ 0
+    → map pos (padded first) ++ pos 0 ∷ pos (length first) ∷ [] ++ (map pos (padded second) ++ pos 0 ∷ pos (length second) ∷ []) ≡ replicate 36 (pos 0)
 no-rings [] [] a b = refl
 no-rings [] (x ∷ second) a b = absurd (omega arith)
 no-rings (x ∷ first) second a b = absurd (omega arith)
@@ -179,47 +169,47 @@ module _ (now : ℕ) (port : Port) (early : now ≤ LAST_MOMENT) (sound : IsSoun
   cells set = cells_of set (saved set now port)
 
   saved-1 : AreSaved 1 (cells 1)
-  saved-1 = record { of_kinds = of-kinds 1 now port early sound 1; rx = λ h. absurd (omega arith); tx = λ h. absurd (omega arith); no_fifo = λ h. absurd (omega arith); no_ring = λ h. absurd (omega arith) }
+  saved-1 = record { of_kinds = of_kinds 1 _ (in-ranges 1 now port early sound); rx = λ h. absurd (omega arith); tx = λ h. absurd (omega arith); no_fifo = λ h. absurd (omega arith); no_ring = λ h. absurd (omega arith) }
 
   saved-2 : AreSaved 2 (cells 2)
-  unfolding cells_of field_cells array_cells saved
+  unfolding cells_of saved
   saved-2 = record {
-    of_kinds = of-kinds 2 now port early sound 2;
-    rx = λ h. record { fits = array-short 2 port.fifos port.receiver.held sound.receiver.short; zeros = zero-from (take 14 (cells 2)) (drop 30 (cells 2)) (first 2) };
-    tx = λ h. record { fits = array-short 2 port.fifos port.transmitter.waiting sound.transmitter.short; zeros = zero-from (take 31 (cells 2)) (drop 47 (cells 2)) (second 2) };
+    of_kinds = of_kinds 2 _ (in-ranges 2 now port early sound);
+    rx = λ h. record { fits = array-short 2 port.fifos port.receiver.held sound.receiver.short; zeros = zero-from (take RX (cells 2)) (drop TX_COUNT (cells 2)) (first 2) };
+    tx = λ h. record { fits = array-short 2 port.fifos port.transmitter.waiting sound.transmitter.short; zeros = zero-from (take TX (cells 2)) (drop TIMEOUT_AT (cells 2)) (second 2) };
     no_fifo = λ h a b. no-arrays (first 2) (second 2) a b;
     no_ring = λ h. absurd (omega arith);
   }
 
   saved-3 : AreSaved 3 (cells 3)
-  unfolding cells_of field_cells array_cells saved
+  unfolding cells_of saved
   saved-3 = record {
-    of_kinds = of-kinds 3 now port early sound 3;
-    rx = λ h. record { fits = array-short 3 port.fifos port.receiver.held sound.receiver.short; zeros = zero-from (take 14 (cells 3)) (drop 30 (cells 3)) (first 3) };
-    tx = λ h. record { fits = array-short 3 port.fifos port.transmitter.waiting sound.transmitter.short; zeros = zero-from (take 31 (cells 3)) (drop 47 (cells 3)) (second 3) };
+    of_kinds = of_kinds 3 _ (in-ranges 3 now port early sound);
+    rx = λ h. record { fits = array-short 3 port.fifos port.receiver.held sound.receiver.short; zeros = zero-from (take RX (cells 3)) (drop TX_COUNT (cells 3)) (first 3) };
+    tx = λ h. record { fits = array-short 3 port.fifos port.transmitter.waiting sound.transmitter.short; zeros = zero-from (take TX (cells 3)) (drop TIMEOUT_AT (cells 3)) (second 3) };
     no_fifo = λ h a b. no-arrays (first 3) (second 3) a b;
     no_ring = λ h. absurd (omega arith);
   }
 
   saved-4 : AreSaved 4 (cells 4)
-  unfolding cells_of field_cells array_cells ring_cells saved
+  unfolding cells_of saved
   saved-4 = record {
-    of_kinds = of-kinds 4 now port early sound 4;
-    rx = λ h. record { fits = array-short 4 port.fifos port.receiver.held sound.receiver.short; zeros = zero-from (take 14 (cells 4)) (drop 30 (cells 4)) (first 4) };
-    tx = λ h. record { fits = array-short 4 port.fifos port.transmitter.waiting sound.transmitter.short; zeros = zero-from (take 31 (cells 4)) (drop 47 (cells 4)) (second 4) };
+    of_kinds = of_kinds 4 _ (in-ranges 4 now port early sound);
+    rx = λ h. record { fits = array-short 4 port.fifos port.receiver.held sound.receiver.short; zeros = zero-from (take RX (cells 4)) (drop TX_COUNT (cells 4)) (first 4) };
+    tx = λ h. record { fits = array-short 4 port.fifos port.transmitter.waiting sound.transmitter.short; zeros = zero-from (take TX (cells 4)) (drop TIMEOUT_AT (cells 4)) (second 4) };
     no_fifo = λ h a b. no-arrays (first 4) (second 4) a b;
     no_ring = λ h a b. no-rings (in_ring 4 port.fifos port.receiver.held) (in_ring 4 port.fifos port.transmitter.waiting) a b;
   }
 
   -- the saved numbers, as the newest set's cells
   pub newest-cells : (set : ℕ) → IsPortCells (cells_of 4 (saved set now port))
-  unfolding cells_of field_cells array_cells ring_cells saved
+  unfolding cells_of saved
   newest-cells set =
       let all = cells_of 4 (saved set now port) in
       record {
-        of_kinds = of-kinds set now port early sound 4;
-        rx = record { fits = array-short set port.fifos port.receiver.held sound.receiver.short; zeros = zero-from (take 14 all) (drop 30 all) (first set) };
-        tx = record { fits = array-short set port.fifos port.transmitter.waiting sound.transmitter.short; zeros = zero-from (take 31 all) (drop 47 all) (second set) };
+        of_kinds = of_kinds 4 _ (in-ranges set now port early sound);
+        rx = record { fits = array-short set port.fifos port.receiver.held sound.receiver.short; zeros = zero-from (take RX all) (drop TX_COUNT all) (first set) };
+        tx = record { fits = array-short set port.fifos port.transmitter.waiting sound.transmitter.short; zeros = zero-from (take TX all) (drop TIMEOUT_AT all) (second set) };
       }
 
   pub are-saved : (set : ℕ) → 1 ≤ set → set ≤ NEWEST → AreSaved set (cells set)

@@ -1,19 +1,18 @@
 -- The cells of a port in each set (docs/devices.md lists them).
-use Rattle.std.specs.Prelude.{◌≡◌, ℕ, ℤ, pos, ◌+◌, ◌<◌, ◌≤◌, nat_le, if◌then◌else◌, List, [], ◌∷◌, ◌++◌, map, replicate}
+use Rattle.std.specs.Prelude.{◌≡◌, ℕ, ℤ, pos, ◌+◌, ◌<◌, ◌≤◌, List, [], ◌∷◌, ◌++◌, map, take, codes}
+use Rattle.vms_fields.specs.Fields.{Named, kinds_under, cells_under}
+use Rattle.vms_fields.specs.Serial.{serial_rows, place_of_serial}
+use Rattle.vms_fields.specs.declared.serial.TheConstants.{RX_COUNT, TX_COUNT}
 use Rattle.vms_kinds.specs.Codes.{InRange}
 use Rattle.vms_kinds.specs.declared.Kind.{Kind}
-use Rattle.vms_kinds.specs.declared.Kind.TheVariants.{U8, U16, I8, Timer}
+use Rattle.vms_kinds.specs.declared.Kind.TheVariants.{U8}
 use Rattle.dev_base.specs.Cells.{cell_at, number_at, AreOf, firsts}
-use Rattle.dev_base.specs.Tables.{Origin, default_of, places, where_had, since, carried_by}
+use Rattle.dev_base.specs.Tables.{Origin, carried_by, origins_under}
 use Rattle.dev_base.specs.declared.limits.TheConstants.{NEWEST}
 use Rattle.dev_serial.specs.declared.fifo.TheConstants.{FIFO_BYTES}
-use Rattle.dev_serial.specs.declared.levels.TheConstants.{FIFOS_SINCE, TIMEOUT_SINCE, RINGS_SINCE}
 use Rattle.dev_serial.specs.declared.numbers.PortNumbers.{PortNumbers}
 use Rattle.dev_serial.specs.declared.stored.Counted.{Counted}
 use Rattle.dev_serial.specs.declared.stored.Ring.{Ring}
-use Rattle.dev_serial.specs.declared.stored.TheConstants.{ARRAY_CELLS, RING_CELLS}
-use Rattle.dev_serial.specs.declared.place.TheConstants.{DIVISOR, IER, IIR, LCR, MCR, LSR, SCR, RBR, THR, TSR, TX_DUE, FCR, THR_IPENDING, RX_COUNT, TX_COUNT, TIMEOUT_AT, RX_RING, TX_RING}
-use Rattle.dev_serial.specs.declared.numbers.TheConstants.{NEVER}
 
 -- The cells of a counted array: its count and its sixteen elements.
 unfoldable pub array_cells : Counted → List ℤ
@@ -23,40 +22,53 @@ array_cells array = pos array.count ∷ map pos array.bytes
 unfoldable pub ring_cells : Ring → List ℤ
 ring_cells ring = map pos ring.elements ++ pos ring.head ∷ pos ring.number ∷ []
 
--- The cells of the fields that every set has.
-unfoldable pub field_cells : PortNumbers → List ℤ
-field_cells n =
-    pos n.divisor ∷ pos n.ier ∷ pos n.iir ∷ pos n.lcr ∷ pos n.mcr ∷ pos n.lsr ∷ pos n.scr ∷ pos n.rbr ∷ pos n.thr ∷ pos n.tsr ∷ pos n.tx_due ∷ []
+-- The fields of the port by name, each with its numbers.
+abbrev pub named : PortNumbers → Named
+named n =
+    (codes "divisor", pos n.divisor ∷ [])
+    ∷ (codes "ier", pos n.ier ∷ [])
+    ∷ (codes "iir", pos n.iir ∷ [])
+    ∷ (codes "lcr", pos n.lcr ∷ [])
+    ∷ (codes "mcr", pos n.mcr ∷ [])
+    ∷ (codes "lsr", pos n.lsr ∷ [])
+    ∷ (codes "scr", pos n.scr ∷ [])
+    ∷ (codes "rbr", pos n.rbr ∷ [])
+    ∷ (codes "thr", pos n.thr ∷ [])
+    ∷ (codes "tsr", pos n.tsr ∷ [])
+    ∷ (codes "tx_due", pos n.tx_due ∷ [])
+    ∷ (codes "fcr", pos n.fcr ∷ [])
+    ∷ (codes "thr_ipending", n.thr_ipending ∷ [])
+    ∷ (codes "rx_count", pos n.rx.count ∷ [])
+    ∷ (codes "rx", map pos n.rx.bytes)
+    ∷ (codes "tx_count", pos n.tx.count ∷ [])
+    ∷ (codes "tx", map pos n.tx.bytes)
+    ∷ (codes "timeout_at", pos n.timeout_at ∷ [])
+    ∷ (codes "rx_data", map pos n.rx_ring.elements)
+    ∷ (codes "rx_head", pos n.rx_ring.head ∷ [])
+    ∷ (codes "rx_number", pos n.rx_ring.number ∷ [])
+    ∷ (codes "tx_data", map pos n.tx_ring.elements)
+    ∷ (codes "tx_head", pos n.tx_ring.head ∷ [])
+    ∷ (codes "tx_number", pos n.tx_ring.number ∷ []) ∷ []
 
--- The cells of set `set`: the fields, then the subsections' cells: the FIFO control, the latch, the
--- counted arrays, the timeout and the rings.
+-- The cells of set `set`.
 unfoldable pub cells_of : ℕ → PortNumbers → List ℤ
-cells_of set n =
-    field_cells n ++ since FIFOS_SINCE set (pos n.fcr ∷ []) ++ n.thr_ipending ∷ []
-    ++ since FIFOS_SINCE set (array_cells n.rx) ++ since FIFOS_SINCE set (array_cells n.tx)
-    ++ since TIMEOUT_SINCE set (pos n.timeout_at ∷ [])
-    ++ since RINGS_SINCE set (ring_cells n.rx_ring) ++ since RINGS_SINCE set (ring_cells n.tx_ring)
+cells_of set n = cells_under serial_rows set (named n)
 
--- The kinds of the fields that every set has.
-abbrev pub field_kinds : List Kind
-field_kinds = U16 ∷ replicate 9 U8 ++ Timer ∷ []
+-- The cells of the fields before the FIFO control, which every set has.
+unfoldable pub field_cells : PortNumbers → List ℤ
+field_cells n = take 11 (cells_under serial_rows NEWEST (named n))
 
 -- The kinds of the cells of set `set`.
 abbrev pub kinds : ℕ → List Kind
-kinds set =
-    field_kinds ++ since FIFOS_SINCE set (U8 ∷ []) ++ I8 ∷ []
-    ++ since FIFOS_SINCE set (replicate ARRAY_CELLS U8) ++ since FIFOS_SINCE set (replicate ARRAY_CELLS U8)
-    ++ since TIMEOUT_SINCE set (Timer ∷ [])
-    ++ since RINGS_SINCE set (replicate RING_CELLS U8) ++ since RINGS_SINCE set (replicate RING_CELLS U8)
+kinds set = kinds_under serial_rows set
+
+-- The kinds of these cells.
+abbrev pub field_kinds : List Kind
+field_kinds = take 11 (kinds NEWEST)
 
 -- For each cell of the newest set, the index of the same cell in set `set`, or its default.
 abbrev pub origins : ℕ → List Origin
-origins set =
-    places 0 11 ++ where_had (nat_le FIFOS_SINCE set) (places 11 1) (default_of (pos 0) ∷ [])
-    ++ places (if nat_le FIFOS_SINCE set then 12 else 11) 1
-    ++ where_had (nat_le FIFOS_SINCE set) (places 13 34) (replicate 34 (default_of (pos 0)))
-    ++ where_had (nat_le TIMEOUT_SINCE set) (places 47 1) (default_of (pos NEVER) ∷ [])
-    ++ where_had (nat_le RINGS_SINCE set) (places 48 36) (replicate 36 (default_of (pos 0)))
+origins set = origins_under serial_rows set
 
 -- The cells of set `set` in the order of the newest set, with defaults for the others.
 unfoldable pub carried : ℕ → List ℤ → List ℤ
@@ -82,27 +94,30 @@ ring_at cells place = record {
   number = number_at cells (place + 17);
 }
 
--- The numbers in cells of the newest set.
+-- The number in the cell of the field `name`, in cells of the newest set.
+abbrev pub number_in : List ℤ → List ℕ → ℕ
+number_in cells name = number_at cells (place_of_serial name)
+
 unfoldable pub numbers_of : List ℤ → PortNumbers
 numbers_of cells = record {
-  divisor = number_at cells DIVISOR;
-  ier = number_at cells IER;
-  iir = number_at cells IIR;
-  lcr = number_at cells LCR;
-  mcr = number_at cells MCR;
-  lsr = number_at cells LSR;
-  scr = number_at cells SCR;
-  rbr = number_at cells RBR;
-  thr = number_at cells THR;
-  tsr = number_at cells TSR;
-  tx_due = number_at cells TX_DUE;
-  fcr = number_at cells FCR;
-  thr_ipending = cell_at cells THR_IPENDING;
-  rx = array_at cells RX_COUNT;
-  tx = array_at cells TX_COUNT;
-  timeout_at = number_at cells TIMEOUT_AT;
-  rx_ring = ring_at cells RX_RING;
-  tx_ring = ring_at cells TX_RING;
+  divisor = number_in cells (codes "divisor");
+  ier = number_in cells (codes "ier");
+  iir = number_in cells (codes "iir");
+  lcr = number_in cells (codes "lcr");
+  mcr = number_in cells (codes "mcr");
+  lsr = number_in cells (codes "lsr");
+  scr = number_in cells (codes "scr");
+  rbr = number_in cells (codes "rbr");
+  thr = number_in cells (codes "thr");
+  tsr = number_in cells (codes "tsr");
+  tx_due = number_in cells (codes "tx_due");
+  fcr = number_in cells (codes "fcr");
+  thr_ipending = cell_at cells (place_of_serial (codes "thr_ipending"));
+  rx = array_at cells (place_of_serial (codes "rx_count"));
+  tx = array_at cells (place_of_serial (codes "tx_count"));
+  timeout_at = number_in cells (codes "timeout_at");
+  rx_ring = ring_at cells (place_of_serial (codes "rx_data"));
+  tx_ring = ring_at cells (place_of_serial (codes "tx_data"));
 }
 
 -- The array whose count is at index `place`: at most sixteen elements, and 0 after the counted

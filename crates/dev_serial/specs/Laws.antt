@@ -1,5 +1,6 @@
 -- The laws of saving, of likeness and of soundness, which functions in src/laws.rt have as clauses.
 use Rattle.std.specs.Prelude.{◌≡◌, ℕ, ℤ, pos, true, ◌+◌, ◌%◌, ◌<◌, ◌≤◌, ◌↔◌, List, length, take, drop, replicate, Ok}
+use Rattle.vms_fields.specs.declared.serial.TheConstants.{RX_COUNT, TX_COUNT, RX_DATA, RX_NUMBER, TX_NUMBER}
 use Rattle.vms_hooks.specs.Numbers.{Numbers}
 use Rattle.dev_base.specs.Cells.{number_at, AreOf}
 use Rattle.dev_base.specs.Levels.{IsLevel}
@@ -14,7 +15,6 @@ use Rattle.dev_serial.specs.Saved.{CanSave, CanRestore, cells_at, hook_restored}
 use Rattle.dev_serial.specs.Sound.{IsSound, IsHeld, Alike}
 use Rattle.dev_serial.specs.Stored.{counted_of, counted_bytes, ring_of, ring_bytes, behind_head, ring_holds}
 use Rattle.dev_serial.specs.declared.levels.TheConstants.{FIFOS_SINCE, RINGS_SINCE}
-use Rattle.dev_serial.specs.declared.place.TheConstants.{RX_COUNT, TX_COUNT, RX_RING, TX_RING}
 use Rattle.dev_serial.specs.declared.stored.Ring.{Ring}
 
 -- Cells of set `set`: each is of its kind, the counted arrays agree with their counts, and the
@@ -26,8 +26,8 @@ pub record AreSaved (set : ℕ) (cells : List ℤ) : Type 0 where
   pub tx : FIFOS_SINCE ≤ set → IsArray cells TX_COUNT
   pub no_fifo : FIFOS_SINCE ≤ set → number_at cells RX_COUNT ≡ 0 → number_at cells TX_COUNT ≡ 0
       → take 34 (drop RX_COUNT cells) ≡ replicate 34 (pos 0)
-  pub no_ring : RINGS_SINCE ≤ set → number_at cells (RX_RING + 17) ≡ 0
-      → number_at cells (TX_RING + 17) ≡ 0 → take 36 (drop RX_RING cells) ≡ replicate 36 (pos 0)
+  pub no_ring : RINGS_SINCE ≤ set → number_at cells RX_NUMBER ≡ 0
+      → number_at cells TX_NUMBER ≡ 0 → take 36 (drop RX_DATA cells) ≡ replicate 36 (pos 0)
 
 -- What a sound port saves under a set are cells of that set.
 abbrev pub SavedAreCells : Type 0

@@ -1,7 +1,7 @@
 -- The index of each field's first cell in the newest set. Definitions cite the constants that the
 -- code uses; this file gives their values.
 use Rattle.std.specs.Prelude.{◌≡◌}
-use Rattle.dev_serial.specs.declared.place.TheConstants.{DIVISOR, IER, IIR, LCR, MCR, LSR, SCR, RBR, THR, TSR, TX_DUE, FCR, THR_IPENDING, RX_COUNT, TX_COUNT, TIMEOUT_AT, RX_RING, TX_RING}
+use Rattle.vms_fields.specs.declared.serial.TheConstants.{DIVISOR, IER, IIR, LCR, MCR, LSR, SCR, RBR, THR, TSR, TX_DUE, FCR, THR_IPENDING, RX_COUNT, TX_COUNT, TIMEOUT_AT, RX_DATA, TX_DATA}
 use Rattle.dev_serial.specs.declared.stored.TheConstants.{ARRAY_CELLS, RING_CELLS}
 
 -- The number of cells of a counted array and of a ring, and the index of each field's first cell.
@@ -24,5 +24,5 @@ pub record PlacesAre : Type 0 where
   pub rx_count : RX_COUNT ≡ 13
   pub tx_count : TX_COUNT ≡ 30
   pub timeout_at : TIMEOUT_AT ≡ 47
-  pub rx_ring : RX_RING ≡ 48
-  pub tx_ring : TX_RING ≡ 66
+  pub rx_data : RX_DATA ≡ 48
+  pub tx_data : TX_DATA ≡ 66

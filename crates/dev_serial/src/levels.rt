@@ -2,10 +2,10 @@
 //! feature.
 
 /// The first level with FIFOs, those of a 16550A.
-pub(crate) const FIFOS_SINCE: u8 = 2;
+pub(crate) const FIFOS_SINCE: u8 = vms_fields::serial::FIFOS_SINCE;
 
 /// The first level with the character timeout.
-pub(crate) const TIMEOUT_SINCE: u8 = 3;
+pub(crate) const TIMEOUT_SINCE: u8 = vms_fields::serial::TIMEOUT_SINCE;
 
 /// The first level with FIFOs that are saved as rings.
-pub(crate) const RINGS_SINCE: u8 = 4;
+pub(crate) const RINGS_SINCE: u8 = vms_fields::serial::RINGS_SINCE;

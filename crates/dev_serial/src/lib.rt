@@ -11,7 +11,6 @@ mod laws;
 mod levels;
 mod mode;
 mod numbers;
-mod place;
 mod receiver;
 mod registers;
 mod rings;

@@ -8,7 +8,6 @@ ghost use Rattle.dev_serial.specs.declared.stored.TheConstants.{PORT_CELLS};
 
 use crate::interrupt::Interrupt;
 use crate::levels::{FIFOS_SINCE, RINGS_SINCE, TIMEOUT_SINCE};
-use crate::place;
 use crate::registers::ETBEI;
 use crate::serial::Serial;
 use crate::shift::Shift;
@@ -16,10 +15,11 @@ use crate::stored::{Counted, Ring};
 use crate::trigger::Trigger;
 use arrayvec::ArrayVec;
 use dev_base::{append, byte_at, has, moment_at, signed_at, word_at};
+use vms_fields::serial as place;
 use vms_kinds::DevCells;
 
 /// The number of a timer that isn't pending, 2^64 - 1.
-pub(crate) const NEVER: u64 = 18_446_744_073_709_551_615;
+pub(crate) const NEVER: u64 = vms_fields::serial::NEVER;
 
 /// A port as the numbers of the newest set, by the names in its description.
 ///
@@ -103,7 +103,6 @@ impl PortNumbers {
     /// Returns the cells of set `set`, in the order of its description.
     ///
     /// The fields come first, then the cells of each subsection that the set has.
-    #[tactic(auto, unfolding(crate::specs::Cells::cells_of))]
     pub fn cells(&self, set: u8) -> DevCells
         ensures cells { result.items ≡ cells_of set self.now }
         ensures count { length result.items ≤ PORT_CELLS }
@@ -168,8 +167,8 @@ impl PortNumbers {
             rx: Counted::at(cells, place::RX_COUNT),
             tx: Counted::at(cells, place::TX_COUNT),
             timeout_at: moment_at(cells, place::TIMEOUT_AT),
-            rx_ring: Ring::at(cells, place::RX_RING),
-            tx_ring: Ring::at(cells, place::TX_RING),
+            rx_ring: Ring::at(cells, place::RX_DATA),
+            tx_ring: Ring::at(cells, place::TX_DATA),
         }
     }
 }

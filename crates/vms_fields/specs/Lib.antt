@@ -1,2 +1,4 @@
 pub mod Clock
 pub mod Fields
+pub mod Pic
+pub mod Serial

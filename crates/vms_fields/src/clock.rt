@@ -10,9 +10,10 @@ pub const NMI_SINCE: u8 = 2;
 
 /// The fields of the clock chip, in the order of their cells in the newest clock set.
 pub const MC146818: [Row; 4] = [
-    ("index", BYTE),
+    ("index", &[], BYTE),
     (
         "cmos",
+        &[],
         Shape {
             count: Count::Fixed(REGISTERS as u32),
             ..BYTE
@@ -20,12 +21,14 @@ pub const MC146818: [Row; 4] = [
     ),
     (
         "nmi_mask",
+        &[],
         Shape {
+            first_set: NMI_SINCE as u32,
             since: NMI_SINCE as u32,
             ..FLAG
         },
     ),
-    ("pf", Shape { part: 1, ..FLAG }),
+    ("pf", &[], Shape { part: 1, ..FLAG }),
 ];
 
 /// The index of the first cell of `index` in the newest clock set.

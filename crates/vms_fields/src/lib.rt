@@ -6,22 +6,28 @@
 
 /// The fields of the clock chip, an MC146818.
 pub mod clock;
+pub mod pic;
+pub mod serial;
 
 use vms_kinds::Kind;
 use vms_spec::Count;
 
-/// A field of a device: its name and its shape.
-pub type Row = (&'static str, Shape);
+/// A field of a device: its name, its former names, and its shape.
+pub type Row = (&'static str, &'static [&'static str], Shape);
 
-/// The type, number and place of a field's cells.
+/// The type, number and place of a field's cells, and the sets and versions that have it.
 #[derive(Clone, Copy)]
 pub struct Shape {
     /// The kind of each cell.
     pub kind: Kind,
     /// The number of cells.
     pub count: Count,
-    /// The first set, and the first version of the device, that has the field.
+    /// The number of the first set that has the field.
+    pub first_set: u32,
+    /// The first version of its section or subsection that has the field.
     pub since: u32,
+    /// The first version at which the field has its name. Earlier ones use the first of its former names.
+    pub named: u32,
     /// The number in each cell if a stream doesn't have the field.
     pub default: i128,
     /// The number of the subsection that has the field, from 1 on; 0 is the section.
@@ -32,7 +38,9 @@ pub struct Shape {
 pub const BYTE: Shape = Shape {
     kind: Kind::U8,
     count: Count::One,
+    first_set: 0,
     since: 0,
+    named: 0,
     default: 0,
     part: 0,
 };

@@ -6,4 +6,3 @@ pub mod SavedLaws
 pub mod SheetNumbers
 pub mod SoundLaws
 pub mod TimeLaws
-pub mod ListLaws

@@ -8,10 +8,10 @@ use Rattle.vms_fields.specs.Fields.{numbers_of}
 use Rattle.vms_hooks.specs.Numbers.{Numbers}
 use Rattle.vms_kinds.specs.declared.Kind.TheVariants.{U8}
 use Rattle.dev_base.proofs.CellLaws.{of_none, of_more, byte, flag, flag-back}
+use Rattle.dev_base.proofs.ListLaws.{AllHold, size_at, whole, of_rows, carried_rows, stands}
 use Rattle.dev_base.proofs.PlaceLemmas.{all_set}
 use Rattle.dev_base.proofs.RuleLaws.{AllTrue, judged-all, ok-hook}
 use Rattle.dev_base.specs.Cells.{cell_at, nat_of, flag_number, firsts, AreOf}
-use Rattle.vms_rtc.proofs.ListLaws.{AllHold, size_at, whole, of_rows, carried_rows, stands}
 use Rattle.vms_rtc.specs.Cells.{named, kinds, saved_cells, carried}
 use Rattle.vms_rtc.specs.Chip.{register}
 use Rattle.vms_rtc.specs.Laws.{SavedAreCells, SavedIsRestored}

@@ -4,8 +4,7 @@ use Rattle.vms_fields.specs.Clock.{mc146818_rows}
 use Rattle.vms_fields.specs.Fields.{Named, kinds_under, cells_under}
 use Rattle.vms_kinds.specs.declared.Kind.{Kind}
 use Rattle.dev_base.specs.Cells.{flag_number}
-use Rattle.dev_base.specs.Tables.{Origin, carried_by}
-use Rattle.vms_rtc.specs.Origins.{origins_under}
+use Rattle.dev_base.specs.Tables.{Origin, carried_by, origins_under}
 use Rattle.vms_rtc.specs.declared.rtc.Rtc.{Rtc}
 
 -- The numbers of each field, by its name.

@@ -1,5 +1,6 @@
 // The tables of the timer, the interrupt controllers and the timer chip.
 use crate::rows::{Asked, BYTE, DescRow, DeviceRow, FieldRow, Needed, Rows, SubRow};
+use vms_fields::pic::I8259 as I8259_FIELDS;
 use vms_kinds::{Item, Kind};
 use vms_parts::{Count, Rel};
 
@@ -15,41 +16,16 @@ pub(crate) const TIMER: DeviceRow = DeviceRow {
 
 // ---- the interrupt controllers
 
-const I8259_BYTES: Rows = Rows::Numbers(
-    Kind::U8,
-    &["irr", "isr", "imr", "lines", "lowest", "base", "init_state"],
-);
-
-const I8259_FLAGS: Rows = Rows::Numbers(
-    Kind::Bool,
-    &[
-        "icw4",
-        "single",
-        "read_isr",
-        "poll",
-        "special_mask",
-        "auto_eoi",
-        "rotate",
-        "nested",
-    ],
-);
-
-const ELCR: Rows = Rows::One(FieldRow {
-    name: "elcr",
-    since: 2,
-    ..BYTE
-});
-
 const I8259: DescRow = DescRow {
     name: "i8259",
     version: 1,
-    rows: &[I8259_BYTES, I8259_FLAGS],
+    rows: &[Rows::Of(&I8259_FIELDS, 1, 0)],
 };
 
 const I8259_WITH_ELCR: DescRow = DescRow {
     name: "i8259",
     version: 2,
-    rows: &[I8259_BYTES, I8259_FLAGS, ELCR],
+    rows: &[Rows::Of(&I8259_FIELDS, 2, 0)],
 };
 
 // The subsection of the level mode.
@@ -57,7 +33,7 @@ const LTIM: SubRow = SubRow {
     desc: DescRow {
         name: "i8259/ltim",
         version: 1,
-        rows: &[Rows::Numbers(Kind::Bool, &["ltim"])],
+        rows: &[Rows::Of(&I8259_FIELDS, 1, 1)],
     },
     needed: Needed::Only(Asked {
         field: 0,

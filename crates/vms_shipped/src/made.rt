@@ -1,9 +1,9 @@
 // The parts that the rows of the tables describe.
 ghost use Rattle.std.specs.Prelude.{◌≡◌, ◌++◌, map, option_map, IfOk, OnOk};
-ghost use Rattle.vms_fields.specs.Fields.{fields_at, listed_at};
+ghost use Rattle.vms_fields.specs.Fields.{name_at, former_at, listed_at, fields_at};
 ghost use Rattle.vms_spec.specs.Shipped.{numbers};
 ghost use Rattle.vms_parts.specs.Views.{formula, formula_in, field_of, desc_of, device_of, sub_of, set_of};
-ghost use Rattle.vms_shipped.specs.Rows.{field_in, fields_in, all_in, desc_in, asked_in, needed_in, sub_in, device_in, set_in};
+ghost use Rattle.vms_shipped.specs.Rows.{listed_row, field_in, fields_in, all_in, desc_in, asked_in, needed_in, sub_in, device_in, set_in};
 
 use crate::rows::{Asked, BYTE, DescRow, DeviceRow, FieldRow, Needed, Rows, SetRow, SubRow};
 use std::alloc::Global;
@@ -86,7 +86,26 @@ fn put_numbers(
     Ok(())
 }
 
-// Appends the field of a row, if it is in `part` at `version`.
+// Returns the name and the former names of a field at a version.
+fn names_at(
+    version: u32,
+    name: &'static str,
+    former: &'static [&'static str],
+    named: u32,
+) -> (&'static str, &'static [&'static str])
+    ensures name { result.0.now ≡ name_at version named name.now (map (λ n. n.now) former.now) }
+    ensures former { map (λ n. n.now) result.1.now ≡ former_at version named (map (λ n. n.now) former.now) }
+{
+    if named <= version {
+        return (name, former);
+    }
+    match former {
+        [first, ..] => (*first, &[]),
+        [] => ("", &[]),
+    }
+}
+
+// Appends the field of a row of a device's list to `fields`, if `version` has it in `part`.
 fn put_listed(
     alloc: Global,
     fields: &mut Vec<Field>,
@@ -95,15 +114,18 @@ fn put_listed(
     part: u8,
 ) -> Result<(), NoMemory>
     ensures { OnOk result (map field_of fields.new.items
-        ≡ map field_of fields.old.items ++ listed_at version part (row.now.0.now, row.now.1)) }
+        ≡ map field_of fields.old.items ++ listed_at version part (listed_row row.now)) }
 {
-    if row.1.since <= version && row.1.part == part {
+    let (name, former, shape) = *row;
+    if shape.since <= version && shape.part == part {
+        let (name, former) = names_at(version, name, former, shape.named);
         let row = FieldRow {
-            name: row.0,
-            item: Item::Num(row.1.kind),
-            count: row.1.count,
-            since: row.1.since,
-            default: row.1.default,
+            name,
+            former,
+            item: Item::Num(shape.kind),
+            count: shape.count,
+            since: shape.since,
+            default: shape.default,
             ..BYTE
         };
         fields.push(field(alloc, &row)?)?;
@@ -111,7 +133,7 @@ fn put_listed(
     Ok(())
 }
 
-// Appends the fields of a list that are in `part` at `version`.
+// Appends the fields of a device's list that `version` has in `part` to `fields`.
 fn put_list(
     alloc: Global,
     fields: &mut Vec<Field>,
@@ -120,7 +142,7 @@ fn put_list(
     part: u8,
 ) -> Result<(), NoMemory>
     ensures { OnOk result (map field_of fields.new.items
-        ≡ map field_of fields.old.items ++ fields_at version part (map (λ r. (r.0.now, r.1)) rows.now)) }
+        ≡ map field_of fields.old.items ++ fields_at version part (map listed_row rows.now)) }
 {
     for row in rows {
         put_listed(alloc, fields, row, version, part)?;

@@ -1,50 +1,13 @@
 // The tables of the serial port.
-use crate::rows::{Asked, BYTE, DescRow, DeviceRow, FieldRow, Needed, Rows, SubRow};
-use vms_kinds::{Item, Kind};
-use vms_parts::{Count, Rel};
-
-// The moment of a timer that isn't pending, which is also the mask of all bits.
-const NEVER: u64 = u64::MAX;
-
-const DIVIDER: Rows = Rows::Numbers(Kind::U16, &["divider"]);
-
-const DIVISOR: Rows = Rows::One(FieldRow {
-    name: "divisor",
-    former: &["divider"],
-    item: Item::Num(Kind::U16),
-    ..BYTE
-});
-
-const BYTES: Rows = Rows::Numbers(
-    Kind::U8,
-    &[
-        "ier", "iir", "lcr", "mcr", "lsr", "scr", "rbr", "thr", "tsr",
-    ],
-);
-
-const TX_DUE: Rows = Rows::One(FieldRow {
-    name: "tx_due",
-    item: Item::Num(Kind::Timer),
-    default: NEVER as i128,
-    ..BYTE
-});
-
-const FCR: Rows = Rows::One(FieldRow {
-    name: "fcr",
-    since: 2,
-    ..BYTE
-});
+use crate::rows::{Asked, DescRow, DeviceRow, Needed, Rows, SubRow};
+use vms_fields::serial::{NEVER, SERIAL};
+use vms_parts::Rel;
 
 const THR_IPENDING: SubRow = SubRow {
     desc: DescRow {
         name: "serial/thr_ipending",
         version: 1,
-        rows: &[Rows::One(FieldRow {
-            name: "thr_ipending",
-            item: Item::Num(Kind::I8),
-            default: -1,
-            ..BYTE
-        })],
+        rows: &[Rows::Of(&SERIAL, 1, 1)],
     },
     needed: Needed::Only(Asked {
         field: 0,
@@ -66,26 +29,7 @@ const FIFO: SubRow = SubRow {
     desc: DescRow {
         name: "serial/fifo",
         version: 1,
-        rows: &[
-            Rows::Numbers(Kind::U8, &["rx_count"]),
-            Rows::One(FieldRow {
-                name: "rx",
-                count: Count::Counted {
-                    by: 0,
-                    capacity: 16,
-                },
-                ..BYTE
-            }),
-            Rows::Numbers(Kind::U8, &["tx_count"]),
-            Rows::One(FieldRow {
-                name: "tx",
-                count: Count::Counted {
-                    by: 2,
-                    capacity: 16,
-                },
-                ..BYTE
-            }),
-        ],
+        rows: &[Rows::Of(&SERIAL, 1, 2)],
     },
     needed: Needed::Either(HOLDS, Asked { field: 2, ..HOLDS }),
 };
@@ -94,12 +38,7 @@ const TIMEOUT: SubRow = SubRow {
     desc: DescRow {
         name: "serial/timeout",
         version: 1,
-        rows: &[Rows::One(FieldRow {
-            name: "timeout_at",
-            item: Item::Num(Kind::Timer),
-            default: NEVER as i128,
-            ..BYTE
-        })],
+        rows: &[Rows::Of(&SERIAL, 1, 3)],
     },
     needed: Needed::Only(Asked {
         field: 0,
@@ -113,20 +52,7 @@ const RING: SubRow = SubRow {
     desc: DescRow {
         name: "serial/ring",
         version: 1,
-        rows: &[
-            Rows::One(FieldRow {
-                name: "rx_data",
-                count: Count::Fixed(16),
-                ..BYTE
-            }),
-            Rows::Numbers(Kind::U8, &["rx_head", "rx_number"]),
-            Rows::One(FieldRow {
-                name: "tx_data",
-                count: Count::Fixed(16),
-                ..BYTE
-            }),
-            Rows::Numbers(Kind::U8, &["tx_head", "tx_number"]),
-        ],
+        rows: &[Rows::Of(&SERIAL, 1, 4)],
     },
     needed: Needed::Either(Asked { field: 2, ..HOLDS }, Asked { field: 5, ..HOLDS }),
 };
@@ -136,7 +62,7 @@ pub(crate) const SERIAL_AT_1: DeviceRow = DeviceRow {
     desc: DescRow {
         name: "serial",
         version: 1,
-        rows: &[DIVIDER, BYTES, TX_DUE],
+        rows: &[Rows::Of(&SERIAL, 1, 0)],
     },
     subs: &[THR_IPENDING],
 };
@@ -146,7 +72,7 @@ pub(crate) const SERIAL_AT_2: DeviceRow = DeviceRow {
     desc: DescRow {
         name: "serial",
         version: 2,
-        rows: &[DIVIDER, BYTES, TX_DUE, FCR],
+        rows: &[Rows::Of(&SERIAL, 2, 0)],
     },
     subs: &[THR_IPENDING, FIFO],
 };
@@ -156,7 +82,7 @@ pub(crate) const SERIAL_AT_3: DeviceRow = DeviceRow {
     desc: DescRow {
         name: "serial",
         version: 3,
-        rows: &[DIVISOR, BYTES, TX_DUE, FCR],
+        rows: &[Rows::Of(&SERIAL, 3, 0)],
     },
     subs: &[THR_IPENDING, FIFO, TIMEOUT],
 };
@@ -166,7 +92,7 @@ pub(crate) const SERIAL_AT_4: DeviceRow = DeviceRow {
     desc: DescRow {
         name: "serial",
         version: 4,
-        rows: &[DIVISOR, BYTES, TX_DUE, FCR],
+        rows: &[Rows::Of(&SERIAL, 4, 0)],
     },
     subs: &[THR_IPENDING, FIFO, TIMEOUT, RING],
 };

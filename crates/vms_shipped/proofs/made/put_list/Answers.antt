@@ -1,9 +1,10 @@
 use Rattle.std.proofs.Common.{map, refl}
 use Rattle.vms_fields.specs.Fields.{fields_at, listed_at}
 use Rattle.vms_shipped.proofs.RowLaws.{one_less}
+use Rattle.vms_shipped.specs.Rows.{listed_row}
 use Rattle.vms_shipped.proofs.made.put_list.Goals as goal
 
 pub loop-row-preserved : goal.loop-row-preserved
 loop-row-preserved c =
-    one_less (λ r. listed_at c.args.version c.args.part (r.0.now, r.1)) (λ l. fields_at c.args.version c.args.part (map (λ r. (r.0.now, r.1)) l))
+    one_less (λ r. listed_at c.args.version c.args.part (listed_row r)) (λ l. fields_at c.args.version c.args.part (map listed_row l))
     (λ x xs. refl) c.args.rows.now _ _ _ _ _ c.loop-row-test.true c.in_ok-put_listed.ensures c.loop-row.invariant
