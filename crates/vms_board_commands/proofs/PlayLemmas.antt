@@ -15,7 +15,7 @@ use Rattle.vms_session.specs.declared.line.PlayFault.{PlayFault}
 use Rattle.vms_script.specs.Lines.{ScriptLine}
 use Rattle.vms_session.specs.Session.{Session}
 use Rattle.vms_commands.specs.declared.ending.Ending.{Ending}
-use Rattle.vms_commands.specs.declared.ending.Ending.TheVariants.{Done, ReadFault, WriteFault, ShelfFault, NoMemory}
+use Rattle.vms_commands.specs.declared.ending.Ending.TheVariants.{ReadFault, WriteFault, ShelfFault, NoMemory}
 use Rattle.vms_session.proofs.CourseLemmas.{rose_since}
 use Rattle.vms_session.proofs.PartLemmas.{begun_whole}
 use Rattle.vms_session.specs.declared.line.PlayFault.TheVariants as faults
@@ -105,11 +105,11 @@ module _ (i i' : Intake) (o o' : Outlet) (a b s' : Stock) (held : b.held ≡ a.h
         (ap (λ (h : Option Held). held_after h (take c.done x.parts)) held) c.held;
   }
 
-  pub ends_since : (e : Ending) → EndsAs i i' o o' b s' e x → EndsAs i i' o o' a s' e x
-  ends_since Done h = done-since h
-  ends_since ReadFault h = comes-since h
-  ends_since WriteFault h = comes-since h
-  ends_since ShelfFault (inl h) = inl (comes-since h)
-  ends_since ShelfFault (inr h) = inr (fails-since h)
-  ends_since NoMemory h = comes-since h
+  pub ends_since : (e : Option Ending) → EndsAs i i' o o' b s' e x → EndsAs i i' o o' a s' e x
+  ends_since None h = done-since h
+  ends_since (Some ReadFault) h = comes-since h
+  ends_since (Some WriteFault) h = comes-since h
+  ends_since (Some ShelfFault) (inl h) = inl (comes-since h)
+  ends_since (Some ShelfFault) (inr h) = inr (fails-since h)
+  ends_since (Some NoMemory) h = comes-since h
   ends_since e h = h
