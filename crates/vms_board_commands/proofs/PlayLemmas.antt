@@ -56,19 +56,19 @@ module _ (level : ℕ) (lines : List ScriptLine) (i : Intake) (o o' : Outlet) (s
 
   -- by each fault
   as_ending : (fault : PlayFault) (parts : List Part) (new : Session) → LinesEnd parts new o o' s s' board' (Err fault)
-      → EndsAs i i o o' s s' (ending_by fault) (record { status = 0; parts = parts; note = []; taken = 0 })
+      → EndsAs i i o o' s s' (Some (ending_by fault)) (record { status = 0; parts = parts; note = []; taken = 0 })
   as_ending faults.WriteFault parts new h = h
   as_ending faults.ShelfFault parts new (inl h) = inl (comes_so parts h)
   as_ending faults.ShelfFault parts new (inr h) = inr h
   as_ending faults.NoMemory parts new h = comes_so parts h
 
-  stopped_by : (fault : PlayFault) → Content lines board board' o o' s s' (Err fault) → IsSomeAnd s.held (λ map. PlaysAll level lines map x) → EndsAs i i o o' s s' (ending_by fault) x
+  stopped_by : (fault : PlayFault) → Content lines board board' o o' s s' (Err fault) → IsSomeAnd s.held (λ map. PlaysAll level lines map x) → EndsAs i i o o' s s' (Some (ending_by fault)) x
   stopped_by fault content has = by s.held refl has
     where
-      by : (held : Option Held) → s.held ≡ held → IsSomeAnd held (λ map. PlaysAll level lines map x) → EndsAs i i o o' s s' (ending_by fault) x
+      by : (held : Option Held) → s.held ≡ held → IsSomeAnd held (λ map. PlaysAll level lines map x) → EndsAs i i o o' s s' (Some (ending_by fault)) x
       by None e h = absurd h
       by (Some map) e h =
-          subst (EndsAs i i o o' s s' (ending_by fault)) (sym h.outcome)
+          subst (EndsAs i i o o' s s' (Some (ending_by fault))) (sym h.outcome)
           (as_ending fault h.parts h.new (at-power-on (Err fault) content map h.parts h.new e h.plays))
 
   -- however it ends
