@@ -1,5 +1,5 @@
 -- The endings of the commands of boards, by their steps.
-use Rattle.std.proofs.Common.{◌≡◌, ℕ, Bool, true, false, ◌||◌, ◌==◌, List, [], ◌∷◌, ◌++◌, Result, Ok, Err, refl, sym, ap, subst, ◌∙◌}
+use Rattle.std.proofs.Common.{◌≡◌, ℕ, Bool, true, false, ◌||◌, ◌==◌, List, [], ◌∷◌, ◌++◌, Result, Ok, Err, refl, sym, ap, subst, ◌∙◌, Option, Some, None}
 use Rattle.std.proofs.lemmas.Bool.{or_right}
 use Rattle.std.proofs.KnownBytes.{Keeps-refl}
 use Rattle.arrayvec.specs.ArrayVec.{ArrayVec}
@@ -18,7 +18,7 @@ use Rattle.vms_commands.proofs.StepLemmas.{mapped_by}
 use Rattle.vms_commands.specs.Courses.{Course, Draws, EndsSo, Risen, is_among, of_shelf, text_course}
 use Rattle.vms_commands.specs.Endings.{SetCause, WritesAs, status_of}
 use Rattle.vms_commands.specs.declared.ending.Ending.{Ending}
-use Rattle.vms_commands.specs.declared.ending.Ending.TheVariants.{Done, Refused, BadText, ReadFault, WriteFault, ShelfFault, NotThere, TooLarge, NoMemory}
+use Rattle.vms_commands.specs.declared.ending.Ending.TheVariants.{Refused, BadText, ReadFault, WriteFault, ShelfFault, NotThere, TooLarge, NoMemory}
 use Rattle.vms_board_commands.specs.Causes.{drill_course, load_course, play_course, save_course, stream_course}
 use Rattle.vms_board_commands.specs.Play.{ending_by}
 use Rattle.vms_board_commands.specs.Save.{ending_by as save_ending}
@@ -63,15 +63,15 @@ play_asks = record { held = shelf_has (0 ∷ 6 ∷ 10 ∷ []) true; memory = ref
 
 -- input and output aren't touched
 module _ (course : Course) (asks : Bool) (may : MayAsk course asks) (i : Intake) (o : Outlet) {s s' : Stock} (looks : Looks s s') (same : course.asks ≡ false → s' ≡ s) where
-  untouched : (e : Ending) → is_among course.statuses (status_of e) ≡ true → Risen i i o o s s' e → EndsSo i i o o s s' course e
+  untouched : (e : Option Ending) → is_among course.statuses (status_of e) ≡ true → Risen i i o o s s' e → EndsSo i i o o s s' course e
   untouched e can risen = looked_so i o course e looks same can risen
 
-  pub unset_so : (e : Ending) → SetCause asks s s' e → EndsSo i i o o s s' course e
-  unset_so (BadText line) c = untouched (BadText line) (may.held 3 c refl) tt
-  unset_so ShelfFault c = untouched ShelfFault (may.held 7 c.0 refl) c.1
-  unset_so (NotThere line) c = untouched (NotThere line) (may.held 8 c refl) tt
-  unset_so (TooLarge line) c = untouched (TooLarge line) (may.held 9 c refl) tt
-  unset_so NoMemory c = untouched NoMemory may.memory tt
+  pub unset_so : (e : Option Ending) → SetCause asks s s' e → EndsSo i i o o s s' course e
+  unset_so (Some (BadText line)) c = untouched (Some (BadText line)) (may.held 3 c refl) tt
+  unset_so (Some ShelfFault) c = untouched (Some ShelfFault) (may.held 7 c.0 refl) c.1
+  unset_so (Some (NotThere line)) c = untouched (Some (NotThere line)) (may.held 8 c refl) tt
+  unset_so (Some (TooLarge line)) c = untouched (Some (TooLarge line)) (may.held 9 c refl) tt
+  unset_so (Some NoMemory) c = untouched (Some NoMemory) may.memory tt
   unset_so e c = absurd c
 
 -- ---- a text is written
@@ -79,41 +79,41 @@ module _ (course : Course) (asks : Bool) (may : MayAsk course asks) (i : Intake)
 module _ (i : Intake) (s : Stock) (o o' : Outlet) where
   pub saved_so : (bytes : List ℕ) (r : Result Unit SaveFault) → Saves bytes o o' r → EndsSo i i o o' s s save_course (mapped_by save_ending r)
   saved_so bytes (Ok u) h =
-      unshelved_so s save_course Done refl tt (λ f. absurd (wrong f)) (λ f. refl) (draws_none i) (record { later = h.later; promise = h.promise })
+      unshelved_so s save_course None refl tt (λ f. absurd (wrong f)) (λ f. refl) (draws_none i) (record { later = h.later; promise = h.promise })
   saved_so bytes (Err saves.WriteFault) h =
-      unshelved_so s save_course WriteFault refl h.rose (λ f. absurd (wrong f)) (λ f. refl) (draws_none i) (record { later = h.puts.later; promise = h.puts.promise })
+      unshelved_so s save_course (Some WriteFault) refl h.rose (λ f. absurd (wrong f)) (λ f. refl) (draws_none i) (record { later = h.puts.later; promise = h.puts.promise })
   saved_so bytes (Err saves.NoMemory) h =
-      subst (λ (x : Outlet). EndsSo i i o x s s save_course NoMemory) (sym h) (same_so i o s save_course NoMemory refl tt)
+      subst (λ (x : Outlet). EndsSo i i o x s s save_course (Some NoMemory)) (sym h) (same_so i o s save_course (Some NoMemory) refl tt)
 
-  pub drilled_so : (text : List ℕ) (e : Ending) → WritesAs text o o' e → EndsSo i i o o' s s drill_course e
-  drilled_so text Done w =
-      unshelved_so s drill_course Done refl tt (λ f. absurd (wrong f)) (λ f. refl) (draws_none i) (writes_serve text o o' Done w)
-  drilled_so text WriteFault w =
-      unshelved_so s drill_course WriteFault refl w.rose (λ f. absurd (wrong f)) (λ f. refl) (draws_none i) (writes_serve text o o' WriteFault w)
+  pub drilled_so : (text : List ℕ) (e : Option Ending) → WritesAs text o o' e → EndsSo i i o o' s s drill_course e
+  drilled_so text None w =
+      unshelved_so s drill_course None refl tt (λ f. absurd (wrong f)) (λ f. refl) (draws_none i) (writes_serve text o o' None w)
+  drilled_so text (Some WriteFault) w =
+      unshelved_so s drill_course (Some WriteFault) refl w.rose (λ f. absurd (wrong f)) (λ f. refl) (draws_none i) (writes_serve text o o' (Some WriteFault) w)
   drilled_so text e w = absurd w
 
 -- ---- a stream is read
 
 -- whether or not the command reads the shelf
 module _ {asks : Bool} {i i' : Intake} (s : Stock) (draws : Draws i i') where
-  pub traced_so : (text : List ℕ) (o o' : Outlet) (e : Ending) → WritesAs text o o' e → EndsSo i i' o o' s s (stream_course asks) e
-  traced_so text o o' Done w =
-      unshelved_so s (stream_course asks) Done refl tt (λ f. absurd (wrong f)) (λ f. absurd (wrong f)) draws (writes_serve text o o' Done w)
-  traced_so text o o' WriteFault w =
-      unshelved_so s (stream_course asks) WriteFault refl w.rose (λ f. absurd (wrong f)) (λ f. absurd (wrong f)) draws (writes_serve text o o' WriteFault w)
+  pub traced_so : (text : List ℕ) (o o' : Outlet) (e : Option Ending) → WritesAs text o o' e → EndsSo i i' o o' s s (stream_course asks) e
+  traced_so text o o' None w =
+      unshelved_so s (stream_course asks) None refl tt (λ f. absurd (wrong f)) (λ f. absurd (wrong f)) draws (writes_serve text o o' None w)
+  traced_so text o o' (Some WriteFault) w =
+      unshelved_so s (stream_course asks) (Some WriteFault) refl w.rose (λ f. absurd (wrong f)) (λ f. absurd (wrong f)) draws (writes_serve text o o' (Some WriteFault) w)
   traced_so text o o' e w = absurd w
 
-  pub refused_so : (o : Outlet) (line : ArrayVec ℕ) → EndsSo i i' o o s s (stream_course asks) (Refused line)
+  pub refused_so : (o : Outlet) (line : ArrayVec ℕ) → EndsSo i i' o o s s (stream_course asks) (Some (Refused line))
   refused_so o line =
-      unshelved_so s (stream_course asks) (Refused line) refl tt (λ f. Keeps-refl o.written) (λ f. absurd (wrong f)) draws (serves_none o)
+      unshelved_so s (stream_course asks) (Some (Refused line)) refl tt (λ f. Keeps-refl o.written) (λ f. absurd (wrong f)) draws (serves_none o)
 
-  pub unread_so : (o : Outlet) → Rose i.faults i'.faults → EndsSo i i' o o s s (stream_course asks) ReadFault
-  unread_so o rose = unshelved_so s (stream_course asks) ReadFault refl rose (λ f. Keeps-refl o.written) (λ f. absurd (wrong f)) draws (serves_none o)
+  pub unread_so : (o : Outlet) → Rose i.faults i'.faults → EndsSo i i' o o s s (stream_course asks) (Some ReadFault)
+  unread_so o rose = unshelved_so s (stream_course asks) (Some ReadFault) refl rose (λ f. Keeps-refl o.written) (λ f. absurd (wrong f)) draws (serves_none o)
 
 -- ---- a session is played
 
 module _ (i : Intake) {o o' : Outlet} {s s' : Stock} where
-  played : {r : Result Unit PlayFault} (e : Ending) → is_among play_course.statuses (status_of e) ≡ true → Risen i i o o' s s' e → is_among play_course.writes (status_of e) ≡ true
+  played : {r : Result Unit PlayFault} (e : Option Ending) → is_among play_course.statuses (status_of e) ≡ true → Risen i i o o' s s' e → is_among play_course.writes (status_of e) ≡ true
       → Goes o o' s s' r → EndsSo i i o o' s s' play_course e
   played e can risen does g = record {
     can = can;
@@ -128,7 +128,7 @@ module _ (i : Intake) {o o' : Outlet} {s s' : Stock} where
   }
 
   pub played_so : (r : Result Unit PlayFault) → Goes o o' s s' r → EndsSo i i o o' s s' play_course (mapped_by ending_by r)
-  played_so (Ok u) g = played Done refl tt refl g
-  played_so (Err plays.WriteFault) g = played WriteFault refl g.cause refl g
-  played_so (Err plays.ShelfFault) g = played ShelfFault refl g.cause refl g
-  played_so (Err plays.NoMemory) g = played NoMemory refl tt refl g
+  played_so (Ok u) g = played None refl tt refl g
+  played_so (Err plays.WriteFault) g = played (Some WriteFault) refl g.cause refl g
+  played_so (Err plays.ShelfFault) g = played (Some ShelfFault) refl g.cause refl g
+  played_so (Err plays.NoMemory) g = played (Some NoMemory) refl tt refl g

@@ -60,7 +60,7 @@ module _ {S : Type 0} (kind : Family S) (well : WellFormed (kind.set kind.newest
       let same = one_restore kind well heads level bytes ok (Refused place section reason) (Back m taken) (inr f) r in cc
 
 -- the trace of events is that of their lines
-pub written_events : {S : Type 0} (kind : Family S) (events : List Event) (m : S) (o o' : Outlet) (e : Ending) → WritesAs (trace_from kind events m) o o' e → WritesAs (trace_from kind (events_of (event_lines events)) m) o o' e
+pub written_events : {S : Type 0} (kind : Family S) (events : List Event) (m : S) (o o' : Outlet) (e : Option Ending) → WritesAs (trace_from kind events m) o o' e → WritesAs (trace_from kind (events_of (event_lines events)) m) o o' e
 written_events kind events m o o' e w = subst (λ (es : List Event). WritesAs (trace_from kind es m) o o' e) (sym (events_back events)) w
 
 -- ---- what is seen
@@ -70,7 +70,7 @@ module _ {S : Type 0} (kind : Family S) (level : ℕ) (lines : List ScriptLine) 
   OfLoads held bytes x = Loads kind level lines bytes held x
 
   -- a board was restored, and its trace was written, or some of it
-  pub trace_seen : {i i' : Intake} {o o' : Outlet} {s s' : Stock} (new : Standing S) (e : Ending) → s'.held ≡ s.held → RestoreReads kind level i i' new (Ok tt)
+  pub trace_seen : {i i' : Intake} {o o' : Outlet} {s s' : Stock} (new : Standing S) (e : Option Ending) → s'.held ≡ s.held → RestoreReads kind level i i' new (Ok tt)
       → WritesAs (trace_from kind (events_of lines) new.state) o o' e → Seen (OfLoads s.held) i i' o o' s s' e
   trace_seen {i} {i'} {o} {o'} {s} new e held reads w =
       let text = trace_from kind (events_of lines) new.state in
@@ -96,7 +96,7 @@ module _ {S : Type 0} (kind : Family S) (level : ℕ) (lines : List ScriptLine) 
       }
 
   pub refusal_seen : {i i' : Intake} {o o' : Outlet} {s s' : Stock} (new : Standing S) (r : Refusal) (line : ArrayVec ℕ) → RestoreReads kind level i i' new (Err (restores.Refused r))
-      → line.items ≡ refused_line (kind.set kind.newest) r.at r.section r.reason → Seen (OfLoads s.held) i i' o o' s s' (endings.Refused line)
+      → line.items ≡ refused_line (kind.set kind.newest) r.at r.section r.reason → Seen (OfLoads s.held) i i' o o' s s' (Some (endings.Refused line))
   refusal_seen {i} {i'} {o} {o'} {s} new r line reads said =
       seen_refused {P = OfLoads s.held} line (length reads.bytes)
       (reads_all (λ bytes n. OfLoads s.held bytes (ended 1 line.items n)) reads (λ input left comes. refusal_takes s.held r line.items input left said comes))

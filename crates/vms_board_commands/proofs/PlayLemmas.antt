@@ -15,7 +15,7 @@ use Rattle.vms_session.specs.declared.line.PlayFault.{PlayFault}
 use Rattle.vms_script.specs.Lines.{ScriptLine}
 use Rattle.vms_session.specs.Session.{Session}
 use Rattle.vms_commands.specs.declared.ending.Ending.{Ending}
-use Rattle.vms_commands.specs.declared.ending.Ending.TheVariants.{Done, ReadFault, WriteFault, ShelfFault, NoMemory}
+use Rattle.vms_commands.specs.declared.ending.Ending.TheVariants.{ReadFault, WriteFault, ShelfFault, NoMemory}
 use Rattle.vms_session.proofs.CourseLemmas.{rose_since}
 use Rattle.vms_session.proofs.PartLemmas.{begun_whole}
 use Rattle.vms_session.specs.declared.line.PlayFault.TheVariants as faults
@@ -56,19 +56,19 @@ module _ (level : ℕ) (lines : List ScriptLine) (i : Intake) (o o' : Outlet) (s
 
   -- by each fault
   as_ending : (fault : PlayFault) (parts : List Part) (new : Session) → LinesEnd parts new o o' s s' board' (Err fault)
-      → EndsAs i i o o' s s' (ending_by fault) (record { status = 0; parts = parts; note = []; taken = 0 })
+      → EndsAs i i o o' s s' (Some (ending_by fault)) (record { status = 0; parts = parts; note = []; taken = 0 })
   as_ending faults.WriteFault parts new h = h
   as_ending faults.ShelfFault parts new (inl h) = inl (comes_so parts h)
   as_ending faults.ShelfFault parts new (inr h) = inr h
   as_ending faults.NoMemory parts new h = comes_so parts h
 
-  stopped_by : (fault : PlayFault) → Content lines board board' o o' s s' (Err fault) → IsSomeAnd s.held (λ map. PlaysAll level lines map x) → EndsAs i i o o' s s' (ending_by fault) x
+  stopped_by : (fault : PlayFault) → Content lines board board' o o' s s' (Err fault) → IsSomeAnd s.held (λ map. PlaysAll level lines map x) → EndsAs i i o o' s s' (Some (ending_by fault)) x
   stopped_by fault content has = by s.held refl has
     where
-      by : (held : Option Held) → s.held ≡ held → IsSomeAnd held (λ map. PlaysAll level lines map x) → EndsAs i i o o' s s' (ending_by fault) x
+      by : (held : Option Held) → s.held ≡ held → IsSomeAnd held (λ map. PlaysAll level lines map x) → EndsAs i i o o' s s' (Some (ending_by fault)) x
       by None e h = absurd h
       by (Some map) e h =
-          subst (EndsAs i i o o' s s' (ending_by fault)) (sym h.outcome)
+          subst (EndsAs i i o o' s s' (Some (ending_by fault))) (sym h.outcome)
           (as_ending fault h.parts h.new (at-power-on (Err fault) content map h.parts h.new e h.plays))
 
   -- however it ends
@@ -105,11 +105,11 @@ module _ (i i' : Intake) (o o' : Outlet) (a b s' : Stock) (held : b.held ≡ a.h
         (ap (λ (h : Option Held). held_after h (take c.done x.parts)) held) c.held;
   }
 
-  pub ends_since : (e : Ending) → EndsAs i i' o o' b s' e x → EndsAs i i' o o' a s' e x
-  ends_since Done h = done-since h
-  ends_since ReadFault h = comes-since h
-  ends_since WriteFault h = comes-since h
-  ends_since ShelfFault (inl h) = inl (comes-since h)
-  ends_since ShelfFault (inr h) = inr (fails-since h)
-  ends_since NoMemory h = comes-since h
+  pub ends_since : (e : Option Ending) → EndsAs i i' o o' b s' e x → EndsAs i i' o o' a s' e x
+  ends_since None h = done-since h
+  ends_since (Some ReadFault) h = comes-since h
+  ends_since (Some WriteFault) h = comes-since h
+  ends_since (Some ShelfFault) (inl h) = inl (comes-since h)
+  ends_since (Some ShelfFault) (inr h) = inr (fails-since h)
+  ends_since (Some NoMemory) h = comes-since h
   ends_since e h = h

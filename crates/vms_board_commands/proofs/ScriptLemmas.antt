@@ -1,5 +1,5 @@
 -- A script that is fetched and read, as a step.
-use Rattle.std.proofs.Common.{◌≡◌, ℕ, List, Option, Result, None, Ok, Err, IfOk, IsErrAnd, refl, sym, subst, Bool, true}
+use Rattle.std.proofs.Common.{◌≡◌, ℕ, List, Option, Result, None, Ok, Err, IfOk, IsErrAnd, refl, sym, subst, Bool, true, Some}
 use Rattle.std.specs.declared.alloc.Global.{Global}
 use Rattle.std.specs.declared.vec.Vec.{Vec}
 use Rattle.dev_board.specs.Laws.{AreEvents}
@@ -36,14 +36,14 @@ module _ {T : Type 0} (lines : T → List ScriptLine) where
   had_lines play text read (Err e) h same = tt
 
 -- a text that isn't fetched or isn't read isn't available
-pub unfetched : (T : Type 0) (asks : Bool) (s s' : Stock) (e : Ending) → asks ≡ true → FetchCause {T = T} s s' (Err e) → SetCause asks s s' e
+pub unfetched : (T : Type 0) (asks : Bool) (s s' : Stock) (e : Ending) → asks ≡ true → FetchCause {T = T} s s' (Err e) → SetCause asks s s' (Some e)
 unfetched T asks s s' ShelfFault is c = (is, c)
 unfetched T asks s s' (NotThere line) is c = is
 unfetched T asks s s' (TooLarge line) is c = is
 unfetched T asks s s' NoMemory is c = tt
 unfetched T asks s s' e is c = absurd c
 
-pub unread : (T : Type 0) (asks : Bool) (s s' : Stock) (e : Ending) → ReadCause {T = T} asks (Err e) → SetCause asks s s' e
+pub unread : (T : Type 0) (asks : Bool) (s s' : Stock) (e : Ending) → ReadCause {T = T} asks (Err e) → SetCause asks s s' (Some e)
 unread T asks s s' (BadText line) c = c
 unread T asks s s' NoMemory c = tt
 unread T asks s s' e c = absurd c

@@ -67,12 +67,12 @@ given_so m (Gives a) t h = h
 given_so m (Ends status line) t h = absurd h
 
 -- nothing is seen of what wasn't fetched
-pub set_other : (asks : Bool) (s s' : Stock) (e : Ending) → SetCause asks s s' e → is_among (0 ∷ 1 ∷ 6 ∷ 11 ∷ []) (status_of e) ≡ false
-set_other asks s s' (BadText line) c = refl
-set_other asks s s' ShelfFault c = refl
-set_other asks s s' (NotThere line) c = refl
-set_other asks s s' (TooLarge line) c = refl
-set_other asks s s' NoMemory c = refl
+pub set_other : (asks : Bool) (s s' : Stock) (e : Option Ending) → SetCause asks s s' e → is_among (0 ∷ 1 ∷ 6 ∷ 11 ∷ []) (status_of e) ≡ false
+set_other asks s s' (Some (BadText line)) c = refl
+set_other asks s s' (Some ShelfFault) c = refl
+set_other asks s s' (Some (NotThere line)) c = refl
+set_other asks s s' (Some (TooLarge line)) c = refl
+set_other asks s s' (Some NoMemory) c = refl
 set_other asks s s' e c = absurd c
 
 ended-as : {i i' : Intake} (P : List ℕ → Outcome → Type 0) (status : ℕ) (line : List ℕ) (taken : ℕ) → Sees P i i' (ended status line taken) → EndsWith status line i i' (ended status line taken)
@@ -80,11 +80,11 @@ ended-as P status line taken sees = record { status_is = refl; parts = refl; not
 
 module _ {i i' : Intake} {o o' : Outlet} {s s' : Stock} where
   -- nothing is seen at another ending
-  pub other_seen : {P : List ℕ → Outcome → Type 0} (e : Ending) → is_among (0 ∷ 1 ∷ 6 ∷ 11 ∷ []) (status_of e) ≡ false → SeenAs P i i' o o' s s' e
+  pub other_seen : {P : List ℕ → Outcome → Type 0} (e : Option Ending) → is_among (0 ∷ 1 ∷ 6 ∷ 11 ∷ []) (status_of e) ≡ false → SeenAs P i i' o o' s s' e
   other_seen e other = λ among. absurd (wrong (sym among ∙ other))
 
   -- an outcome by one meaning is one by another
-  pub sees_as : {P Q : List ℕ → Outcome → Type 0} {e : Ending} → ((bytes : List ℕ) (x : Outcome) → P bytes x → Q bytes x) → Seen P i i' o o' s s' e → Seen Q i i' o o' s s' e
+  pub sees_as : {P Q : List ℕ → Outcome → Type 0} {e : Option Ending} → ((bytes : List ℕ) (x : Outcome) → P bytes x → Q bytes x) → Seen P i i' o o' s s' e → Seen Q i i' o o' s s' e
   sees_as {P} {Q} {e} h v = record {
     outcome = v.outcome;
     sees = reads_as {M = λ n. n ≡ v.outcome.taken} {Q = λ input left. Q input v.outcome} (λ n l. l) (λ rest more p. h rest v.outcome p) v.sees;
@@ -92,26 +92,26 @@ module _ {i i' : Intake} {o o' : Outlet} {s s' : Stock} where
   }
 
   -- with what the step before gave
-  pub seen_given : {A T : Type 0} {P : A → List ℕ → Outcome → Type 0} (m : T → A) (step : Step A) (t : T) (e : Ending) → StepAs m step (Ok t) → SeenAs (P (m t)) i i' o o' s s' e
+  pub seen_given : {A T : Type 0} {P : A → List ℕ → Outcome → Type 0} (m : T → A) (step : Step A) (t : T) (e : Option Ending) → StepAs m step (Ok t) → SeenAs (P (m t)) i i' o o' s s' e
       → SeenAs (WithGiven step P) i i' o o' s s' e
   seen_given {A} {T} {P} m step t e h seen = λ among. sees_as {P = P (m t)} {Q = WithGiven step P} (λ bytes x p. (m t, given_so m step t h, p)) (seen among)
 
   -- ---- what is done
 
   -- a text was written, or some of it
-  pub seen_written : {P : List ℕ → Outcome → Type 0} (text : List ℕ) (taken : ℕ) (e : Ending) → s'.held ≡ s.held → Sees P i i' (done text s.held taken) → WritesAs text o o' e → Seen P i i' o o' s s' e
+  pub seen_written : {P : List ℕ → Outcome → Type 0} (text : List ℕ) (taken : ℕ) (e : Option Ending) → s'.held ≡ s.held → Sees P i i' (done text s.held taken) → WritesAs text o o' e → Seen P i i' o o' s s' e
   seen_written text taken e held sees w = record {
     outcome = done text s.held taken;
     sees = sees;
     ends = text_written text i i' o o' s s' taken e w held (takes_bytes taken sees.takes sees.long);
   }
 
-  pub seen_refused : {P : List ℕ → Outcome → Type 0} (line : ArrayVec ℕ) (taken : ℕ) → Sees P i i' (ended 1 line.items taken) → Seen P i i' o o' s s' (Refused line)
+  pub seen_refused : {P : List ℕ → Outcome → Type 0} (line : ArrayVec ℕ) (taken : ℕ) → Sees P i i' (ended 1 line.items taken) → Seen P i i' o o' s s' (Some (Refused line))
   seen_refused {P} line taken sees = record { outcome = ended 1 line.items taken; sees = sees; ends = ended-as P 1 line.items taken sees }
 
   -- a refused load reads the bytes up to the end of the invalid unit
   pub load_seen : {P : List ℕ → Outcome → Type 0} (set : Set) (names : List (List ℕ)) (images : List Image) (taken : ℕ) (r : Refusal) (line : ArrayVec ℕ) → LoadReads i i' set names images taken (Err (loads.Refused r))
-      → ((input : List ℕ) (size : ℕ) → Fault set names input r.at r.section r.reason size → P input (ended 1 line.items (r.at + size))) → Seen P i i' o o' s s' (Refused line)
+      → ((input : List ℕ) (size : ℕ) → Fault set names input r.at r.section r.reason size → P input (ended 1 line.items (r.at + size))) → Seen P i i' o o' s s' (Some (Refused line))
   load_seen {P} set names images taken r line reads is =
       seen_refused {P = P} line (length reads.bytes)
       (reads_all (λ bytes n. P bytes (ended 1 line.items n)) reads
@@ -122,13 +122,13 @@ module _ {i i' : Intake} {o o' : Outlet} {s s' : Stock} where
         rest = l.2;
       }))
 
-  pub seen_lost : {P : List ℕ → Outcome → Type 0} (line : ArrayVec ℕ) (taken : ℕ) → Sees P i i' (ended 11 line.items taken) → Seen P i i' o o' s s' (WouldLose line)
+  pub seen_lost : {P : List ℕ → Outcome → Type 0} (line : ArrayVec ℕ) (taken : ℕ) → Sees P i i' (ended 11 line.items taken) → Seen P i i' o o' s s' (Some (WouldLose line))
   seen_lost {P} line taken sees = record { outcome = ended 11 line.items taken; sees = sees; ends = ended-as P 11 line.items taken sees }
 
   -- ---- the outcome of a known input
 
   -- if an input has one outcome, it is the one that is seen
-  pub content_seen : {P : List ℕ → Outcome → Type 0} (e : Ending) (x : Outcome) → ((bytes : List ℕ) (y : Outcome) → IsBytes bytes → P bytes x → P bytes y → y ≡ x) → IfSome i.left IsBytes
+  pub content_seen : {P : List ℕ → Outcome → Type 0} (e : Option Ending) (x : Outcome) → ((bytes : List ℕ) (y : Outcome) → IsBytes bytes → P bytes x → P bytes y → y ≡ x) → IfSome i.left IsBytes
       → Seen P i i' o o' s s' e → IsSomeAnd i.left (λ bytes. P bytes x) → EndsAs i i' o o' s s' e x
   content_seen {P} e x one octets v has =
       subst (λ (y : Outcome). EndsAs i i' o o' s s' e y) (same i.left octets (reads_told (λ (bytes : List ℕ) (left : Option (List ℕ)). P bytes v.outcome) tt v.sees) has) v.ends

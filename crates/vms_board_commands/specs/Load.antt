@@ -57,6 +57,6 @@ load_task f number name = record {
 }
 
 -- The same, once the script has been read.
-pub record LoadsStream {S : Type 0} (f : Family S) (number : ℕ) (lines : List ScriptLine) (i i' : Intake) (o o' : Outlet) (e : Ending) : Type 0 where
+pub record LoadsStream {S : Type 0} (f : Family S) (number : ℕ) (lines : List ScriptLine) (i i' : Intake) (o o' : Outlet) (e : Option Ending) : Type 0 where
   pub runs : RunsBehind (λ left held x. IsSomeAnd left (λ bytes. Loads f number lines bytes held x)) (λ held bytes x. Loads f number lines bytes held x) stream_course i i' o o' e
   pub given : i'.given ≤ i.given + most_given (f.set f.newest)

@@ -47,19 +47,19 @@ text_task step course = unread_task (λ held o. HasText held (step held) o) cour
 -- A run of the task `t` with the ending `e`. If what it depends on is known, `content` says what it
 -- leaves. `so` relates each status of its course to its cause and to what it may touch. `given`
 -- bounds the number of bytes read, and `seen` says what those bytes mean.
-pub record Runs (t : Task) (old new : Frame) (e : Ending) : Type 0 where
+pub record Runs (t : Task) (old new : Frame) (e : Option Ending) : Type 0 where
   pub content : (o : Outcome) → t.has old.input.left old.shelf.held o → EndsAs old.input new.input old.out new.out old.shelf new.shelf e o
   pub so : EndsSo old.input new.input old.out new.out old.shelf new.shelf t.course e
   pub given : t.gives old.shelf.held old.input new.input
   pub seen : is_among t.course.takes 0 ≡ true → SeenAs (t.sees old.shelf.held) old.input new.input old.out new.out old.shelf new.shelf e
 
 -- The run of a command that has no access to the input. It holds for any input.
-abbrev pub RunsAside : Task → (out out' : Outlet) (shelf shelf' : Stock) → Ending → Type 0
+abbrev pub RunsAside : Task → (out out' : Outlet) (shelf shelf' : Stock) → Option Ending → Type 0
 RunsAside t out out' shelf shelf' e =
     (input : Intake) → input.given < 2 ^ 64 → Runs t (moment input out shelf) (moment input out' shelf') e
 
 -- The rest of a run that reads the input, after all else was fetched. It is the same for any shelf.
-pub record RunsBehind (HasIt : Option (List ℕ) → Option Held → Outcome → Type 0) (SeesIt : Option Held → List ℕ → Outcome → Type 0) (course : Bool → Course) (i i' : Intake) (o o' : Outlet) (e : Ending) : Type 0 where
+pub record RunsBehind (HasIt : Option (List ℕ) → Option Held → Outcome → Type 0) (SeesIt : Option Held → List ℕ → Outcome → Type 0) (course : Bool → Course) (i i' : Intake) (o o' : Outlet) (e : Option Ending) : Type 0 where
   pub content : (shelf shelf' : Stock) (x : Outcome) → shelf'.held ≡ shelf.held → HasIt i.left shelf.held x → EndsAs i i' o o' shelf shelf' e x
   pub so : (shelf : Stock) (asks : Bool) → EndsSo i i' o o' shelf shelf (course asks) e
   pub seen : (shelf shelf' : Stock) → shelf'.held ≡ shelf.held → SeenAs (SeesIt shelf.held) i i' o o' shelf shelf' e

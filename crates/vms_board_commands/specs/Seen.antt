@@ -1,5 +1,5 @@
 -- What can be said of an input that is read or refused, whether or not its contents are known.
-use Rattle.std.specs.Prelude.{◌≡◌, ℕ, true, List, [], ◌∷◌}
+use Rattle.std.specs.Prelude.{◌≡◌, ℕ, true, List, [], ◌∷◌, Option}
 use Rattle.vms_io.specs.Reading.{Last, Reads}
 use Rattle.vms_io.specs.Told.{Intake, Outlet, Stock}
 use Rattle.vms_commands.specs.Courses.{is_among}
@@ -14,13 +14,13 @@ abbrev pub Sees : (List ℕ → Outcome → Type 0) → Intake → Intake → Ou
 Sees IsOutcome old new o = Reads Last old new (λ n. n ≡ o.taken) (λ input left. IsOutcome input o)
 
 -- An outcome is seen, and the command ends as it says.
-pub record Seen (IsOutcome : List ℕ → Outcome → Type 0) (i i' : Intake) (o o' : Outlet) (s s' : Stock) (ending : Ending) : Type 0 where
+pub record Seen (IsOutcome : List ℕ → Outcome → Type 0) (i i' : Intake) (o o' : Outlet) (s s' : Stock) (ending : Option Ending) : Type 0 where
   pub outcome : Outcome
   pub sees : Sees IsOutcome i i' outcome
   pub ends : EndsAs i i' o o' s s' ending outcome
 
 -- An outcome is seen if the status is 0, 1, 6 or 11: success, refusal, write fault or loss.
-abbrev pub SeenAs : (List ℕ → Outcome → Type 0) → (i i' : Intake) (o o' : Outlet) (s s' : Stock) → Ending → Type 0
+abbrev pub SeenAs : (List ℕ → Outcome → Type 0) → (i i' : Intake) (o o' : Outlet) (s s' : Stock) → Option Ending → Type 0
 SeenAs IsOutcome i i' o o' s s' ending =
     is_among (0 ∷ 1 ∷ 6 ∷ 11 ∷ []) (status_of ending) ≡ true → Seen IsOutcome i i' o o' s s' ending
 

@@ -1,5 +1,5 @@
 -- From what the listing of an input says to how `analyze` ends.
-use Rattle.std.proofs.Common.{◌≡◌, ℕ, ◌+◌, ◌≤◌, true, false, List, ◌++◌, length, length-append, Option, Some, Result, Ok, Err, IfSome, IsSomeAnd, IsErrAnd, refl, sym, subst, ap, ◌∙◌, arith}
+use Rattle.std.proofs.Common.{◌≡◌, ℕ, ◌+◌, ◌≤◌, true, false, List, ◌++◌, length, length-append, Option, Some, Result, Ok, Err, IfSome, IsSomeAnd, IsErrAnd, refl, sym, subst, ap, ◌∙◌, arith, None}
 use Rattle.std.proofs.lemmas.List.{drop_at}
 use Rattle.std.specs.Io.KnownBytes.{Keeps}
 use Rattle.std.specs.Result.{MatchResult}
@@ -34,7 +34,7 @@ use Rattle.vms_cli.specs.Analyze.{EndsLike, IsDone, IsRefused, FailsReading, Fai
 -- ---- how it ends, by the result of the call
 
 pub listed_like : (listed : Result (Unit {0}) AnalyzeFault) (work : Result (Unit {0}) Ending)
-    → MatchResult listed (λ u. work ≡ Ok u) (λ fault. IsErrAnd work (λ e. EndsLike (Err fault) e)) → EndsLike listed (ending_of work)
+    → MatchResult listed (λ u. work ≡ Ok u) (λ fault. IsErrAnd work (λ e. EndsLike (Err fault) (Some e))) → EndsLike listed (ending_of work)
 listed_like (Ok u) work is = subst (λ (w : Result (Unit {0}) Ending). EndsLike (Ok u) (ending_of w)) (sym is) (IsDone u)
 listed_like (Err fault) (Ok u) is = absurd is
 listed_like (Err fault) (Err e) is = is
@@ -100,7 +100,7 @@ module _ (i i' : Intake) (o o' : Outlet) where
       reads_as {M = λ n. n ≡ x.taken} {Q = λ input left. IsListing s.held input x} (λ n l. l ∙ sym all)
       (λ input left l. record { listing = listing; lists = l.0; is = same (length t.bytes) input l.1 refl }) r
 
-  text_seen : (s : Stock) (text : List ℕ) (e : Ending) → IsListed i i' (Text text) → WritesAs text o o' e → Seen (IsListing s.held) i i' o o' s s e
+  text_seen : (s : Stock) (text : List ℕ) (e : Option Ending) → IsListed i i' (Text text) → WritesAs text o o' e → Seen (IsListing s.held) i i' o o' s s e
   text_seen s text e p w =
       let t = listed_took p in
       let n = length t.bytes in
@@ -108,7 +108,7 @@ module _ (i i' : Intake) (o o' : Outlet) where
       (listing_sees s (Text text) t (done text s.held n) (λ k input all is. ap (λ (m : ℕ). done text s.held m) (sym (all ∙ is))) refl) w
 
   refusal_seen : (s : Stock) (at : ℕ) (reason : AnalyzeReason) (line : ArrayVec ℕ) → ListsTaken i i' (Err (faults.Refused at reason)) → line.items ≡ unlisted_line at reason
-      → Seen (IsListing s.held) i i' o o' s s (endings.Refused line)
+      → Seen (IsListing s.held) i i' o o' s s (Some (endings.Refused line))
   refusal_seen s at reason line p said =
       let t = refused_took at reason p in
       let n = length t.bytes in
@@ -116,23 +116,23 @@ module _ (i i' : Intake) (o o' : Outlet) where
       (listing_sees s (Refused at reason) t (ended 1 line.items n)
       (λ k input all is. ap (λ (l : List ℕ). ended 1 l n) said ∙ ap (λ (m : ℕ). ended 1 (unlisted_line at reason) m) (sym (all ∙ is))) refl)
 
-  pub list_seen : (r : Result (Unit {0}) AnalyzeFault) (e : Ending) → EndsLike r e → Analyzes i i' o o' r → (s : Stock) → SeenAs (IsListing s.held) i i' o o' s s e
-  list_seen _ _ (IsDone u) a s = λ among. text_seen s a.text endings.Done a.listed a.written
+  pub list_seen : (r : Result (Unit {0}) AnalyzeFault) (e : Option Ending) → EndsLike r e → Analyzes i i' o o' r → (s : Stock) → SeenAs (IsListing s.held) i i' o o' s s e
+  list_seen _ _ (IsDone u) a s = λ among. text_seen s a.text None a.listed a.written
   list_seen _ _ (IsRefused at reason line said) a s = λ among. refusal_seen s at reason line a.0 said
-  list_seen _ _ FailsReading a s = other_seen endings.ReadFault refl
-  list_seen _ _ FailsWriting a s = λ among. text_seen s a.text endings.WriteFault a.listed a.written
-  list_seen _ _ LacksMemory a s = other_seen endings.NoMemory refl
+  list_seen _ _ FailsReading a s = other_seen (Some endings.ReadFault) refl
+  list_seen _ _ FailsWriting a s = λ among. text_seen s a.text (Some endings.WriteFault) a.listed a.written
+  list_seen _ _ LacksMemory a s = other_seen (Some endings.NoMemory) refl
 
   -- the outcome of a known input
-  told_content : (s : Stock) (e : Ending) (x : Outcome) → IfSome i.left IsBytes → Seen (IsListing s.held) i i' o o' s s e → IsSomeAnd i.left (λ bytes. IsListing s.held bytes x) → EndsAs i i' o o' s s e x
+  told_content : (s : Stock) (e : Option Ending) (x : Outcome) → IfSome i.left IsBytes → Seen (IsListing s.held) i i' o o' s s e → IsSomeAnd i.left (λ bytes. IsListing s.held bytes x) → EndsAs i i' o o' s s e x
   told_content s e x octets v is = content_seen {o = o} {o' = o'} {s = s} {s' = s} {P = IsListing s.held} e x (λ bytes y ok p q. only_listing bytes s.held y x q p) octets v is
 
-  pub list_content : (r : Result (Unit {0}) AnalyzeFault) (e : Ending) → EndsLike r e → Analyzes i i' o o' r → IfSome i.left IsBytes → (s : Stock) (x : Outcome)
+  pub list_content : (r : Result (Unit {0}) AnalyzeFault) (e : Option Ending) → EndsLike r e → Analyzes i i' o o' r → IfSome i.left IsBytes → (s : Stock) (x : Outcome)
       → IsSomeAnd i.left (λ bytes. IsListing s.held bytes x) → EndsAs i i' o o' s s e x
-  list_content _ _ (IsDone u) a octets s x is = told_content s endings.Done x octets (text_seen s a.text endings.Done a.listed a.written) is
-  list_content _ _ (IsRefused at reason line said) a octets s x is = told_content s (endings.Refused line) x octets (refusal_seen s at reason line a.0 said) is
+  list_content _ _ (IsDone u) a octets s x is = told_content s None x octets (text_seen s a.text None a.listed a.written) is
+  list_content _ _ (IsRefused at reason line said) a octets s x is = told_content s (Some (endings.Refused line)) x octets (refusal_seen s at reason line a.0 said) is
   list_content _ _ FailsReading a octets s x is = comes_to_nothing o o' s s x.parts (same_keeps o o' a.1) refl
-  list_content _ _ FailsWriting a octets s x is = told_content s endings.WriteFault x octets (text_seen s a.text endings.WriteFault a.listed a.written) is
+  list_content _ _ FailsWriting a octets s x is = told_content s (Some endings.WriteFault) x octets (text_seen s a.text (Some endings.WriteFault) a.listed a.written) is
   list_content _ _ LacksMemory a octets s x is = comes_to_nothing o o' s s x.parts (same_keeps o o' a.1) refl
 
   -- ---- known or unknown
@@ -177,7 +177,7 @@ module _ (i i' : Intake) (o o' : Outlet) where
   -- ---- what it touches
 
   -- nothing of the shelf
-  so_by : (s : Stock) (e : Ending) → is_among analyze_course.statuses (status_of e) ≡ true → is_among analyze_course.takes (status_of e) ≡ true → Risen i i' o o' s s e
+  so_by : (s : Stock) (e : Option Ending) → is_among analyze_course.statuses (status_of e) ≡ true → is_among analyze_course.takes (status_of e) ≡ true → Risen i i' o o' s s e
       → (is_among analyze_course.writes (status_of e) ≡ false → Keeps o.written o'.written) → Stands → EndsSo i i' o o' s s analyze_course e
   so_by s e can takes risen out stands = record {
     can = can;
@@ -191,9 +191,9 @@ module _ (i i' : Intake) (o o' : Outlet) where
     reaches = reaches_none s;
   }
 
-  pub list_so : (r : Result (Unit {0}) AnalyzeFault) (e : Ending) → EndsLike r e → Analyzes i i' o o' r → (s : Stock) → EndsSo i i' o o' s s analyze_course e
-  list_so _ _ (IsDone u) a s = so_by s endings.Done refl refl tt (λ f. absurd (wrong f)) (list_stands (Ok u) a)
-  list_so _ _ (IsRefused at reason line said) a s = so_by s (endings.Refused line) refl refl tt (λ f. same_keeps o o' a.1) (list_stands (Err (faults.Refused at reason)) a)
-  list_so _ _ FailsReading a s = so_by s endings.ReadFault refl refl a.0.rose (λ f. same_keeps o o' a.1) (list_stands (Err faults.ReadFault) a)
-  list_so _ _ FailsWriting a s = so_by s endings.WriteFault refl refl a.written.rose (λ f. absurd (wrong f)) (list_stands (Err faults.WriteFault) a)
-  list_so _ _ LacksMemory a s = so_by s endings.NoMemory refl refl tt (λ f. same_keeps o o' a.1) (list_stands (Err faults.NoMemory) a)
+  pub list_so : (r : Result (Unit {0}) AnalyzeFault) (e : Option Ending) → EndsLike r e → Analyzes i i' o o' r → (s : Stock) → EndsSo i i' o o' s s analyze_course e
+  list_so _ _ (IsDone u) a s = so_by s None refl refl tt (λ f. absurd (wrong f)) (list_stands (Ok u) a)
+  list_so _ _ (IsRefused at reason line said) a s = so_by s (Some (endings.Refused line)) refl refl tt (λ f. same_keeps o o' a.1) (list_stands (Err (faults.Refused at reason)) a)
+  list_so _ _ FailsReading a s = so_by s (Some endings.ReadFault) refl refl a.0.rose (λ f. same_keeps o o' a.1) (list_stands (Err faults.ReadFault) a)
+  list_so _ _ FailsWriting a s = so_by s (Some endings.WriteFault) refl refl a.written.rose (λ f. absurd (wrong f)) (list_stands (Err faults.WriteFault) a)
+  list_so _ _ LacksMemory a s = so_by s (Some endings.NoMemory) refl refl tt (λ f. same_keeps o o' a.1) (list_stands (Err faults.NoMemory) a)

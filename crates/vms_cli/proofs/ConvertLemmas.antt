@@ -1,5 +1,5 @@
 -- From what the call answers to how `convert` ends.
-use Rattle.std.proofs.Common.{◌≡◌, ℕ, ◌+◌, ◌<◌, ◌≤◌, ◌^◌, Bool, false, true, List, length, Option, Some, Result, Ok, Err, IfSome, IsSomeAnd, refl, sym, ap, ◌∙◌, subst, arith}
+use Rattle.std.proofs.Common.{◌≡◌, ℕ, ◌+◌, ◌<◌, ◌≤◌, ◌^◌, Bool, false, true, List, length, Option, Some, Result, Ok, Err, IfSome, IsSomeAnd, refl, sym, ap, ◌∙◌, subst, arith, None}
 use Rattle.std.specs.Io.KnownBytes.{Keeps}
 use Rattle.std.specs.Prelude.{string_bytes}
 use Rattle.arrayvec.specs.ArrayVec.{ArrayVec}
@@ -120,7 +120,7 @@ module _ (to : Set) where
   OfSet held bytes x = Converts to bytes held x
 
   -- a stream was taken, and it was written under the set, or some of it
-  stream_seen : {i i' : Intake} {o o' : Outlet} {s s' : Stock} (images : List Image) (taken : ℕ) (machine : Option ℕ) (stream : List ℕ) (e : Ending) → s'.held ≡ s.held
+  stream_seen : {i i' : Intake} {o o' : Outlet} {s s' : Stock} (images : List Image) (taken : ℕ) (machine : Option ℕ) (stream : List ℕ) (e : Option Ending) → s'.held ≡ s.held
       → LoadReads i i' newest newest.machines images taken (Ok machine) → IsStreamFor to newest (name_of newest machine) images stream → WritesAs stream o o' e → Seen (OfSet s.held) i i' o o' s s' e
   stream_seen {i} {i'} {o} {o'} {s} images taken machine stream e same reads is w =
       seen_written {P = OfSet s.held} stream taken e same
@@ -129,7 +129,7 @@ module _ (to : Set) where
 
   loss_seen : {i i' : Intake} {o o' : Outlet} {s s' : Stock} (images : List Image) (taken : ℕ) (machine section cell : Option ℕ) (line : ArrayVec ℕ)
       → LoadReads i i' newest newest.machines images taken (Ok machine) → LosesFirst to newest (name_of newest machine) images section cell → line.items ≡ lost_line newest section cell
-      → Seen (OfSet s.held) i i' o o' s s' (endings.WouldLose line)
+      → Seen (OfSet s.held) i i' o o' s s' (Some (endings.WouldLose line))
   loss_seen {i} {i'} {o} {o'} {s} images taken machine section cell line reads is said =
       seen_lost {P = OfSet s.held} line taken
       (reads_as {M = λ n. n ≡ taken} {Q = λ input left. OfSet s.held input (ended 11 line.items taken)} (λ n l. l.0)
@@ -137,7 +137,7 @@ module _ (to : Set) where
       reads)
 
   refusal_seen : {i i' : Intake} {o o' : Outlet} {s s' : Stock} (images : List Image) (taken : ℕ) (r : Refusal) (line : ArrayVec ℕ)
-      → LoadReads i i' newest newest.machines images taken (Err (loads.Refused r)) → line.items ≡ refused_line newest r.at r.section r.reason → Seen (OfSet s.held) i i' o o' s s' (endings.Refused line)
+      → LoadReads i i' newest newest.machines images taken (Err (loads.Refused r)) → line.items ≡ refused_line newest r.at r.section r.reason → Seen (OfSet s.held) i i' o o' s s' (Some (endings.Refused line))
   refusal_seen {i} {i'} {o} {o'} {s} images taken r line reads said =
       load_seen {P = OfSet s.held} newest newest.machines images taken r line reads
       (λ input size fault. subst (λ (li : List ℕ). OfSet s.held input (ended 1 li (r.at + size))) (sym said) (Refuses r.at r.section r.reason size fault))
@@ -155,28 +155,28 @@ module _ (to : Set) (fit : IsFit to) (i i' : Intake) (o o' : Outlet) where
   unwritten (Behind compatible t) = t.converts
 
   -- the outcome of a known input
-  told_content : (s s' : Stock) (e : Ending) (x : Outcome) → Compatible to newest → IfSome i.left IsBytes → Seen (λ bytes y. Converts to bytes s.held y) i i' o o' s s' e → ConvertsBy (agrees to) i.left s.held x
+  told_content : (s s' : Stock) (e : Option Ending) (x : Outcome) → Compatible to newest → IfSome i.left IsBytes → Seen (λ bytes y. Converts to bytes s.held y) i i' o o' s s' e → ConvertsBy (agrees to) i.left s.held x
       → EndsAs i i' o o' s s' e x
   told_content s s' e x compatible ok v has =
       content_seen {o = o} {o' = o'} {s = s} {s' = s'} {P = λ bytes y. Converts to bytes s.held y} e x (λ bytes y octets p q. converts_same to fit compatible bytes s.held octets x y p q) ok v (given_set compatible s x has)
 
-  pub convert_content : (r : Result (Unit {0}) ConvertFault) (e : Ending) → EndsLike r e → Calls to newest i i' o o' r → IfSome i.left IsBytes → i.given < 2 ^ 64
+  pub convert_content : (r : Result (Unit {0}) ConvertFault) (e : Option Ending) → EndsLike r e → Calls to newest i i' o o' r → IfSome i.left IsBytes → i.given < 2 ^ 64
       → (s s' : Stock) (x : Outcome) → s'.held ≡ s.held → ConvertsBy (agrees to) i.left s.held x → EndsAs i i' o o' s s' e x
   convert_content _ _ (IsDone u) c ok few s s' x same has =
       let t = c.1 in
-      told_content s s' endings.Done x c.0 ok (stream_seen to t.images t.taken t.machine t.converts.bytes endings.Done same t.reads t.converts.is t.converts.puts) has
+      told_content s s' None x c.0 ok (stream_seen to t.images t.taken t.machine t.converts.bytes None same t.reads t.converts.is t.converts.puts) has
   convert_content _ _ (IsMismatch m line said) c ok few s s' x same has =
       let ends : x ≡ ended 4 (mismatch_line m) 0 = subst (λ (step : Step Set). ConvertsBy step i.left s.held x) (agreed_ends to m c.0) has in
       subst (λ (now : Intake). EndsWith 4 (string_bytes line) i now x) (sym c.1) (ends_with 4 (string_bytes line) i x few (ends ∙ ap (λ (l : List ℕ). ended 4 l 0) (sym said)))
   convert_content _ _ (IsRefused r line said) c ok few s s' x same has =
-      told_content s s' (endings.Refused line) x c.0 ok (refusal_seen to c.1.images c.1.taken r line c.1.reads said) has
+      told_content s s' (Some (endings.Refused line)) x c.0 ok (refusal_seen to c.1.images c.1.taken r line c.1.reads said) has
   convert_content _ _ (IsLost section cell line said) c ok few s s' x same has =
       let t = c.1 in
-      told_content s s' (endings.WouldLose line) x c.0 ok (loss_seen to t.images t.taken t.machine section cell line t.reads t.converts.0 said) has
+      told_content s s' (Some (endings.WouldLose line)) x c.0 ok (loss_seen to t.images t.taken t.machine section cell line t.reads t.converts.0 said) has
   convert_content _ _ FailsReading c ok few s s' x same has = comes_to_nothing o o' s s' x.parts (same_keeps o o' c.1.none) same
   convert_content _ _ FailsWriting c ok few s s' x same has =
       let t = c.1 in
-      told_content s s' endings.WriteFault x c.0 ok (stream_seen to t.images t.taken t.machine t.converts.bytes endings.WriteFault same t.reads t.converts.is t.converts.puts) has
+      told_content s s' (Some endings.WriteFault) x c.0 ok (stream_seen to t.images t.taken t.machine t.converts.bytes (Some endings.WriteFault) same t.reads t.converts.is t.converts.puts) has
   convert_content _ _ LacksMemory c ok few s s' x same has = comes_to_nothing o o' s s' x.parts (same_keeps o o' (unwritten c)) same
   convert_content _ _ (LacksLine m) c ok few s s' x same has = comes_to_nothing o o' s s' x.parts (same_keeps o o' c.2) same
 
@@ -208,27 +208,27 @@ module _ (to : Set) (fit : IsFit to) (i i' : Intake) (o o' : Outlet) where
   -- ---- what is seen
 
   -- of a set that is well formed, and that the newest reads
-  with_set : (s s' : Stock) (e : Ending) → Compatible to newest → Seen (λ bytes y. Converts to bytes s.held y) i i' o o' s s' e → SeenAs (ConvertsWith (agrees to) s.held) i i' o o' s s' e
+  with_set : (s s' : Stock) (e : Option Ending) → Compatible to newest → Seen (λ bytes y. Converts to bytes s.held y) i i' o o' s s' e → SeenAs (ConvertsWith (agrees to) s.held) i i' o o' s s' e
   with_set s s' e compatible v = λ among.
       subst (λ (step : Step Set). Seen (ConvertsWith step s.held) i i' o o' s s' e) (sym (agreed_gives to compatible))
       (sees_as {P = λ bytes y. Converts to bytes s.held y} {Q = ConvertsWith (Gives to) s.held} (λ bytes y p. (to, refl, (fit, compatible, p))) v)
 
-  pub convert_seen : (r : Result (Unit {0}) ConvertFault) (e : Ending) → EndsLike r e → Calls to newest i i' o o' r → (s s' : Stock) → s'.held ≡ s.held
+  pub convert_seen : (r : Result (Unit {0}) ConvertFault) (e : Option Ending) → EndsLike r e → Calls to newest i i' o o' r → (s s' : Stock) → s'.held ≡ s.held
       → SeenAs (ConvertsWith (agrees to) s.held) i i' o o' s s' e
   convert_seen _ _ (IsDone u) c s s' same =
       let t = c.1 in
-      with_set s s' endings.Done c.0 (stream_seen to t.images t.taken t.machine t.converts.bytes endings.Done same t.reads t.converts.is t.converts.puts)
-  convert_seen _ _ (IsRefused r line said) c s s' same = with_set s s' (endings.Refused line) c.0 (refusal_seen to c.1.images c.1.taken r line c.1.reads said)
+      with_set s s' None c.0 (stream_seen to t.images t.taken t.machine t.converts.bytes None same t.reads t.converts.is t.converts.puts)
+  convert_seen _ _ (IsRefused r line said) c s s' same = with_set s s' (Some (endings.Refused line)) c.0 (refusal_seen to c.1.images c.1.taken r line c.1.reads said)
   convert_seen _ _ (IsLost section cell line said) c s s' same =
       let t = c.1 in
-      with_set s s' (endings.WouldLose line) c.0 (loss_seen to t.images t.taken t.machine section cell line t.reads t.converts.0 said)
-  convert_seen _ _ (IsMismatch m line said) c s s' same = other_seen (endings.NotCompatible line) refl
-  convert_seen _ _ FailsReading c s s' same = other_seen endings.ReadFault refl
+      with_set s s' (Some (endings.WouldLose line)) c.0 (loss_seen to t.images t.taken t.machine section cell line t.reads t.converts.0 said)
+  convert_seen _ _ (IsMismatch m line said) c s s' same = other_seen (Some (endings.NotCompatible line)) refl
+  convert_seen _ _ FailsReading c s s' same = other_seen (Some endings.ReadFault) refl
   convert_seen _ _ FailsWriting c s s' same =
       let t = c.1 in
-      with_set s s' endings.WriteFault c.0 (stream_seen to t.images t.taken t.machine t.converts.bytes endings.WriteFault same t.reads t.converts.is t.converts.puts)
-  convert_seen _ _ LacksMemory c s s' same = other_seen endings.NoMemory refl
-  convert_seen _ _ (LacksLine m) c s s' same = other_seen endings.NoMemory refl
+      with_set s s' (Some endings.WriteFault) c.0 (stream_seen to t.images t.taken t.machine t.converts.bytes (Some endings.WriteFault) same t.reads t.converts.is t.converts.puts)
+  convert_seen _ _ LacksMemory c s s' same = other_seen (Some endings.NoMemory) refl
+  convert_seen _ _ (LacksLine m) c s s' same = other_seen (Some endings.NoMemory) refl
 
   -- ---- counts and promises
 
@@ -259,30 +259,30 @@ module _ (to : Set) (fit : IsFit to) (i i' : Intake) (o o' : Outlet) where
   -- ---- what it touches
 
   -- nothing of the shelf
-  so_by : (s : Stock) (asks : Bool) (e : Ending) → is_among (convert_course asks).statuses (status_of e) ≡ true → Risen i i' o o' s s e
+  so_by : (s : Stock) (asks : Bool) (e : Option Ending) → is_among (convert_course asks).statuses (status_of e) ≡ true → Risen i i' o o' s s e
       → (is_among (convert_course asks).writes (status_of e) ≡ false → Keeps o.written o'.written) → (is_among (convert_course asks).takes (status_of e) ≡ false → i' ≡ i) → Stands i i' o o'
       → EndsSo i i' o o' s s (convert_course asks) e
   so_by s asks e can risen out input stands =
       unshelved_so s (convert_course asks) e can risen out input (record { later = stands.input_count; promise = stands.input_promise }) (record { later = stands.out_count; promise = stands.out_promise })
 
-  pub convert_so : (r : Result (Unit {0}) ConvertFault) (e : Ending) → EndsLike r e → Calls to newest i i' o o' r → (s : Stock) (asks : Bool) → EndsSo i i' o o' s s (convert_course asks) e
-  convert_so _ _ (IsDone u) c s asks = so_by s asks endings.Done refl tt (λ f. absurd (wrong f)) (λ f. absurd (wrong f)) (convert_stands (Ok u) c)
+  pub convert_so : (r : Result (Unit {0}) ConvertFault) (e : Option Ending) → EndsLike r e → Calls to newest i i' o o' r → (s : Stock) (asks : Bool) → EndsSo i i' o o' s s (convert_course asks) e
+  convert_so _ _ (IsDone u) c s asks = so_by s asks None refl tt (λ f. absurd (wrong f)) (λ f. absurd (wrong f)) (convert_stands (Ok u) c)
   convert_so _ _ (IsMismatch m line said) c s asks =
-      so_by s asks (endings.NotCompatible line) refl tt (λ f. same_keeps o o' c.2) (λ f. c.1) (convert_stands (Err (faults.NotCompatible m)) c)
+      so_by s asks (Some (endings.NotCompatible line)) refl tt (λ f. same_keeps o o' c.2) (λ f. c.1) (convert_stands (Err (faults.NotCompatible m)) c)
   convert_so _ _ (IsRefused r line said) c s asks =
-      so_by s asks (endings.Refused line) refl tt (λ f. same_keeps o o' c.1.none) (λ f. absurd (wrong f)) (convert_stands (Err (faults.Refused r)) c)
+      so_by s asks (Some (endings.Refused line)) refl tt (λ f. same_keeps o o' c.1.none) (λ f. absurd (wrong f)) (convert_stands (Err (faults.Refused r)) c)
   convert_so _ _ (IsLost section cell line said) c s asks =
-      so_by s asks (endings.WouldLose line) refl tt (λ f. same_keeps o o' c.1.converts.1) (λ f. absurd (wrong f)) (convert_stands (Err (faults.WouldLose section cell)) c)
+      so_by s asks (Some (endings.WouldLose line)) refl tt (λ f. same_keeps o o' c.1.converts.1) (λ f. absurd (wrong f)) (convert_stands (Err (faults.WouldLose section cell)) c)
   convert_so _ _ FailsReading c s asks =
-      so_by s asks endings.ReadFault refl c.1.reads.cause (λ f. same_keeps o o' c.1.none) (λ f. absurd (wrong f)) (convert_stands (Err faults.ReadFault) c)
+      so_by s asks (Some endings.ReadFault) refl c.1.reads.cause (λ f. same_keeps o o' c.1.none) (λ f. absurd (wrong f)) (convert_stands (Err faults.ReadFault) c)
   convert_so _ _ FailsWriting c s asks =
-      so_by s asks endings.WriteFault refl c.1.converts.puts.rose (λ f. absurd (wrong f)) (λ f. absurd (wrong f)) (convert_stands (Err faults.WriteFault) c)
+      so_by s asks (Some endings.WriteFault) refl c.1.converts.puts.rose (λ f. absurd (wrong f)) (λ f. absurd (wrong f)) (convert_stands (Err faults.WriteFault) c)
   convert_so _ _ LacksMemory c s asks =
-      so_by s asks endings.NoMemory refl tt (λ f. same_keeps o o' (unwritten c)) (λ f. absurd (wrong f)) (convert_stands (Err faults.NoMemory) c)
+      so_by s asks (Some endings.NoMemory) refl tt (λ f. same_keeps o o' (unwritten c)) (λ f. absurd (wrong f)) (convert_stands (Err faults.NoMemory) c)
   convert_so _ _ (LacksLine m) c s asks =
-      so_by s asks endings.NoMemory refl tt (λ f. same_keeps o o' c.2) (λ f. absurd (wrong f)) (convert_stands (Err (faults.NotCompatible m)) c)
+      so_by s asks (Some endings.NoMemory) refl tt (λ f. same_keeps o o' c.2) (λ f. absurd (wrong f)) (convert_stands (Err (faults.NotCompatible m)) c)
 
-  pub converts_stream : (r : Result (Unit {0}) ConvertFault) (e : Ending) → EndsLike r e → Calls to newest i i' o o' r → IfSome i.left IsBytes → i.given < 2 ^ 64 → ConvertsStream to i i' o o' e
+  pub converts_stream : (r : Result (Unit {0}) ConvertFault) (e : Option Ending) → EndsLike r e → Calls to newest i i' o o' r → IfSome i.left IsBytes → i.given < 2 ^ 64 → ConvertsStream to i i' o o' e
   converts_stream r e like said octets counted = record {
     runs = record {
       content = convert_content r e like said octets counted;

@@ -29,7 +29,7 @@ module _ {A B T : Type 0} (m : T → A) (f : A → Step B) where
   given_next (Gives a) t b h g = subst (λ (x : A). IsGiven (f x) b) h g
   given_next (Ends status line) t b h g = absurd h
 
-  pub seen_next : (P : B → List ℕ → Outcome → Type 0) {i i' : Intake} {o o' : Outlet} {shelf shelf' : Stock} (e : Ending) (s : Step A) (t : T) → StepAs m s (Ok t)
+  pub seen_next : (P : B → List ℕ → Outcome → Type 0) {i i' : Intake} {o o' : Outlet} {shelf shelf' : Stock} (e : Option Ending) (s : Step A) (t : T) → StepAs m s (Ok t)
       → SeenAs (WithGiven (f (m t)) P) i i' o o' shelf shelf' e → SeenAs (WithGiven (next s f) P) i i' o o' shelf shelf' e
   seen_next P e s t h seen = λ among.
       sees_as {P = WithGiven (f (m t)) P} {Q = WithGiven (next s f) P} (λ bytes x p. (p.0, given_next s t p.0 h p.1, p.2)) (seen among)

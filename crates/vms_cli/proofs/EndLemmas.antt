@@ -1,5 +1,5 @@
 -- From how a call ends and why to what it answers.
-use Rattle.std.proofs.Common.{◌≡◌, ℕ, List, None, IfSome}
+use Rattle.std.proofs.Common.{◌≡◌, ℕ, List, None, IfSome, Option}
 use Rattle.vms_io.specs.Shelves.{HoldsAll}
 use Rattle.vms_io.specs.Told.{Intake, Outlet, Stock}
 use Rattle.vms_io.specs.Writing.{Serves}
@@ -19,7 +19,7 @@ use Rattle.vms_cli.proofs.VerdictLaws.{verdict_so}
 
 module _ (i i' : Intake) (o o' n n' : Outlet) (s s' : Stock) where
   -- what the call answers
-  pub answers : (words : List (List ℕ)) (e : Ending) (status : ℕ) → Runs (task_of (asked_of words)) (moment i o s) (moment i' o' s') e → (asked_of words ≡ None → o' ≡ o) → Tells n n' e status → Serves n n' → IfSome s.held HoldsAll → Answers words status (around i o n s) (around i' o' n' s')
+  pub answers : (words : List (List ℕ)) (e : Option Ending) (status : ℕ) → Runs (task_of (asked_of words)) (moment i o s) (moment i' o' s') e → (asked_of words ≡ None → o' ≡ o) → Tells n n' e status → Serves n n' → IfSome s.held HoldsAll → Answers words status (around i o n s) (around i' o' n' s')
   answers words e status run unnamed t serves octets =
       let so = run.so in
       let outcome : (x : Outcome) → HasOutcome (asked_of words) i.left s.held x → DoesOrStops status (around i o n s) (around i' o' n' s') x =

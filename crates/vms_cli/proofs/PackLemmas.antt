@@ -45,7 +45,7 @@ named set None h = refl
 named set (Some m) h = slice_get-get_or set.machines m [] (h m refl)
 
 -- a text that was read, and a write of its stream
-read_by : (set : Set) (r : ValuesRead) (v : Given) (o o' : Outlet) (e : Ending) → ReadsAs set r (Ok v)
+read_by : (set : Set) (r : ValuesRead) (v : Given) (o o' : Outlet) (e : Option Ending) → ReadsAs set r (Ok v)
     → WrittenAs (described_stream set (at_option set.machines v.machine) (map state_of v.images.items)) o o' e → TextEnds (packed_by set r) o o' e
 read_by set (Values machine images) v o o' e reads w =
     let stream : described_stream set (at_option set.machines v.machine) (map state_of v.images.items) ≡ described_stream set machine images =
@@ -56,18 +56,18 @@ read_by set (Bad line reason) v o o' e reads w = absurd reads
 
 -- a text that is refused
 bad_by : (set : Set) (r : ValuesRead) (l : ℕ) (why : ValuesReason) (line : String Global) (o o' : Outlet) → ReadsAs set r (Err (faults.Bad l why))
-    → string_bytes line ≡ values_line l why → TextEnds (packed_by set r) o o' (BadText line)
+    → string_bytes line ≡ values_line l why → TextEnds (packed_by set r) o o' (Some (BadText line))
 bad_by set (Values machine images) l why line o o' reads said = absurd reads
 bad_by set (Bad m reason) l why line o o' reads said =
     (refl, ap (λ (k : ℕ). values_line k reason) (sym reads.0) ∙ ap (λ (w : ValuesReason). values_line l w) (sym reads.1) ∙ sym said)
 
 module _ (set : Set) (text : List ℕ) (o o' : Outlet) where
-  pub packs_read : (v : Given) (e : Ending) → ReadsAs set (values_read set text) (Ok v)
+  pub packs_read : (v : Given) (e : Option Ending) → ReadsAs set (values_read set text) (Ok v)
       → WrittenAs (described_stream set (at_option set.machines v.machine) (map state_of v.images.items)) o o' e → TextEnds (packed set text) o o' e
   packs_read v e reads w = read_by set (values_read set text) v o o' e reads w
 
   pub packs_bad : (l : ℕ) (why : ValuesReason) (line : String Global) → ReadsAs set (values_read set text) (Err (faults.Bad l why))
-      → string_bytes line ≡ values_line l why → TextEnds (packed set text) o o' (BadText line)
+      → string_bytes line ≡ values_line l why → TextEnds (packed set text) o o' (Some (BadText line))
   packs_bad l why line reads said = bad_by set (values_read set text) l why line o o' reads said
 
 -- ---- what the words name

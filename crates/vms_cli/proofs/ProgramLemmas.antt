@@ -1,5 +1,5 @@
 -- The flush of the program's texts.
-use Rattle.std.proofs.Common.{◌≡◌, ℕ, List, length, Option, None, sym, subst, take_all, le_refl, inl, inr}
+use Rattle.std.proofs.Common.{◌≡◌, ℕ, List, length, Option, None, sym, subst, take_all, le_refl, inl, inr, Some}
 use Rattle.std.specs.Io.KnownBytes.{Appends, Keeps}
 use Rattle.vms_io.specs.Causes.{AppendsPrefix}
 use Rattle.vms_commands.specs.Endings.{Tells}
@@ -16,6 +16,6 @@ appends_front old new line h = (length line, le_refl (length line), subst (λ (l
 
 -- what standard error has if standard output failed at the flush
 pub told_late : (old new : Option (List ℕ)) (faults faults' status : ℕ)
-    → Tells (record { written = old; faults = faults; promise = None }) (record { written = new; faults = faults'; promise = None }) endings.WriteFault status → AppendsPrefix old new write_fault
+    → Tells (record { written = old; faults = faults; promise = None }) (record { written = new; faults = faults'; promise = None }) (Some endings.WriteFault) status → AppendsPrefix old new write_fault
 told_late old new faults faults' status (inl told) = appends_front old new write_fault told.1
 told_late old new faults faults' status (inr told) = told.2

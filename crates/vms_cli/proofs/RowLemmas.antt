@@ -1,11 +1,11 @@
 -- From how a command ends and why to its row.
-use Rattle.std.proofs.Common.{◌≡◌, ◌⊎◌, ℕ, Bool, true, false, List, [], ◌∷◌, Option, None, inl, inr, refl, sym, ap, ◌∙◌, subst, arith}
+use Rattle.std.proofs.Common.{◌≡◌, ◌⊎◌, ℕ, Bool, true, false, List, [], ◌∷◌, Option, None, inl, inr, refl, sym, ap, ◌∙◌, subst, arith, Some}
 use Rattle.std.specs.Io.KnownBytes.{Appends, Keeps}
 use Rattle.vms_io.specs.Causes.{Rose}
 use Rattle.vms_io.specs.Told.{Intake, Outlet, Stock}
 use Rattle.vms_board_commands.specs.Seen.{SeenAs}
 use Rattle.vms_commands.specs.declared.ending.Ending.{Ending}
-use Rattle.vms_commands.specs.declared.ending.Ending.TheVariants.{Done, BadWords, ReadFault, WriteFault, ShelfFault, NoMemory}
+use Rattle.vms_commands.specs.declared.ending.Ending.TheVariants.{BadWords, ReadFault, WriteFault, ShelfFault, NoMemory}
 use Rattle.vms_commands.specs.Courses.{EndsSo, is_among}
 use Rattle.vms_commands.specs.Endings.{Caused, Tells, line_of, status_of}
 use Rattle.vms_commands.specs.Outcomes.{Does, DoesOrStops, Outcome, Outside}
@@ -52,11 +52,11 @@ module _ (i i' : Intake) (o o' n n' : Outlet) (s s' : Stock) where
   -- ---- how the line of an ending is written
 
   -- its status and its line, or 6 where notes failed
-  abbrev Told : Ending → ℕ → Type 0
+  abbrev Told : Option Ending → ℕ → Type 0
   Told e status = ((status ≡ status_of e) × Appends n.written n'.written (line_of e)) ⊎ ((status ≡ 6) × Rose n.faults n'.faults)
 
-  told : (e : Ending) (status : ℕ) → Tells n n' e status → Told e status
-  told Done status t = inl (t.0, kept_none n.written n'.written (same_keeps n n' t.1))
+  told : (e : Option Ending) (status : ℕ) → Tells n n' e status → Told e status
+  told None status t = inl (t.0, kept_none n.written n'.written (same_keeps n n' t.1))
   told e status (inl t) = inl t
   told e status (inr t) = inr (t.0, t.1)
 
@@ -104,24 +104,24 @@ module _ (i i' : Intake) (o o' n n' : Outlet) (s s' : Stock) where
     memory = λ e. same_why why Memory (sym is ∙ e) h;
   }
 
-  has_cause : (asked : Option Asked) (e : Ending) (status : ℕ) → EndsSo i i' o o' s s' (course_of asked) e → Tells n n' e status → HasCause status old new
-  has_cause asked Done status h t = why_cause Well status t.0 t.1
-  has_cause asked BadWords status h (inl t) = why_cause Words status t.0 t.1
-  has_cause asked ReadFault status h (inl t) = why_cause Input status t.0 (h.risen, t.1)
-  has_cause asked WriteFault status h (inl t) = why_cause Sink status t.0 (inl (h.risen, t.1))
-  has_cause asked ShelfFault status h (inl t) = why_cause Shelf status t.0 (h.risen, t.1)
-  has_cause asked NoMemory status h (inl t) = why_cause Memory status t.0 t.1
+  has_cause : (asked : Option Asked) (e : Option Ending) (status : ℕ) → EndsSo i i' o o' s s' (course_of asked) e → Tells n n' e status → HasCause status old new
+  has_cause asked None status h t = why_cause Well status t.0 t.1
+  has_cause asked (Some BadWords) status h (inl t) = why_cause Words status t.0 t.1
+  has_cause asked (Some ReadFault) status h (inl t) = why_cause Input status t.0 (h.risen, t.1)
+  has_cause asked (Some WriteFault) status h (inl t) = why_cause Sink status t.0 (inl (h.risen, t.1))
+  has_cause asked (Some ShelfFault) status h (inl t) = why_cause Shelf status t.0 (h.risen, t.1)
+  has_cause asked (Some NoMemory) status h (inl t) = why_cause Memory status t.0 t.1
   has_cause asked e status h (inl t) = own_cause (status_of e) status t.0 refl
   has_cause asked e status h (inr t) = why_cause Sink status t.0 (inr t.1)
 
   -- ---- what is touched
 
   -- what holds at the status of an ending, but at those of a list, holds at the status that was answered
-  but_at : (l : List ℕ) → HasSix l → (e : Ending) (status : ℕ) → Told e status → (P : Type 0) → (is_among l (status_of e) ≡ false → P) → is_among l status ≡ false → P
+  but_at : (l : List ℕ) → HasSix l → (e : Option Ending) (status : ℕ) → Told e status → (P : Type 0) → (is_among l (status_of e) ≡ false → P) → is_among l status ≡ false → P
   but_at l six e status (inl t) P h none = h (subst (λ (k : ℕ). is_among l k ≡ false) t.0 none)
   but_at l six e status (inr t) P h none = at_six l six (status_of e) status t.0 P h none
 
-  can_be : (asked : Option Asked) (e : Ending) (status : ℕ) → Told e status → is_among (statuses_of asked) (status_of e) ≡ true → is_among (statuses_of asked) status ≡ true
+  can_be : (asked : Option Asked) (e : Option Ending) (status : ℕ) → Told e status → is_among (statuses_of asked) (status_of e) ≡ true → is_among (statuses_of asked) status ≡ true
   can_be asked e status (inl t) h = subst (λ (k : ℕ). is_among (statuses_of asked) k ≡ true) (sym t.0) h
   can_be asked e status (inr t) h = subst (λ (k : ℕ). is_among (statuses_of asked) k ≡ true) (sym t.0) (six_among asked)
 
@@ -141,7 +141,7 @@ module _ (i i' : Intake) (o o' n n' : Outlet) (s s' : Stock) where
   beyond k status is other which =
       absurd (wrong (sym (seen_among status which (0 ∷ 1 ∷ 11 ∷ []) refl refl refl) ∙ ap (is_among (0 ∷ 1 ∷ 11 ∷ [])) is ∙ other))
 
-  ended_among : (e : Ending) (status : ℕ) → Told e status → IsSeen status → is_among (0 ∷ 1 ∷ 6 ∷ 11 ∷ []) (status_of e) ≡ true
+  ended_among : (e : Option Ending) (status : ℕ) → Told e status → IsSeen status → is_among (0 ∷ 1 ∷ 6 ∷ 11 ∷ []) (status_of e) ≡ true
   ended_among e status (inl t) which = ap (is_among (0 ∷ 1 ∷ 6 ∷ 11 ∷ [])) (sym t.0) ∙ seen_among status which (0 ∷ 1 ∷ 6 ∷ 11 ∷ []) refl refl refl
   ended_among e status (inr t) which = beyond 6 status t.0 refl which
 
@@ -156,7 +156,7 @@ module _ (i i' : Intake) (o o' n n' : Outlet) (s s' : Stock) where
       by (inr (inr (inr (inl shelf)))) = beyond 7 status shelf.0 refl which
       by (inr (inr (inr (inr memory)))) = beyond 10 status memory.0 refl which
 
-  seen_so : (P : List ℕ → Outcome → Type 0) (e : Ending) (status : ℕ) → SeenAs P i i' o o' s s' e → Caused i i' o o' s s' e → Tells n n' e status → IsSeen status → DoesSeen P status old new
+  seen_so : (P : List ℕ → Outcome → Type 0) (e : Option Ending) (status : ℕ) → SeenAs P i i' o o' s s' e → Caused i i' o o' s s' e → Tells n n' e status → IsSeen status → DoesSeen P status old new
   seen_so P e status seen cause t which =
       let v = seen (ended_among e status (told e status t) which) in
       record {
@@ -165,9 +165,9 @@ module _ (i i' : Intake) (o o' n n' : Outlet) (s s' : Stock) where
         does = does_so status v.outcome (outcome_so i i' o o' n n' s s' e status v.outcome v.ends cause t) which;
       }
 
-  stopped_so : (P : List ℕ → Outcome → Type 0) (e : Ending) (status : ℕ) → SeenAs P i i' o o' s s' e → Caused i i' o o' s s' e → Tells n n' e status → status ≡ 6
+  stopped_so : (P : List ℕ → Outcome → Type 0) (e : Option Ending) (status : ℕ) → SeenAs P i i' o o' s s' e → Caused i i' o o' s s' e → Tells n n' e status → status ≡ 6
       → ComesSeen P status old new ⊎ Rose old.notes.faults new.notes.faults
-  stopped_so P Done status seen cause t six = absurd (omega (arith, t.0, six))
+  stopped_so P None status seen cause t six = absurd (omega (arith, t.0, six))
   stopped_so P e status seen cause (inr t) six = inr t.1
   stopped_so P e status seen cause (inl t) six =
       let v = seen (ap (is_among (0 ∷ 1 ∷ 6 ∷ 11 ∷ [])) (sym t.0 ∙ six)) in
@@ -179,7 +179,7 @@ module _ (i i' : Intake) (o o' n n' : Outlet) (s s' : Stock) where
 
   -- ---- the row
 
-  pub row_so : (asked : Option Asked) (e : Ending) (status : ℕ) → Runs (task_of asked) (moment i o s) (moment i' o' s') e → (asked ≡ None → o' ≡ o) → Tells n n' e status → CanAnswer asked status old new
+  pub row_so : (asked : Option Asked) (e : Option Ending) (status : ℕ) → Runs (task_of asked) (moment i o s) (moment i' o' s') e → (asked ≡ None → o' ≡ o) → Tells n n' e status → CanAnswer asked status old new
   row_so asked e status c unnamed t =
       let h = c.so in
       let said = told e status t in

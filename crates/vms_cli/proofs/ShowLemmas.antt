@@ -89,7 +89,7 @@ module _ (set : Set) where
   OfSet held bytes x = Shows set bytes held x
 
   -- a stream was taken, and its text was written, or some of it
-  pub text_seen : {i i' : Intake} {o o' : Outlet} {s s' : Stock} (images : List Image) (taken : ℕ) (machine : Option ℕ) (e : Ending) → s'.held ≡ s.held
+  pub text_seen : {i i' : Intake} {o o' : Outlet} {s s' : Stock} (images : List Image) (taken : ℕ) (machine : Option ℕ) (e : Option Ending) → s'.held ≡ s.held
       → LoadReads i i' set (accepted_of set None) images taken (Ok machine) → WritesAs (values_text set (machine_of set machine) images) o o' e → Seen (OfSet s.held) i i' o o' s s' e
   text_seen {i} {i'} {o} {o'} {s} images taken machine e held reads w =
       let name = machine_of set machine in
@@ -100,13 +100,13 @@ module _ (set : Set) where
       reads) w
 
   pub refusal_seen : {i i' : Intake} {o o' : Outlet} {s s' : Stock} (images : List Image) (taken : ℕ) (r : Refusal) (line : ArrayVec ℕ)
-      → LoadReads i i' set (accepted_of set None) images taken (Err (faults.Refused r)) → line.items ≡ refused_line set r.at r.section r.reason → Seen (OfSet s.held) i i' o o' s s' (Refused line)
+      → LoadReads i i' set (accepted_of set None) images taken (Err (faults.Refused r)) → line.items ≡ refused_line set r.at r.section r.reason → Seen (OfSet s.held) i i' o o' s s' (Some (Refused line))
   refusal_seen {i} {i'} {o} {o'} {s} images taken r line reads said =
       load_seen {P = OfSet s.held} set (accepted_of set None) images taken r line reads
       (λ input size fault. subst (λ (l : List ℕ). OfSet s.held input (ended 1 l (r.at + size))) (sym said) (Refuses r.at r.section r.reason size fault))
 
   -- under a set that is well formed
-  pub well_seen : {i i' : Intake} {o o' : Outlet} {s s' : Stock} {e : Ending} → IsFit set → Seen (OfSet s.held) i i' o o' s s' e → Seen (ShowsWell s.held set) i i' o o' s s' e
+  pub well_seen : {i i' : Intake} {o o' : Outlet} {s s' : Stock} {e : Option Ending} → IsFit set → Seen (OfSet s.held) i i' o o' s s' e → Seen (ShowsWell s.held set) i i' o o' s s' e
   well_seen {i} {i'} {o} {o'} {s} fit v = sees_as {P = OfSet s.held} {Q = ShowsWell s.held set} (λ bytes x shows. (fit.well, shows)) v
 
 -- ---- what is printed

@@ -1,5 +1,5 @@
 -- Two steps, one after the other: what is said of the first that ends the command, or of what both give.
-use Rattle.std.proofs.Common.{◌≡◌, ℕ, ◌<◌, ◌^◌, Bool, List, Ok, Err}
+use Rattle.std.proofs.Common.{◌≡◌, ℕ, ◌<◌, ◌^◌, Bool, List, Ok, Err, Option, Some}
 use Rattle.vms_io.specs.Shelving.{Looks}
 use Rattle.vms_io.specs.Told.{Intake, Outlet, Stock}
 use Rattle.vms_commands.specs.declared.ending.Ending.{Ending}
@@ -33,9 +33,9 @@ module _ {A T U : Type 0} (m : T → A) (n : U → Both A) where
 
 module _ {A T : Type 0} (m : T → A) (f : A → Step (List ℕ)) (step : Step A) (i : Intake) (o : Outlet) (s s' : Stock) (few : i.given < 2 ^ 64) (looks : Looks s s') (x : Outcome) (has : HasText s.held (next step f) x) where
   -- where it gave something
-  pub had_text : (o' : Outlet) (t : T) (e : Ending) (asks compares : Bool) → StepAs m step (Ok t) → WritesBy asks compares o o' e → TextEnds (f (m t)) o o' e → EndsAs i i o o' s s' e x
+  pub had_text : (o' : Outlet) (t : T) (e : Option Ending) (asks compares : Bool) → StepAs m step (Ok t) → WritesBy asks compares o o' e → TextEnds (f (m t)) o o' e → EndsAs i i o o' s s' e x
   had_text o' t e asks compares h w k = text_ends (next step f) i o o' s s' e x few looks.held (write_quiet asks compares o o' e w.cause) (then_text m f o o' e step t h k) has
 
   -- where it ended the command
-  pub lacks_text : (e : Ending) → StepAs {A = A} {T = T} m step (Err e) → EndsAs i i o o s s' e x
-  lacks_text e h = text_ends (next step f) i o o s s' e x few looks.held (quiet_same o e) (err_text m f o o e step h) has
+  pub lacks_text : (e : Ending) → StepAs {A = A} {T = T} m step (Err e) → EndsAs i i o o s s' (Some e) x
+  lacks_text e h = text_ends (next step f) i o o s s' (Some e) x few looks.held (quiet_same o (Some e)) (err_text m f o o e step h) has

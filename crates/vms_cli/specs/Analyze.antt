@@ -1,5 +1,5 @@
 -- The command `analyze`: its outcome, and how it ends.
-use Rattle.std.specs.Prelude.{◌≡◌, ℕ, ◌+◌, ◌≤◌, min, List, [], ◌∷◌, ◌++◌, length, Option, Result, Ok, Err, codes}
+use Rattle.std.specs.Prelude.{◌≡◌, ℕ, ◌+◌, ◌≤◌, min, List, [], ◌∷◌, ◌++◌, length, Option, Result, Ok, Err, codes, Some, None}
 use Rattle.std.specs.Fmt.{decimal}
 use Rattle.arrayvec.specs.ArrayVec.{ArrayVec}
 use Rattle.vms_io.specs.Shelves.{Held}
@@ -42,13 +42,13 @@ pub record IsListing (held : Option Held) (input : List ℕ) (o : Outcome) : Typ
 -- ---- how it ends, and why, also where the contents are unknown
 
 -- The ending of each answer of the call.
-pub data EndsLike : Result (Unit {0}) AnalyzeFault → Ending → Type 0 where
-  IsDone : (u : Unit {0}) → EndsLike (Ok u) endings.Done
+pub data EndsLike : Result (Unit {0}) AnalyzeFault → Option Ending → Type 0 where
+  IsDone : (u : Unit {0}) → EndsLike (Ok u) None
   IsRefused : (at : ℕ) (reason : AnalyzeReason) (line : ArrayVec ℕ) → line.items ≡ unlisted_line at reason
-      → EndsLike (Err (faults.Refused at reason)) (endings.Refused line)
-  FailsReading : EndsLike (Err faults.ReadFault) endings.ReadFault
-  FailsWriting : EndsLike (Err faults.WriteFault) endings.WriteFault
-  LacksMemory : EndsLike (Err faults.NoMemory) endings.NoMemory
+      → EndsLike (Err (faults.Refused at reason)) (Some (endings.Refused line))
+  FailsReading : EndsLike (Err faults.ReadFault) (Some endings.ReadFault)
+  FailsWriting : EndsLike (Err faults.WriteFault) (Some endings.WriteFault)
+  LacksMemory : EndsLike (Err faults.NoMemory) (Some endings.NoMemory)
 
 -- The number of bytes that are read is within the limit.
 abbrev pub GivesListed : (before now : ℕ) → Type 0

@@ -113,21 +113,21 @@ NamesCell (Err (faults.WouldLose section cell)) = IsInNewest section cell
 NamesCell answer = Unit {0}
 
 -- The ending for each result of the call.
-pub data EndsLike : Result (Unit {0}) ConvertFault → Ending → Type 0 where
-  IsDone : (u : Unit {0}) → EndsLike (Ok u) endings.Done
+pub data EndsLike : Result (Unit {0}) ConvertFault → Option Ending → Type 0 where
+  IsDone : (u : Unit {0}) → EndsLike (Ok u) None
   IsMismatch : (mismatch : Mismatch) (line : String Global) → string_bytes line ≡ mismatch_line mismatch
-      → EndsLike (Err (faults.NotCompatible mismatch)) (endings.NotCompatible line)
+      → EndsLike (Err (faults.NotCompatible mismatch)) (Some (endings.NotCompatible line))
   IsRefused : (r : Refusal) (line : ArrayVec ℕ) → line.items ≡ refused_line newest r.at r.section r.reason
-      → EndsLike (Err (faults.Refused r)) (endings.Refused line)
+      → EndsLike (Err (faults.Refused r)) (Some (endings.Refused line))
   IsLost : (section cell : Option ℕ) (line : ArrayVec ℕ) → line.items ≡ lost_line newest section cell
-      → EndsLike (Err (faults.WouldLose section cell)) (endings.WouldLose line)
-  FailsReading : EndsLike (Err faults.ReadFault) endings.ReadFault
-  FailsWriting : EndsLike (Err faults.WriteFault) endings.WriteFault
-  LacksMemory : EndsLike (Err faults.NoMemory) endings.NoMemory
+      → EndsLike (Err (faults.WouldLose section cell)) (Some (endings.WouldLose line))
+  FailsReading : EndsLike (Err faults.ReadFault) (Some endings.ReadFault)
+  FailsWriting : EndsLike (Err faults.WriteFault) (Some endings.WriteFault)
+  LacksMemory : EndsLike (Err faults.NoMemory) (Some endings.NoMemory)
   -- the sets are compared before the input is read, and only their line needs memory
-  LacksLine : (mismatch : Mismatch) → EndsLike (Err (faults.NotCompatible mismatch)) endings.NoMemory
+  LacksLine : (mismatch : Mismatch) → EndsLike (Err (faults.NotCompatible mismatch)) (Some endings.NoMemory)
 
 -- What the command guarantees once the set is known.
-pub record ConvertsStream (to : Set) (i i' : Intake) (o o' : Outlet) (e : Ending) : Type 0 where
+pub record ConvertsStream (to : Set) (i i' : Intake) (o o' : Outlet) (e : Option Ending) : Type 0 where
   pub runs : RunsBehind (ConvertsBy (agrees to)) (ConvertsWith (agrees to)) convert_course i i' o o' e
   pub given : ConvertGives (agrees to) i i'

@@ -47,6 +47,6 @@ abbrev pub ShowsWith : Step Set → Option Held → List ℕ → Outcome → Typ
 ShowsWith step held = WithGiven step (ShowsWell held)
 
 -- What the command guarantees once the set is known.
-pub record ShowsStream (set : Set) (i i' : Intake) (o o' : Outlet) (e : Ending) : Type 0 where
+pub record ShowsStream (set : Set) (i i' : Intake) (o o' : Outlet) (e : Option Ending) : Type 0 where
   pub runs : RunsBehind (λ left held x. IsSomeAnd left (λ bytes. Shows set bytes held x)) (λ held. ShowsWell held set) stream_course i i' o o' e
   pub given : i'.given ≤ i.given + most_given set

@@ -32,7 +32,7 @@ pub(crate) fn analyze_input<I: Source, O: Sink>(
 
 // Returns the ending for a fault.
 fn fault_ending(fault: AnalyzeFault) -> Ending
-    ensures { EndsLike (Err fault) result }
+    ensures { EndsLike (Err fault) (Some result) }
 {
     match fault {
         AnalyzeFault::Refused { at, reason } => Ending::Refused(unlisted_line(at, reason)),

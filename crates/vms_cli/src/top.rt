@@ -1,5 +1,5 @@
 // The top call.
-ghost use Rattle.std.specs.Prelude.{◌≡◌, None};
+ghost use Rattle.std.specs.Prelude.{◌≡◌, None, Some};
 ghost use Rattle.vms_io.specs.Told.{intake, outlet, stock};
 ghost use Rattle.vms_io.specs.Writing.{Serves};
 ghost use Rattle.vms_commands.specs.Endings.{Tells, ending_of};
@@ -66,20 +66,18 @@ pub fn vmstate<I: Source, O: Sink, N: Sink, H: Shelf>(
           shelf = stock H.Shelf shelf.new;
         }) }
 {
-    let ending = Ending::of(run(alloc, words, input, out, shelf));
-    tell(notes, &ending)
+    match run(alloc, words, input, out, shelf) {
+        Ok(()) => 0,
+        Err(ending) => tell(notes, &ending),
+    }
 }
 
 /// Writes the line of `ending` to `notes` and returns its status, or 6 if `notes` fails.
-///
-/// If the command succeeded, nothing is written.
 pub fn tell<N: Sink>(notes: &mut N, ending: &Ending) -> u8
-    ensures tells { Tells (outlet N.Sink notes.old) (outlet N.Sink notes.new) ending.now result }
+    ensures tells { Tells (outlet N.Sink notes.old) (outlet N.Sink notes.new) (Some ending.now)
+        result }
     ensures serves { Serves (outlet N.Sink notes.old) (outlet N.Sink notes.new) }
 {
-    if let Ending::Done = ending {
-        return 0;
-    }
     match write_all_of(notes, ending.line()) {
         Ok(()) => ending.status(),
         Err(_) => Ending::WriteFault.status(),

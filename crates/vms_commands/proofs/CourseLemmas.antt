@@ -1,5 +1,5 @@
 -- How a command ends, by its steps.
-use Rattle.std.proofs.Common.{◌≡◌, ℕ, Bool, true, false, List, [], ◌∷◌, refl, ◌∙◌, arith}
+use Rattle.std.proofs.Common.{◌≡◌, ℕ, Bool, true, false, List, [], ◌∷◌, refl, ◌∙◌, arith, Option, Some, None}
 use Rattle.std.specs.Io.KnownBytes.{Keeps}
 use Rattle.std.proofs.KnownBytes.{Keeps-refl}
 use Rattle.vms_io.specs.Reading.{Takes}
@@ -13,7 +13,7 @@ use Rattle.vms_commands.specs.Endings.{Quiet, WritesAs, status_of}
 use Rattle.vms_commands.specs.StepEndings.{TextEnds}
 use Rattle.vms_commands.specs.Steps.{Gives}
 use Rattle.vms_commands.specs.declared.ending.Ending.{Ending}
-use Rattle.vms_commands.specs.declared.ending.Ending.TheVariants.{Done, ReadFault, WriteFault, ShelfFault}
+use Rattle.vms_commands.specs.declared.ending.Ending.TheVariants.{ReadFault, WriteFault, ShelfFault}
 use Rattle.vms_io.proofs.WritingLemmas.{stops_prefix}
 
 pub wrong : true ≡ false → ⊥
@@ -26,7 +26,7 @@ pub draws_took : {i i' : Intake} {bytes : List ℕ} → Takes i i' bytes → Dra
 draws_took t = record { later = t.later; promise = t.promise }
 
 -- the shelf wasn't touched
-pub unshelved_so : {i i' : Intake} {o o' : Outlet} (s : Stock) (course : Course) (e : Ending) → is_among course.statuses (status_of e) ≡ true → Risen i i' o o' s s e → (is_among course.writes (status_of e) ≡ false → Keeps o.written o'.written)
+pub unshelved_so : {i i' : Intake} {o o' : Outlet} (s : Stock) (course : Course) (e : Option Ending) → is_among course.statuses (status_of e) ≡ true → Risen i i' o o' s s e → (is_among course.writes (status_of e) ≡ false → Keeps o.written o'.written)
     → (is_among course.takes (status_of e) ≡ false → i' ≡ i) → Draws i i' → Serves o o' → EndsSo i i' o o' s s course e
 unshelved_so s course e can risen out input draws serves = record {
   can = can;
@@ -41,12 +41,12 @@ unshelved_so s course e can risen out input draws serves = record {
 }
 
 -- nothing was touched
-pub same_so : (i : Intake) (o : Outlet) (s : Stock) (course : Course) (e : Ending) → is_among course.statuses (status_of e) ≡ true → Risen i i o o s s e → EndsSo i i o o s s course e
+pub same_so : (i : Intake) (o : Outlet) (s : Stock) (course : Course) (e : Option Ending) → is_among course.statuses (status_of e) ≡ true → Risen i i o o s s e → EndsSo i i o o s s course e
 same_so i o s course e can risen =
     unshelved_so s course e can risen (λ f. Keeps-refl o.written) (λ f. refl) (draws_none i) (serves_none o)
 
 -- the shelf was only read
-pub looked_so : (i : Intake) (o : Outlet) {s s' : Stock} (course : Course) (e : Ending) → Looks s s' → (course.asks ≡ false → s' ≡ s) → is_among course.statuses (status_of e) ≡ true → Risen i i o o s s' e → EndsSo i i o o s s' course e
+pub looked_so : (i : Intake) (o : Outlet) {s s' : Stock} (course : Course) (e : Option Ending) → Looks s s' → (course.asks ≡ false → s' ≡ s) → is_among course.statuses (status_of e) ≡ true → Risen i i o o s s' e → EndsSo i i o o s s' course e
 looked_so i o course e looks same can risen = record {
   can = can;
   risen = risen;
@@ -60,17 +60,17 @@ looked_so i o course e looks same can risen = record {
 }
 
 -- the shelf was used before
-risen_since : (i i' : Intake) (o o' : Outlet) (a s s' : Stock) (e : Ending) → Looks a s → Risen i i' o o' s s' e → Risen i i' o o' a s' e
-risen_since i i' o o' a s s' ReadFault p h = h
-risen_since i i' o o' a s s' WriteFault p h = h
-risen_since i i' o o' a s s' ShelfFault p h = omega (arith, p.later, h)
+risen_since : (i i' : Intake) (o o' : Outlet) (a s s' : Stock) (e : Option Ending) → Looks a s → Risen i i' o o' s s' e → Risen i i' o o' a s' e
+risen_since i i' o o' a s s' (Some ReadFault) p h = h
+risen_since i i' o o' a s s' (Some WriteFault) p h = h
+risen_since i i' o o' a s s' (Some ShelfFault) p h = omega (arith, p.later, h)
 risen_since i i' o o' a s s' e p h = tt
 
 pub asked : (b : Bool) → b ≡ true → b ≡ false → ⊥
 asked true is f = wrong f
 asked false is f = cc
 
-pub so_since : {i i' : Intake} {o o' : Outlet} {a s s' : Stock} {course : Course} (e : Ending) → course.asks ≡ true → Looks a s → EndsSo i i' o o' s s' course e → EndsSo i i' o o' a s' course e
+pub so_since : {i i' : Intake} {o o' : Outlet} {a s s' : Stock} {course : Course} (e : Option Ending) → course.asks ≡ true → Looks a s → EndsSo i i' o o' s s' course e → EndsSo i i' o o' a s' course e
 so_since {i} {i'} {o} {o'} {a} {s} {s'} {course} e asks p g = record {
   can = g.can;
   risen = risen_since i i' o o' a s s' e p g.risen;
@@ -84,19 +84,19 @@ so_since {i} {i'} {o} {o'} {a} {s} {s'} {course} e asks p g = record {
 }
 
 -- a text was written
-pub writes_serve : (text : List ℕ) (o o' : Outlet) (e : Ending) → WritesAs text o o' e → Serves o o'
-writes_serve text o o' Done w = record { later = w.later; promise = w.promise }
-writes_serve text o o' WriteFault w = record { later = w.puts.later; promise = w.puts.promise }
+pub writes_serve : (text : List ℕ) (o o' : Outlet) (e : Option Ending) → WritesAs text o o' e → Serves o o'
+writes_serve text o o' None w = record { later = w.later; promise = w.promise }
+writes_serve text o o' (Some WriteFault) w = record { later = w.puts.later; promise = w.puts.promise }
 writes_serve text o o' e w = absurd w
 
-pub writes_end : (text : List ℕ) (o o' : Outlet) (e : Ending) → WritesAs text o o' e → TextEnds (Gives text) o o' e
-writes_end text o o' Done w = w.told
-writes_end text o o' WriteFault w = stops_prefix w
+pub writes_end : (text : List ℕ) (o o' : Outlet) (e : Option Ending) → WritesAs text o o' e → TextEnds (Gives text) o o' e
+writes_end text o o' None w = w.told
+writes_end text o o' (Some WriteFault) w = stops_prefix w
 writes_end text o o' e w = absurd w
 
 -- standard output is unchanged unless the command succeeded or it failed
-pub so_quiet : {i i' : Intake} {o o' : Outlet} {s s' : Stock} {statuses takes stores : List ℕ} {asks : Bool} (e : Ending)
+pub so_quiet : {i i' : Intake} {o o' : Outlet} {s s' : Stock} {statuses takes stores : List ℕ} {asks : Bool} (e : Option Ending)
     → EndsSo i i' o o' s s' (record { statuses = statuses; writes = 0 ∷ 6 ∷ []; takes = takes; stores = stores; asks = asks }) e → Quiet o o' e
-so_quiet Done g = tt
-so_quiet WriteFault g = tt
+so_quiet None g = tt
+so_quiet (Some WriteFault) g = tt
 so_quiet e g = g.out refl

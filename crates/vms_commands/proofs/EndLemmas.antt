@@ -7,7 +7,7 @@ use Rattle.vms_io.specs.Causes.{AppendsPrefix, Rose, capped}
 use Rattle.vms_io.specs.Reading.{Takes}
 use Rattle.vms_io.specs.Told.{Intake, Outlet, Stock}
 use Rattle.vms_commands.specs.declared.ending.Ending.{Ending}
-use Rattle.vms_commands.specs.declared.ending.Ending.TheVariants.{Done, Refused, BadWords, BadText, NotCompatible, ReadFault, WriteFault, ShelfFault, NotThere, TooLarge, NoMemory, WouldLose}
+use Rattle.vms_commands.specs.declared.ending.Ending.TheVariants.{Refused, BadWords, BadText, NotCompatible, ReadFault, WriteFault, ShelfFault, NotThere, TooLarge, NoMemory, WouldLose}
 use Rattle.vms_commands.specs.Endings.{Caused, EndsAs, EndsWith, Quiet, Tells, WritesAs}
 use Rattle.vms_commands.specs.Lines.{bad_words}
 use Rattle.vms_commands.specs.Outcomes.{Part, Outcome, Outside, ComesTo, ComesToFault, FailsToStore, TellsShelfFault, DoesOrStops, TakesBytes, done, ended, text_of, held_after}
@@ -26,9 +26,9 @@ pub comes_to_nothing : (o o' : Outlet) (s s' : Stock) (parts : List Part) → Ke
 comes_to_nothing o o' s s' parts keeps held = record { begun = 0; bytes = 0; text = kept_none o.written o'.written keeps; held = held }
 
 -- what is as it was is quiet
-pub quiet_same : (o : Outlet) (e : Ending) → Quiet o o e
-quiet_same o Done = tt
-quiet_same o WriteFault = tt
+pub quiet_same : (o : Outlet) (e : Option Ending) → Quiet o o e
+quiet_same o None = tt
+quiet_same o (Some WriteFault) = tt
 quiet_same o e = Keeps-refl o.written
 
 -- nothing is taken of an input
@@ -60,16 +60,16 @@ ends_with k line i x few is = record {
 }
 
 -- a text was written, or a prefix of it, while the shelf stayed
-pub text_written : (text : List ℕ) (i i' : Intake) (o o' : Outlet) (s s' : Stock) (taken : ℕ) (ending : Ending)
+pub text_written : (text : List ℕ) (i i' : Intake) (o o' : Outlet) (s s' : Stock) (taken : ℕ) (ending : Option Ending)
     → WritesAs text o o' ending → s'.held ≡ s.held → TakesBytes i i' taken → EndsAs i i' o o' s s' ending (done text s.held taken)
-text_written text i i' o o' s s' taken Done w same t = record {
+text_written text i i' o o' s s' taken None w same t = record {
   status_is = refl;
   text = subst (λ (l : List ℕ). Appends o.written o'.written l) (sym (append-nil text)) w.told;
   note = refl;
   held = same;
   taken = t;
 }
-text_written text i i' o o' s s' taken WriteFault w same t = record { begun = 1; bytes = w.n; text = w.puts.told; held = same }
+text_written text i i' o o' s s' taken (Some WriteFault) w same t = record { begun = 1; bytes = w.n; text = w.puts.told; held = same }
 text_written text i i' o o' s s' taken e w same t = absurd w
 
 -- the outside of these objects
@@ -102,28 +102,28 @@ module _ (i i' : Intake) (o o' n n' : Outlet) (s s' : Stock) where
   at_fault status x (inr fails) told = inr (told, fails)
 
   -- how the call ended, by the outcome and by the cause: it does the outcome, or it stops on the way
-  pub outcome_so : (e : Ending) (status : ℕ) (x : Outcome) → EndsAs i i' o o' s s' e x → Caused i i' o o' s s' e → Tells n n' e status
+  pub outcome_so : (e : Option Ending) (status : ℕ) (x : Outcome) → EndsAs i i' o o' s s' e x → Caused i i' o o' s s' e → Tells n n' e status
       → DoesOrStops status (around i o n s) (around i' o' n' s') x
-  outcome_so Done status x d c t = inl record {
+  outcome_so None status x d c t = inl record {
     same = t.0 ∙ sym d.status_is;
     text = d.text;
     note = subst (λ (l : List ℕ). Appends n.written n'.written l) (sym d.note) (kept_none n.written n'.written (same_keeps n n' t.1));
     shelf = d.held;
     taken = d.taken;
   }
-  outcome_so (Refused line) status x d c t = ended_so 1 status line.items x d c.0 c.1 t
-  outcome_so BadWords status x d c t = ended_so 2 status bad_words x d c.0 c.1 t
-  outcome_so (BadText line) status x d c t = ended_so 3 status (string_bytes line) x d c.0 c.1 t
-  outcome_so (NotCompatible line) status x d c t = ended_so 4 status (string_bytes line) x d c.0 c.1 t
-  outcome_so (NotThere line) status x d c t = ended_so 8 status (string_bytes line) x d c.0 c.1 t
-  outcome_so (TooLarge line) status x d c t = ended_so 9 status (string_bytes line) x d c.0 c.1 t
-  outcome_so (WouldLose line) status x d c t = ended_so 11 status line.items x d c.0 c.1 t
-  outcome_so ReadFault status x d c (inl t) = inr record { why = inl (t.0, c.0, c.1, t.1); come = inl d }
-  outcome_so ReadFault status x d c (inr t) = inr record { why = inr (inr (inl ((t.0, t.1), inr (inl t.2)))); come = inl d }
-  outcome_so WriteFault status x d c (inl t) = inr record { why = inr (inl (t.0, c, t.1)); come = inl d }
-  outcome_so WriteFault status x d c (inr t) = inr record { why = inr (inr (inl ((t.0, t.1), inr (inr (inl t.2))))); come = inl d }
-  outcome_so ShelfFault status x d c (inl t) = inr record { why = inr (inr (inr (inl (t.0, c, t.1)))); come = at_fault status x d (inl (t.0, c, t.1)) }
-  outcome_so ShelfFault status x d c (inr t) =
+  outcome_so (Some (Refused line)) status x d c t = ended_so 1 status line.items x d c.0 c.1 t
+  outcome_so (Some BadWords) status x d c t = ended_so 2 status bad_words x d c.0 c.1 t
+  outcome_so (Some (BadText line)) status x d c t = ended_so 3 status (string_bytes line) x d c.0 c.1 t
+  outcome_so (Some (NotCompatible line)) status x d c t = ended_so 4 status (string_bytes line) x d c.0 c.1 t
+  outcome_so (Some (NotThere line)) status x d c t = ended_so 8 status (string_bytes line) x d c.0 c.1 t
+  outcome_so (Some (TooLarge line)) status x d c t = ended_so 9 status (string_bytes line) x d c.0 c.1 t
+  outcome_so (Some (WouldLose line)) status x d c t = ended_so 11 status line.items x d c.0 c.1 t
+  outcome_so (Some ReadFault) status x d c (inl t) = inr record { why = inl (t.0, c.0, c.1, t.1); come = inl d }
+  outcome_so (Some ReadFault) status x d c (inr t) = inr record { why = inr (inr (inl ((t.0, t.1), inr (inl t.2)))); come = inl d }
+  outcome_so (Some WriteFault) status x d c (inl t) = inr record { why = inr (inl (t.0, c, t.1)); come = inl d }
+  outcome_so (Some WriteFault) status x d c (inr t) = inr record { why = inr (inr (inl ((t.0, t.1), inr (inr (inl t.2))))); come = inl d }
+  outcome_so (Some ShelfFault) status x d c (inl t) = inr record { why = inr (inr (inr (inl (t.0, c, t.1)))); come = at_fault status x d (inl (t.0, c, t.1)) }
+  outcome_so (Some ShelfFault) status x d c (inr t) =
       inr record { why = inr (inr (inl ((t.0, t.1), inr (inr (inr (inl t.2)))))); come = at_fault status x d (inr ((t.0, t.1), t.2)) }
-  outcome_so NoMemory status x d c (inl t) = inr record { why = inr (inr (inr (inr t))); come = inl d }
-  outcome_so NoMemory status x d c (inr t) = inr record { why = inr (inr (inl ((t.0, t.1), inr (inr (inr (inr t.2)))))); come = inl d }
+  outcome_so (Some NoMemory) status x d c (inl t) = inr record { why = inr (inr (inr (inr t))); come = inl d }
+  outcome_so (Some NoMemory) status x d c (inr t) = inr record { why = inr (inr (inl ((t.0, t.1), inr (inr (inr (inr t.2)))))); come = inl d }

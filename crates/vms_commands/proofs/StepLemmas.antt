@@ -9,7 +9,7 @@ use Rattle.vms_io.specs.Shelves.{Held}
 use Rattle.vms_io.specs.Told.{Intake, Outlet, Stock}
 use Rattle.vms_descfile.specs.Files.{Said, Parts, Syntax, Shape, IllFormed, file_said}
 use Rattle.vms_commands.specs.declared.ending.Ending.{Ending}
-use Rattle.vms_commands.specs.declared.ending.Ending.TheVariants.{Done, BadText, NotCompatible, WriteFault, ShelfFault, NotThere, TooLarge, NoMemory}
+use Rattle.vms_commands.specs.declared.ending.Ending.TheVariants.{BadText, NotCompatible, WriteFault, ShelfFault, NotThere, TooLarge, NoMemory}
 use Rattle.vms_commands.specs.Endings.{EndsAs, Quiet, ending_of}
 use Rattle.vms_commands.specs.Fetching.{longest_file, text_under, fetched, SetText, Number, Text, fetched_set, said_set, set_in, sets_in, named_sets, word_set}
 use Rattle.vms_commands.specs.Lines.{too_large_line}
@@ -22,14 +22,14 @@ use Rattle.vms_commands.proofs.EndLemmas.{comes_to_nothing, ends_with, takes_not
 -- ---- how a command ends, by what its work returned
 
 -- at the exit of a `?`
-pub ending_passed : {T : Type 0} (work : Result T Ending) {e : Ending} → IsErrAnd work (λ x. x ≡ e) → ending_of work ≡ e
+pub ending_passed : {T : Type 0} (work : Result T Ending) {e : Ending} → IsErrAnd work (λ x. x ≡ e) → ending_of work ≡ Some e
 ending_passed (Ok t) is = absurd is
-ending_passed (Err x) is = is
+ending_passed (Err x) is = ap Some is
 
 -- of a call whose fault has an ending
-abbrev pub mapped_by : {T F : Type 0} → (F → Ending) → Result T F → Ending
-mapped_by m (Ok t) = Done
-mapped_by m (Err fault) = m fault
+abbrev pub mapped_by : {T F : Type 0} → (F → Ending) → Result T F → Option Ending
+mapped_by m (Ok t) = None
+mapped_by m (Err fault) = Some (m fault)
 
 pub ending_mapped : {T F : Type 0} (m : F → Ending) (call : Result T F) (work : Result T Ending)
     → MatchResult call (λ t. work ≡ Ok t) (λ fault. IsErrAnd work (λ x. x ≡ m fault)) → ending_of work ≡ mapped_by m call
@@ -38,7 +38,7 @@ ending_mapped m (Err fault) work is = ending_passed work is
 
 -- ---- one step after another
 
-free_ends : {B U : Type 0} (n : U → B) (s : Step B) (e : Ending) → IsFree e → StepAs {A = B} {T = U} n s (Err e)
+free_ends : {B U : Type 0} (n : U → B) (s : Step B) (e : Ending) → IsFree (Some e) → StepAs {A = B} {T = U} n s (Err e)
 free_ends n Untold e h = tt
 free_ends n (Gives b) e h = h
 free_ends n (Ends status line) ShelfFault h = tt
@@ -60,66 +60,66 @@ module _ {A B T U : Type 0} (m : T → A) (n : U → B) (f : A → Step B) where
 
 -- ---- texts for out
 
-shelf_text : (s : Step (List ℕ)) (o o' : Outlet) → TextEnds s o o' ShelfFault
+shelf_text : (s : Step (List ℕ)) (o o' : Outlet) → TextEnds s o o' (Some ShelfFault)
 shelf_text Untold o o' = tt
 shelf_text (Gives text) o o' = tt
 shelf_text (Ends status line) o o' = tt
 
-memory_text : (s : Step (List ℕ)) (o o' : Outlet) → TextEnds s o o' NoMemory
+memory_text : (s : Step (List ℕ)) (o o' : Outlet) → TextEnds s o o' (Some NoMemory)
 memory_text Untold o o' = tt
 memory_text (Gives text) o o' = tt
 memory_text (Ends status line) o o' = tt
 
 -- a failure of the shelf and a lack of memory end any step
-free_text : (s : Step (List ℕ)) (o o' : Outlet) (e : Ending) → IsFree e → TextEnds s o o' e
-free_text s o o' ShelfFault h = shelf_text s o o'
-free_text s o o' NoMemory h = memory_text s o o'
+free_text : (s : Step (List ℕ)) (o o' : Outlet) (e : Option Ending) → IsFree e → TextEnds s o o' e
+free_text s o o' (Some ShelfFault) h = shelf_text s o o'
+free_text s o o' (Some NoMemory) h = memory_text s o o'
 free_text s o o' e h = absurd h
 
-module _ {A T : Type 0} (m : T → A) (f : A → Step (List ℕ)) (o o' : Outlet) (e : Ending) where
+module _ {A T : Type 0} (m : T → A) (f : A → Step (List ℕ)) (o o' : Outlet) where
   -- a step ended the command
-  pub err_text : (s : Step A) → StepAs {A = A} {T = T} m s (Err e) → TextEnds (next s f) o o' e
-  err_text Untold h = tt
-  err_text (Gives a) h = free_text (f a) o o' e h
-  err_text (Ends status line) h = h
+  pub err_text : (e : Ending) (s : Step A) → StepAs {A = A} {T = T} m s (Err e) → TextEnds (next s f) o o' (Some e)
+  err_text e Untold h = tt
+  err_text e (Gives a) h = free_text (f a) o o' (Some e) h
+  err_text e (Ends status line) h = h
 
   -- it gave something
-  pub then_text : (s : Step A) (t : T) → StepAs m s (Ok t) → TextEnds (f (m t)) o o' e → TextEnds (next s f) o o' e
-  then_text Untold t first h = tt
-  then_text (Gives a) t first h = subst (λ (x : A). TextEnds (f x) o o' e) first h
-  then_text (Ends status line) t first h = absurd first
+  pub then_text : (e : Option Ending) (s : Step A) (t : T) → StepAs m s (Ok t) → TextEnds (f (m t)) o o' e → TextEnds (next s f) o o' e
+  then_text e Untold t first h = tt
+  then_text e (Gives a) t first h = subst (λ (x : A). TextEnds (f x) o o' e) first h
+  then_text e (Ends status line) t first h = absurd first
 
 -- ---- the outcome
 
-given_ends : (text : List ℕ) (i : Intake) (o o' : Outlet) (s s' : Stock) (e : Ending) → i.given < 2 ^ 64 → s'.held ≡ s.held → Quiet o o' e → WrittenAs text o o' e
+given_ends : (text : List ℕ) (i : Intake) (o o' : Outlet) (s s' : Stock) (e : Option Ending) → i.given < 2 ^ 64 → s'.held ≡ s.held → Quiet o o' e → WrittenAs text o o' e
     → EndsAs i i o o' s s' e (done text s.held 0)
-given_ends text i o o' s s' Done few same quiet h = record {
+given_ends text i o o' s s' None few same quiet h = record {
   status_is = refl;
   text = subst (λ (l : List ℕ). Appends o.written o'.written l) (sym (append-nil text)) h;
   note = refl;
   held = same;
   taken = takes_nothing i few;
 }
-given_ends text i o o' s s' WriteFault few same quiet h = record { begun = 1; bytes = h.0; text = h.2; held = same }
-given_ends text i o o' s s' ShelfFault few same quiet h = inl (comes_to_nothing o o' s s' _ quiet same)
-given_ends text i o o' s s' NoMemory few same quiet h = comes_to_nothing o o' s s' _ quiet same
+given_ends text i o o' s s' (Some WriteFault) few same quiet h = record { begun = 1; bytes = h.0; text = h.2; held = same }
+given_ends text i o o' s s' (Some ShelfFault) few same quiet h = inl (comes_to_nothing o o' s s' _ quiet same)
+given_ends text i o o' s s' (Some NoMemory) few same quiet h = comes_to_nothing o o' s s' _ quiet same
 given_ends text i o o' s s' e few same quiet h = absurd h
 
 same_end : (status k : ℕ) (line text : List ℕ) → status ≡ k → line ≡ text → ended status line 0 ≡ ended k text 0
 same_end status k line text e f = ap (λ (n : ℕ). ended n line 0) e ∙ ap (λ (l : List ℕ). ended k l 0) f
 
-pub ended_ends : (status : ℕ) (line : List ℕ) (i : Intake) (o o' : Outlet) (s s' : Stock) (e : Ending) → i.given < 2 ^ 64 → s'.held ≡ s.held → Quiet o o' e → EndedAs status line e
+pub ended_ends : (status : ℕ) (line : List ℕ) (i : Intake) (o o' : Outlet) (s s' : Stock) (e : Option Ending) → i.given < 2 ^ 64 → s'.held ≡ s.held → Quiet o o' e → EndedAs status line e
     → EndsAs i i o o' s s' e (ended status line 0)
-ended_ends status line i o o' s s' (BadText text) few same quiet h = ends_with 3 (string_bytes text) i _ few (same_end status 3 line (string_bytes text) h.0 h.1)
-ended_ends status line i o o' s s' (NotCompatible text) few same quiet h = ends_with 4 (string_bytes text) i _ few (same_end status 4 line (string_bytes text) h.0 h.1)
-ended_ends status line i o o' s s' (NotThere text) few same quiet h = ends_with 8 (string_bytes text) i _ few (same_end status 8 line (string_bytes text) h.0 h.1)
-ended_ends status line i o o' s s' (TooLarge text) few same quiet h = ends_with 9 (string_bytes text) i _ few (same_end status 9 line (string_bytes text) h.0 h.1)
-ended_ends status line i o o' s s' ShelfFault few same quiet h = inl (comes_to_nothing o o' s s' _ quiet same)
-ended_ends status line i o o' s s' NoMemory few same quiet h = comes_to_nothing o o' s s' _ quiet same
+ended_ends status line i o o' s s' (Some (BadText text)) few same quiet h = ends_with 3 (string_bytes text) i _ few (same_end status 3 line (string_bytes text) h.0 h.1)
+ended_ends status line i o o' s s' (Some (NotCompatible text)) few same quiet h = ends_with 4 (string_bytes text) i _ few (same_end status 4 line (string_bytes text) h.0 h.1)
+ended_ends status line i o o' s s' (Some (NotThere text)) few same quiet h = ends_with 8 (string_bytes text) i _ few (same_end status 8 line (string_bytes text) h.0 h.1)
+ended_ends status line i o o' s s' (Some (TooLarge text)) few same quiet h = ends_with 9 (string_bytes text) i _ few (same_end status 9 line (string_bytes text) h.0 h.1)
+ended_ends status line i o o' s s' (Some ShelfFault) few same quiet h = inl (comes_to_nothing o o' s s' _ quiet same)
+ended_ends status line i o o' s s' (Some NoMemory) few same quiet h = comes_to_nothing o o' s s' _ quiet same
 ended_ends status line i o o' s s' e few same quiet h = absurd h
 
 -- what an ending says about the outcome of a command whose steps give the text for standard output
-pub text_ends : (step : Step (List ℕ)) (i : Intake) (o o' : Outlet) (s s' : Stock) (e : Ending) (x : Outcome) → i.given < 2 ^ 64 → s'.held ≡ s.held
+pub text_ends : (step : Step (List ℕ)) (i : Intake) (o o' : Outlet) (s s' : Stock) (e : Option Ending) (x : Outcome) → i.given < 2 ^ 64 → s'.held ≡ s.held
     → Quiet o o' e → TextEnds step o o' e → HasText s.held step x → EndsAs i i o o' s s' e x
 text_ends Untold i o o' s s' e x few same quiet h has = absurd has
 text_ends (Gives text) i o o' s s' e x few same quiet h has =
@@ -129,19 +129,19 @@ text_ends (Ends status line) i o o' s s' e x few same quiet h has =
 
 -- the outcome of a command that depends on what a step gives
 module _ {A T : Type 0} (m : T → A) (P : A → Outcome → Type 0) where
-  free_by : (i : Intake) (o o' : Outlet) (s s' : Stock) (e : Ending) (x : Outcome) → s'.held ≡ s.held → Quiet o o' e → IsFree e
+  free_by : (i : Intake) (o o' : Outlet) (s s' : Stock) (e : Option Ending) (x : Outcome) → s'.held ≡ s.held → Quiet o o' e → IsFree e
       → EndsAs i i o o' s s' e x
-  free_by i o o' s s' ShelfFault x same quiet h = inl (comes_to_nothing o o' s s' _ quiet same)
-  free_by i o o' s s' NoMemory x same quiet h = comes_to_nothing o o' s s' _ quiet same
+  free_by i o o' s s' (Some ShelfFault) x same quiet h = inl (comes_to_nothing o o' s s' _ quiet same)
+  free_by i o o' s s' (Some NoMemory) x same quiet h = comes_to_nothing o o' s s' _ quiet same
   free_by i o o' s s' e x same quiet h = absurd h
 
   -- where the step ended it
-  pub ended_by : (step : Step A) (i : Intake) (o o' : Outlet) (s s' : Stock) (e : Ending) (x : Outcome) → i.given < 2 ^ 64 → s'.held ≡ s.held → Quiet o o' e
-      → StepAs {A = A} {T = T} m step (Err e) → HasBy P step x → EndsAs i i o o' s s' e x
+  pub ended_by : (step : Step A) (i : Intake) (o o' : Outlet) (s s' : Stock) (e : Ending) (x : Outcome) → i.given < 2 ^ 64 → s'.held ≡ s.held → Quiet o o' (Some e)
+      → StepAs {A = A} {T = T} m step (Err e) → HasBy P step x → EndsAs i i o o' s s' (Some e) x
   ended_by Untold i o o' s s' e x few same quiet h has = absurd has
-  ended_by (Gives a) i o o' s s' e x few same quiet h has = free_by i o o' s s' e x same quiet h
+  ended_by (Gives a) i o o' s s' e x few same quiet h has = free_by i o o' s s' (Some e) x same quiet h
   ended_by (Ends status line) i o o' s s' e x few same quiet h has =
-      subst (λ (y : Outcome). EndsAs i i o o' s s' e y) (sym has) (ended_ends status line i o o' s s' e few same quiet h)
+      subst (λ (y : Outcome). EndsAs i i o o' s s' (Some e) y) (sym has) (ended_ends status line i o o' s s' (Some e) few same quiet h)
 
   -- where the step gave something
   pub had_by : (step : Step A) (t : T) (x : Outcome) → StepAs m step (Ok t) → HasBy P step x → P (m t) x

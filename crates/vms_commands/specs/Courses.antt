@@ -1,5 +1,5 @@
 -- How a command may end and what it touches then, whether or not the contents are known: a field for each sentence.
-use Rattle.std.specs.Prelude.{◌≡◌, ℕ, ◌≤◌, Bool, true, false, ◌==◌, List, [], ◌∷◌, ◌++◌}
+use Rattle.std.specs.Prelude.{◌≡◌, ℕ, ◌≤◌, Bool, true, false, ◌==◌, List, [], ◌∷◌, ◌++◌, Option, Some}
 use Rattle.std.specs.List.{list_any}
 use Rattle.std.specs.Io.KnownBytes.{Keeps}
 use Rattle.vms_io.specs.Causes.{Rose}
@@ -47,14 +47,14 @@ pub record Stands (old new : Outside) : Type 0 where
 
 module _ (i i' : Intake) (o o' : Outlet) (s s' : Stock) where
   -- A failure comes only if the object has counted one.
-  abbrev pub Risen : Ending → Type 0
-  Risen ReadFault = Rose i.faults i'.faults
-  Risen WriteFault = Rose o.faults o'.faults
-  Risen ShelfFault = Rose s.faults s'.faults
+  abbrev pub Risen : Option Ending → Type 0
+  Risen (Some ReadFault) = Rose i.faults i'.faults
+  Risen (Some WriteFault) = Rose o.faults o'.faults
+  Risen (Some ShelfFault) = Rose s.faults s'.faults
   Risen ending = Unit {0}
 
   -- A command with this course ended so, and touched no more than the course allows.
-  pub record EndsSo (course : Course) (e : Ending) : Type 0 where
+  pub record EndsSo (course : Course) (e : Option Ending) : Type 0 where
     pub can : is_among course.statuses (status_of e) ≡ true
     pub risen : Risen e
     pub out : is_among course.writes (status_of e) ≡ false → Keeps o.written o'.written

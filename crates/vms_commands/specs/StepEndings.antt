@@ -1,11 +1,11 @@
 -- How the steps of the code end, compared with the steps of the specification.
-use Rattle.std.specs.Prelude.{◌≡◌, ℕ, Bool, true, false, List, Result, Ok, Err, string_bytes}
+use Rattle.std.specs.Prelude.{◌≡◌, ℕ, Bool, true, false, List, Result, Ok, Err, string_bytes, Option, Some, None}
 use Rattle.std.specs.Io.KnownBytes.{Appends}
 use Rattle.vms_io.specs.Causes.{Rose, AppendsPrefix}
 use Rattle.vms_io.specs.Shelving.{Looks}
 use Rattle.vms_io.specs.Told.{Outlet, Stock}
 use Rattle.vms_commands.specs.declared.ending.Ending.{Ending}
-use Rattle.vms_commands.specs.declared.ending.Ending.TheVariants.{Done, BadText, NotCompatible, WriteFault, ShelfFault, NotThere, TooLarge, NoMemory}
+use Rattle.vms_commands.specs.declared.ending.Ending.TheVariants.{BadText, NotCompatible, WriteFault, ShelfFault, NotThere, TooLarge, NoMemory}
 use Rattle.vms_commands.specs.declared.fetching.SetText.{SetText as Fetched}
 use Rattle.vms_commands.specs.declared.fetching.SetText.TheVariants as fetched
 use Rattle.vms_commands.specs.Endings.{SetCause}
@@ -19,36 +19,36 @@ text_of (fetched.Shipped set) = Number (shipped_asked set)
 text_of (fetched.Text name text) = Text name.now text.items
 
 -- The shelf failed or memory ran out: both may come at any step.
-abbrev pub IsFree : Ending → Type 0
-IsFree ShelfFault = Unit {0}
-IsFree NoMemory = Unit {0}
+abbrev pub IsFree : Option Ending → Type 0
+IsFree (Some ShelfFault) = Unit {0}
+IsFree (Some NoMemory) = Unit {0}
 IsFree ending = ⊥
 
 -- The ending has this status and this line, or is one that may come at any step.
-abbrev pub EndedAs : ℕ → List ℕ → Ending → Type 0
-EndedAs status line (BadText text) = (status ≡ 3) × (line ≡ string_bytes text)
-EndedAs status line (NotCompatible text) = (status ≡ 4) × (line ≡ string_bytes text)
-EndedAs status line (NotThere text) = (status ≡ 8) × (line ≡ string_bytes text)
-EndedAs status line (TooLarge text) = (status ≡ 9) × (line ≡ string_bytes text)
+abbrev pub EndedAs : ℕ → List ℕ → Option Ending → Type 0
+EndedAs status line (Some (BadText text)) = (status ≡ 3) × (line ≡ string_bytes text)
+EndedAs status line (Some (NotCompatible text)) = (status ≡ 4) × (line ≡ string_bytes text)
+EndedAs status line (Some (NotThere text)) = (status ≡ 8) × (line ≡ string_bytes text)
+EndedAs status line (Some (TooLarge text)) = (status ≡ 9) × (line ≡ string_bytes text)
 EndedAs status line ending = IsFree ending
 
 -- `StepAs m step result` says that `result` is what `step` gives, where `m` is the meaning of a returned value.
 abbrev pub StepAs : {A T : Type 0} → (T → A) → Step A → Result T Ending → Type 0
 StepAs m Untold result = Unit {0}
 StepAs m (Gives a) (Ok t) = m t ≡ a
-StepAs m (Gives a) (Err ending) = IsFree ending
+StepAs m (Gives a) (Err ending) = IsFree (Some ending)
 StepAs m (Ends status line) (Ok t) = ⊥
-StepAs m (Ends status line) (Err ending) = EndedAs status line ending
+StepAs m (Ends status line) (Err ending) = EndedAs status line (Some ending)
 
 -- The text has been written to standard output, or a prefix of it if that failed, or nothing if the command ended
 -- earlier.
-abbrev pub WrittenAs : List ℕ → Outlet → Outlet → Ending → Type 0
-WrittenAs text out out' Done = Appends out.written out'.written text
-WrittenAs text out out' WriteFault = AppendsPrefix out.written out'.written text
+abbrev pub WrittenAs : List ℕ → Outlet → Outlet → Option Ending → Type 0
+WrittenAs text out out' None = Appends out.written out'.written text
+WrittenAs text out out' (Some WriteFault) = AppendsPrefix out.written out'.written text
 WrittenAs text out out' ending = IsFree ending
 
 -- A command that writes the text which a step gives has ended as that step says.
-abbrev pub TextEnds : Step (List ℕ) → Outlet → Outlet → Ending → Type 0
+abbrev pub TextEnds : Step (List ℕ) → Outlet → Outlet → Option Ending → Type 0
 TextEnds Untold out out' ending = Unit {0}
 TextEnds (Gives text) out out' ending = WrittenAs text out out' ending
 TextEnds (Ends status line) out out' ending = EndedAs status line ending
@@ -90,4 +90,4 @@ ReadCause asks (Err ending) = ⊥
 -- Why the set of an argument wasn't obtained. `asks` is whether the argument names a file.
 abbrev pub HadCause : {T : Type 0} → Bool → Stock → Stock → Result T Ending → Type 0
 HadCause asks shelf shelf' (Ok t) = Unit {0}
-HadCause asks shelf shelf' (Err ending) = SetCause asks shelf shelf' ending
+HadCause asks shelf shelf' (Err ending) = SetCause asks shelf shelf' (Some ending)

@@ -1,18 +1,16 @@
 // How a command ends.
-ghost use Rattle.std.specs.Prelude.{◌≡◌};
+ghost use Rattle.std.specs.Prelude.{◌≡◌, Some};
 ghost use Rattle.vms_commands.specs.declared.ending.Ending.TheVariants as endings;
 
 use crate::refused::NoteLine;
 use vms_io::{NoMemory, WriteFault};
 
-/// How a command ends: success, or one of eleven failures.
+/// How a command ends that doesn't succeed: one of eleven failures.
 ///
-/// Each variant but [`Ending::Done`] has a status and a line for standard error. Some variants
-/// carry the line, others have a fixed one.
+/// Each variant has a status and a line for standard error. Some variants carry the line, others
+/// have a fixed one.
 #[derive(Drop)]
 pub enum Ending {
-    /// The command succeeded: status 0, no line.
-    Done,
     /// The stream is refused (status 1). Holds the line.
     Refused(NoteLine),
     /// The arguments form no command (status 2).
@@ -46,24 +44,13 @@ impl From<NoMemory> for Ending {
 }
 
 impl Ending {
-    ghost use Rattle.vms_commands.specs.Endings.{ending_of, line_of, status_of};
+    ghost use Rattle.vms_commands.specs.Endings.{line_of, status_of};
 
-    /// Returns the ending of a command whose work returned `work`: [`Ending::Done`] for `Ok`.
-    pub fn of(work: Result<(), Ending>) -> Self
-        ensures { result ≡ ending_of work }
-    {
-        match work {
-            Ok(()) => Ending::Done,
-            Err(ending) => ending,
-        }
-    }
-
-    /// Returns the exit status of the program, 0 for [`Ending::Done`] and up to 11.
+    /// Returns the exit status of the program, 1 to 11.
     pub fn status(&self) -> u8
-        ensures { result ≡ status_of self.now }
+        ensures { result ≡ status_of (Some self.now) }
     {
         match self {
-            Ending::Done => 0,
             Ending::Refused(_) => 1,
             Ending::BadWords => 2,
             Ending::BadText(_) => 3,
@@ -78,13 +65,11 @@ impl Ending {
         }
     }
 
-    /// Returns the line for standard error with its line feed. The line of [`Ending::Done`] is
-    /// empty.
+    /// Returns the line for standard error with its line feed.
     pub fn line(&self) -> &[u8]
-        ensures { result.now ≡ line_of self.now }
+        ensures { result.now ≡ line_of (Some self.now) }
     {
         match self {
-            Ending::Done => b"",
             Ending::BadWords => b"bad words\n",
             Ending::ReadFault => b"read fault\n",
             Ending::WriteFault => b"write fault\n",

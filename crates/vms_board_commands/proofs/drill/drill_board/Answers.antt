@@ -1,4 +1,4 @@
-use Rattle.std.proofs.Common.{List, ℕ, refl, subst, ◌∙◌}
+use Rattle.std.proofs.Common.{List, ℕ, refl, subst, ◌∙◌, Some}
 use Rattle.vms_io.specs.Told.{outlet}
 use Rattle.vms_commands.proofs.StepLemmas.{ending_passed, text_ends}
 use Rattle.vms_commands.specs.StepEndings.{TextEnds}
@@ -31,8 +31,8 @@ pub returns-in_err-line : goal.returns-in_err-line
 returns-in_err-line g c = rw (ending_passed c.from_residual.result c.from_residual.ensures.1) (λ shelf input few.
     let out = outlet g.O.Sink c.args.out.now in
     record {
-      content = λ o is. text_ends (Gives (drill_line c.args.level c.args.seed c.args.count)) input out out shelf shelf NoMemory o few refl (quiet_same out NoMemory) tt is;
-      so = same_so input out shelf drill_course NoMemory refl tt;
+      content = λ o is. text_ends (Gives (drill_line c.args.level c.args.seed c.args.count)) input out out shelf shelf (Some NoMemory) o few refl (quiet_same out (Some NoMemory)) tt is;
+      so = same_so input out shelf drill_course (Some NoMemory) refl tt;
       given = tt;
       seen = λ reads. cc;
     })

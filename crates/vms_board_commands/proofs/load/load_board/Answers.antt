@@ -1,4 +1,4 @@
-use Rattle.std.proofs.Common.{List, ℕ, true, None, refl, sym, subst}
+use Rattle.std.proofs.Common.{List, ℕ, true, None, refl, sym, subst, Some}
 use Rattle.std.specs.declared.alloc.Global.{Global}
 use Rattle.std.specs.declared.vec.Vec.{Vec}
 use Rattle.dev_board.specs.declared.event.Event.{Event}
@@ -60,8 +60,8 @@ returns-in_err-events g c = rw (ending_passed c.from_residual.result c.from_resi
     let had = c.in_err-events.ensures in
     let e = c.in_err-events.field-0.0 in
     record {
-      content = λ o has. ended_by view (loads_under f c.args.asked.number input.left held) step input out out shelf shelf' e o (g.met.I.Source.counted c.args.input.now) had.asks.looks.held (quiet_same out e) had.read has;
-      so = unset_so load_course true load_asks input out had.asks.looks (λ f. absurd (wrong f)) e had.asks.cause;
+      content = λ o has. ended_by view (loads_under f c.args.asked.number input.left held) step input out out shelf shelf' e o (g.met.I.Source.counted c.args.input.now) had.asks.looks.held (quiet_same out (Some e)) had.read has;
+      so = unset_so load_course true load_asks input out had.asks.looks (λ f. absurd (wrong f)) (Some e) had.asks.cause;
       given = gives_none f step input;
-      seen = λ reads. other_seen e (set_other true shelf shelf' e had.asks.cause);
+      seen = λ reads. other_seen (Some e) (set_other true shelf shelf' (Some e) had.asks.cause);
     })

@@ -1,4 +1,4 @@
-use Rattle.std.proofs.Common.{ℕ, refl, ap, ◌∙◌, subst, arith}
+use Rattle.std.proofs.Common.{ℕ, refl, ap, ◌∙◌, subst, arith, Some}
 use Rattle.std.proofs.KnownBytes.{Keeps-refl}
 use Rattle.vms_io.specs.Told.{intake, outlet}
 use Rattle.vms_commands.proofs.EndLemmas.{comes_to_nothing}
@@ -26,8 +26,8 @@ returns-in_err-board g c = rw (ending_passed c.from_residual.result c.from_resid
     record {
       runs = record {
         content = λ shelf shelf' o held loads. comes_to_nothing out out shelf shelf' o.parts (Keeps-refl out.written) held;
-        so = λ shelf asks. same_so (intake g.I.Source c.args.input.now) out shelf (stream_course asks) NoMemory refl tt;
-        seen = λ shelf shelf' held. other_seen NoMemory refl;
+        so = λ shelf asks. same_so (intake g.I.Source c.args.input.now) out shelf (stream_course asks) (Some NoMemory) refl tt;
+        seen = λ shelf shelf' held. other_seen (Some NoMemory) refl;
       };
       given = omega arith;
     })

@@ -1,4 +1,4 @@
-use Rattle.std.proofs.Common.{Ok, Err, ap, ◌∙◌, refl}
+use Rattle.std.proofs.Common.{Ok, Err, ap, ◌∙◌, refl, Some}
 use Rattle.std.proofs.KnownBytes.{Keeps-refl}
 use Rattle.vms_board.proofs.Restored.{within}
 use Rattle.vms_io.specs.Told.{outlet}
@@ -50,7 +50,7 @@ returns-in-Err-Refused g c =
     let said = c.refused_line.ensures ∙ ap (λ (s : Set). refused_line s r.at r.section r.reason) c.set.ensures in
     record {
       runs = record {
-        content = λ shelf shelf' o held loads. content_seen {o = out} {o' = out} {s = shelf} {s' = shelf'} {P = λ bytes x. Loads f number lines bytes shelf.held x} (Refused line) o (λ bytes y ok p q. loads_same f stands.well stands.heads number lines bytes shelf.held ok o y p q) (g.met.I.Source.octets c.args.input.now) (refusal_seen f number lines c.restore.new.self r line reads said) loads;
+        content = λ shelf shelf' o held loads. content_seen {o = out} {o' = out} {s = shelf} {s' = shelf'} {P = λ bytes x. Loads f number lines bytes shelf.held x} (Some (Refused line)) o (λ bytes y ok p q. loads_same f stands.well stands.heads number lines bytes shelf.held ok o y p q) (g.met.I.Source.octets c.args.input.now) (refusal_seen f number lines c.restore.new.self r line reads said) loads;
         so = λ shelf asks. refused_so shelf (draws_took reads.takes) out line;
         seen = λ shelf shelf' held among. refusal_seen f number lines c.restore.new.self r line reads said;
       };
@@ -66,7 +66,7 @@ returns-in-Err-ReadFault g c =
       runs = record {
         content = λ shelf shelf' o held loads. comes_to_nothing out out shelf shelf' o.parts (Keeps-refl out.written) held;
         so = λ shelf asks. unread_so shelf (draws_took reads.takes) out reads.cause;
-        seen = λ shelf shelf' held. other_seen ReadFault refl;
+        seen = λ shelf shelf' held. other_seen (Some ReadFault) refl;
       };
       given = within f (f.number c.args.board.now.state) c.restore.new.self (Err c.in-Err-ReadFault.field-0) c.in-Err-ReadFault.ensures.reads;
     }

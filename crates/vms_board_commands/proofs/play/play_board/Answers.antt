@@ -49,8 +49,8 @@ returns-in_err-lines g c = rw (ending_passed c.from_residual.result c.from_resid
     let had = c.in_err-lines.ensures in
     let e = c.in_err-lines.field-0.0 in
     record {
-      content = λ o has. ended_by view (λ (lines : List ScriptLine) (x : Outcome). IsSomeAnd held (λ map. PlaysAll level lines map x)) (scripted (Some level) held c.args.asked.script.now) input out out (stock g.H.Shelf c.args.shelf.now) (stock g.H.Shelf c.session_of.new.shelf) e o few had.asks.looks.held (quiet_same out e) had.read has;
-      so = unset_so play_course true play_asks input out had.asks.looks (λ f. absurd (wrong f)) e had.asks.cause;
+      content = λ o has. ended_by view (λ (lines : List ScriptLine) (x : Outcome). IsSomeAnd held (λ map. PlaysAll level lines map x)) (scripted (Some level) held c.args.asked.script.now) input out out (stock g.H.Shelf c.args.shelf.now) (stock g.H.Shelf c.session_of.new.shelf) e o few had.asks.looks.held (quiet_same out (Some e)) had.read has;
+      so = unset_so play_course true play_asks input out had.asks.looks (λ f. absurd (wrong f)) (Some e) had.asks.cause;
       given = tt;
       seen = λ reads. cc;
     })

@@ -34,4 +34,4 @@ pub returns-in_err-board : goal.returns-in_err-board
 returns-in_err-board g c = rw (ending_passed c.from_residual.result c.from_residual.ensures.1) (λ input few.
     let out = outlet g.O.Sink c.args.out.now in
     let shelf = stock g.H.Shelf c.args.shelf.now in
-    record { content = λ o has. comes_to_nothing out out shelf shelf o.parts (Keeps-refl out.written) refl; so = same_so input out shelf play_course NoMemory refl tt; given = tt; seen = λ reads. cc })
+    record { content = λ o has. comes_to_nothing out out shelf shelf o.parts (Keeps-refl out.written) refl; so = same_so input out shelf play_course (Some NoMemory) refl tt; given = tt; seen = λ reads. cc })

@@ -1,4 +1,4 @@
-use Rattle.std.proofs.Common.{◌≡◌, ℕ, refl, sym, ap, ◌∙◌, subst}
+use Rattle.std.proofs.Common.{◌≡◌, ℕ, refl, sym, ap, ◌∙◌, subst, Some}
 use Rattle.dev_base.specs.Levels.{ReachesSet}
 use Rattle.vms_board.specs.Saving.{saved_stream}
 use Rattle.vms_board_streams.specs.Streams.{after_events}
@@ -36,4 +36,4 @@ returns-clause-so g c = λ input shelf.
 
 -- without memory nothing was done
 pub returns-in_err-board-clause-so : goal.returns-in_err-board-clause-so
-returns-in_err-board-clause-so g c = rw (ending_passed c.from_residual.result c.from_residual.ensures.1) (λ input shelf. same_so input (outlet g.O.Sink c.args.out.now) shelf save_course NoMemory refl tt)
+returns-in_err-board-clause-so g c = rw (ending_passed c.from_residual.result c.from_residual.ensures.1) (λ input shelf. same_so input (outlet g.O.Sink c.args.out.now) shelf save_course (Some NoMemory) refl tt)

@@ -1,4 +1,4 @@
-use Rattle.std.proofs.Common.{None, List, ℕ, refl, sym, ◌∙◌, subst, true}
+use Rattle.std.proofs.Common.{None, List, ℕ, refl, sym, ◌∙◌, subst, true, Some}
 use Rattle.std.specs.declared.alloc.Global.{Global}
 use Rattle.std.specs.declared.vec.Vec.{Vec}
 use Rattle.dev_board.specs.declared.event.Event.{Event}
@@ -58,9 +58,9 @@ returns-in_err-events g c = rw (ending_passed c.from_residual.result c.from_resi
     let had = c.in_err-events.ensures in
     let e = c.in_err-events.field-0.0 in
     record {
-      content = λ o has. text_ends (saved_after f number set held name) input out out (stock g.H.Shelf c.args.shelf.now) (stock g.H.Shelf c.events_of.new.shelf) e o few had.asks.looks.held (quiet_same out e)
+      content = λ o has. text_ends (saved_after f number set held name) input out out (stock g.H.Shelf c.args.shelf.now) (stock g.H.Shelf c.events_of.new.shelf) (Some e) o few had.asks.looks.held (quiet_same out (Some e))
           (err_text view (λ (lines : List ScriptLine). Gives (saved_stream f set (after_events f (events_of lines) (f.power_on number)))) out out e (scripted None held name) had.read) has;
-      so = unset_so save_course true save_asks input out had.asks.looks (λ f. absurd (wrong f)) e had.asks.cause;
+      so = unset_so save_course true save_asks input out had.asks.looks (λ f. absurd (wrong f)) (Some e) had.asks.cause;
       given = tt;
       seen = λ reads. cc;
     })

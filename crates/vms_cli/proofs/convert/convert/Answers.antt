@@ -1,4 +1,4 @@
-use Rattle.std.proofs.Common.{[], ◌∷◌, refl}
+use Rattle.std.proofs.Common.{[], ◌∷◌, refl, Some}
 use Rattle.vms_io.specs.Told.{intake, outlet, stock}
 use Rattle.vms_desc.specs.Described.{described}
 use Rattle.vms_commands.specs.Asks.{set_asked}
@@ -44,8 +44,8 @@ returns-in_err-to g c = rw (ending_passed c.from_residual.result c.from_residual
     let had = c.in_err-to.ensures in
     let e = c.in_err-to.field-0.0 in
     record {
-      content = λ o has. ended_by described (converts_after input.left held) step input out out shelf shelf' e o (g.met.I.Source.counted c.args.input.now) had.asks.looks.held (quiet_same out e) had.had (converts_next input.left held step o has);
+      content = λ o has. ended_by described (converts_after input.left held) step input out out shelf shelf' e o (g.met.I.Source.counted c.args.input.now) had.asks.looks.held (quiet_same out (Some e)) had.had (converts_next input.left held step o has);
       so = lacks_so (0 ∷ 1 ∷ 4 ∷ 5 ∷ 6 ∷ 10 ∷ 11 ∷ []) (0 ∷ 1 ∷ 5 ∷ 6 ∷ 10 ∷ 11 ∷ []) refl input out had.asks;
       given = gives_none (target held word) input;
-      seen = λ reads. other_seen e (set_other (is_on_shelf word) shelf shelf' e had.asks.cause);
+      seen = λ reads. other_seen (Some e) (set_other (is_on_shelf word) shelf shelf' (Some e) had.asks.cause);
     })

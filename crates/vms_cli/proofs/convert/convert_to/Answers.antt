@@ -1,4 +1,4 @@
-use Rattle.std.proofs.Common.{refl, sym, subst, List, ℕ, Err, codes}
+use Rattle.std.proofs.Common.{refl, sym, subst, List, ℕ, Err, codes, Some}
 use Rattle.vms_io.specs.Told.{intake, outlet}
 use Rattle.vms_desc.specs.Described.{described}
 use Rattle.vms_desc.proofs.Bounds.{fit_of}
@@ -28,11 +28,11 @@ returns g c =
 pub returns-in_err-path : goal.returns-in_err-path
 returns-in_err-path g c = rw (ending_passed c.from_residual.result c.from_residual.ensures.1) (
     let to = c.args.to.now in
-    converts_stream (described to) (fit_of (described to) to.well_formed to.heads) _ _ _ _ (Err faults.NoMemory) endings.NoMemory LacksMemory (AtOnce refl refl)
+    converts_stream (described to) (fit_of (described to) to.well_formed to.heads) _ _ _ _ (Err faults.NoMemory) (Some endings.NoMemory) LacksMemory (AtOnce refl refl)
     (g.met.I.Source.octets c.args.input.now) (g.met.I.Source.counted c.args.input.now))
 
 pub returns-in_err-loader : goal.returns-in_err-loader
 returns-in_err-loader g c = rw (ending_passed c.from_residual-in_err-loader.result c.from_residual-in_err-loader.ensures.1) (
     let to = c.args.to.now in
-    converts_stream (described to) (fit_of (described to) to.well_formed to.heads) _ _ _ _ (Err faults.NoMemory) endings.NoMemory LacksMemory (AtOnce refl refl)
+    converts_stream (described to) (fit_of (described to) to.well_formed to.heads) _ _ _ _ (Err faults.NoMemory) (Some endings.NoMemory) LacksMemory (AtOnce refl refl)
     (g.met.I.Source.octets c.args.input.now) (g.met.I.Source.counted c.args.input.now))

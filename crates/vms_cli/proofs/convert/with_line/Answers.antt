@@ -1,4 +1,4 @@
-use Rattle.std.proofs.Common.{◌≡◌, Err, Result, ap, ◌∙◌, sym, subst}
+use Rattle.std.proofs.Common.{◌≡◌, Err, Result, ap, ◌∙◌, sym, subst, Option}
 use Rattle.vms_convert.specs.declared.fault.ConvertFault.{ConvertFault}
 use Rattle.vms_convert.specs.declared.fault.ConvertFault.TheVariants as faults
 use Rattle.vms_commands.proofs.StepLemmas.{ending_passed}
@@ -9,7 +9,7 @@ use Rattle.vms_cli.specs.Convert.{EndsLike, FailsReading, FailsWriting, IsDone, 
 use Rattle.vms_cli.proofs.convert.with_line.Goals as goal
 
 -- by the fault that the call answered
-by_fault : {converted : Result (Unit {0}) ConvertFault} {answered fault : ConvertFault} {e : Ending} → converted ≡ Err answered → answered ≡ fault → EndsLike (Err fault) e → EndsLike converted e
+by_fault : {converted : Result (Unit {0}) ConvertFault} {answered fault : ConvertFault} {e : Option Ending} → converted ≡ Err answered → answered ≡ fault → EndsLike (Err fault) e → EndsLike converted e
 by_fault {e = e} is same like = subst (λ (r : Result (Unit {0}) ConvertFault). EndsLike r e) (sym (is ∙ ap Err same)) like
 
 pub returns-in-Ok : goal.returns-in-Ok

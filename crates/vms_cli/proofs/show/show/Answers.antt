@@ -1,4 +1,4 @@
-use Rattle.std.proofs.Common.{[], ◌∷◌, refl}
+use Rattle.std.proofs.Common.{[], ◌∷◌, refl, Some}
 use Rattle.vms_io.specs.Told.{intake, outlet, stock}
 use Rattle.vms_load.specs.Lean.{loads}
 use Rattle.vms_commands.specs.Asks.{set_asked}
@@ -43,8 +43,8 @@ returns-in_err-loader g c = rw (ending_passed c.from_residual.result c.from_resi
     let had = c.in_err-loader.ensures in
     let e = c.in_err-loader.field-0.0 in
     record {
-      content = λ o has. ended_by loads (shows_under input.left held) (word_set held word) input out out shelf shelf' e o (g.met.I.Source.counted c.args.input.now) had.asks.looks.held (quiet_same out e) had.had has;
+      content = λ o has. ended_by loads (shows_under input.left held) (word_set held word) input out out shelf shelf' e o (g.met.I.Source.counted c.args.input.now) had.asks.looks.held (quiet_same out (Some e)) had.had has;
       so = lacks_so (0 ∷ 1 ∷ 5 ∷ 6 ∷ 10 ∷ []) (0 ∷ 1 ∷ 5 ∷ 6 ∷ []) refl input out had.asks;
       given = gives_none (word_set held word) input;
-      seen = λ reads. other_seen e (set_other (is_on_shelf word) shelf shelf' e had.asks.cause);
+      seen = λ reads. other_seen (Some e) (set_other (is_on_shelf word) shelf shelf' (Some e) had.asks.cause);
     })

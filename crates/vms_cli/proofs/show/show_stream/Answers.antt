@@ -1,4 +1,4 @@
-use Rattle.std.proofs.Common.{None, Ok, Err, ap, ◌∙◌, refl, subst}
+use Rattle.std.proofs.Common.{None, Ok, Err, ap, ◌∙◌, refl, subst, Some}
 use Rattle.std.proofs.KnownBytes.{Keeps-refl}
 use Rattle.vms_io.specs.Told.{outlet}
 use Rattle.vms_spec.specs.Sets.{Set}
@@ -53,7 +53,7 @@ returns-in-Err-Refused g c =
     let said = c.refused_line.ensures ∙ ap (λ (s : Set). refused_line s r.at r.section r.reason) (c.set.ensures ∙ c.in-Err-Refused.ensures.set) in
     record {
       runs = record {
-        content = λ shelf shelf' o held shows. content_seen {o = out} {o' = out} {s = shelf} {s' = shelf'} {P = λ bytes x. Shows set bytes shelf.held x} (Refused line) o (λ bytes y ok p q. shows_same set fit bytes shelf.held o y ok p q) (g.met.I.Source.octets c.args.input.now) (refusal_seen set images taken r line reads said) shows;
+        content = λ shelf shelf' o held shows. content_seen {o = out} {o' = out} {s = shelf} {s' = shelf'} {P = λ bytes x. Shows set bytes shelf.held x} (Some (Refused line)) o (λ bytes y ok p q. shows_same set fit bytes shelf.held o y ok p q) (g.met.I.Source.octets c.args.input.now) (refusal_seen set images taken r line reads said) shows;
         so = λ shelf asks. refused_so shelf (draws_took reads.takes) out line;
         seen = λ shelf shelf' held among. well_seen set fit (refusal_seen set images taken r line reads said);
       };
@@ -69,7 +69,7 @@ returns-in-Err-ReadFault g c =
       runs = record {
         content = λ shelf shelf' o held shows. comes_to_nothing out out shelf shelf' o.parts (Keeps-refl out.written) held;
         so = λ shelf asks. unread_so shelf (draws_took reads.takes) out reads.cause;
-        seen = λ shelf shelf' held. other_seen ReadFault refl;
+        seen = λ shelf shelf' held. other_seen (Some ReadFault) refl;
       };
       given = within set (accepted_of set None) (has c.load.new.self) (taken_by c.load.new.self) (Err c.in-Err-ReadFault.field-0) c.in-Err-ReadFault.ensures.reads;
     }
