@@ -27,7 +27,7 @@ use Rattle.vms_check_laws.specs.Segments.{FitsAt, Aligns}
 use Rattle.vms_check_laws.proofs.Presence.{there}
 use Rattle.vms_check_laws.proofs.SameTests.{Agree, presence_named}
 use Rattle.vms_check_laws.proofs.Segments.{fits_left, fits_right, fits_at}
-use Rattle.vms_check_laws.proofs.Pairing.{kinds_same, cells_in, slots_at, IsKnown, entries_slots, AreKnown, FitEntries}
+use Rattle.vms_check_laws.proofs.Pairing.{kinds_same, cells_in, slots_at, IsKnown, entries_slots, AreKnown, FitEntries, known_there}
 use Rattle.vms_check_laws.proofs.Linking.{PairGood, Matched, decoded, Zip}
 use Rattle.vms_check_laws.proofs.Describing.{not_covered, steady, steady_rest, rest_none, there_here}
 use Rattle.vms_check_laws.proofs.Premises.{Table, IsSingle, OldGood, NewGood}
@@ -175,9 +175,9 @@ module _ (ks : List Comparer) (cs : List Carrier) (ms ns : List Meaning) (a b : 
       let rest' : f.rest ≡ None = steady_rest w f.field.test f.field.since f.rest s.test known'.left in
       let rest : e.rest ≡ None = rest_none o n e.rest f.rest rest' m.rest in
       let there_is : is_there e.field.test e.field.since v own no_parent ≡ true =
-      there_here v e.field.test e.field.since e.rest own no_parent known.left ∙ ap (λ (r : Option Formula). there (Some r) v own no_parent) rest in
+      known_there ms a.fields v numbers at e known rest own no_parent in
       let there_is' : is_there f.field.test f.field.since w own' no_parent ≡ true =
-      there_here w f.field.test f.field.since f.rest own' no_parent known'.left ∙ ap (λ (r : Option Formula). there (Some r) w own' no_parent) rest' in
+      known_there ns b.fields w numbers' at' f known' rest' own' no_parent in
       known.number
       ∙ number_same f.field.item e.field.item f.field.count e.field.count (is_there e.field.test e.field.since v own no_parent) (is_there f.field.test f.field.since w own' no_parent)
       (counted e.index a.fields) (counted f.index b.fields) (at + e.place) (at' + f.place) (length (item_cells (cells_in ms) e.field.item [] (pos 0))) (length (item_cells (cells_in ns) f.field.item [] (pos 0)))
@@ -268,8 +268,8 @@ module _ (ks : List Comparer) (cs : List Carrier) (ms ns : List Meaning) (a b : 
         let differs = clash.constants in
         let t = is_there e.field.test e.field.since v own no_parent in
         let t' = is_there f.field.test f.field.since w own' no_parent in
-        let there_is : t ≡ true = there_here v e.field.test e.field.since e.rest own no_parent known.left ∙ ap (λ (r : Option Formula). there (Some r) v own no_parent) clash.rest in
-        let there_is' : t' ≡ true = there_here w f.field.test f.field.since f.rest own' no_parent known'.left ∙ ap (λ (r : Option Formula). there (Some r) w own' no_parent) clash.rest' in
+        let there_is : t ≡ true = known_there ms a.fields v numbers at e known clash.rest own no_parent in
+        let there_is' : t' ≡ true = known_there ns b.fields w numbers' at' f known' clash.rest' own' no_parent in
         let one : IsSingle (Equal differs.kind differs.value) e.field.count = subst (λ (i : Item). IsSingle i e.field.count) differs.item single in
         let one' : IsSingle (Equal differs.kind differs.other) f.field.count = subst (λ (i : Item). IsSingle i f.field.count) differs.item' (good_at named f known').single in
         let caps = counted e.index a.fields in

@@ -1,19 +1,18 @@
 -- The structures by their numbers at one front, and devices whose constants differ.
-use Rattle.std.proofs.Common.{◌≡◌, ℕ, zero, suc, ◌<◌, ◌≤◌, List, [], ◌++◌, length, get_or, Some, None, sym, subst, arith, ℤ}
+use Rattle.std.proofs.Common.{◌≡◌, ℕ, ◌<◌, ◌≤◌, List, [], ◌++◌, length, get_or, Some, None, arith, ℤ}
 use Rattle.std.specs.List.{slice_get}
 use Rattle.vms_spec.specs.declared.Part.{Part}
 use Rattle.vms_spec.specs.Sets.{Device, Set, Desc}
-use Rattle.vms_spec.specs.Layout.{Cell, Slot, no_meaning, no_desc, meanings, struct_cells, desc_cells, desc_slots}
+use Rattle.vms_spec.specs.Layout.{Cell, no_meaning, no_desc, meanings, struct_cells, desc_cells}
 use Rattle.vms_spec.specs.Images.{Spells, zeroed, own_slots}
 use Rattle.vms_spec.specs.WellFormed.{WellFormed}
 use Rattle.vms_spec.proofs.Prefixes.{struct_slots}
-use Rattle.vms_check.specs.Comparing.{present, position_from, Comparer, no_comparer, comparers}
-use Rattle.vms_check.specs.Carrying.{carriers}
+use Rattle.vms_check.specs.Comparing.{present, position_from, Comparer, comparers}
+use Rattle.vms_check.specs.Carrying.{Carrier, carriers}
 use Rattle.vms_check_laws.specs.Segments.{FitsAt, Aligns}
 use Rattle.vms_check_laws.proofs.Pairing.{cells_in}
-use Rattle.vms_check_laws.proofs.Premises.{below_suc}
 use Rattle.vms_check_laws.proofs.Counts.{old_fields}
-use Rattle.vms_check_laws.proofs.Structures.{OldStructs, NewStructs, comparer_earlier, tables, beside, meanings_of, cells_of, rules_to, carries_to}
+use Rattle.vms_check_laws.proofs.Structures.{OldStructs, NewStructs, Below, Next, each_structure, tables, beside, meanings_of, cells_of, rules_to, carries_to}
 use Rattle.vms_check_laws.proofs.Good.{old_structs, new_structs, struct_good, device_good}
 use Rattle.vms_check_laws.proofs.Parts.{to_cells}
 use Rattle.vms_check_laws.proofs.AlignedDescs.{AlignTable, NamesEarlier, Clashes}
@@ -24,28 +23,21 @@ use Rattle.vms_check_laws.proofs.Descriptions.{desc_aligns, desc_clashes}
 
 module _ (olds news : List Desc) (numbers numbers' : List ℤ) (old : OldStructs olds) (new : NewStructs news)
     (named : (j : ℕ) → j < length news → NamesEarlier j (get_or news j no_desc)) where
-  abbrev Row : ℕ → ℕ → ℕ → Type 0
-  Row k i j = get_or (rules_to olds news k) j no_comparer i ≡ None → (p q : ℕ) → FitsAt (get_or (cells_of olds) i []) numbers p
+  abbrev Row : ℕ → Comparer → Carrier → Type 0
+  Row j rule carrier = (i : ℕ) → i < length olds → rule i ≡ None → (p q : ℕ) → FitsAt (get_or (cells_of olds) i []) numbers p
       → Aligns numbers ((get_or (meanings_of olds) i no_meaning).slots numbers p) numbers' ((get_or (meanings_of news) j no_meaning).slots numbers' q)
 
-  row_last : (k : ℕ) → k < length news → AlignTable (rules_to olds news k) (meanings_of olds) (meanings_of news) numbers numbers' (length olds) k → (i : ℕ) → i < length olds → Row (suc k) i k
-  row_last k lt rows i lt_i none p q fits =
+  row : (k : ℕ) → k < length news → Below (cells_of olds) (cells_of news) olds news Row k → Next (cells_of olds) (cells_of news) olds news Row k
+  row k lt rows i lt_i none p q fits =
       let a = get_or olds i no_desc in
       let b = get_or news k no_desc in
       let z = beside olds news numbers k i p old new lt lt_i none fits in
-      let done = desc_aligns (rules_to olds news k) (carries_to olds news k) (meanings_of olds) (meanings_of news) a b a.version b.version (parts.Struct i) (parts.Struct k) numbers numbers' p q (length olds) k
-      (tables olds news numbers numbers' old new k (omega arith)) rows z.old (named k lt) z.fits z.none in
-      subst (λ (l : List Slot). Aligns numbers l numbers' ((get_or (meanings_of news) k no_meaning).slots numbers' q)) (sym (struct_slots olds (length olds) i numbers p lt_i z.below))
-      (subst (λ (l : List Slot). Aligns numbers (desc_slots (meanings_of olds) a a.version numbers p) numbers' l) (sym (struct_slots news (length news) k numbers' q lt z.below')) done)
-
-  row_next : (k : ℕ) → k < length news → AlignTable (rules_to olds news k) (meanings_of olds) (meanings_of news) numbers numbers' (length olds) k → (i j : ℕ) → i < length olds → j < suc k → Row (suc k) i j
-  row_next k lt rows i j lt_i lt_j =
-      below_suc (λ (q : ℕ). Row (suc k) i q) k (row_last k lt rows i lt_i)
-      (λ q less none. rows i q lt_i less (subst (λ (c : Comparer). c i ≡ None) (comparer_earlier (cells_of olds) (cells_of news) olds news k q less) none)) j lt_j
+      rw (struct_slots olds (length olds) i numbers p lt_i z.below, struct_slots news (length news) k numbers' q lt z.below')
+      (desc_aligns (rules_to olds news k) (carries_to olds news k) (meanings_of olds) (meanings_of news) a b a.version b.version (parts.Struct i) (parts.Struct k) numbers numbers' p q (length olds) k
+      (tables olds news numbers numbers' old new k (omega arith)) (λ i j lt_i lt_j. rows j lt_j i lt_i) z.old (named k lt) z.fits z.none)
 
   pub align_rows : (k : ℕ) → k ≤ length news → AlignTable (rules_to olds news k) (meanings_of olds) (meanings_of news) numbers numbers' (length olds) k
-  align_rows zero le i j lt_i lt_j none p q fits = absurd (omega arith)
-  align_rows (suc k) le i j lt_i lt_j none p q fits = row_next k (omega arith) (align_rows k (omega arith)) i j lt_i lt_j none p q fits
+  align_rows k le i j lt_i lt_j = each_structure (cells_of olds) (cells_of news) olds news Row row k le j lt_j i lt_i
 
 -- ---- devices
 

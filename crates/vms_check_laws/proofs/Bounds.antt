@@ -17,7 +17,7 @@ use Rattle.vms_spec.specs.Rules.{is_one}
 use Rattle.vms_check.specs.Reducing.{presence}
 use Rattle.vms_check.specs.Comparing.{Entry, entry_of, present_from, position_from, same_place, same_count, is_covered, holds_as_much, absent_hold, is_nothing, bound, least_of, greatest, has_room, Comparer}
 use Rattle.vms_check_laws.proofs.Linking.{PairGood, Zip, Matched, decoded}
-use Rattle.vms_check_laws.proofs.Premises.{later_new, later_old, IsSingle}
+use Rattle.vms_check_laws.proofs.Premises.{at_or_later, IsSingle}
 use Rattle.vms_check_laws.proofs.Counts.{HasArray, counted_has}
 use Rattle.vms_check_laws.proofs.Describing.{covers_unused}
 
@@ -50,31 +50,16 @@ module _ (o n : ℕ → Option ℕ) where
       → ((by j : ℕ) → low ≤ j → same_place (o by) (n j) ≡ true → same_place (position_from p es by) (position_from p fs j) ≡ true) → Indexed es fs
   indexed p low [] fs rising h = tt
   indexed p low (e ∷ es) [] rising h = tt
-  indexed p low (e ∷ es) (f ∷ fs) rising h =
-      let head : (by : ℕ) → same_place (o by) (n f.index) ≡ true → by ≡ e.index = λ by k.
-      let at_p : same_place (if e.index == by then Some p else position_from (suc p) es by) (if f.index == f.index then Some p else position_from (suc p) fs f.index) ≡ true = h by f.index rising.0 k in
-      let at_f : same_place (if e.index == by then Some p else position_from (suc p) es by) (Some p) ≡ true =
-      subst (λ (c : Bool). same_place (if e.index == by then Some p else position_from (suc p) es by) (if c then Some p else position_from (suc p) fs f.index) ≡ true) (eq-eqb f.index f.index refl) at_p in
-      let choice : (c : Bool) → (e.index == by) ≡ c → same_place (if c then Some p else position_from (suc p) es by) (Some p) ≡ true → by ≡ e.index = elim [
-        | true ↦ λ is k'. sym (eqb-true e.index by is)
-        | false ↦ λ is k'. absurd (later_old by p (suc p) es (omega arith) k')
-      ] in
-      choice (e.index == by) refl at_f in
-      let tail : (by j : ℕ) → suc f.index ≤ j → same_place (o by) (n j) ≡ true → same_place (position_from (suc p) es by) (position_from (suc p) fs j) ≡ true = λ by j le k.
-      let at_p : same_place (if e.index == by then Some p else position_from (suc p) es by) (if f.index == j then Some p else position_from (suc p) fs j) ≡ true = h by j (omega (arith, rising.0)) k in
-      let choice : (c d : Bool) → (f.index == j) ≡ d → same_place (if c then Some p else position_from (suc p) es by) (if d then Some p else position_from (suc p) fs j) ≡ true
-      → same_place (position_from (suc p) es by) (position_from (suc p) fs j) ≡ true = elim [
-        | true ↦ elim [
-          | true ↦ λ is k'. absurd (omega (arith, eqb-true f.index j is))
-          | false ↦ λ is k'. absurd (later_new j p (suc p) fs (omega arith) k')
-        ]
-        | false ↦ elim [
-          | true ↦ λ is k'. absurd (omega (arith, eqb-true f.index j is))
-          | false ↦ λ is k'. k'
-        ]
-      ] in
-      choice (e.index == by) (f.index == j) refl at_p in
-      (head, indexed (suc p) (suc f.index) es fs rising.1 tail)
+  indexed p low (e ∷ es) (f ∷ fs) rising h = (
+    λ by k. elim (at_or_later by f.index p e f es fs (h by f.index rising.0 k)) [
+      | inl here ↦ sym here.0
+      | inr later ↦ let bad : true ≡ false = sym (eq-eqb f.index f.index refl) ∙ later.0 in absurd (cc)
+    ],
+    indexed (suc p) (suc f.index) es fs rising.1 (λ by j le k. elim (at_or_later by j p e f es fs (h by j (omega (arith, rising.0)) k)) [
+      | inl here ↦ absurd (omega (arith, here.1))
+      | inr later ↦ later.1
+    ]),
+  )
 
 -- ---- bounds
 
@@ -87,15 +72,7 @@ at_most_least (negsuc a) m (k ∷ ms) h all =
 
 greatest_kind : (kind : Kind) → highest kind ≡ pos (greatest (Num kind))
 greatest_kind U8 = refl
-greatest_kind U16 = refl
-greatest_kind U32 = refl
-greatest_kind U64 = refl
-greatest_kind I8 = refl
-greatest_kind I16 = refl
-greatest_kind I32 = refl
-greatest_kind I64 = refl
-greatest_kind Truth = refl
-greatest_kind Timer = refl
+greatest_kind _ = refl
 
 pub at_most_bound : (kind : Kind) (caps : List ℕ) (z : ℤ) → z ≤ℤ highest kind → AllByRecursion (λ k. z ≤ℤ pos k) caps → z ≤ℤ pos (bound (Num kind) caps)
 at_most_bound kind [] z h all = subst (λ (u : ℤ). z ≤ℤ u) (greatest_kind kind) h

@@ -89,16 +89,7 @@ counting_below : (item : Item) (caps : List ℕ) (d z : ℤ) (most : ℕ) → Is
 counting_below (Num U8) caps d z most c fits high = below_cap 1 z most fits.0.0 high
 counting_below (Num U16) caps d z most c fits high = below_cap 2 z most fits.0.0 high
 counting_below (Num U32) caps d z most c fits high = below_cap 4 z most fits.0.0 high
-counting_below (Num U64) caps d z most c fits high = absurd c
-counting_below (Num I8) caps d z most c fits high = absurd c
-counting_below (Num I16) caps d z most c fits high = absurd c
-counting_below (Num I32) caps d z most c fits high = absurd c
-counting_below (Num I64) caps d z most c fits high = absurd c
-counting_below (Num Truth) caps d z most c fits high = absurd c
-counting_below (Num Timer) caps d z most c fits high = absurd c
-counting_below (Equal kind y) caps d z most c fits high = absurd c
-counting_below (Unused n) caps d z most c fits high = absurd c
-counting_below (Struct j) caps d z most c fits high = absurd c
+counting_below _ caps d z most c fits high = absurd c
 
 -- field `by` may count
 pub record Counter (all : List Field) (by : ℕ) : Type 0 where

@@ -15,7 +15,7 @@ use Rattle.vms_spec.proofs.Prefixes.{FieldsBelow}
 use Rattle.vms_check_laws.proofs.Pairing.{cells_in, entries_slots, slots_entries, all_known, fit_entries, FitEntries}
 use Rattle.vms_check_laws.proofs.Linking.{zip_of, linked, Linked}
 use Rattle.vms_check_laws.proofs.Settling.{Settled, settled_more}
-use Rattle.vms_check_laws.proofs.Premises.{Table, SettledTable, RulesNamed, OldFields, NewFields}
+use Rattle.vms_check_laws.proofs.Premises.{Table, RulesNamed, OldFields, NewFields}
 use Rattle.vms_check_laws.proofs.FieldsSettle.{agree_from, fields_settle}
 use Rattle.vms_check_laws.proofs.FieldsCarry.{fields_carry, rule_carries, old_entries, new_entries, OldEntries, NewEntries}
 use Rattle.vms_spec.specs.Images.{Spells, zeroed}
@@ -84,29 +84,20 @@ module _ (ks : List Comparer) (cs : List Carrier) (ms ns : List Meaning) (a b : 
     news : NewEntries ks cs ms ns a b v w part part' o n numbers numbers' at at' below below' table (is_steady_in b) fs
     news = new_entries ks cs ms ns a b v w part part' o n numbers numbers' at at' below below' table (is_steady_in b) 0 0 b.fields new
 
-    -- a description on each side
-    pub desc_carries : RulesNamed (is_steady_in b) b.validate → Carries numbers (desc_slots ms a v numbers at) numbers' (desc_slots ns b w numbers' at')
-    desc_carries rules =
-        let body : Carries numbers (entries_slots ms a.fields v own numbers at es) numbers' (entries_slots ns b.fields w own' numbers' at' fs) =
-        fields_carry ks cs ms ns a b v w part part' o n numbers numbers' at at' below below' table (is_steady_in b) es fs agree link
-        (all_known ms a.fields v numbers at) (all_known ns b.fields w numbers' at') (olds old) news (all_fit fits) in
-        let moved : Carries numbers (slots_from ms a.fields v own numbers 0 at a.fields) numbers' (slots_from ns b.fields w own' numbers' 0 at' b.fields) =
-        subst (λ (l : List Slot). Carries numbers l numbers' (slots_from ns b.fields w own' numbers' 0 at' b.fields)) (sym old_same)
-        (subst (λ (l : List Slot). Carries numbers (entries_slots ms a.fields v own numbers at es) numbers' l) (sym new_same) body) in
-        carries_append numbers numbers' _ _ (Rule (all_hold a.validate v own) ∷ []) (Rule (all_hold b.validate w own') ∷ []) moved
-        (rule_carries ks cs ms ns a b v w part part' o n numbers numbers' at at' below below' table (is_steady_in b) (pairs_hold none).1 rules agree)
-
-    -- what isn't in new's bytes is at new's default
-    pub desc_settles : SettledTable ks cs ms ns numbers numbers' below below'
-        → Settled (desc_slots ns b w numbers' at') at' (desc_cells (cells_in ns) b) (carry_desc cs (cells_in ms) (cells_in ns) numbers v w a b at)
-    desc_settles rows =
-        let z : at' ≡ at' + 0 = omega arith in
-        let carried = carry_desc cs (cells_in ms) (cells_in ns) numbers v w a b at in
-        let settled = fields_settle ks cs ms ns a b v w part part' o n numbers numbers' at at' below below' table 0 0 b.fields es rows agree (fields_below b.fields new)
-        (record { linked = link; known = all_known ms a.fields v numbers at; known' = all_known ns b.fields w numbers' at'; old = olds old; new = news; fits = all_fit fits }) in
-        let moved : Settled (slots_from ns b.fields w own' numbers' 0 at' b.fields) at' (desc_cells (cells_in ns) b) carried =
-        subst (λ (q : ℕ). Settled (slots_from ns b.fields w own' numbers' 0 q b.fields) q (desc_cells (cells_in ns) b) carried) (sym z) settled in
-        settled_more (slots_from ns b.fields w own' numbers' 0 at' b.fields) (Rule (all_hold b.validate w own') ∷ []) at' (desc_cells (cells_in ns) b) carried moved
+    -- a description on each side, and what isn't in new's bytes is at new's default
+    pub desc_reads : RulesNamed (is_steady_in b) b.validate → Carries numbers (desc_slots ms a v numbers at) numbers' (desc_slots ns b w numbers' at')
+        × Settled (desc_slots ns b w numbers' at') at' (desc_cells (cells_in ns) b) (carry_desc cs (cells_in ms) (cells_in ns) numbers v w a b at)
+    desc_reads rules =
+        let known = all_known ms a.fields v numbers at in
+        let known' = all_known ns b.fields w numbers' at' in
+        let z : at' + 0 ≡ at' = omega arith in (
+          carries_append numbers numbers' (slots_from ms a.fields v own numbers 0 at a.fields) (slots_from ns b.fields w own' numbers' 0 at' b.fields) (Rule (all_hold a.validate v own) ∷ []) (Rule (all_hold b.validate w own') ∷ [])
+              (rw (old_same, new_same) (fields_carry ks cs ms ns a b v w part part' o n numbers numbers' at at' below below' table (is_steady_in b) es fs agree link known known' (olds old) news (all_fit fits)))
+              (rule_carries ks cs ms ns a b v w part part' o n numbers numbers' at at' below below' table (is_steady_in b) (pairs_hold none).1 rules agree),
+          settled_more (slots_from ns b.fields w own' numbers' 0 at' b.fields) _ at' _ _
+              (rw z at (fields_settle ks cs ms ns a b v w part part' o n numbers numbers' at at' below below' table 0 0 b.fields es agree (fields_below b.fields new)
+              (record { linked = link; known = known; known' = known'; old = olds old; new = news; fits = all_fit fits }))),
+        )
 
   module _ (rows : AlignTable ks ms ns numbers numbers' below below') (old : OldFields below own a.fields) (named : NamesEarlier below' b) (fits : Fit) where
     pub desc_aligns : compare_desc ks (cells_in ms) (cells_in ns) a b v w part part' ≡ None → Aligns numbers (desc_slots ms a v numbers at) numbers' (desc_slots ns b w numbers' at')

@@ -1,6 +1,6 @@
 -- Fields: the numbers that tests and counts may name agree on both sides, and what isn't in the newer set's bytes
 -- is at its default.
-use Rattle.std.proofs.Common.{◌≡◌, inl, inr, ℕ, zero, suc, ◌+◌, ◌*◌, ◌<◌, ◌≤◌, Bool, true, false, List, [], ◌∷◌, ◌++◌, length, get_or, Option, Some, None, refl, sym, ap, ◌∙◌, subst, arith, ℤ, pos, if◌then◌else◌, ◌==◌}
+use Rattle.std.proofs.Common.{◌≡◌, inl, inr, ℕ, zero, suc, ◌+◌, ◌*◌, ◌<◌, ◌≤◌, Bool, true, false, List, [], ◌∷◌, ◌++◌, length, get_or, Option, Some, None, refl, sym, ap, ◌∙◌, subst, arith, ℤ, pos, if◌then◌else◌}
 use Rattle.vms_kinds.specs.declared.Kind.{Kind}
 use Rattle.vms_kinds.specs.declared.Item.{Item}
 use Rattle.vms_kinds.specs.declared.Item.TheVariants.{Num, Equal, Unused, Struct}
@@ -18,14 +18,13 @@ use Rattle.vms_check_laws.specs.Segments.{Holds, FitsAt}
 use Rattle.vms_check_laws.proofs.Segments.{holds_left, holds_right, holds_at, fits_left, fits_right, fits_at}
 use Rattle.vms_spec.proofs.Sizes.{size_same, field_size, elements_fit}
 use Rattle.vms_spec.proofs.Prefixes.{ItemBelow, FieldsBelow}
-use Rattle.vms_check_laws.proofs.Pairing.{cells_in, slots_at, IsKnown, AreKnown, kinds_same}
+use Rattle.vms_check_laws.proofs.Pairing.{cells_in, slots_at, IsKnown, AreKnown, kinds_same, known_there}
 use Rattle.vms_check_laws.proofs.Linking.{defaults_size, PairGood, decoded, Linked, linked, carry_item_size, carry_field_size, Matched}
-use Rattle.vms_check_laws.proofs.Settling.{Settled, settled_defaults, settled_empty, settled_append, settled_at, same_defaults, has_itself}
+use Rattle.vms_check_laws.proofs.Settling.{Settled, settled_defaults, settled_empty, settled_append, same_defaults, has_itself}
 use Rattle.vms_check_laws.proofs.Describing.{there_here, not_covered, steady, steady_rest, rest_none, one_number}
-use Rattle.vms_check_laws.proofs.Premises.{covered_empty, Table, OldGood, later_new, later_old}
+use Rattle.vms_check_laws.proofs.Premises.{covered_empty, Table, OldGood, at_or_later}
 use Rattle.vms_check_laws.proofs.FieldsCarry.{same_elements, elements_room, EntryGood, Premises}
 use Rattle.std.specs.List.{slice_get}
-use Rattle.std.proofs.lemmas.Bool.{eqb-true}
 use Rattle.vms_kinds.specs.Codes.{width, residue}
 use Rattle.vms_spec.specs.declared.Count.{Count}
 use Rattle.vms_spec.specs.declared.Count.TheVariants.{One}
@@ -65,7 +64,7 @@ module _ (ks : List Comparer) (cs : List Carrier) (ms ns : List Meaning) (a b : 
       ] in
       let rest : e.rest ≡ None = rest_none o n e.rest f.rest (steady_rest w f.field.test f.field.since f.rest s.test known'.left) m.rest in
       let there_is : is_there e.field.test e.field.since v own no_parent ≡ true =
-      there_here v e.field.test e.field.since e.rest own no_parent known.left ∙ ap (λ (r : Option Formula). there (Some r) v own no_parent) rest in
+      known_there ms a.fields v numbers at e known rest own no_parent in
       known.number
       ∙ number_pair f.field.item e.field.item f.field.count e.field.count f.field.default (is_there e.field.test e.field.since v own no_parent)
       (length (item_cells (cells_in ms) e.field.item [] (pos 0))) (at + e.place) (at' + f.place) s.item s.count m.item m.count there_is held
@@ -75,28 +74,12 @@ module _ (ks : List Comparer) (cs : List Carrier) (ms ns : List Meaning) (a b : 
   agree_from i j p [] fs linked known known' named h = absurd (cc)
   agree_from i j p (e ∷ es) [] linked known known' named h = absurd linked
   agree_from i j p (e ∷ es) (f ∷ fs) linked known known' named h =
-      let choice : (c d : Bool) → (e.index == i) ≡ c → (f.index == j) ≡ d
-      → same_place (if c then Some p else position_from (suc p) es i) (if d then Some p else position_from (suc p) fs j) ≡ true → own i ≡ own' j = elim [
-        | true ↦ elim [
-          | true ↦ λ x y k.
-              let ei : e.index ≡ i = eqb-true e.index i x in
-              let fj : f.index ≡ j = eqb-true f.index j y in
-              let named_here : ok f.index ≡ true = ap (λ (q : ℕ). ok q) fj ∙ named in
-              ap (λ (q : ℕ). own q) (sym ei) ∙ pair_agrees e f known.0 known'.0 linked.0.0 linked.0.1 named_here ∙ ap (λ (q : ℕ). own' q) fj
-          | false ↦ λ x y k. absurd (later_new j p (suc p) fs (omega arith) k)
-        ]
-        | false ↦ elim [
-          | true ↦ λ x y k. absurd (later_old i p (suc p) es (omega arith) k)
-          | false ↦ λ x y k. agree_from i j (suc p) es fs linked.1 known.1 known'.1 named k
-        ]
-      ] in
-      choice (e.index == i) (f.index == j) refl refl h
+      elim (at_or_later i j p e f es fs h) [
+        | inl here ↦ ap (λ (q : ℕ). own q) (sym here.0) ∙ pair_agrees e f known.0 known'.0 linked.0.0 linked.0.1 (ap (λ (q : ℕ). ok q) here.1 ∙ named) ∙ ap (λ (q : ℕ). own' q) here.1
+        | inr later ↦ agree_from i j (suc p) es fs linked.1 known.1 known'.1 named later.1
+      ]
 
   -- ---- defaults
-
-  abbrev pub SettledRow : Type 0
-  SettledRow = (i j : ℕ) → i < below → j < below' → get_or ks j no_comparer i ≡ None → (x y : ℕ) → FitsAt (get_or (cells_in ms) i []) numbers x
-      → Holds numbers' y (get_or cs j no_carrier i numbers x) → Settled ((get_or ns j no_meaning).slots numbers' y) y (get_or (cells_in ns) j []) (get_or cs j no_carrier i numbers x)
 
   number_settles : (t : Bool) (l : Kind) (caps' caps2 : List ℕ) (z d : ℤ) (y : ℕ) → Settled (Number y l caps' ∷ []) y (record { kind = l; capacities = caps2; default = d } ∷ []) (if t then z ∷ [] else d ∷ [])
   number_settles true l caps' caps2 z d y = record {
@@ -106,35 +89,30 @@ module _ (ks : List Comparer) (cs : List Carrier) (ms ns : List Meaning) (a b : 
   }
   number_settles false l caps' caps2 z d y = settled_defaults (Number y l caps' ∷ []) y (record { kind = l; capacities = caps2; default = d } ∷ [])
 
-  item_settles : (i j : Item) → SettledRow → (caps caps' caps2 : List ℕ) (d d' : ℤ) (x y : ℕ) → same_item i j ≡ true → pair_structs ks a b v w part part' o n i j ≡ None → ItemBelow below i → ItemBelow below' j
+  item_settles : (i j : Item) (caps caps' caps2 : List ℕ) (d d' : ℤ) (x y : ℕ) → same_item i j ≡ true → pair_structs ks a b v w part part' o n i j ≡ None → ItemBelow below i → ItemBelow below' j
       → FitsAt (item_cells (cells_in ms) i caps d) numbers x
       → Holds numbers' y (carry_item cs (cells_in ms) (cells_in ns) numbers i j (defaults (item_cells (cells_in ns) j [] d')) x)
       → Settled (item_slots ns j caps' numbers' y) y (item_cells (cells_in ns) j caps2 d') (carry_item cs (cells_in ms) (cells_in ns) numbers i j (defaults (item_cells (cells_in ns) j [] d')) x)
-  item_settles (Num k) (Num l) row caps caps' caps2 d d' x y same structs below_a below_b fits held = number_settles (same_kind k l) l caps' caps2 (get_or numbers x (pos 0)) d' y
-  item_settles (Equal k z) (Equal l u) row caps caps' caps2 d d' x y same structs below_a below_b fits held = settled_empty _ y [] [] refl
-  item_settles (Unused m) (Unused r) row caps caps' caps2 d d' x y same structs below_a below_b fits held = settled_empty _ y [] [] refl
-  item_settles (Struct i) (Struct j) row caps caps' caps2 d d' x y same structs below_a below_b fits held = row i j below_a below_b structs x y fits held
-  item_settles _ _ row caps caps' caps2 d d' x y same structs below_a below_b fits held = absurd (cc)
+  item_settles (Num k) (Num l) caps caps' caps2 d d' x y same structs below_a below_b fits held = number_settles (same_kind k l) l caps' caps2 (get_or numbers x (pos 0)) d' y
+  item_settles (Equal k z) (Equal l u) caps caps' caps2 d d' x y same structs below_a below_b fits held = settled_empty _ y [] [] refl
+  item_settles (Unused m) (Unused r) caps caps' caps2 d d' x y same structs below_a below_b fits held = settled_empty _ y [] [] refl
+  item_settles (Struct i) (Struct j) caps caps' caps2 d d' x y same structs below_a below_b fits held = table.settled i j below_a below_b structs x y fits held
+  item_settles _ _ caps caps' caps2 d d' x y same structs below_a below_b fits held = absurd (cc)
 
-  items_settle : (i j : Item) → SettledRow → (caps caps' caps2 : List ℕ) (d d' : ℤ) (m most most' p step p' step' x y : ℕ) → same_item i j ≡ true → pair_structs ks a b v w part part' o n i j ≡ None
+  items_settle : (i j : Item) (caps caps' caps2 : List ℕ) (d d' : ℤ) (m most most' p step p' step' x y : ℕ) → same_item i j ≡ true → pair_structs ks a b v w part part' o n i j ≡ None
       → ItemBelow below i → ItemBelow below' j → m ≤ most → m ≤ most' → FitsAt (times most (λ _. item_cells (cells_in ms) i caps d) p step) numbers x
       → Holds numbers' y (carry_items cs (cells_in ms) (cells_in ns) numbers i j (defaults (item_cells (cells_in ns) j [] d')) (length (item_cells (cells_in ms) i [] (pos 0))) m most' x)
       → Settled (times m (item_slots ns j caps' numbers') y (length (item_cells (cells_in ns) j [] (pos 0)))) y (times most' (λ _. item_cells (cells_in ns) j caps2 d') p' step')
       (carry_items cs (cells_in ms) (cells_in ns) numbers i j (defaults (item_cells (cells_in ns) j [] d')) (length (item_cells (cells_in ms) i [] (pos 0))) m most' x)
-  items_settle i j row caps caps' caps2 d d' zero most zero p step p' step' x y same structs below_a below_b le le' fits held = settled_empty [] y [] [] refl
-  items_settle i j row caps caps' caps2 d d' (suc m) most zero p step p' step' x y same structs below_a below_b le le' fits held = absurd (omega arith)
-  items_settle i j row caps caps' caps2 d d' zero most (suc most') p step p' step' x y same structs below_a below_b le le' fits held =
-      let fallback = defaults (item_cells (cells_in ns) j [] d') in
-      let size = length (item_cells (cells_in ms) i [] (pos 0)) in
-      let after = carry_items cs (cells_in ms) (cells_in ns) numbers i j fallback size zero most' x in
-      let first : Settled [] y (item_cells (cells_in ns) j caps2 d') fallback =
-      subst (λ (l : List ℤ). Settled [] y (item_cells (cells_in ns) j caps2 d') l) (same_defaults (cells_in ns) j caps2 [] d') (settled_defaults [] y (item_cells (cells_in ns) j caps2 d')) in
-      let sizes : length fallback ≡ length (item_cells (cells_in ns) j caps2 d') = defaults_size (item_cells (cells_in ns) j [] d') ∙ size_same (cells_in ns) j [] d' ∙ sym (size_same (cells_in ns) j caps2 d') in
-      let rest = items_settle i j row caps caps' caps2 d d' zero most most' p step (p' + step') step' x (y + length fallback) same structs below_a below_b (omega arith) (omega arith) fits
-      (holds_right numbers' y fallback after held) in
-      settled_append [] [] y (item_cells (cells_in ns) j caps2 d') (times most' (λ _. item_cells (cells_in ns) j caps2 d') (p' + step') step') fallback after sizes first rest
-  items_settle i j row caps caps' caps2 d d' (suc m) zero (suc most') p step p' step' x y same structs below_a below_b le le' fits held = absurd (omega arith)
-  items_settle i j row caps caps' caps2 d d' (suc m) (suc most) (suc most') p step p' step' x y same structs below_a below_b le le' fits held =
+  items_settle i j caps caps' caps2 d d' zero most zero p step p' step' x y same structs below_a below_b le le' fits held = settled_empty [] y [] [] refl
+  items_settle i j caps caps' caps2 d d' (suc m) most zero p step p' step' x y same structs below_a below_b le le' fits held = absurd (omega arith)
+  items_settle i j caps caps' caps2 d d' zero most (suc most') p step p' step' x y same structs below_a below_b le le' fits held =
+      let after = carry_items cs (cells_in ms) (cells_in ns) numbers i j (defaults (item_cells (cells_in ns) j [] d')) (length (item_cells (cells_in ms) i [] (pos 0))) zero most' x in
+      let first : Settled [] y (item_cells (cells_in ns) j caps2 d') (defaults (item_cells (cells_in ns) j [] d')) = rw (same_defaults (cells_in ns) j [] caps2 d') (settled_defaults [] y (item_cells (cells_in ns) j caps2 d')) in
+      settled_append (defaults_size (item_cells (cells_in ns) j [] d') ∙ size_same (cells_in ns) j [] d' ∙ sym (size_same (cells_in ns) j caps2 d')) first refl
+      (items_settle i j caps caps' caps2 d d' zero most most' p step (p' + step') step' x _ same structs below_a below_b (omega arith) (omega arith) fits (holds_right numbers' y (defaults (item_cells (cells_in ns) j [] d')) after held))
+  items_settle i j caps caps' caps2 d d' (suc m) zero (suc most') p step p' step' x y same structs below_a below_b le le' fits held = absurd (omega arith)
+  items_settle i j caps caps' caps2 d d' (suc m) (suc most) (suc most') p step p' step' x y same structs below_a below_b le le' fits held =
       let cells = item_cells (cells_in ms) i caps d in
       let size = length (item_cells (cells_in ms) i [] (pos 0)) in
       let size' = length (item_cells (cells_in ns) j [] (pos 0)) in
@@ -145,34 +123,30 @@ module _ (ks : List Comparer) (cs : List Carrier) (ms ns : List Meaning) (a b : 
       let e : x + length cells ≡ x + size = ap (λ (k : ℕ). x + k) (size_same (cells_in ms) i caps d) in
       let first_size : length first ≡ size' = carry_item_size ks a b v w part part' o n cs (cells_in ms) (cells_in ns) numbers numbers' own at at' below' table.sized i j d' x below_b in
       let e' : y + length first ≡ y + size' = ap (λ (k : ℕ). y + k) first_size in
-      let rest = items_settle i j row caps caps' caps2 d d' m most most' (p + step) step (p' + step') step' (x + size) (y + size') same structs below_a below_b (omega arith) (omega arith)
-      (fits_at more_cells numbers _ _ e (fits_right cells more_cells numbers x fits))
-      (holds_at numbers' _ _ after e' (holds_right numbers' y first after held)) in
-      settled_append (item_slots ns j caps' numbers' y) (times m (item_slots ns j caps' numbers') (y + size') size') y (item_cells (cells_in ns) j caps2 d')
-      (times most' (λ _. item_cells (cells_in ns) j caps2 d') (p' + step') step') first after (first_size ∙ sym (size_same (cells_in ns) j caps2 d'))
-      (item_settles i j row caps caps' caps2 d d' x y same structs below_a below_b (fits_left cells more_cells numbers x fits) (holds_left numbers' y first after held))
-      (settled_at _ _ _ _ after (sym e') rest)
+      settled_append (first_size ∙ sym (size_same (cells_in ns) j caps2 d')) (item_settles i j caps caps' caps2 d d' x y same structs below_a below_b (fits_left cells more_cells numbers x fits) (holds_left numbers' y first after held)) (sym e')
+      (items_settle i j caps caps' caps2 d d' m most most' (p + step) step (p' + step') step' (x + size) (y + size') same structs below_a below_b (omega arith) (omega arith)
+      (fits_at more_cells numbers _ _ e (fits_right cells more_cells numbers x fits)) (holds_at numbers' _ _ after e' (holds_right numbers' y first after held)))
 
   -- for the same number of elements on both sides if the field is present, and else for none
-  choice_settles : (i j : Item) → SettledRow → (s t : Bool) (caps caps' caps2 : List ℕ) (d d' : ℤ) (m m' most most' x y : ℕ) → s ≡ t → m ≡ m' → same_item i j ≡ true → pair_structs ks a b v w part part' o n i j ≡ None
+  choice_settles : (i j : Item) (s t : Bool) (caps caps' caps2 : List ℕ) (d d' : ℤ) (m m' most most' x y : ℕ) → s ≡ t → m ≡ m' → same_item i j ≡ true → pair_structs ks a b v w part part' o n i j ≡ None
       → ItemBelow below i → ItemBelow below' j → m ≤ most → m ≤ most' → FitsAt (times most (λ _. item_cells (cells_in ms) i caps d) 0 0) numbers x
       → Holds numbers' y (carry_items cs (cells_in ms) (cells_in ns) numbers i j (defaults (item_cells (cells_in ns) j [] d')) (length (item_cells (cells_in ms) i [] (pos 0))) (if s then m else 0) most' x)
       → Settled (if t then times m' (item_slots ns j caps' numbers') y (length (item_cells (cells_in ns) j [] (pos 0))) else []) y (times most' (λ _. item_cells (cells_in ns) j caps2 d') 0 0)
       (carry_items cs (cells_in ms) (cells_in ns) numbers i j (defaults (item_cells (cells_in ns) j [] d')) (length (item_cells (cells_in ms) i [] (pos 0))) (if s then m else 0) most' x)
-  choice_settles i j row true true caps caps' caps2 d d' m m' most most' x y st mm same structs below_a below_b le le' fits held =
+  choice_settles i j true true caps caps' caps2 d d' m m' most most' x y st mm same structs below_a below_b le le' fits held =
       subst (λ (k : ℕ). Settled (times k (item_slots ns j caps' numbers') y (length (item_cells (cells_in ns) j [] (pos 0)))) y (times most' (λ _. item_cells (cells_in ns) j caps2 d') 0 0)
       (carry_items cs (cells_in ms) (cells_in ns) numbers i j (defaults (item_cells (cells_in ns) j [] d')) (length (item_cells (cells_in ms) i [] (pos 0))) m most' x)) mm
-      (items_settle i j row caps caps' caps2 d d' m most most' 0 0 0 0 x y same structs below_a below_b le le' fits held)
-  choice_settles i j row false false caps caps' caps2 d d' m m' most most' x y st mm same structs below_a below_b le le' fits held =
-      items_settle i j row caps caps' caps2 d d' 0 most most' 0 0 0 0 x y same structs below_a below_b (omega arith) (omega arith) fits held
-  choice_settles i j row _ _ caps caps' caps2 d d' m m' most most' x y st mm same structs below_a below_b le le' fits held = absurd (cc)
+      (items_settle i j caps caps' caps2 d d' m most most' 0 0 0 0 x y same structs below_a below_b le le' fits held)
+  choice_settles i j false false caps caps' caps2 d d' m m' most most' x y st mm same structs below_a below_b le le' fits held =
+      items_settle i j caps caps' caps2 d d' 0 most most' 0 0 0 0 x y same structs below_a below_b (omega arith) (omega arith) fits held
+  choice_settles i j _ _ caps caps' caps2 d d' m m' most most' x y st mm same structs below_a below_b le le' fits held = absurd (cc)
 
-  pair_settles : (e f : Entry) → SettledRow → Agree o n ok own own' → IsKnown ms a.fields v numbers at e → IsKnown ns b.fields w numbers' at' f → PairGood ks a b v w part part' o n e f
+  pair_settles : (e f : Entry) → Agree o n ok own own' → IsKnown ms a.fields v numbers at e → IsKnown ns b.fields w numbers' at' f → PairGood ks a b v w part part' o n e f
       → Holds numbers' (at' + f.place) (carry_field cs (cells_in ms) (cells_in ns) numbers own v at e f.field)
       → OldGood below own e.field → EntryGood ks cs ms ns a b v w part part' o n numbers numbers' at at' below below' table ok f → FitsAt (field_cells (cells_in ms) a.fields e.index e.field) numbers (at + e.place)
       → Settled (slots_at ns b.fields w own' numbers' at' f.index f.place f.field) (at' + f.place) (field_cells (cells_in ns) b.fields f.index f.field)
       (carry_field cs (cells_in ms) (cells_in ns) numbers own v at e f.field)
-  pair_settles e f row agree known known' good held old new fits =
+  pair_settles e f agree known known' good held old new fits =
       elim (decoded ks a b v w part part' o n e f good) [
         | inl c ↦ settled_empty _ (at' + f.place) (field_cells (cells_in ns) b.fields f.index f.field) (carry_field cs (cells_in ms) (cells_in ns) numbers own v at e f.field)
             (carry_field_size ks a b v w part part' o n cs (cells_in ms) (cells_in ns) numbers numbers' own at at' below' table.sized e b.fields f.index f.field new.item
@@ -182,47 +156,38 @@ module _ (ks : List Comparer) (cs : List Carrier) (ms ns : List Meaning) (a b : 
             let same : is_there e.field.test e.field.since v own no_parent ≡ is_there f.field.test f.field.since w own' no_parent =
             there_here v e.field.test e.field.since e.rest own no_parent known.left ∙ same_there o n ok own own' no_parent no_parent v w agree e.rest f.rest new.rest m.rest
             ∙ sym (there_here w f.field.test f.field.since f.rest own' no_parent known'.left) in
-            choice_settles e.field.item f.field.item row (is_there e.field.test e.field.since v own no_parent) (is_there f.field.test f.field.since w own' no_parent)
+            choice_settles e.field.item f.field.item (is_there e.field.test e.field.since v own no_parent) (is_there f.field.test f.field.since w own' no_parent)
             (counted e.index a.fields) (counted f.index b.fields) (counted f.index b.fields) e.field.default f.field.default (elements_of e.field.count own) (elements_of f.field.count own')
             (capacity_of e.field.count) (capacity_of f.field.count) (at + e.place) (at' + f.place) same (same_elements ks cs ms ns a b v w part part' o n numbers numbers' at at' below below' table ok e.field.count f.field.count agree old.count new.count m.count m.room) m.item good.structs old.item new.item
             (elements_fit e.field.count own) (elements_room ks cs ms ns a b v w part part' o n numbers numbers' at at' below below' table ok e.field.count f.field.count m.count m.room) fits held
       ]
 
-  settle_next : (i p : ℕ) (g : Field) (pr : Option (Option Formula)) (es after : List Entry) (slots : List Slot) (rest : List Entry → List ℤ) (cells : List Cell) → SettledRow → Agree o n ok own own' → ItemBelow below' g.item
+  settle_next : (i p : ℕ) (g : Field) (pr : Option (Option Formula)) (es after : List Entry) (slots : List Slot) (rest : List Entry → List ℤ) (cells : List Cell) → Agree o n ok own own' → ItemBelow below' g.item
       → Premises ks cs ms ns a b v w part part' o n numbers numbers' at at' below below' table ok es (entry_of i p g pr ++ after)
       → ((es' : List Entry) → Premises ks cs ms ns a b v w part part' o n numbers numbers' at at' below below' table ok es' after → Settled slots (at' + (p + length (field_cells (cells_in ns) b.fields i g))) cells (rest es'))
       → Settled (slots_at ns b.fields w own' numbers' at' i p g ++ slots) (at' + p) (field_cells (cells_in ns) b.fields i g ++ cells)
       (carry_next cs (cells_in ms) (cells_in ns) numbers own v at b.fields i g pr es ++ rest (entries_left cs (cells_in ms) (cells_in ns) numbers pr es))
-  settle_next i p g None es after slots rest cells row agree lt all go =
+  settle_next i p g None es after slots rest cells agree lt all go =
       let size = defaults_size (field_cells (cells_in ns) b.fields i g) in
       let e : at' + (p + length (field_cells (cells_in ns) b.fields i g)) ≡ (at' + p) + length (default_field cs (cells_in ms) (cells_in ns) numbers b.fields i g) = omega (arith, size) in
-      settled_append (slots_at ns b.fields w own' numbers' at' i p g) slots (at' + p) (field_cells (cells_in ns) b.fields i g) cells
-      (default_field cs (cells_in ms) (cells_in ns) numbers b.fields i g) (rest es) size
-      (settled_defaults (slots_at ns b.fields w own' numbers' at' i p g) (at' + p) (field_cells (cells_in ns) b.fields i g))
-      (settled_at slots _ _ cells (rest es) e (go es all))
-  settle_next i p g (Some left) [] after slots rest cells row agree lt all go = absurd all.linked
-  settle_next i p g (Some left) (x ∷ es) after slots rest cells row agree lt all go =
+      settled_append size (settled_defaults (slots_at ns b.fields w own' numbers' at' i p g) (at' + p) (field_cells (cells_in ns) b.fields i g)) e (go es all)
+  settle_next i p g (Some left) [] after slots rest cells agree lt all go = absurd all.linked
+  settle_next i p g (Some left) (x ∷ es) after slots rest cells agree lt all go =
       let first = carry_field cs (cells_in ms) (cells_in ns) numbers own v at x g in
       let size : length first ≡ length (field_cells (cells_in ns) b.fields i g) =
       carry_field_size ks a b v w part part' o n cs (cells_in ms) (cells_in ns) numbers numbers' own at at' below' table.sized x b.fields i g lt in
       let e : at' + (p + length (field_cells (cells_in ns) b.fields i g)) ≡ (at' + p) + length first = omega (arith, size) in
-      settled_append (slots_at ns b.fields w own' numbers' at' i p g) slots (at' + p) (field_cells (cells_in ns) b.fields i g) cells first (rest es) size
-      (pair_settles x (record { index = i; place = p; field = g; rest = left }) row agree all.known.0 all.known'.0 all.linked.0.0 all.linked.0.1 all.old.0 all.new.0 all.fits.0)
-      (settled_at slots _ _ cells (rest es) e (go es (record { linked = all.linked.1; known = all.known.1; known' = all.known'.1; old = all.old.1; new = all.new.1; fits = all.fits.1 })))
+      settled_append size (pair_settles x (record { index = i; place = p; field = g; rest = left }) agree all.known.0 all.known'.0 all.linked.0.0 all.linked.0.1 all.old.0 all.new.0 all.fits.0) e
+      (go es (record { linked = all.linked.1; known = all.known.1; known' = all.known'.1; old = all.old.1; new = all.new.1; fits = all.fits.1 }))
 
-  pub fields_settle : (i p : ℕ) (gs : List Field) (es : List Entry) → SettledRow → Agree o n ok own own' → FieldsBelow below' gs
+  pub fields_settle : (i p : ℕ) (gs : List Field) (es : List Entry) → Agree o n ok own own' → FieldsBelow below' gs
       → Premises ks cs ms ns a b v w part part' o n numbers numbers' at at' below below' table ok es (present_from (cells_in ns) b.fields w i p gs)
       → Settled (slots_from ns b.fields w own' numbers' i (at' + p) gs) (at' + p) (cells_from (cells_in ns) b.fields i gs) (carry_from cs (cells_in ms) (cells_in ns) numbers own v w at b.fields i gs es)
-  fields_settle i p [] es row agree lt all = settled_empty [] (at' + p) [] [] refl
-  fields_settle i p (g ∷ gs) es row agree lt all =
+  fields_settle i p [] es agree lt all = settled_empty [] (at' + p) [] [] refl
+  fields_settle i p (g ∷ gs) es agree lt all =
       let len = length (field_cells (cells_in ns) b.fields i g) in
       let e : at' + (p + len) ≡ (at' + p) + len = omega arith in
       let after = present_from (cells_in ns) b.fields w (suc i) (p + len) gs in
       let slots = slots_from ns b.fields w own' numbers' (suc i) (at' + (p + len)) gs in
-      let whole = settle_next i p g (presence w g.test g.since) es after slots (λ es'. carry_from cs (cells_in ms) (cells_in ns) numbers own v w at b.fields (suc i) gs es')
-      (cells_from (cells_in ns) b.fields (suc i) gs) row agree lt.0 all
-      (λ es' all. fields_settle (suc i) (p + len) gs es' row agree lt.1 all) in
-      subst (λ (q : ℕ). Settled (slots_at ns b.fields w own' numbers' at' i p g ++ slots_from ns b.fields w own' numbers' (suc i) q gs) (at' + p)
-      (field_cells (cells_in ns) b.fields i g ++ cells_from (cells_in ns) b.fields (suc i) gs)
-      (carry_next cs (cells_in ms) (cells_in ns) numbers own v at b.fields i g (presence w g.test g.since) es
-      ++ carry_from cs (cells_in ms) (cells_in ns) numbers own v w at b.fields (suc i) gs (entries_left cs (cells_in ms) (cells_in ns) numbers (presence w g.test g.since) es))) e whole
+      rw e at (settle_next i p g (presence w g.test g.since) es after slots (λ es'. carry_from cs (cells_in ms) (cells_in ns) numbers own v w at b.fields (suc i) gs es')
+      (cells_from (cells_in ns) b.fields (suc i) gs) agree lt.0 all (λ es' all. fields_settle (suc i) (p + len) gs es' agree lt.1 all))

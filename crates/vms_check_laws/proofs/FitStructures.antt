@@ -14,8 +14,8 @@ use Rattle.vms_spec.proofs.Faultless.{or_else_none}
 use Rattle.vms_spec.proofs.Prefixes.{struct_cells_at}
 use Rattle.vms_check_laws.proofs.Pairing.{cells_in, AreKnown, all_known}
 use Rattle.vms_check_laws.proofs.Linking.{zip_of}
-use Rattle.vms_check_laws.proofs.Premises.{OldGood, OldFields, NewGood, NewFields, below_suc}
-use Rattle.vms_check_laws.proofs.Structures.{OldStructs, NewStructs, new_below, comparer_earlier, carrier_last, carrier_earlier, beside}
+use Rattle.vms_check_laws.proofs.Premises.{OldGood, OldFields, NewGood, NewFields}
+use Rattle.vms_check_laws.proofs.Structures.{OldStructs, NewStructs, new_below, Below, Next, each_structure, beside}
 use Rattle.vms_check_laws.proofs.Bounds.{indexed, present_increasing, OldStand, NewSingle}
 use Rattle.vms_check_laws.proofs.Fitting.{FitCells, GoodCells, good_fields, DefaultsGood, FitTable, OldReady, follow_all, fit_from}
 
@@ -103,45 +103,25 @@ module _ (olds news : List Desc) (numbers : List ℤ) (old : OldStructs olds) (n
   abbrev pub KnownFits : ℕ → Type 0
   KnownFits k = FitTable (ks k) (cs k) xs ys numbers (length olds) k
 
-  abbrev old_at : ℕ → Desc
-  old_at i = get_or olds i no_desc
+  -- structure j of new with its comparer and its carrier
+  abbrev Row : ℕ → Comparer → Carrier → Type 0
+  Row j rule carrier = GoodCells (get_or ys j []) × ((i : ℕ) → i < length olds → rule i ≡ None → (p : ℕ) → FitsAt (get_or xs i []) numbers p → FitCells (get_or ys j []) (carrier i numbers p))
 
-  abbrev new_at : ℕ → Desc
-  new_at j = get_or news j no_desc
+  table_of : (k : ℕ) → Below xs ys olds news Row k → KnownFits k
+  table_of k rows = record { good = λ j lt. (rows j lt).0; fits = λ i j lt_i lt none p fits. (rows j lt).1 i lt_i none p fits }
 
-  abbrev Fits : ℕ → ℕ → ℕ → Type 0
-  Fits k i j = get_or (ks k) j no_comparer i ≡ None → (p : ℕ) → FitsAt (get_or xs i []) numbers p → FitCells (get_or ys j []) (get_or (cs k) j no_carrier i numbers p)
-
-  good_last : (k : ℕ) → k < length news → KnownFits k → GoodCells (get_or ys k [])
-  good_last k lt table =
-      let below = new_below k (is_steady_in (new_at k)) (new_at k).fields (new k lt).fields in
-      subst (λ (l : List Cell). GoodCells l) (sym (struct_cells_at news (length news) k lt below))
-      (good_fields ys k (new_at k).fields 0 (new_at k).fields table.good below (defaults_good k lt))
-
-  fits_last : (k : ℕ) → k < length news → KnownFits k → (i : ℕ) → i < length olds → Fits (suc k) i k
-  fits_last k lt table i lt_i none p fits =
-      let a = old_at i in
-      let b = new_at k in
-      let z = beside olds news numbers k i p old new lt lt_i none fits in
-      let done = desc_fits (ks k) (cs k) ms ys a b a.version b.version (parts.Struct i) (parts.Struct k) numbers p (length olds) k table z.none z.old (new k lt).fields (defaults_good k lt) z.fits in
-      subst (λ (l : List Cell). FitCells l (get_or (cs (suc k)) k no_carrier i numbers p)) (sym (struct_cells_at news (length news) k lt z.below'))
-      (subst (λ (c : Carrier). FitCells (desc_cells ys b) (c i numbers p)) (sym (carrier_last xs ys olds news k)) done)
-
-  fits_earlier : (k : ℕ) → KnownFits k → (i j : ℕ) → i < length olds → j < k → Fits (suc k) i j
-  fits_earlier k table i j lt_i lt_j none p fits =
-      subst (λ (c : Carrier). FitCells (get_or ys j []) (c i numbers p)) (sym (carrier_earlier xs ys olds news k j lt_j))
-      (table.fits i j lt_i lt_j (subst (λ (c : Comparer). c i ≡ None) (comparer_earlier xs ys olds news k j lt_j) none) p fits)
-
-  fits_next : (k : ℕ) → k < length news → KnownFits k → (i j : ℕ) → i < length olds → j < suc k → Fits (suc k) i j
-  fits_next k lt table i j lt_i lt_j =
-      below_suc (λ (q : ℕ). Fits (suc k) i q) k (fits_last k lt table i lt_i) (λ q less. fits_earlier k table i q lt_i less) j lt_j
-
-  good_next : (k : ℕ) → k < length news → KnownFits k → (j : ℕ) → j < suc k → GoodCells (get_or ys j [])
-  good_next k lt table j lt_j = below_suc (λ (q : ℕ). GoodCells (get_or ys q [])) k (good_last k lt table) (λ q less. table.good q less) j lt_j
+  row : (k : ℕ) → k < length news → Below xs ys olds news Row k → Next xs ys olds news Row k
+  row k lt rows =
+      let b = get_or news k no_desc in
+      let table = table_of k rows in
+      let below = new_below k (is_steady_in b) b.fields (new k lt).fields in
+      rw (struct_cells_at news (length news) k lt below) (
+        good_fields ys k b.fields 0 b.fields table.good below (defaults_good k lt),
+        λ i lt_i none p fits.
+            let a = get_or olds i no_desc in
+            let z = beside olds news numbers k i p old new lt lt_i none fits in
+            desc_fits (ks k) (cs k) ms ys a b a.version b.version (parts.Struct i) (parts.Struct k) numbers p (length olds) k table z.none z.old (new k lt).fields (defaults_good k lt) z.fits,
+      )
 
   pub fit_tables : (k : ℕ) → k ≤ length news → KnownFits k
-  fit_tables zero le = record { good = λ j lt. absurd (omega arith); fits = λ i j lt_i lt_j none p fits. absurd (omega arith) }
-  fit_tables (suc k) le =
-      let lt : k < length news = omega arith in
-      let table = fit_tables k (omega arith) in
-      record { good = good_next k lt table; fits = λ i j lt_i lt_j none p fits. fits_next k lt table i j lt_i lt_j none p fits }
+  fit_tables k le = table_of k (each_structure xs ys olds news Row row k le)

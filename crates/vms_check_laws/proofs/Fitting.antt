@@ -102,6 +102,11 @@ module _ (ks : List Comparer) (cs : List Carrier) (x y : List (List Cell)) (ms :
   number_fits true k l caps caps' d' z same good range follow = ((subst (λ (i : Kind). InRange i z) (kinds_same k l same) range, follow refl), tt)
   number_fits false k l caps caps' d' z same good range follow = (good, tt)
 
+  fallback_fits : (j : Item) (caps' : List ℕ) (d' : ℤ) → GoodCells (item_cells y j caps' d') → FitCells (item_cells y j caps' d') (defaults (item_cells y j [] d'))
+  fallback_fits (Num l) caps' d' good = (good.0, tt)
+  fallback_fits (Struct j) caps' d' good = fit_defaults (get_or y j []) good
+  fallback_fits _ caps' d' good = tt
+
   fit_item : (i j : Item) (caps caps' : List ℕ) (d d' : ℤ) (p : ℕ) → ItemBelow below i → ItemBelow below' j → pair_structs ks a b v w part part' o n i j ≡ None → GoodCells (item_cells y j caps' d')
       → FitsAt (item_cells x i caps d) numbers p
       → ((k : Kind) → i ≡ Num k → is_num j ≡ true → (z : ℤ) → z ≤ℤ highest k → AllByRecursion (λ m. z ≤ℤ pos m) caps → AllByRecursion (λ m. z ≤ℤ pos m) caps')
@@ -112,20 +117,7 @@ module _ (ks : List Comparer) (cs : List Carrier) (x y : List (List Cell)) (ms :
       subst (λ (q : ℕ). FitsCell (record { kind = k; capacities = caps; default = d }) (get_or numbers q (pos 0))) z (fits.each 0 (omega arith)) in
       number_fits (same_kind k l) k l caps caps' d' (get_or numbers p (pos 0)) refl good.0 f.0 (λ same. follow k refl refl (get_or numbers p (pos 0)) f.0.1 f.1)
   fit_item (Struct i) (Struct j) caps caps' d d' p below_a below_b none good fits follow = table.fits i j below_a below_b none p fits
-  fit_item (Num k) (Equal l u) caps caps' d d' p below_a below_b none good fits follow = tt
-  fit_item (Num k) (Unused r) caps caps' d d' p below_a below_b none good fits follow = tt
-  fit_item (Num k) (Struct j) caps caps' d d' p below_a below_b none good fits follow = fit_defaults (get_or y j []) good
-  fit_item (Equal k z) (Num l) caps caps' d d' p below_a below_b none good fits follow = (good.0, tt)
-  fit_item (Equal k z) (Equal l u) caps caps' d d' p below_a below_b none good fits follow = tt
-  fit_item (Equal k z) (Unused r) caps caps' d d' p below_a below_b none good fits follow = tt
-  fit_item (Equal k z) (Struct j) caps caps' d d' p below_a below_b none good fits follow = fit_defaults (get_or y j []) good
-  fit_item (Unused m) (Num l) caps caps' d d' p below_a below_b none good fits follow = (good.0, tt)
-  fit_item (Unused m) (Equal l u) caps caps' d d' p below_a below_b none good fits follow = tt
-  fit_item (Unused m) (Unused r) caps caps' d d' p below_a below_b none good fits follow = tt
-  fit_item (Unused m) (Struct j) caps caps' d d' p below_a below_b none good fits follow = fit_defaults (get_or y j []) good
-  fit_item (Struct i) (Num l) caps caps' d d' p below_a below_b none good fits follow = (good.0, tt)
-  fit_item (Struct i) (Equal l u) caps caps' d d' p below_a below_b none good fits follow = tt
-  fit_item (Struct i) (Unused r) caps caps' d d' p below_a below_b none good fits follow = tt
+  fit_item _ j caps caps' d d' p below_a below_b none good fits follow = fallback_fits j caps' d' good
 
   fit_items : (i j : Item) (caps caps' : List ℕ) (d d' : ℤ) (m most most' q st q' st' p : ℕ) → m ≤ most → ItemBelow below i → ItemBelow below' j → pair_structs ks a b v w part part' o n i j ≡ None
       → GoodCells (item_cells y j caps' d') → FitsAt (times most (λ _. item_cells x i caps d) q st) numbers p
@@ -136,12 +128,6 @@ module _ (ks : List Comparer) (cs : List Carrier) (x y : List (List Cell)) (ms :
       fit_append (item_cells y j caps' d') (times most' (λ _. item_cells y j caps' d') (q' + st') st') (defaults (item_cells y j [] d')) _
       (fallback_fits j caps' d' good)
       (fit_items i j caps caps' d d' zero most most' q st (q' + st') st' p (omega arith) below_a below_b none good fits follow)
-    where
-      fallback_fits : (j : Item) (caps' : List ℕ) (d' : ℤ) → GoodCells (item_cells y j caps' d') → FitCells (item_cells y j caps' d') (defaults (item_cells y j [] d'))
-      fallback_fits (Num l) caps' d' good = (good.0, tt)
-      fallback_fits (Equal l u) caps' d' good = tt
-      fallback_fits (Unused r) caps' d' good = tt
-      fallback_fits (Struct j) caps' d' good = fit_defaults (get_or y j []) good
   fit_items i j caps caps' d d' (suc m) zero (suc most') q st q' st' p le below_a below_b none good fits follow = absurd (omega arith)
   fit_items i j caps caps' d d' (suc m) (suc most) (suc most') q st q' st' p le below_a below_b none good fits follow =
       let cells = item_cells x i caps d in

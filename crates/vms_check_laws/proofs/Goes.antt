@@ -10,7 +10,7 @@ use Rattle.std.proofs.lemmas.Bool.{or_parts, false_from_ne_true}
 use Rattle.vms_bodies.proofs.Names.{names_append}
 use Rattle.vms_bodies.proofs.SectionLaws.{defaults_at, defaults_long}
 use Rattle.vms_check.specs.Carrying.{defaults}
-use Rattle.vms_check_laws.proofs.PairLists.{AreFrom, IsBehind, at_left, at_right, at_none, before_or_behind, paired_append}
+use Rattle.vms_check_laws.proofs.PairLists.{AreFrom, IsBehind, at_left, at_right, at_none, before_or_behind, paired_none, paired_append}
 use Rattle.std.proofs.lemmas.Option.{slice_get_within}
 
 -- slots only of cells between a place and its end
@@ -29,8 +29,8 @@ pub none_within : (at size : ℕ) → IsWithin at size []
 none_within at size = record { in_range = λ c h. absurd (cc) }
 
 -- if none of the cells is in the bytes, all is default
-pub goes_absent : (cells others : List Cell) (numbers : List ℤ) (at at' : ℕ) (partners : List (Option ℕ)) → AreFrom cells others at' partners → Goes cells others numbers [] at at' partners (defaults others)
-goes_absent cells others numbers at at' partners h = record {
+pub goes_absent : {cells others : List Cell} {numbers : List ℤ} {at at' : ℕ} {partners : List (Option ℕ)} → AreFrom cells others at' partners → Goes cells others numbers [] at at' partners (defaults others)
+goes_absent {cells} {others} {numbers} {at} {at'} h = record {
   paired = h;
   within = none_within at (length cells);
   long = defaults_long others;
@@ -39,14 +39,14 @@ goes_absent cells others numbers at at' partners h = record {
 }
 
 -- and where none has a partner
-pub goes_alone : (cells others : List Cell) (numbers : List ℤ) (slots : List Slot) (at at' n : ℕ) → n ≡ length cells → IsWithin at (length cells) slots → AreFrom cells others at' (replicate n None)
-    → Goes cells others numbers slots at at' (replicate n None) (defaults others)
-goes_alone cells others numbers slots at at' n e w h = record {
-  paired = h;
+pub goes_alone : {cells others : List Cell} {numbers : List ℤ} {slots : List Slot} {at at' : ℕ} {segment : List ℤ} (n : ℕ) → n ≡ length cells → IsWithin at (length cells) slots → segment ≡ defaults others
+    → Goes cells others numbers slots at at' (replicate n None) segment
+goes_alone {cells} {others} {numbers} {slots} {at} {at'} n e w is = record {
+  paired = paired_none cells others at' n e;
   within = w;
-  long = defaults_long others;
+  long = rw is (defaults_long others);
   taken = λ c r f g. absurd (at_none n c (at' + r) f);
-  other = λ r lt f. defaults_at others r;
+  other = λ r lt f. rw is (defaults_at others r);
 }
 
 within_append : (at m n : ℕ) (xs ys : List Slot) → IsWithin at m xs → IsWithin (at + m) n ys → IsWithin at (m + n) (xs ++ ys)
@@ -78,7 +78,7 @@ module _ (cells_a cells_b others_a others_b : List Cell) (numbers : List ℤ) (x
   has_second c le = names_append xs ys c ∙ ap (λ (b : Bool). b || has_cell ys c) (first_none c le)
 
   paired : AreFrom (cells_a ++ cells_b) (others_a ++ others_b) at' (p ++ q)
-  paired = paired_append cells_a cells_b others_a others_b at' p q h.paired g.paired
+  paired = paired_append h.paired refl g.paired
 
   abbrev HasIt : ℕ → ℕ → Type 0
   HasIt c r = slice_get (p ++ q) c ≡ Some (Some (at' + r))
@@ -131,14 +131,17 @@ module _ (cells_a cells_b others_a others_b : List Cell) (numbers : List ℤ) (x
       ∙ f (length p + c) (at_right p q c ∙ subst (λ (i : ℕ). slice_get q c ≡ Some (Some i)) k_is e))
       ∙ sym (ap (λ (x : Cell). x.default) (ap (λ (i : ℕ). get_or (others_a ++ others_b) i no_cell) b_is ∙ get_or-append-add others_a others_b b.more no_cell))
 
-  pub goes_append : Goes (cells_a ++ cells_b) (others_a ++ others_b) numbers (xs ++ ys) at at' (p ++ q) (s ++ t)
-  goes_append =
-      let size = h.long in
-      let size' = g.long in
+  joined : Goes (cells_a ++ cells_b) (others_a ++ others_b) numbers (xs ++ ys) at at' (p ++ q) (s ++ t)
+  joined =
       record {
         paired = paired;
-        within = subst (λ (n : ℕ). IsWithin at n (xs ++ ys)) (sym (length-append cells_a cells_b)) (within_append at (length cells_a) (length cells_b) xs ys h.within g.within);
-        long = omega (arith, size, size', length-append s t, length-append others_a others_b);
+        within = rw length-append (within_append at (length cells_a) (length cells_b) xs ys h.within g.within);
+        long = omega (arith, h.long, g.long, length-append s t, length-append others_a others_b);
         taken = λ c r e f. taken_at c r e f (before_or_behind (length p) c);
         other = λ r lt f. other_at r lt f (before_or_behind (length others_a) r);
       }
+
+-- one run after the other
+pub goes_append : {cells_a cells_b others_a others_b : List Cell} {numbers : List ℤ} {xs ys : List Slot} {at at' next next' : ℕ} {p q : List (Option ℕ)} {s t : List ℤ} → Goes cells_a others_a numbers xs at at' p s
+    → next ≡ at + length cells_a → next' ≡ at' + length others_a → Goes cells_b others_b numbers ys next next' q t → Goes (cells_a ++ cells_b) (others_a ++ others_b) numbers (xs ++ ys) at at' (p ++ q) (s ++ t)
+goes_append h e e' g = joined _ _ _ _ _ _ _ _ _ _ _ _ _ h (rw (e, e') at g)

@@ -122,11 +122,7 @@ has_part set d numbers from (s ∷ subs) (Some v ∷ came) c e =
 
 -- two numbers of which neither is below the other are one
 pub one_number : (i j : ℕ) → (i < j → ⊥) → (j < i → ⊥) → i ≡ j
-one_number i j f g = go (nat_lt i j) refl (nat_lt j i) refl where
-  go : (x : Bool) → nat_lt i j ≡ x → (y : Bool) → nat_lt j i ≡ y → i ≡ j
-  go true e y h = absurd (f (ltb-true i j e))
-  go false e true h = absurd (g (ltb-true j i h))
-  go false e false h = let a : j ≤ i = ltb-false i j e in let b : i ≤ j = ltb-false j i h in omega arith
+one_number i j f g = omega arith
 
 -- two subsections that have one cell are one
 one_part : (set : Set) (from : ℕ) (subs : List Sub) (i j c : ℕ) (s t : Sub) → slice_get subs i ≡ Some s → slice_get subs j ≡ Some t → sub_place set from subs i ≤ c → c < sub_place set from subs i + sub_size set s

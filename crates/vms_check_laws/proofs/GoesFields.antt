@@ -1,7 +1,7 @@
 -- What is carried of a description, cell by cell.
-use Rattle.std.proofs.Common.{◌≡◌, ◌⊎◌, inl, inr, ℕ, zero, suc, ◌+◌, ◌*◌, ◌<◌, ◌≤◌, Bool, true, false, List, [], ◌∷◌, ◌++◌, length, get_or, replicate, Option, Some, None, ℤ, pos, refl, sym, ap, ◌∙◌, subst, arith, if◌then◌else◌, ◌||◌}
+use Rattle.std.proofs.Common.{◌≡◌, ◌⊎◌, inl, inr, ℕ, zero, suc, ◌+◌, ◌*◌, ◌<◌, ◌≤◌, Bool, true, false, List, [], ◌∷◌, ◌++◌, length, get_or, replicate, Option, Some, None, ℤ, pos, refl, sym, ap, ◌∙◌, arith, if◌then◌else◌, ◌||◌}
 use Rattle.std.specs.List.{slice_get}
-use Rattle.std.proofs.lemmas.Bool.{eq-eqb}
+use Rattle.std.proofs.lemmas.Bool.{cases_lt, eq-eqb}
 use Rattle.std.proofs.Math.Bool.{or-false}
 use Rattle.vms_kinds.specs.declared.Kind.{Kind}
 use Rattle.vms_kinds.specs.declared.Item.{Item}
@@ -34,20 +34,10 @@ within_of : (at : ℕ) (cells : List Cell) (slots : List Slot) → IsAbove at sl
 within_of at cells slots above are = record {
   in_range = λ c e.
       let high = named_inside (replicate at no_cell ++ cells) slots c are e in
-      (low c e (before c), omega (arith, high, skip_long at cells));
+      (low c e (cases_lt c at), omega (arith, high, skip_long at cells));
 } where
-  before : (c : ℕ) → (c < at) ⊎ (at ≤ c)
-  before c = cases c at where
-    cases : (a b : ℕ) → (a < b) ⊎ (b ≤ a)
-    cases a zero = inr (omega arith)
-    cases zero (suc b) = inl (omega arith)
-    cases (suc a) (suc b) = up (cases a b) where
-      up : (a < b) ⊎ (b ≤ a) → (suc a < suc b) ⊎ (suc b ≤ suc a)
-      up (inl h) = inl (omega arith)
-      up (inr h) = inr (omega arith)
-
   low : (c : ℕ) → has_cell slots c ≡ true → (c < at) ⊎ (at ≤ c) → at ≤ c
-  low c e (inl lt) = let f = above.below c lt in let g : true ≡ false = sym e ∙ f in absurd (cc)
+  low c e (inl lt) = let f = above.below c lt in absurd (cc)
   low c e (inr le) = le
 
 module _ (structs : List Pairer) (cs : List Carrier) (ms : List Meaning) (y : List (List Cell)) (numbers : List ℤ) (k k' : ℕ) (above : MeanAbove ms) (means : MeanCells ms) where
@@ -74,45 +64,26 @@ module _ (structs : List Pairer) (cs : List Carrier) (ms : List Meaning) (y : Li
         ((if b then Some at' else None) ∷ []) (if b then get_or numbers at (pos 0) ∷ [] else d' ∷ [])
     one_goes l m caps caps' d d' at at' true same h w = record { paired = h; within = w; long = refl; taken = taken; other = other } where
       taken : (c r : ℕ) → slice_get (Some at' ∷ []) c ≡ Some (Some (at' + r)) → has_cell (Number at l caps ∷ []) (at + c) ≡ true → get_or (get_or numbers at (pos 0) ∷ []) r (pos 0) ≡ get_or numbers (at + c) (pos 0)
-      taken zero r e f =
-          let is : at' ≡ at' + r = cc in
-          let r_is : 0 ≡ r = omega (arith, is) in
-          let z : at ≡ at + 0 = omega arith in
-          ap (λ (i : ℕ). get_or (get_or numbers at (pos 0) ∷ []) i (pos 0)) (sym r_is) ∙ ap (λ (i : ℕ). get_or numbers i (pos 0)) z
+      taken zero zero e f = let z : at + 0 ≡ at = omega arith in rw z
+      taken zero (suc r) e f = let is : at' ≡ at' + suc r = cc in absurd (omega arith)
       taken (suc c) r e f = absurd (cc)
 
       other : (r : ℕ) → r < 1 → ((c : ℕ) → slice_get (Some at' ∷ []) c ≡ Some (Some (at' + r)) → has_cell (Number at l caps ∷ []) (at + c) ≡ false)
           → get_or (get_or numbers at (pos 0) ∷ []) r (pos 0) ≡ (get_or (record { kind = m; capacities = caps'; default = d' } ∷ []) r no_cell).default
       other r lt f =
-          let r_is : 0 ≡ r = omega arith in
-          let k_is : at' ≡ at' + r = omega (arith, r_is) in
+          let k_is : at' ≡ at' + r = omega arith in
           let z : at + 0 ≡ at = omega arith in
-          let has : has_cell (Number at l caps ∷ []) (at + 0) ≡ true = ap (has_cell (Number at l caps ∷ [])) z ∙ ap (λ (b : Bool). b || false) (eq-eqb at at refl) in
-          let bad : true ≡ false = sym has ∙ f 0 (ap (λ (i : ℕ). Some (Some i)) k_is) in
+          let has : has_cell (Number at l caps ∷ []) (at + 0) ≡ true = rw (z, eq-eqb at at refl) in
+          let bad = f 0 (ap (λ (i : ℕ). Some (Some i)) k_is) in
           absurd (cc)
-    one_goes l m caps caps' d d' at at' false same h w =
-        goes_alone (record { kind = l; capacities = caps; default = d } ∷ []) (record { kind = m; capacities = caps'; default = d' } ∷ []) numbers (Number at l caps ∷ []) at at' 1 refl w h
+    one_goes l m caps caps' d d' at at' false same h w = goes_alone 1 refl w refl
 
     item_goes : (a b : Item) (caps caps' : List ℕ) (d d' : ℤ) (at at' : ℕ) → ItemBelow k a → ItemBelow k' b
         → Goes (item_cells x a caps d) (item_cells y b caps' d') numbers (item_slots ms a caps numbers at) at at' (item_partners structs x y a b at') (carry_item cs x y numbers a b (defaults (item_cells y b [] d')) at)
     item_goes (Num l) (Num m) caps caps' d d' at at' lt lt' =
         one_goes l m caps caps' d d' at at' (same_kind l m) refl (item_paired structs x y k table (Num l) (Num m) caps caps' d d' at' lt) (item_within (Num l) caps d at)
-    item_goes (Struct i) (Struct j) caps caps' d d' at at' lt lt' =
-        subst (λ (l : List Cell). Goes l (get_or y j []) numbers ((get_or ms i no_meaning).slots numbers at) at at' (get_or structs i no_pairer j at') (get_or cs j no_carrier i numbers at)) refl (go i j at at' lt lt')
-    item_goes (Num l) (Equal m z) caps caps' d d' at at' lt lt' = goes_alone _ _ numbers _ at at' 1 refl (item_within (Num l) caps d at) (paired_none _ _ at' 1 refl)
-    item_goes (Num l) (Unused n) caps caps' d d' at at' lt lt' = goes_alone _ _ numbers _ at at' 1 refl (item_within (Num l) caps d at) (paired_none _ _ at' 1 refl)
-    item_goes (Num l) (Struct j) caps caps' d d' at at' lt lt' = goes_alone _ _ numbers _ at at' 1 refl (item_within (Num l) caps d at) (paired_none _ _ at' 1 refl)
-    item_goes (Equal l z) (Num m) caps caps' d d' at at' lt lt' = goes_alone _ _ numbers _ at at' 0 refl (item_within (Equal l z) caps d at) (paired_none _ _ at' 0 refl)
-    item_goes (Equal l z) (Equal m u) caps caps' d d' at at' lt lt' = goes_alone _ _ numbers _ at at' 0 refl (item_within (Equal l z) caps d at) (paired_none _ _ at' 0 refl)
-    item_goes (Equal l z) (Unused n) caps caps' d d' at at' lt lt' = goes_alone _ _ numbers _ at at' 0 refl (item_within (Equal l z) caps d at) (paired_none _ _ at' 0 refl)
-    item_goes (Equal l z) (Struct j) caps caps' d d' at at' lt lt' = goes_alone _ _ numbers _ at at' 0 refl (item_within (Equal l z) caps d at) (paired_none _ _ at' 0 refl)
-    item_goes (Unused n) (Num m) caps caps' d d' at at' lt lt' = goes_alone _ _ numbers _ at at' 0 refl (item_within (Unused n) caps d at) (paired_none _ _ at' 0 refl)
-    item_goes (Unused n) (Equal m u) caps caps' d d' at at' lt lt' = goes_alone _ _ numbers _ at at' 0 refl (item_within (Unused n) caps d at) (paired_none _ _ at' 0 refl)
-    item_goes (Unused n) (Unused o) caps caps' d d' at at' lt lt' = goes_alone _ _ numbers _ at at' 0 refl (item_within (Unused n) caps d at) (paired_none _ _ at' 0 refl)
-    item_goes (Unused n) (Struct j) caps caps' d d' at at' lt lt' = goes_alone _ _ numbers _ at at' 0 refl (item_within (Unused n) caps d at) (paired_none _ _ at' 0 refl)
-    item_goes (Struct i) (Num m) caps caps' d d' at at' lt lt' = goes_alone _ _ numbers _ at at' (length (get_or x i [])) refl (item_within (Struct i) caps d at) (paired_none _ _ at' (length (get_or x i [])) refl)
-    item_goes (Struct i) (Equal m u) caps caps' d d' at at' lt lt' = goes_alone _ _ numbers _ at at' (length (get_or x i [])) refl (item_within (Struct i) caps d at) (paired_none _ _ at' (length (get_or x i [])) refl)
-    item_goes (Struct i) (Unused n) caps caps' d d' at at' lt lt' = goes_alone _ _ numbers _ at at' (length (get_or x i [])) refl (item_within (Struct i) caps d at) (paired_none _ _ at' (length (get_or x i [])) refl)
+    item_goes (Struct i) (Struct j) caps caps' d d' at at' lt lt' = go i j at at' lt lt'
+    item_goes a b caps caps' d d' at at' lt lt' = goes_alone (item_size x a) refl (item_within a caps d at) (same_defaults y b [] caps' d')
 
     -- ---- a number of elements, of which the first n are in the bytes
 
@@ -127,22 +98,11 @@ module _ (structs : List Pairer) (cs : List Carrier) (ms : List Meaning) (y : Li
         → Goes (times most (λ _. item_cells x a caps d) p s) (times m (λ _. item_cells y b caps' d') q t) numbers (times n (item_slots ms a caps numbers) at (item_size x a)) at at'
         (array_partners structs x y a b most m at') (carry_items cs x y numbers a b (defaults (item_cells y b [] d')) (item_size x a) n m at)
     array_goes a b caps caps' d d' most zero m at at' p s q t le lt lt' =
-        subst (λ (l : List ℤ). Goes (times most (λ _. item_cells x a caps d) p s) (times m (λ _. item_cells y b caps' d') q t) numbers [] at at' (array_partners structs x y a b most m at') l)
-        (sym (carry_none a b caps' d' (item_size x a) m at q t))
-        (goes_absent (times most (λ _. item_cells x a caps d) p s) (times m (λ _. item_cells y b caps' d') q t) numbers at at' (array_partners structs x y a b most m at')
-        (array_paired structs x y k table a b caps caps' d d' most m at' p q s t lt))
+        rw (carry_none a b caps' d' (item_size x a) m at q t) (goes_absent (array_paired structs x y k table a b caps caps' d d' most m at' p q s t lt))
     array_goes a b caps caps' d d' zero (suc n) m at at' p s q t le lt lt' = absurd (omega arith)
     array_goes a b caps caps' d d' (suc most) (suc n) zero at at' p s q t le lt lt' =
-        let size = item_size x a in
-        let cells = item_cells x a caps d in
-        let e : length cells ≡ size = size_same x a caps d in
-        let z : at' ≡ at' + 0 = omega arith in
-        goes_append cells (times most (λ _. cells) (p + s) s) [] [] numbers (item_slots ms a caps numbers at) (times n (item_slots ms a caps numbers) (at + size) size) at at'
-        (unpaired size) (array_partners structs x y a b most 0 at') [] []
-        (goes_alone cells [] numbers (item_slots ms a caps numbers at) at at' size (sym e) (item_within a caps d at) (paired_none cells [] at' size (sym e)))
-        (subst (λ (i : ℕ). Goes (times most (λ _. cells) (p + s) s) [] numbers (times n (item_slots ms a caps numbers) (at + size) size) (at + i) (at' + 0) (array_partners structs x y a b most 0 at') []) (sym e)
-        (subst (λ (i : ℕ). Goes (times most (λ _. cells) (p + s) s) [] numbers (times n (item_slots ms a caps numbers) (at + size) size) (at + size) i (array_partners structs x y a b most 0 at') []) z
-        (none_left a b caps caps' d d' most n (at + size) at' (p + s) s q t (omega arith) lt lt')))
+        let e : item_size x a ≡ length (item_cells x a caps d) = sym (size_same x a caps d) in
+        goes_append (goes_alone {others = []} (item_size x a) e (item_within a caps d at) refl) (omega (arith, e)) (omega arith) (none_left a b caps caps' d d' most n (at + item_size x a) at' (p + s) s q t (omega arith) lt lt')
       where
         none_left : (a b : Item) (caps caps' : List ℕ) (d d' : ℤ) (most n at at' p s q t : ℕ) → n ≤ most → ItemBelow k a → ItemBelow k' b
             → Goes (times most (λ _. item_cells x a caps d) p s) [] numbers (times n (item_slots ms a caps numbers) at (item_size x a)) at at' (array_partners structs x y a b most 0 at') []
@@ -155,21 +115,10 @@ module _ (structs : List Pairer) (cs : List Carrier) (ms : List Meaning) (y : Li
           other = λ r l f. absurd (omega arith);
         }
     array_goes a b caps caps' d d' (suc most) (suc n) (suc m) at at' p s q t le lt lt' =
-        let size = item_size x a in
-        let size' = item_size y b in
-        let cells = item_cells x a caps d in
-        let cells' = item_cells y b caps' d' in
-        let fallback = defaults (item_cells y b [] d') in
-        let more = times most (λ _. cells) (p + s) s in
-        let more' = times m (λ _. cells') (q + t) t in
-        let slots = times n (item_slots ms a caps numbers) (at + size) size in
-        let partners = array_partners structs x y a b most m (at' + size') in
-        let segment = carry_items cs x y numbers a b fallback size n m (at + size) in
-        goes_append cells more cells' more' numbers (item_slots ms a caps numbers at) slots at at' (item_partners structs x y a b at') partners (carry_item cs x y numbers a b fallback at) segment
-        (item_goes a b caps caps' d d' at at' lt lt')
-        (subst (λ (i : ℕ). Goes more more' numbers slots (at + i) (at' + length cells') partners segment) (sym (size_same x a caps d))
-        (subst (λ (i : ℕ). Goes more more' numbers slots (at + size) (at' + i) partners segment) (sym (size_same y b caps' d'))
-        (array_goes a b caps caps' d d' most n m (at + size) (at' + size') (p + s) s (q + t) t (omega arith) lt lt')))
+        let e : item_size x a ≡ length (item_cells x a caps d) = sym (size_same x a caps d) in
+        let e' : item_size y b ≡ length (item_cells y b caps' d') = sym (size_same y b caps' d') in
+        goes_append (item_goes a b caps caps' d d' at at' lt lt') (omega (arith, e)) (omega (arith, e'))
+        (array_goes a b caps caps' d d' most n m (at + item_size x a) (at' + item_size y b) (p + s) s (q + t) t (omega arith) lt lt')
 
     -- ---- fields
 
@@ -234,40 +183,26 @@ module _ (structs : List Pairer) (cs : List Carrier) (ms : List Meaning) (y : Li
       RestGoes i p fs = (i' p' : ℕ) (gs : List Field) → FieldsBelow k' gs → GoFrom i i' p p' fs gs
 
       -- a field of the newer side only, before more
-      new_alone : (i' p p' : ℕ) (g : Field) (gs : List Field) (cells : List Cell) (slots : List Slot) (partners : List (Option ℕ)) (segment : List ℤ)
+      new_alone : (i' p p' : ℕ) (g : Field) (gs : List Field) {cells : List Cell} {slots : List Slot} {partners : List (Option ℕ)} {segment : List ℤ}
           → Goes cells (cells_from y all' (suc i') gs) numbers slots (at + p) (at' + (p' + size_at' i' g)) partners segment
           → Goes cells (cells_from y all' i' (g ∷ gs)) numbers slots (at + p) (at' + p') partners (default_field cs x y numbers all' i' g ++ segment)
-      new_alone i' p p' g gs cells slots partners segment h =
-          let here = field_cells y all' i' g in
-          let z : at + p ≡ (at + p) + 0 = omega arith in
-          let u : at' + (p' + size_at' i' g) ≡ (at' + p') + size_at' i' g = omega arith in
-          goes_append [] cells here (cells_from y all' (suc i') gs) numbers [] slots (at + p) (at' + p') [] partners (defaults here) segment
-          (goes_absent [] here numbers (at + p) (at' + p') [] (paired_none [] here (at' + p') 0 refl))
-          (subst (λ (n : ℕ). Goes cells (cells_from y all' (suc i') gs) numbers slots n ((at' + p') + size_at' i' g) partners segment) z
-          (subst (λ (n : ℕ). Goes cells (cells_from y all' (suc i') gs) numbers slots (at + p) n partners segment) u h))
+      new_alone i' p p' g gs h = goes_append (goes_absent (paired_none [] (field_cells y all' i' g) (at' + p') 0 refl)) (omega arith) (omega arith) h
 
       no_olds : (i i' p p' : ℕ) (gs : List Field) → GoFrom i i' p p' [] gs
-      no_olds i i' p p' [] = goes_absent [] [] numbers (at + p) (at' + p') [] (paired_none [] [] (at' + p') 0 refl)
+      no_olds i i' p p' [] = goes_absent (paired_none [] [] (at' + p') 0 refl)
       no_olds i i' p p' (g ∷ gs) = by_new (presence w g.test g.since) (no_olds i (suc i') p (p' + size_at' i' g) gs) where
         by_new : (o : Option (Option Formula)) → Goes [] (cells_from y all' (suc i') gs) numbers [] (at + p) (at' + (p' + size_at' i' g)) [] (carry_on (suc i') gs [])
             → Goes [] (cells_from y all' i' (g ∷ gs)) numbers [] (at + p) (at' + p') [] (carry_next cs x y numbers own v at all' i' g o [] ++ carry_on (suc i') gs (entries_left cs x y numbers o []))
-        by_new None h = new_alone i' p p' g gs [] [] [] (carry_on (suc i') gs []) h
-        by_new (Some rest) h = new_alone i' p p' g gs [] [] [] (carry_on (suc i') gs []) h
+        by_new None h = new_alone i' p p' g gs h
+        by_new (Some rest) h = new_alone i' p p' g gs h
 
       -- a field of the older side only, before more
-      old_alone : (i p p' : ℕ) (f : Field) (fs : List Field) (others : List Cell) (partners : List (Option ℕ)) (segment : List ℤ)
+      old_alone : (i p p' : ℕ) (f : Field) (fs : List Field) {others : List Cell} {partners : List (Option ℕ)} {segment : List ℤ}
           → Goes (cells_from x all (suc i) fs) others numbers (slots_on (suc i) (p + size_at i f) fs) (at + (p + size_at i f)) (at' + p') partners segment
           → Goes (cells_from x all i (f ∷ fs)) others numbers (slots_on i p (f ∷ fs)) (at + p) (at' + p') (unpaired (capacity_of f.count * item_size x f.item) ++ partners) segment
-      old_alone i p p' f fs others partners segment h =
-          let here = field_cells x all i f in
-          let n = capacity_of f.count * item_size x f.item in
-          let e : n ≡ length here = sym (field_size x all i f) in
-          let z : at' + p' ≡ (at' + p') + 0 = omega arith in
+      old_alone i p p' f fs h =
           let u : at + (p + size_at i f) ≡ (at + p) + size_at i f = omega arith in
-          goes_append here (cells_from x all (suc i) fs) [] others numbers (slots_of i p f) (slots_from ms all v own numbers (suc i) ((at + p) + size_at i f) fs) (at + p) (at' + p') (unpaired n) partners [] segment
-          (goes_alone here [] numbers (slots_of i p f) (at + p) (at' + p') n e (field_within i p f) (paired_none here [] (at' + p') n e))
-          (subst (λ (m : ℕ). Goes (cells_from x all (suc i) fs) others numbers (slots_from ms all v own numbers (suc i) m fs) m ((at' + p') + 0) partners segment) u
-          (subst (λ (m : ℕ). Goes (cells_from x all (suc i) fs) others numbers (slots_on (suc i) (p + size_at i f) fs) (at + (p + size_at i f)) m partners segment) z h))
+          goes_append (goes_alone {others = []} (capacity_of f.count * item_size x f.item) (sym (field_size x all i f)) (field_within i p f) refl) refl (omega arith) (rw u at h)
 
       -- a present field of the older side, before more
       module _ (i p : ℕ) (f : Field) (fs : List Field) (left : Option Formula) (lt : ItemBelow k f.item) (more : RestGoes (suc i) (p + size_at i f) fs) where
@@ -285,29 +220,16 @@ module _ (structs : List Pairer) (cs : List Carrier) (ms : List Meaning) (y : Li
         both : (i' p' : ℕ) (g : Field) (gs : List Field) (rest : Option Formula) → ItemBelow k' g.item → FieldsBelow k' gs
             → With i' p' (g ∷ gs) (record { index = i'; place = p'; field = g; rest = rest } ∷ news (suc i') (p' + size_at' i' g) gs) (carry_field cs x y numbers own v at entry g ++ carry_on (suc i') gs later)
         both i' p' g gs rest lt' below =
-            let here = field_cells x all i f in
-            let there = field_cells y all' i' g in
             let u : at + (p + size_at i f) ≡ (at + p) + size_at i f = omega arith in
-            let u' : at' + (p' + size_at' i' g) ≡ (at' + p') + size_at' i' g = omega arith in
-            let partners = partners_on fs (news (suc i') (p' + size_at' i' g) gs) in
-            let segment = carry_on (suc i') gs later in
-            goes_append here (cells_from x all (suc i) fs) there (cells_from y all' (suc i') gs) numbers (slots_of i p f) (slots_from ms all v own numbers (suc i) ((at + p) + size_at i f) fs) (at + p) (at' + p')
-            (array_partners structs x y f.item g.item (capacity_of f.count) (capacity_of g.count) (at' + p')) partners (carry_field cs x y numbers own v at entry g) segment
-            (pair_goes i i' p p' f g left rest lt lt')
-            (subst (λ (m : ℕ). Goes (cells_from x all (suc i) fs) (cells_from y all' (suc i') gs) numbers (slots_from ms all v own numbers (suc i) m fs) m ((at' + p') + size_at' i' g) partners segment) u
-            (subst (λ (m : ℕ). Goes (cells_from x all (suc i) fs) (cells_from y all' (suc i') gs) numbers (slots_on (suc i) (p + size_at i f) fs) (at + (p + size_at i f)) m partners segment) u'
-            (more (suc i') (p' + size_at' i' g) gs below)))
+            goes_append (pair_goes i i' p p' f g left rest lt lt') refl (omega arith) (rw u at (more (suc i') (p' + size_at' i' g) gs below))
 
         with_present : (i' p' : ℕ) (gs : List Field) → FieldsBelow k' gs → With i' p' gs (news i' p' gs) (carry_on i' gs (entry ∷ later))
-        with_present i' p' [] below = old_alone i p p' f fs [] (partners_on fs []) [] (more i' p' [] tt)
+        with_present i' p' [] below = old_alone i p p' f fs (more i' p' [] tt)
         with_present i' p' (g ∷ gs) below = by_new (presence w g.test g.since) (with_present (suc i') (p' + size_at' i' g) gs below.1) where
           by_new : (o : Option (Option Formula)) → With (suc i') (p' + size_at' i' g) gs (news (suc i') (p' + size_at' i' g) gs) (carry_on (suc i') gs (entry ∷ later))
               → With i' p' (g ∷ gs) (entry_of i' p' g o ++ news (suc i') (p' + size_at' i' g) gs)
               (carry_next cs x y numbers own v at all' i' g o (entry ∷ later) ++ carry_on (suc i') gs (entries_left cs x y numbers o (entry ∷ later)))
-          by_new None h =
-              new_alone i' p p' g gs (cells_from x all i (f ∷ fs)) (slots_on i p (f ∷ fs))
-              (field_partners structs x y f (Some left) (news (suc i') (p' + size_at' i' g) gs) at' ++ partners_on fs (fields_left structs x y (Some left) (news (suc i') (p' + size_at' i' g) gs)))
-              (carry_on (suc i') gs (entry ∷ later)) h
+          by_new None h = new_alone i' p p' g gs h
           by_new (Some rest) h = both i' p' g gs rest below.0 below.1
 
       with_field : (i p : ℕ) (f : Field) (fs : List Field) → ItemBelow k f.item → RestGoes (suc i) (p + size_at i f) fs → RestGoes i p (f ∷ fs)
@@ -316,7 +238,7 @@ module _ (structs : List Pairer) (cs : List Carrier) (ms : List Meaning) (y : Li
             → Goes (cells_from x all i (f ∷ fs)) (cells_from y all' i' gs) numbers (slots_on i p (f ∷ fs)) (at + p) (at' + p')
             (field_partners structs x y f o (news i' p' gs) at' ++ partners_on fs (fields_left structs x y o (news i' p' gs)))
             (carry_on i' gs (entry_of i p f o ++ olds (suc i) (p + size_at i f) fs))
-        by_old None = old_alone i p p' f fs (cells_from y all' i' gs) (partners_on fs (news i' p' gs)) (carry_on i' gs (olds (suc i) (p + size_at i f) fs)) (more i' p' gs below)
+        by_old None = old_alone i p p' f fs (more i' p' gs below)
         by_old (Some left) = with_present i p f fs left lt more i' p' gs below
 
       fields_go : (i p : ℕ) (fs : List Field) → FieldsBelow k fs → RestGoes i p fs
@@ -328,27 +250,18 @@ module _ (structs : List Pairer) (cs : List Carrier) (ms : List Meaning) (y : Li
     pub desc_goes : (v w : ℕ) (a b : Desc) (at at' : ℕ) → FieldsBelow k a.fields → FieldsBelow k' b.fields
         → Goes (desc_cells x a) (desc_cells y b) numbers (desc_slots ms a v numbers at) at at' (desc_partners structs x y v w a b at') (carry_desc cs x y numbers v w a b at)
     desc_goes v w a b at at' lt lt' =
-        let own = numbers_of x a numbers at in
         let z : at + 0 ≡ at = omega arith in
         let z' : at' + 0 ≡ at' = omega arith in
-        let fields = fields_go a.fields b.fields v w own at at' 0 0 a.fields lt 0 0 b.fields lt' in
-        let slots = slots_from ms a.fields v own numbers 0 at a.fields in
-        let partners = desc_partners structs x y v w a b at' in
-        let segment = carry_desc cs x y numbers v w a b at in
-        let h : Goes (desc_cells x a) (desc_cells y b) numbers slots at at' partners segment =
-        subst (λ (n : ℕ). Goes (desc_cells x a) (desc_cells y b) numbers slots at n partners segment) z'
-        (subst (λ (n : ℕ). Goes (desc_cells x a) (desc_cells y b) numbers (slots_from ms a.fields v own numbers 0 n a.fields) n (at' + 0) partners segment) z fields) in
-        let u : at' ≡ at' + 0 = omega arith in
-        more_rules slots (all_hold a.validate v own) h
+        more_rules (all_hold a.validate v (numbers_of x a numbers at)) (rw (z, z') at (fields_go a.fields b.fields v w (numbers_of x a numbers at) at at' 0 0 a.fields lt 0 0 b.fields lt'))
       where
-        more_rules : (slots : List Slot) (b' : Bool) → Goes (desc_cells x a) (desc_cells y b) numbers slots at at' (desc_partners structs x y v w a b at') (carry_desc cs x y numbers v w a b at)
+        more_rules : {slots : List Slot} (b' : Bool) → Goes (desc_cells x a) (desc_cells y b) numbers slots at at' (desc_partners structs x y v w a b at') (carry_desc cs x y numbers v w a b at)
             → Goes (desc_cells x a) (desc_cells y b) numbers (slots ++ Rule b' ∷ []) at at' (desc_partners structs x y v w a b at') (carry_desc cs x y numbers v w a b at)
-        more_rules slots b' h = record {
+        more_rules {slots} b' h = record {
           paired = h.paired;
-          within = record { in_range = λ c e. h.within.in_range c (sym (same slots b' c) ∙ e) };
+          within = record { in_range = λ c e. h.within.in_range c (sym (same c) ∙ e) };
           long = h.long;
-          taken = λ c r e f. h.taken c r e (sym (same slots b' (at + c)) ∙ f);
-          other = λ r l f. h.other r l (λ c e. sym (same slots b' (at + c)) ∙ f c e);
+          taken = λ c r e f. h.taken c r e (sym (same (at + c)) ∙ f);
+          other = λ r l f. h.other r l (λ c e. sym (same (at + c)) ∙ f c e);
         } where
-          same : (slots : List Slot) (b' : Bool) (c : ℕ) → has_cell (slots ++ Rule b' ∷ []) c ≡ has_cell slots c
-          same slots b' c = names_append slots (Rule b' ∷ []) c ∙ or-false (has_cell slots c)
+          same : (c : ℕ) → has_cell (slots ++ Rule b' ∷ []) c ≡ has_cell slots c
+          same c = names_append slots (Rule b' ∷ []) c ∙ or-false (has_cell slots c)

@@ -1,16 +1,17 @@
 -- What is carried of structures, each by the earlier ones.
-use Rattle.std.proofs.Common.{◌≡◌, ℕ, zero, suc, ◌<◌, ◌≤◌, Bool, true, false, List, [], length, get_or, ℤ, refl, sym, subst, arith, nat_lt}
-use Rattle.std.proofs.lemmas.Bool.{ltb-true, ltb-false}
+use Rattle.std.proofs.Common.{◌≡◌, ℕ, ◌<◌, ◌≤◌, List, [], length, get_or, ℤ, sym, subst, arith}
 use Rattle.vms_spec.specs.Sets.{Desc, Set}
 use Rattle.vms_spec.specs.Layout.{Cell, Slot, Meaning, no_meaning, no_desc, meanings, desc_cells, desc_slots, struct_cells}
 use Rattle.vms_spec.specs.WellFormed.{WellFormed}
 use Rattle.vms_spec.proofs.Tables.{first_at}
-use Rattle.vms_spec.proofs.Prefixes.{FieldsBelow, first_same, struct_slots, struct_cells_at}
+use Rattle.vms_spec.proofs.Prefixes.{FieldsBelow, struct_slots, struct_cells_at}
 use Rattle.vms_bodies.proofs.AboveLaws.{meanings_above}
 use Rattle.vms_bodies.proofs.CellLaws.{meanings_are, cells_first}
 use Rattle.vms_bodies.proofs.SettledLaws.{cells_in}
 use Rattle.vms_check.specs.Carrying.{Carrier, no_carrier, carrier_of, carriers, carry_desc, carrying}
 use Rattle.vms_check.specs.Partners.{Pairer, no_pairer, pairer_of, pairers, desc_partners, part_partners}
+use Rattle.vms_check_laws.proofs.Premises.{by_less}
+use Rattle.vms_check_laws.proofs.Structures.{carrier_at}
 use Rattle.vms_check_laws.proofs.PairFields.{Structs}
 use Rattle.vms_check_laws.proofs.PairStructs.{struct_below, struct_is, tables}
 use Rattle.vms_check_laws.proofs.Goes.{Goes}
@@ -44,39 +45,27 @@ module _ (old new : Set) (good_old : WellFormed old) (good_new : WellFormed new)
   abbrev Go : ℕ → ℕ → Type 0
   Go m l = StructsGo (pairers_to m) (carriers_to l) ms y numbers m l (meanings_above ds (length ds)) (meanings_are ds (length ds))
 
-  last : (m j l at at' : ℕ) → m < length ds → j < l → l ≤ length es → Go m j
-      → Goes (get_or x m []) (get_or y j []) numbers ((get_or ms m no_meaning).slots numbers at) at at' (pairer_of (pairers_to m) x y es (get_or ds m no_desc) j at') (get_or (carriers_to l) j no_carrier m numbers at)
-  last m j l at at' lt lt' le h =
+  abbrev GoesAt : ℕ → ℕ → Type 0
+  GoesAt i l = (j at at' : ℕ) → j < l
+      → Goes (get_or x i []) (get_or y j []) numbers ((get_or ms i no_meaning).slots numbers at) at at' (pairer_of (pairers_to i) x y es (get_or ds i no_desc) j at') (get_or (carriers_to l) j no_carrier i numbers at)
+
+  last : (m : ℕ) → m < length ds → ((l : ℕ) → l ≤ length es → Go m l) → (l : ℕ) → l ≤ length es → GoesAt m l
+  last m lt h l le j at at' lt' =
       let d = get_or ds m no_desc in
       let e = get_or es j no_desc in
       let below = struct_below old good_old m lt in
-      let below' = struct_below new good_new j (omega arith) in
-      let partners = pairer_of (pairers_to m) x y es d j at' in
-      let done = desc_goes (pairers_to m) (carriers_to j) ms y numbers m j (meanings_above ds (length ds)) (meanings_are ds (length ds)) (structs_in m (omega arith)) h d.version e.version d e at at' below below' in
-      subst (λ (c : Carrier). Goes (get_or x m []) (get_or y j []) numbers ((get_or ms m no_meaning).slots numbers at) at at' partners (c m numbers at))
-      (sym (first_at (λ (earlier : List Carrier) (d : Desc). carrier_of earlier x y ds d) es no_carrier l j lt'))
-      (subst (λ (s : List Slot). Goes (get_or x m []) (get_or y j []) numbers s at at' partners (carrier_of (carriers_to j) x y ds e m numbers at)) (sym (struct_slots ds (length ds) m numbers at lt below))
-      (subst (λ (c : List Cell). Goes c (get_or y j []) numbers (desc_slots ms d d.version numbers at) at at' partners (carrier_of (carriers_to j) x y ds e m numbers at)) (sym (struct_cells_at ds (length ds) m lt below))
-      (subst (λ (c : List Cell). Goes (desc_cells x d) c numbers (desc_slots ms d d.version numbers at) at at' partners (carrier_of (carriers_to j) x y ds e m numbers at)) (sym (struct_is new good_new j)) done)))
+      rw (carrier_at x y ds es l j lt', struct_slots ds (length ds) m numbers at lt below, struct_cells_at ds (length ds) m lt below, struct_is new good_new j)
+      (desc_goes (pairers_to m) (carriers_to j) ms y numbers m j (meanings_above ds (length ds)) (meanings_are ds (length ds)) (structs_in m (omega arith)) (h j (omega arith)) d.version e.version d e at at' below
+      (struct_below new good_new j (omega arith)))
+
+  pairer_at : (m i : ℕ) → i < m → get_or (pairers_to m) i no_pairer ≡ pairer_of (pairers_to i) x y es (get_or ds i no_desc)
+  pairer_at m i lt = first_at (λ earlier d. pairer_of earlier x y es d) ds no_pairer m i lt
 
   go_to : (m : ℕ) → m ≤ length ds → (l : ℕ) → l ≤ length es → Go m l
-  go_to zero le l le' = λ i j at at' lt lt'. absurd (omega arith)
-  go_to (suc m) le l le' = λ i j at at' lt lt'. by_place (go_to m (omega arith)) i j at at' lt lt' (nat_lt i m) refl where
-    by_place : ((l : ℕ) → l ≤ length es → Go m l) → (i j at at' : ℕ) → i < suc m → j < l → (b : Bool) → nat_lt i m ≡ b
-        → Goes (get_or x i []) (get_or y j []) numbers ((get_or ms i no_meaning).slots numbers at) at at' (get_or (pairers_to (suc m)) i no_pairer j at') (get_or (carriers_to l) j no_carrier i numbers at)
-    by_place h i j at at' lt lt' true e =
-        let less : i < m = ltb-true i m e in
-        subst (λ (p : Pairer). Goes (get_or x i []) (get_or y j []) numbers ((get_or ms i no_meaning).slots numbers at) at at' (p j at') (get_or (carriers_to l) j no_carrier i numbers at))
-        (first_same (λ (earlier : List Pairer) (d : Desc). pairer_of earlier x y es d) ds no_pairer m (suc m) i (omega arith) less) (h l le' i j at at' less lt')
-    by_place h i j at at' lt lt' false e =
-        let ge : m ≤ i = ltb-false i m e in
-        let same : m ≡ i = omega arith in
-        let less : m < suc m = omega arith in
-        let j_le : j ≤ length es = omega arith in
-        subst (λ (n : ℕ). Goes (get_or x n []) (get_or y j []) numbers ((get_or ms n no_meaning).slots numbers at) at at' (get_or (pairers_to (suc m)) n no_pairer j at') (get_or (carriers_to l) j no_carrier n numbers at)) same
-        (subst (λ (p : Pairer). Goes (get_or x m []) (get_or y j []) numbers ((get_or ms m no_meaning).slots numbers at) at at' (p j at') (get_or (carriers_to l) j no_carrier m numbers at))
-        (sym (first_at (λ (earlier : List Pairer) (d : Desc). pairer_of earlier x y es d) ds no_pairer (suc m) m less))
-        (last m j l at at' (omega (arith, le)) lt' le' (h j j_le)))
+  go_to m le l le' i j at at' lt lt' =
+      rw (pairer_at m i lt)
+      (by_less (λ i. i < length ds → (l : ℕ) → l ≤ length es → GoesAt i l)
+      (λ m before less. last m less (λ l le i j at at' lt lt'. rw (pairer_at m i lt) (before i lt (omega arith) l le j at at' lt'))) m i lt (omega arith) l le' j at at' lt')
 
   -- two descriptions at one version
   pub part_goes : (v : ℕ) (a b : Desc) (at at' : ℕ) → FieldsBelow (length ds) a.fields → FieldsBelow (length es) b.fields

@@ -96,20 +96,8 @@ module _ (ks : List Comparer) (a b : Desc) (v w : ℕ) (part part' : Part) (o n 
       choice true = refl
       choice false = refl
     carry_item_size (Struct i) (Struct j) d p lt = sized j i p lt
-    carry_item_size (Num k) (Equal l u) d p lt = refl
-    carry_item_size (Num k) (Unused r) d p lt = refl
-    carry_item_size (Num k) (Struct j) d p lt = defaults_size (get_or y j [])
-    carry_item_size (Equal k z) (Num l) d p lt = refl
-    carry_item_size (Equal k z) (Equal l u) d p lt = refl
-    carry_item_size (Equal k z) (Unused r) d p lt = refl
-    carry_item_size (Equal k z) (Struct j) d p lt = defaults_size (get_or y j [])
-    carry_item_size (Unused m) (Num l) d p lt = refl
-    carry_item_size (Unused m) (Equal l u) d p lt = refl
-    carry_item_size (Unused m) (Unused r) d p lt = refl
-    carry_item_size (Unused m) (Struct j) d p lt = defaults_size (get_or y j [])
-    carry_item_size (Struct i) (Num l) d p lt = refl
-    carry_item_size (Struct i) (Equal l u) d p lt = refl
-    carry_item_size (Struct i) (Unused r) d p lt = refl
+    carry_item_size _ (Struct j) d p lt = defaults_size (get_or y j [])
+    carry_item_size _ _ d p lt = refl
 
     pub carry_items_size : (i j : Item) (d : ℤ) (step m most k : ℕ) → ItemBelow below' j → length (carry_items cs x y numbers i j (defaults (item_cells y j [] d)) step m most k) ≡ most * length (item_cells y j [] (pos 0))
     carry_items_size i j d step m zero k lt = omega arith

@@ -1,5 +1,5 @@
 -- The partners of a description's cells are cells of the other's, one for each.
-use Rattle.std.proofs.Common.{◌≡◌, ℕ, zero, suc, ◌+◌, ◌*◌, ◌<◌, Bool, true, false, List, [], ◌∷◌, ◌++◌, length, length-append, get_or, Option, Some, None, ℤ, refl, sym, ap, ◌∙◌, subst, arith, append_assoc, if◌then◌else◌}
+use Rattle.std.proofs.Common.{◌≡◌, ℕ, zero, suc, ◌+◌, ◌*◌, ◌<◌, Bool, true, false, List, [], ◌∷◌, ◌++◌, length, length-append, get_or, Option, Some, None, ℤ, refl, sym, arith, append_assoc, if◌then◌else◌}
 use Rattle.std.specs.List.{slice_get}
 use Rattle.vms_kinds.specs.declared.Kind.{Kind}
 use Rattle.vms_kinds.specs.declared.Item.{Item}
@@ -35,16 +35,7 @@ module _ (y : List (List Cell)) (all : List Field) where
   laid_behind before others p q [] e h = tt
   laid_behind before others p q (x ∷ es) e h =
       let f = h.0 in
-      let is = f.is in
-      let place = f.place in (
-        record {
-          gap = before ++ f.gap;
-          rest = f.rest;
-          is = ap (λ (l : List Cell). before ++ l) is ∙ sym (append_assoc before f.gap (cells_at x ++ f.rest));
-          place = omega (arith, e, place, length-append before f.gap);
-        },
-        h.1,
-      )
+      (record { gap = before ++ f.gap; rest = f.rest; is = rw (f.is, append_assoc); place = omega (arith, f.place, length-append before f.gap) }, h.1)
 
   pub laid : (v i p : ℕ) (gs : List Field) → Laid (cells_from y all i gs) p (present_from y all v i p gs)
   laid v i p [] = tt
@@ -80,27 +71,15 @@ module _ (structs : List Pairer) (x y : List (List Cell)) (k : ℕ) (table : Str
   pub item_paired : (a b : Item) (caps caps' : List ℕ) (d d' : ℤ) (at : ℕ) → ItemBelow k a → AreFrom (item_cells x a caps d) (item_cells y b caps' d') at (item_partners structs x y a b at)
   item_paired (Num l) (Num m) caps caps' d d' at lt = one_pair l m caps caps' d d' at (same_kind l m) refl
   item_paired (Struct i) (Struct j) caps caps' d d' at lt = table i j at lt
-  item_paired (Num l) (Equal m z) caps caps' d d' at lt = paired_none _ _ at 1 refl
-  item_paired (Num l) (Unused n) caps caps' d d' at lt = paired_none _ _ at 1 refl
-  item_paired (Num l) (Struct j) caps caps' d d' at lt = paired_none _ _ at 1 refl
-  item_paired (Equal l z) b caps caps' d d' at lt = paired_none _ _ at 0 refl
-  item_paired (Unused n) b caps caps' d d' at lt = paired_none _ _ at 0 refl
-  item_paired (Struct i) (Num m) caps caps' d d' at lt = paired_none _ _ at (length (get_or x i [])) refl
-  item_paired (Struct i) (Equal m z) caps caps' d d' at lt = paired_none _ _ at (length (get_or x i [])) refl
-  item_paired (Struct i) (Unused n) caps caps' d d' at lt = paired_none _ _ at (length (get_or x i [])) refl
+  item_paired a _ caps caps' d d' at lt = paired_none _ _ at (item_size x a) refl
 
   pub array_paired : (a b : Item) (caps caps' : List ℕ) (d d' : ℤ) (n m at p q s t : ℕ) → ItemBelow k a
       → AreFrom (times n (λ _. item_cells x a caps d) p s) (times m (λ _. item_cells y b caps' d') q t) at (array_partners structs x y a b n m at)
   array_paired a b caps caps' d d' zero m at p q s t lt = paired_none [] _ at 0 refl
-  array_paired a b caps caps' d d' (suc n) zero at p q s t lt =
-      paired_skip (item_cells x a caps d) (times n (λ _. item_cells x a caps d) (p + s) s) [] at (item_size x a) (array_partners structs x y a b n zero at) (sym (size_same x a caps d))
-      (array_paired a b caps caps' d d' n zero at (p + s) q s t lt)
+  array_paired a b caps caps' d d' (suc n) zero at p q s t lt = paired_skip (item_cells x a caps d) (item_size x a) (sym (size_same x a caps d)) (array_paired a b caps caps' d d' n zero at (p + s) q s t lt)
   array_paired a b caps caps' d d' (suc n) (suc m) at p q s t lt =
-      paired_append (item_cells x a caps d) (times n (λ _. item_cells x a caps d) (p + s) s) (item_cells y b caps' d') (times m (λ _. item_cells y b caps' d') (q + t) t) at
-      (item_partners structs x y a b at) (array_partners structs x y a b n m (at + item_size y b))
-      (item_paired a b caps caps' d d' at lt)
-      (subst (λ (i : ℕ). AreFrom (times n (λ _. item_cells x a caps d) (p + s) s) (times m (λ _. item_cells y b caps' d') (q + t) t) (at + i) (array_partners structs x y a b n m (at + item_size y b))) (sym (size_same y b caps' d'))
-      (array_paired a b caps caps' d d' n m (at + item_size y b) (p + s) (q + t) s t lt))
+      let e : item_size y b ≡ length (item_cells y b caps' d') = sym (size_same y b caps' d') in
+      paired_append (item_paired a b caps caps' d d' at lt) (omega (arith, e)) (array_paired a b caps caps' d d' n m (at + item_size y b) (p + s) (q + t) s t lt)
 
   module _ (all all' : List Field) (v : ℕ) where
     fields_paired : (i at p : ℕ) (fs : List Field) (es : List Entry) (others : List Cell) → FieldsBelow k fs → Laid y all' others p es
@@ -109,7 +88,7 @@ module _ (structs : List Pairer) (x y : List (List Cell)) (k : ℕ) (table : Str
     fields_paired i at p (f ∷ fs) es others lt h = go (presence v f.test f.since) es others h (λ p' es' others' h'. fields_paired (suc i) at p' fs es' others' lt.1 h') where
       skip : (es' : List Entry) (others' : List Cell) → AreFrom (cells_from x all (suc i) fs) others' (at + p) (partners_from structs x y v at fs es')
           → AreFrom (cells_from x all i (f ∷ fs)) others' (at + p) (unpaired (capacity_of f.count * item_size x f.item) ++ partners_from structs x y v at fs es')
-      skip es' others' g = paired_skip (field_cells x all i f) (cells_from x all (suc i) fs) others' (at + p) (capacity_of f.count * item_size x f.item) (partners_from structs x y v at fs es') (sym (field_size x all i f)) g
+      skip es' others' g = paired_skip (field_cells x all i f) (capacity_of f.count * item_size x f.item) (sym (field_size x all i f)) g
 
       go : (o : Option (Option Formula)) (es : List Entry) (others : List Cell) → Laid y all' others p es
           → ((p' : ℕ) (es' : List Entry) (others' : List Cell) → Laid y all' others' p' es' → AreFrom (cells_from x all (suc i) fs) others' (at + p') (partners_from structs x y v at fs es'))
@@ -118,19 +97,11 @@ module _ (structs : List Pairer) (x y : List (List Cell)) (k : ℕ) (table : Str
       go (Some rest) [] others h more = skip [] others (more p [] others tt)
       go (Some rest) (e ∷ es) others h more =
           let front = h.0 in
-          let place = front.place in
-          let here = cells_at y all' e in
-          let z : at + e.place ≡ (at + p) + length front.gap = omega (arith, place) in
-          let u : at + (e.place + length here) ≡ (at + e.place) + length here = omega arith in
-          subst (λ (l : List Cell). AreFrom (cells_from x all i (f ∷ fs)) l (at + p) (field_partners structs x y f (Some rest) (e ∷ es) at ++ partners_from structs x y v at fs es)) (sym front.is)
-          (paired_behind front.gap (cells_from x all i (f ∷ fs)) (here ++ front.rest) (at + p) _
-          (subst (λ (n : ℕ). AreFrom (cells_from x all i (f ∷ fs)) (here ++ front.rest) n (field_partners structs x y f (Some rest) (e ∷ es) at ++ partners_from structs x y v at fs es)) z
-          (paired_append (field_cells x all i f) (cells_from x all (suc i) fs) here front.rest (at + e.place) (field_partners structs x y f (Some rest) (e ∷ es) at) (partners_from structs x y v at fs es)
-          (array_paired f.item e.field.item (counted i all) (counted e.index all') f.default e.field.default (capacity_of f.count) (capacity_of e.field.count) (at + e.place) 0 0 0 0 lt.0)
-          (subst (λ (n : ℕ). AreFrom (cells_from x all (suc i) fs) front.rest n (partners_from structs x y v at fs es)) u (more (e.place + length here) es front.rest h.1)))))
+          let z : at + e.place ≡ (at + p) + length front.gap = omega (arith, front.place) in
+          let here = array_paired f.item e.field.item (counted i all) (counted e.index all') f.default e.field.default (capacity_of f.count) (capacity_of e.field.count) (at + e.place) 0 0 0 0 lt.0 in
+          rw front.is (paired_behind front.gap z (paired_append here (omega arith) (more (e.place + length (cells_at y all' e)) es front.rest h.1)))
 
   pub desc_paired : (v w : ℕ) (a b : Desc) (at : ℕ) → FieldsBelow k a.fields → AreFrom (desc_cells x a) (desc_cells y b) at (desc_partners structs x y v w a b at)
   desc_paired v w a b at lt =
       let z : at + 0 ≡ at = omega arith in
-      subst (λ (n : ℕ). AreFrom (desc_cells x a) (desc_cells y b) n (desc_partners structs x y v w a b at)) z
-      (fields_paired a.fields b.fields v 0 at 0 a.fields (present_from y b.fields w 0 0 b.fields) (desc_cells y b) lt (laid y b.fields w 0 0 b.fields))
+      rw z at (fields_paired a.fields b.fields v 0 at 0 a.fields (present_from y b.fields w 0 0 b.fields) (desc_cells y b) lt (laid y b.fields w 0 0 b.fields))

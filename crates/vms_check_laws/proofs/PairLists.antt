@@ -1,5 +1,5 @@
 -- Partners of cells among the cells from a place on.
-use Rattle.std.proofs.Common.{◌≡◌, ◌⊎◌, inl, inr, ℕ, zero, suc, ◌+◌, ◌-◌, ◌<◌, ◌≤◌, List, [], ◌∷◌, ◌++◌, length, length-append, get_or, replicate, Option, Some, None, refl, sym, ap, ◌∙◌, subst, arith}
+use Rattle.std.proofs.Common.{◌≡◌, ◌⊎◌, inl, inr, ℕ, zero, suc, ◌+◌, ◌-◌, ◌<◌, ◌≤◌, List, [], ◌∷◌, ◌++◌, length, length-append, get_or, replicate, Option, Some, None, refl, sym, ap, ◌∙◌, arith}
 use Rattle.std.specs.List.{slice_get}
 use Rattle.std.proofs.lemmas.List.{get_or_append_left, get_or-append-add, length-replicate}
 use Rattle.std.proofs.lemmas.Bool.{cases_lt}
@@ -67,10 +67,7 @@ module _ (p q : List (Option ℕ)) (first : IsOnce p) (second : IsOnce q) (apart
   once_either b c k e f (inl lb) (inr dc) = absurd (apart b c k lb dc e f)
   once_either b c k e f (inr db) (inl lc) = absurd (apart c b k lc db f e)
   once_either b c k e f (inr db) (inr dc) =
-      let one = second db.more dc.more k (sym (at_right p q db.more) ∙ ap (slice_get (p ++ q)) (sym db.is) ∙ e) (sym (at_right p q dc.more) ∙ ap (slice_get (p ++ q)) (sym dc.is) ∙ f) in
-      let x = db.is in
-      let y = dc.is in
-      omega (arith, one, x, y)
+      omega (arith, db.is, dc.is, second db.more dc.more k (sym (at_right p q db.more) ∙ ap (slice_get (p ++ q)) (sym db.is) ∙ e) (sym (at_right p q dc.more) ∙ ap (slice_get (p ++ q)) (sym dc.is) ∙ f))
 
   pub once_append : IsOnce (p ++ q)
   once_append b c k e f = once_either b c k e f (before_or_behind (length p) b) (before_or_behind (length p) c)
@@ -85,28 +82,20 @@ module _ (xs ys us vs : List Cell) (at : ℕ) (p q : List (Option ℕ)) (h : Are
   pair_either : (c k : ℕ) → slice_get (p ++ q) c ≡ Some (Some k) → (c < length p) ⊎ IsBehind (length p) c → IsPair (xs ++ ys) (us ++ vs) at c k
   pair_either c k e (inl lt) =
       let i = pair_left c k lt e in
-      let inside = i.inside in
-      let long = h.long in
       record {
         r = i.r;
         is = i.is;
-        inside = omega (arith, inside, length-append us vs);
-        kind = ap (λ (x : Cell). x.kind) (get_or_append_left xs ys no_cell c (omega (arith, lt, long))) ∙ i.kind
-            ∙ sym (ap (λ (x : Cell). x.kind) (get_or_append_left us vs no_cell i.r inside));
+        inside = omega (arith, length-append us vs);
+        kind = rw (get_or_append_left xs ys no_cell c (omega (arith, h.long)), get_or_append_left us vs no_cell i.r i.inside) i.kind;
       }
   pair_either c k e (inr b) =
       let i = pair_right c k b e in
-      let inside = i.inside in
-      let is = i.is in
-      let long = h.long in
-      let behind = b.is in
-      let place : c ≡ length xs + b.more = omega (arith, long, behind) in
+      let place : c ≡ length xs + b.more = omega (arith, h.long, b.is) in
       record {
         r = length us + i.r;
-        is = omega (arith, is);
-        inside = omega (arith, inside, length-append us vs);
-        kind = ap (λ (n : ℕ). (get_or (xs ++ ys) n no_cell).kind) place ∙ ap (λ (x : Cell). x.kind) (get_or-append-add xs ys b.more no_cell) ∙ i.kind
-            ∙ sym (ap (λ (x : Cell). x.kind) (get_or-append-add us vs i.r no_cell));
+        is = omega (arith, i.is);
+        inside = omega (arith, i.inside, length-append us vs);
+        kind = ap (λ (n : ℕ). (get_or (xs ++ ys) n no_cell).kind) place ∙ rw (get_or-append-add xs ys b.more no_cell, get_or-append-add us vs i.r no_cell) i.kind;
       }
 
   apart : Apart p q
@@ -115,21 +104,19 @@ module _ (xs ys us vs : List Cell) (at : ℕ) (p q : List (Option ℕ)) (h : Are
       let j = pair_right c k d f in
       omega (arith, i.is, i.inside, j.is)
 
-  pub paired_append : AreFrom (xs ++ ys) (us ++ vs) at (p ++ q)
-  paired_append =
-      let long = h.long in
-      let long' = g.long in
-      record {
-        long = omega (arith, long, long', length-append p q, length-append xs ys);
-        pairs = λ c k e. pair_either c k e (before_or_behind (length p) c);
-        once = once_append p q h.once g.once apart;
-      }
+  joined : AreFrom (xs ++ ys) (us ++ vs) at (p ++ q)
+  joined = record {
+    long = omega (arith, h.long, g.long, length-append p q, length-append xs ys);
+    pairs = λ c k e. pair_either c k e (before_or_behind (length p) c);
+    once = once_append p q h.once g.once apart;
+  }
+
+pub paired_append : {xs ys us vs : List Cell} {at next : ℕ} {p q : List (Option ℕ)} → AreFrom xs us at p → next ≡ at + length us → AreFrom ys vs next q → AreFrom (xs ++ ys) (us ++ vs) at (p ++ q)
+paired_append h e g = joined _ _ _ _ _ _ _ h (rw e at g)
 
 -- others before them, or with which nothing is paired
-pub paired_behind : (gap cells others : List Cell) (at : ℕ) (p : List (Option ℕ)) → AreFrom cells others (at + length gap) p → AreFrom cells (gap ++ others) at p
-paired_behind gap cells others at p h = paired_append [] cells gap others at [] p (paired_none [] gap at 0 refl) h
+pub paired_behind : {cells others : List Cell} {at next : ℕ} {p : List (Option ℕ)} (gap : List Cell) → next ≡ at + length gap → AreFrom cells others next p → AreFrom cells (gap ++ others) at p
+paired_behind {at = at} gap e h = paired_append (paired_none [] gap at 0 refl) e h
 
-pub paired_skip : (xs ys others : List Cell) (at n : ℕ) (p : List (Option ℕ)) → n ≡ length xs → AreFrom ys others at p → AreFrom (xs ++ ys) others at (replicate n None ++ p)
-paired_skip xs ys others at n p e h =
-    let z : at ≡ at + 0 = omega arith in
-    paired_append xs ys [] others at (replicate n None) p (paired_none xs [] at n e) (subst (λ (i : ℕ). AreFrom ys others i p) z h)
+pub paired_skip : {ys others : List Cell} {at : ℕ} {p : List (Option ℕ)} (xs : List Cell) (n : ℕ) → n ≡ length xs → AreFrom ys others at p → AreFrom (xs ++ ys) others at (replicate n None ++ p)
+paired_skip {at = at} xs n e h = paired_append (paired_none xs [] at n e) (omega arith) h

@@ -1,5 +1,5 @@
 -- The partners of structures, each by the earlier ones.
-use Rattle.std.proofs.Common.{◌≡◌, ℕ, zero, suc, ◌<◌, ◌≤◌, Bool, true, false, List, [], ◌∷◌, length, get_or, Some, refl, sym, ap, ◌∙◌, subst, arith, nat_lt}
+use Rattle.std.proofs.Common.{◌≡◌, ℕ, suc, ◌<◌, ◌≤◌, Bool, true, false, List, [], ◌∷◌, length, get_or, Some, refl, sym, ap, ◌∙◌, arith, nat_lt}
 use Rattle.std.specs.List.{slice_get}
 use Rattle.std.proofs.lemmas.Bool.{ltb-true, ltb-false}
 use Rattle.vms_spec.specs.Sets.{Field, Desc, Set}
@@ -10,6 +10,7 @@ use Rattle.vms_spec.proofs.Tables.{first_at, first_long}
 use Rattle.vms_spec.proofs.Prefixes.{FieldsBelow, item_below, desc_cells_same, first_same}
 use Rattle.vms_spec.proofs.WellFormedLaws.{Clean, struct_clean}
 use Rattle.vms_check.specs.Partners.{Pairer, no_pairer, pairer_of, pairers, part_partners}
+use Rattle.vms_check_laws.proofs.Premises.{by_less}
 use Rattle.vms_check_laws.proofs.PairLists.{AreFrom}
 use Rattle.vms_check_laws.proofs.PairFields.{Structs, desc_paired}
 use Rattle.std.proofs.lemmas.List.{get_or_past}
@@ -55,31 +56,20 @@ module _ (old new : Set) (good_old : WellFormed old) (good_new : WellFormed new)
   abbrev table : ℕ → List Pairer
   table k = pairers x y old.structs new.structs k
 
-  last : (m j at : ℕ) → m < length old.structs → Structs (table m) x y m → AreFrom (get_or x m []) (get_or y j []) at (pairer_of (table m) x y new.structs (get_or old.structs m no_desc) j at)
-  last m j at lt h =
+  last : (m : ℕ) → m < length old.structs → Structs (table m) x y m → (j at : ℕ) → AreFrom (get_or x m []) (get_or y j []) at (pairer_of (table m) x y new.structs (get_or old.structs m no_desc) j at)
+  last m lt h j at =
       let d = get_or old.structs m no_desc in
       let e = get_or new.structs j no_desc in
-      subst (λ (l : List Cell). AreFrom l (get_or y j []) at (pairer_of (table m) x y new.structs d j at)) (sym (struct_is old good_old m))
-      (subst (λ (l : List Cell). AreFrom (desc_cells x d) l at (pairer_of (table m) x y new.structs d j at)) (sym (struct_is new good_new j))
-      (desc_paired (table m) x y m h d.version e.version d e at (struct_below old good_old m lt)))
+      rw (struct_is old good_old m, struct_is new good_new j) (desc_paired (table m) x y m h d.version e.version d e at (struct_below old good_old m lt))
+
+  pairer_at : (m i : ℕ) → i < m → get_or (table m) i no_pairer ≡ pairer_of (table i) x y new.structs (get_or old.structs i no_desc)
+  pairer_at m i lt = first_at (λ earlier d. pairer_of earlier x y new.structs d) old.structs no_pairer m i lt
 
   pub tables : (m : ℕ) → m ≤ length old.structs → Structs (table m) x y m
-  tables zero le = λ i j at lt. absurd (omega arith)
-  tables (suc m) le = λ i j at lt. by_place (tables m (omega arith)) i j at lt (nat_lt i m) refl where
-    f : List Pairer → Desc → Pairer
-    f earlier d = pairer_of earlier x y new.structs d
-
-    by_place : Structs (table m) x y m → (i j at : ℕ) → i < suc m → (b : Bool) → nat_lt i m ≡ b → AreFrom (get_or x i []) (get_or y j []) at (get_or (table (suc m)) i no_pairer j at)
-    by_place h i j at lt true e =
-        let l : i < m = ltb-true i m e in
-        subst (λ (p : Pairer). AreFrom (get_or x i []) (get_or y j []) at (p j at)) (first_same (λ earlier d. pairer_of earlier x y new.structs d) old.structs no_pairer m (suc m) i (omega arith) l) (h i j at l)
-    by_place h i j at lt false e =
-        let ge : m ≤ i = ltb-false i m e in
-        let same : m ≡ i = omega arith in
-        let l : m < suc m = omega arith in
-        subst (λ (n : ℕ). AreFrom (get_or x n []) (get_or y j []) at (get_or (table (suc m)) n no_pairer j at)) same
-        (subst (λ (p : Pairer). AreFrom (get_or x m []) (get_or y j []) at (p j at)) (sym (first_at (λ earlier d. pairer_of earlier x y new.structs d) old.structs no_pairer (suc m) m l))
-        (last m j at (omega (arith, le)) h))
+  tables m le i j at lt =
+      rw (pairer_at m i lt)
+      (by_less (λ i. i < length old.structs → (j at : ℕ) → AreFrom (get_or x i []) (get_or y j []) at (pairer_of (table i) x y new.structs (get_or old.structs i no_desc) j at))
+      (λ m before less. last m less (λ i j at lt. rw (pairer_at m i lt) (before i lt (omega arith) j at))) m i lt (omega arith) j at)
 
   -- two descriptions
   pub part_paired : (v : ℕ) (a b : Desc) (at : ℕ) → FieldsBelow (length old.structs) a.fields → AreFrom (desc_cells x a) (desc_cells y b) at (part_partners old new v a b at)

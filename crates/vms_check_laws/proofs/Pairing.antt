@@ -6,12 +6,13 @@ use Rattle.vms_kinds.specs.declared.Kind.{Kind}
 use Rattle.vms_kinds.specs.declared.Kind.TheVariants.{U8, U16, U32, U64, I8, I16, I32, I64, Bool as Truth, Timer}
 use Rattle.vms_kinds.specs.Codes.{width, residue}
 use Rattle.vms_spec.specs.Sets.{Formula, Field}
+use Rattle.vms_spec.specs.Tests.{is_there}
 use Rattle.vms_spec.specs.Layout.{Cell, Slot, Meaning, no_field, no_parent, counted, field_cells, cells_from, elements_of, times, item_slots, item_size, field_slots, slots_from, place_of, kind_of}
 use Rattle.vms_check.specs.Reducing.{presence}
 use Rattle.vms_check.specs.Comparing.{Entry, entry_of, present_from, same_kind, kind_number}
 use Rattle.vms_check_laws.proofs.Presence.{there, presence_there}
 use Rattle.vms_check_laws.specs.Segments.{FitsAt}
-use Rattle.vms_check_laws.proofs.Segments.{fits_left, fits_right, fits_at}
+use Rattle.vms_check_laws.proofs.Segments.{fits_left, fits_right, fits_at, one_on, at_first, from_zero}
 
 -- ---- tools
 
@@ -23,15 +24,7 @@ kind_at k =
 kind_back : (k : Kind) → kind_at (kind_number k) ≡ k
 unfolding kind_at
 kind_back U8 = refl
-kind_back U16 = refl
-kind_back U32 = refl
-kind_back U64 = refl
-kind_back I8 = refl
-kind_back I16 = refl
-kind_back I32 = refl
-kind_back I64 = refl
-kind_back Truth = refl
-kind_back Timer = refl
+kind_back _ = refl
 
 pub kinds_same : (k l : Kind) → same_kind k l ≡ true → k ≡ l
 kinds_same k l h = sym (kind_back k) ∙ ap kind_at (eqb-true (kind_number k) (kind_number l) h) ∙ kind_back l
@@ -53,8 +46,7 @@ module _ (structs : List Meaning) (all : List Field) (v : ℕ) (own : ℕ → �
   entry_slots : (i p : ℕ) (f : Field) (pr : Option (Option Formula)) (es : List Entry) → presence v f.test f.since ≡ pr
       → slots_at i p f ++ entries_slots es ≡ entries_slots (entry_of i p f pr ++ es)
   entry_slots i p f None es h =
-      ap (λ (b : Bool). (if b then times (elements_of f.count own) (item_slots structs f.item (counted i all) numbers) (base + p) (item_size (cells_in structs) f.item) else []) ++ entries_slots es)
-      (presence_there f.test f.since v own no_parent ∙ ap (λ (q : Option (Option Formula)). there q v own no_parent) h)
+      rw (presence_there f.test f.since v own no_parent, h)
   entry_slots i p f (Some rest) es h = refl
 
   pub slots_entries : (i p : ℕ) (fs : List Field) → slots_from structs all v own numbers i (base + p) fs ≡ entries_slots (present_from (cells_in structs) all v i p fs)
@@ -62,8 +54,7 @@ module _ (structs : List Meaning) (all : List Field) (v : ℕ) (own : ℕ → �
   slots_entries i p (f ∷ fs) =
       let len = length (field_cells (cells_in structs) all i f) in
       let e : (base + p) + len ≡ base + (p + len) = omega arith in
-      ap (λ (l : List Slot). slots_at i p f ++ l) (ap (λ (k : ℕ). slots_from structs all v own numbers (suc i) k fs) e ∙ slots_entries (suc i) (p + len) fs)
-      ∙ entry_slots i p f (presence v f.test f.since) (present_from (cells_in structs) all v (suc i) (p + len) fs) refl
+      rw (e, slots_entries (suc i) (p + len) fs) (entry_slots i p f (presence v f.test f.since) (present_from (cells_in structs) all v (suc i) (p + len) fs) refl)
 
 -- ---- what is known of entries
 
@@ -84,14 +75,16 @@ module _ (structs : List Meaning) (all : List Field) (v : ℕ) (numbers : List �
     pub number : own_of e.index ≡ residue (width (kind_of e.field.item)) (get_or numbers (base + e.place) (pos 0))
     pub left : presence v e.field.test e.field.since ≡ Some e.rest
 
+  -- a field of which nothing of the test is left is there
+  pub known_there : (e : Entry) → IsKnown e → e.rest ≡ None → (own parent : ℕ → ℕ) → is_there e.field.test e.field.since v own parent ≡ true
+  known_there e known plain own parent = presence_there e.field.test e.field.since v own parent ∙ rw (known.left, plain)
+
   abbrev pub AreKnown : List Entry → Type 0
   AreKnown [] = Unit {0}
   AreKnown (e ∷ es) = IsKnown e × AreKnown es
 
   own_is : (i p : ℕ) (f : Field) → slice_get all i ≡ Some f → place i ≡ base + p → own_of i ≡ residue (width (kind_of f.item)) (get_or numbers (base + p) (pos 0))
-  own_is i p f h e =
-      ap (λ (g : Field). residue (width (kind_of g.item)) (get_or numbers (place i) (pos 0))) (at_get all i f h)
-      ∙ ap (λ (k : ℕ). residue (width (kind_of f.item)) (get_or numbers k (pos 0))) e
+  own_is i p f h e = rw (at_get all i f h, e)
 
   entry_known : (i p : ℕ) (f : Field) (pr : Option (Option Formula)) (es : List Entry) → presence v f.test f.since ≡ pr → slice_get all i ≡ Some f
       → place i ≡ base + p → AreKnown es → AreKnown (entry_of i p f pr ++ es)
@@ -104,22 +97,18 @@ module _ (structs : List Meaning) (all : List Field) (v : ℕ) (numbers : List �
   entries_known i p [] items places = tt
   entries_known i p (f ∷ fs) items places =
       let len = length (field_cells (cells_in structs) all i f) in
-      let z : i + 0 ≡ i = omega arith in
       let e : (base + p) + len ≡ base + (p + len) = omega arith in
       entry_known i p f (presence v f.test f.since) (present_from (cells_in structs) all v (suc i) (p + len) fs) refl
-      (ap (λ (k : ℕ). slice_get all k) (sym z) ∙ items 0)
-      (ap (λ (k : ℕ). place k) (sym z) ∙ places 0)
-      (entries_known (suc i) (p + len) fs
-      (λ k. let s : suc i + k ≡ i + suc k = omega arith in ap (λ (j : ℕ). slice_get all j) s ∙ items (suc k))
-      (λ k. let s : suc i + k ≡ i + suc k = omega arith in
-      ap (λ (j : ℕ). place j) s ∙ places (suc k) ∙ ap (λ (j : ℕ). place_of (cells_in structs) all (suc i) j fs k) e))
+      (at_first (slice_get all) i items) (at_first place i places)
+      (entries_known (suc i) (p + len) fs (one_on (slice_get all) i items)
+      (λ k. one_on place i places k ∙ ap (λ (j : ℕ). place_of (cells_in structs) all (suc i) j fs k) e))
 
   pub all_known : AreKnown (present_from (cells_in structs) all v 0 0 all)
   all_known =
       let z : base ≡ base + 0 = omega arith in
       entries_known 0 0 all
-      (λ k. let s : 0 + k ≡ k = omega arith in ap (λ (j : ℕ). slice_get all j) s)
-      (λ k. let s : 0 + k ≡ k = omega arith in ap (λ (j : ℕ). place j) s ∙ ap (λ (j : ℕ). place_of (cells_in structs) all 0 j all k) z)
+      (from_zero (slice_get all))
+      (λ k. from_zero place k ∙ ap (λ (j : ℕ). place_of (cells_in structs) all 0 j all k) z)
 
   -- the numbers fit the cells of each entry
   abbrev pub FitEntries : List Entry → Type 0

@@ -10,9 +10,9 @@ use Rattle.vms_bodies.proofs.CellLaws.{cells_first}
 use Rattle.vms_check_laws.proofs.Pairing.{cells_in}
 use Rattle.vms_check_laws.specs.Segments.{Holds, FitsAt, Carries}
 use Rattle.vms_check_laws.proofs.Settling.{Settled}
-use Rattle.vms_check_laws.proofs.Descriptions.{desc_carries, desc_settles}
+use Rattle.vms_check_laws.proofs.Descriptions.{desc_reads}
 use Rattle.vms_check_laws.proofs.Counts.{old_fields}
-use Rattle.vms_check_laws.proofs.Structures.{tables, settled_tables, new_below}
+use Rattle.vms_check_laws.proofs.Structures.{tables, new_below}
 use Rattle.vms_check_laws.proofs.Fitting.{FitCells, GoodCells, good_fields}
 use Rattle.vms_check_laws.proofs.FitStructures.{desc_fits, fit_tables}
 use Rattle.vms_check_laws.proofs.Good.{DescGood, old_structs, new_structs, default_structs}
@@ -73,26 +73,20 @@ module _ (old new : Set) (good_old : WellFormed old) (good_new : WellFormed new)
         held_in : Holds numbers' at' (carry_desc (cs (cells_in ms) (cells_in ns)) (cells_in ms) (cells_in ns) numbers v v a b at)
         held_in = to_meanings (λ x y. Holds numbers' at' (carry_desc (cs x y) x y numbers v v a b at)) held
 
-        -- what old writes is new's, and validations that hold go on to hold
-        pub part_carries : Carries numbers (desc_slots ms a v numbers at) numbers' (desc_slots ns b v numbers' at')
-        part_carries =
+        reads : Carries numbers (desc_slots ms a v numbers at) numbers' (desc_slots ns b v numbers' at')
+            × Settled (desc_slots ns b v numbers' at') at' (desc_cells (cells_in ns) b) (carry_desc (cs (cells_in ms) (cells_in ns)) (cells_in ms) (cells_in ns) numbers v v a b at)
+        reads =
             let k = length new.structs in
-            desc_carries (ks (cells_in ms) (cells_in ns)) (cs (cells_in ms) (cells_in ns)) ms ns a b v v part part' numbers numbers' at at' (length old.structs) k
+            desc_reads (ks (cells_in ms) (cells_in ns)) (cs (cells_in ms) (cells_in ns)) ms ns a b v v part part' numbers numbers' at at' (length old.structs) k
             (tables old.structs new.structs numbers numbers' (old_structs old good_old) (new_structs new good_new) k (omega arith))
             same_in
             (old_fields (cells_in ms) (length old.structs) a.fields numbers at fits_in a.fields (λ by most h. h) good_a.old)
             good_b.new fits_in held_in good_b.rules
 
+        -- what old writes is new's, and validations that hold go on to hold
+        pub part_carries : Carries numbers (desc_slots ms a v numbers at) numbers' (desc_slots ns b v numbers' at')
+        part_carries = reads.0
+
         -- what isn't in new's bytes is at its default
         pub part_settles : Settled (desc_slots ns b v numbers' at') at' (desc_cells (struct_cells new) b) (carrying old new numbers v a b at)
-        part_settles =
-            let k = length new.structs in
-            let os = old_structs old good_old in
-            let nss = new_structs new good_new in
-            to_cells (λ x y. Settled (desc_slots ns b v numbers' at') at' (desc_cells y b) (carry_desc (cs x y) x y numbers v v a b at))
-            (desc_settles (ks (cells_in ms) (cells_in ns)) (cs (cells_in ms) (cells_in ns)) ms ns a b v v part part' numbers numbers' at at' (length old.structs) k
-            (tables old.structs new.structs numbers numbers' os nss k (omega arith))
-            same_in
-            (old_fields (cells_in ms) (length old.structs) a.fields numbers at fits_in a.fields (λ by most h. h) good_a.old)
-            good_b.new fits_in held_in
-            (settled_tables old.structs new.structs numbers numbers' os nss k (omega arith)))
+        part_settles = to_cells (λ x y. Settled (desc_slots ns b v numbers' at') at' (desc_cells y b) (carry_desc (cs x y) x y numbers v v a b at)) reads.1

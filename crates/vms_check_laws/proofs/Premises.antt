@@ -1,7 +1,6 @@
 -- What fields and structures on both sides need, and positions that differ.
-use Rattle.std.proofs.Common.{◌≡◌, ◌⊎◌, inl, inr, sym, ap, subst, ℕ, suc, ◌<◌, ◌≤◌, Bool, true, false, ◌==◌, List, [], ◌∷◌, length, get_or, Some, None, arith, ℤ, pos, if◌then◌else◌}
+use Rattle.std.proofs.Common.{◌≡◌, ◌⊎◌, inl, inr, refl, ap, ℕ, zero, suc, ◌<◌, ◌≤◌, Bool, true, false, ◌==◌, List, [], ◌∷◌, length, get_or, Some, None, arith, ℤ, pos, if◌then◌else◌}
 use Rattle.std.proofs.lemmas.Bool.{eqb-true}
-use Rattle.std.proofs.Math.Nat.{eq-or-lt_of_le}
 use Rattle.vms_kinds.specs.declared.Item.{Item}
 use Rattle.vms_kinds.specs.declared.Item.TheVariants.{Equal, Unused}
 use Rattle.vms_spec.specs.declared.Count.{Count}
@@ -18,7 +17,7 @@ use Rattle.vms_check_laws.specs.Segments.{Holds, FitsAt, Carries}
 use Rattle.vms_check_laws.proofs.Pairing.{cells_in}
 use Rattle.vms_check_laws.proofs.Settling.{Settled}
 
-pub later_new : (j p q : ℕ) (fs : List Entry) → p < q → same_place (Some p) (position_from q fs j) ≡ true → ⊥
+later_new : (j p q : ℕ) (fs : List Entry) → p < q → same_place (Some p) (position_from q fs j) ≡ true → ⊥
 later_new j p q [] lt h = absurd (cc)
 later_new j p q (f ∷ fs) lt h =
     let choice : (c : Bool) → same_place (Some p) (if c then Some q else position_from (suc q) fs j) ≡ true → ⊥ = elim [
@@ -27,7 +26,7 @@ later_new j p q (f ∷ fs) lt h =
     ] in
     choice (f.index == j) h
 
-pub later_old : (i p q : ℕ) (es : List Entry) → p < q → same_place (position_from q es i) (Some p) ≡ true → ⊥
+later_old : (i p q : ℕ) (es : List Entry) → p < q → same_place (position_from q es i) (Some p) ≡ true → ⊥
 later_old i p q [] lt h = absurd (cc)
 later_old i p q (e ∷ es) lt h =
     let choice : (c : Bool) → same_place (if c then Some q else position_from (suc q) es i) (Some p) ≡ true → ⊥ = elim [
@@ -36,28 +35,33 @@ later_old i p q (e ∷ es) lt h =
     ] in
     choice (e.index == i) h
 
+-- two at one position are the first of both sides, or later ones
+pub at_or_later : (i j p : ℕ) (e f : Entry) (es fs : List Entry) → same_place (position_from p (e ∷ es) i) (position_from p (f ∷ fs) j) ≡ true
+    → ((e.index ≡ i) × (f.index ≡ j)) ⊎ (((f.index == j) ≡ false) × (same_place (position_from (suc p) es i) (position_from (suc p) fs j) ≡ true))
+at_or_later i j p e f es fs h = by (e.index == i) (f.index == j) refl refl h where
+  by : (c d : Bool) → (e.index == i) ≡ c → (f.index == j) ≡ d → same_place (if c then Some p else position_from (suc p) es i) (if d then Some p else position_from (suc p) fs j) ≡ true
+      → ((e.index ≡ i) × (f.index ≡ j)) ⊎ (((f.index == j) ≡ false) × (same_place (position_from (suc p) es i) (position_from (suc p) fs j) ≡ true))
+  by true true x y k = inl (eqb-true e.index i x, eqb-true f.index j y)
+  by true false x y k = absurd (later_new j p (suc p) fs (omega arith) k)
+  by false true x y k = absurd (later_old i p (suc p) es (omega arith) k)
+  by false false x y k = inr (y, k)
+
 pub covered_empty : (y : List (List Cell)) (i : Item) (c : Count) (j : Item) → is_covered i c j ≡ true → length (item_cells y j [] (pos 0)) ≡ 0
 covered_empty y i c j covers = ap (λ (x : Item). length (item_cells y x [] (pos 0))) (covers_unused i c j covers).1
 
--- what holds at k and below it holds below suc k
-pub below_suc : (P : ℕ → Type 0) (k : ℕ) → P k → ((j : ℕ) → j < k → P j) → (j : ℕ) → j < suc k → P j
-below_suc P k at_k before j lt =
-    let le : j ≤ k = omega arith in
-    let go : (j ≡ k) ⊎ (j < k) → P j = elim [
-      | inl same ↦ subst P (sym same) at_k
-      | inr less ↦ before j less
-    ] in
-    go (eq-or-lt_of_le le)
+-- what follows of a number from all below it holds of each
+pub by_less : (P : ℕ → Type 0) → ((k : ℕ) → ((j : ℕ) → j < k → P j) → P k) → (k j : ℕ) → j < k → P j
+by_less P step zero j lt = absurd (omega arith)
+by_less P step (suc k) j lt = step j (λ i less. by_less P step k i (omega arith))
 
 -- what is known of the structures below a number: their cells, slots, comparers and carriers
 pub record Table (ks : List Comparer) (cs : List Carrier) (ms ns : List Meaning) (numbers numbers' : List ℤ) (below below' : ℕ) : Type 0 where
   pub sized : (j i k : ℕ) → j < below' → length (get_or cs j no_carrier i numbers k) ≡ length (get_or (cells_in ns) j [])
   pub carried : (i j : ℕ) → i < below → j < below' → get_or ks j no_comparer i ≡ None → (x y : ℕ) → FitsAt (get_or (cells_in ms) i []) numbers x
       → Holds numbers' y (get_or cs j no_carrier i numbers x) → Carries numbers ((get_or ms i no_meaning).slots numbers x) numbers' ((get_or ns j no_meaning).slots numbers' y)
-
-abbrev pub SettledTable : (ks : List Comparer) (cs : List Carrier) (ms ns : List Meaning) (numbers numbers' : List ℤ) (below below' : ℕ) → Type 0
-SettledTable ks cs ms ns numbers numbers' below below' = (i j : ℕ) → i < below → j < below' → get_or ks j no_comparer i ≡ None → (x y : ℕ) → FitsAt (get_or (cells_in ms) i []) numbers x
-    → Holds numbers' y (get_or cs j no_carrier i numbers x) → Settled ((get_or ns j no_meaning).slots numbers' y) y (get_or (cells_in ns) j []) (get_or cs j no_carrier i numbers x)
+  -- what isn't in the bytes is at its default
+  pub settled : (i j : ℕ) → i < below → j < below' → get_or ks j no_comparer i ≡ None → (x y : ℕ) → FitsAt (get_or (cells_in ms) i []) numbers x
+      → Holds numbers' y (get_or cs j no_carrier i numbers x) → Settled ((get_or ns j no_meaning).slots numbers' y) y (get_or (cells_in ns) j []) (get_or cs j no_carrier i numbers x)
 
 -- constants and unused bytes are single
 abbrev pub IsSingle : Item → Count → Type 0

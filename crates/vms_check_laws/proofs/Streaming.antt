@@ -14,6 +14,7 @@ use Rattle.vms_check.specs.Comparing.{Compatible, failing_pair, first_mismatch, 
 use Rattle.vms_check.specs.Carrying.{carried, carried_device, carried_at, no_image}
 use Rattle.vms_check.proofs.ListLaws.{passes}
 use Rattle.vms_spec.proofs.WellFormedLaws.{device_found}
+use Rattle.vms_check_laws.proofs.Segments.{one_on, at_first, from_zero}
 use Rattle.vms_check_laws.specs.Laws.{ArePaired, DeviceLaw}
 use Rattle.vms_spec.proofs.Faultless.{or_else_none}
 use Rattle.vms_check_laws.proofs.Partnered.{found_device, found_some, compared, Pair, pair, back}
@@ -93,10 +94,9 @@ module _ (old new : Set) (good_old : WellFormed old) (good_new : WellFormed new)
   order_waits : (i : ℕ) (ds : List Device) → ((j : ℕ) → slice_get old.devices (i + j) ≡ slice_get ds j) → Wait (map (λ (d : Device). false) new.devices) (device_order new ds)
   order_waits i [] h = tt
   order_waits i (d ∷ ds) h =
-      let z : i + 0 ≡ i = omega arith in
-      let p = pair old new good_old all_in i d (ap (λ (k : ℕ). slice_get old.devices k) (sym z) ∙ h 0) in (
+      let p = pair old new good_old all_in i d (at_first (slice_get old.devices) i h) in (
         subst (λ (k : ℕ). slice_get (map (λ (d : Device). false) new.devices) k ≡ Some false) (sym (ap index p.found)) (at_map (λ (d : Device). false) new.devices p.number p.device p.stands),
-        order_waits (suc i) ds (λ j. let s : suc i + j ≡ i + suc j = omega arith in ap (λ (k : ℕ). slice_get old.devices k) s ∙ h (suc j)),
+        order_waits (suc i) ds (one_on (slice_get old.devices) i h),
       )
 
   two_apart : (i i' : ℕ) (d d' : Device) → i < i' → slice_get old.devices i ≡ Some d → slice_get old.devices i' ≡ Some d'
@@ -111,22 +111,20 @@ module _ (old new : Set) (good_old : WellFormed old) (good_new : WellFormed new)
   one_apart : (i i' : ℕ) (d : Device) (ds : List Device) → i < i' → slice_get old.devices i ≡ Some d → ((j : ℕ) → slice_get old.devices (i' + j) ≡ slice_get ds j)
       → NotIn (index (find_device 0 new.devices d.desc.name d.instance)) (device_order new ds)
   one_apart i i' d [] lt e h = tt
-  one_apart i i' d (d' ∷ ds) lt e h =
-      let z : i' + 0 ≡ i' = omega arith in (
-        λ same. two_apart i i' d d' lt e (ap (λ (k : ℕ). slice_get old.devices k) (sym z) ∙ h 0) same,
-        one_apart i (suc i') d ds (omega arith) e (λ j. let s : suc i' + j ≡ i' + suc j = omega arith in ap (λ (k : ℕ). slice_get old.devices k) s ∙ h (suc j)),
-      )
+  one_apart i i' d (d' ∷ ds) lt e h = (
+    λ same. two_apart i i' d d' lt e (at_first (slice_get old.devices) i' h) same,
+    one_apart i (suc i') d ds (omega arith) e (one_on (slice_get old.devices) i' h),
+  )
 
   order_apart : (i : ℕ) (ds : List Device) → ((j : ℕ) → slice_get old.devices (i + j) ≡ slice_get ds j) → Apart (device_order new ds)
   order_apart i [] h = tt
   order_apart i (d ∷ ds) h =
-      let z : i + 0 ≡ i = omega arith in
-      let more : (j : ℕ) → slice_get old.devices (suc i + j) ≡ slice_get ds j = λ j. let s : suc i + j ≡ i + suc j = omega arith in ap (λ (k : ℕ). slice_get old.devices k) s ∙ h (suc j) in
-      (one_apart i (suc i) d ds (omega arith) (ap (λ (k : ℕ). slice_get old.devices k) (sym z) ∙ h 0) more, order_apart (suc i) ds more)
+      let more : (j : ℕ) → slice_get old.devices (suc i + j) ≡ slice_get ds j = one_on (slice_get old.devices) i h in
+      (one_apart i (suc i) d ds (omega arith) (at_first (slice_get old.devices) i h) more, order_apart (suc i) ds more)
 
   pub each_once : EachOnce (map (λ (d : Device). false) new.devices) (device_order new old.devices)
   each_once =
-      let all : (j : ℕ) → slice_get old.devices (0 + j) ≡ slice_get old.devices j = λ j. let s : 0 + j ≡ j = omega arith in ap (λ (k : ℕ). slice_get old.devices k) s in
+      let all : (j : ℕ) → slice_get old.devices (0 + j) ≡ slice_get old.devices j = from_zero (slice_get old.devices) in
       each_comes (map (λ (d : Device). false) new.devices) (device_order new old.devices) (order_apart 0 old.devices all) (order_waits 0 old.devices all) each_new
 
   module _ (images : List Image) where
@@ -147,9 +145,8 @@ module _ (old new : Set) (good_old : WellFormed old) (good_new : WellFormed new)
     spell i [] ims long devices_are images_are ready few = refl
     spell i (d ∷ ds) [] long devices_are images_are ready few = absurd (omega arith)
     spell i (d ∷ ds) (im ∷ ims) long devices_are images_are ready few =
-        let z : i + 0 ≡ i = omega arith in
-        let e : slice_get old.devices i ≡ Some d = ap (λ (k : ℕ). slice_get old.devices k) (sym z) ∙ devices_are 0 in
-        let im_is : get_or images i (no_image old new) ≡ im = ap (λ (k : ℕ). get_or images k (no_image old new)) (sym z) ∙ images_are 0 in
+        let e : slice_get old.devices i ≡ Some d = at_first (slice_get old.devices) i devices_are in
+        let im_is : get_or images i (no_image old new) ≡ im = at_first (λ k. get_or images k (no_image old new)) i images_are in
         let p = pair old new good_old all_in i d e in
         let front = written_section old d im i in
         let rest = written_sections old (suc i) ds ims in
@@ -166,8 +163,8 @@ module _ (old new : Set) (good_old : WellFormed old) (good_new : WellFormed new)
           rest,
           here_section,
           spell (suc i) ds ims (omega arith)
-              (λ j. let s : suc i + j ≡ i + suc j = omega arith in ap (λ (k : ℕ). slice_get old.devices k) s ∙ devices_are (suc j))
-              (λ j. let s : suc i + j ≡ i + suc j = omega arith in ap (λ (k : ℕ). get_or images k (no_image old new)) s ∙ images_are (suc j))
+              (one_on (slice_get old.devices) i devices_are)
+              (one_on (λ k. get_or images k (no_image old new)) i images_are)
               (λ j. ready (suc j)) (omega arith),
           refl,
         )

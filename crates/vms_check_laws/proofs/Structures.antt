@@ -16,8 +16,8 @@ use Rattle.vms_check_laws.proofs.Pairing.{cells_in}
 use Rattle.vms_check_laws.specs.Segments.{Holds, FitsAt, Carries}
 use Rattle.vms_check_laws.proofs.Settling.{Settled}
 use Rattle.vms_check_laws.proofs.Linking.{defaults_size, carry_field_size}
-use Rattle.vms_check_laws.proofs.Premises.{Table, NewFields, RulesNamed, SettledTable, below_suc, OldFields}
-use Rattle.vms_check_laws.proofs.Descriptions.{desc_carries, desc_settles}
+use Rattle.vms_check_laws.proofs.Premises.{Table, NewFields, RulesNamed, by_less, OldFields}
+use Rattle.vms_check_laws.proofs.Descriptions.{desc_reads}
 use Rattle.vms_check_laws.proofs.Counts.{OldPlains, old_fields}
 
 -- ---- what structures need, by their numbers
@@ -69,23 +69,26 @@ NewStructs news = (j : ℕ) → j < length news → NewStruct j (get_or news j n
 -- ---- the rows of the tables, one more and the earlier ones
 
 module _ (x y : List (List Cell)) (olds news : List Desc) where
-  pub comparer_last : (k : ℕ) → get_or (comparers x y olds news (suc k)) k no_comparer ≡ comparer_of (comparers x y olds news k) x y olds k (get_or news k no_desc)
-  comparer_last k =
+  pub comparer_at : (k j : ℕ) → j < k → get_or (comparers x y olds news k) j no_comparer ≡ comparer_of (comparers x y olds news j) x y olds j (get_or news j no_desc)
+  comparer_at k j lt =
       let row = λ (earlier : List Comparer) (d : Desc). comparer_of earlier x y olds (length earlier) d in
-      first_at row news no_comparer (suc k) k (omega arith) ∙ ap (λ (q : ℕ). comparer_of (comparers x y olds news k) x y olds q (get_or news k no_desc)) (first_long row news k)
+      first_at row news no_comparer k j lt ∙ ap (λ (q : ℕ). comparer_of (comparers x y olds news j) x y olds q (get_or news j no_desc)) (first_long row news j)
 
-  pub comparer_earlier : (k j : ℕ) → j < k → get_or (comparers x y olds news (suc k)) j no_comparer ≡ get_or (comparers x y olds news k) j no_comparer
-  comparer_earlier k j h =
-      let row = λ (earlier : List Comparer) (d : Desc). comparer_of earlier x y olds (length earlier) d in
-      first_at row news no_comparer (suc k) j (omega arith) ∙ sym (first_at row news no_comparer k j h)
+  pub carrier_at : (k j : ℕ) → j < k → get_or (carriers x y olds news k) j no_carrier ≡ carrier_of (carriers x y olds news j) x y olds (get_or news j no_desc)
+  carrier_at k j lt = first_at (λ (earlier : List Carrier) (d : Desc). carrier_of earlier x y olds d) news no_carrier k j lt
 
-  pub carrier_last : (k : ℕ) → get_or (carriers x y olds news (suc k)) k no_carrier ≡ carrier_of (carriers x y olds news k) x y olds (get_or news k no_desc)
-  carrier_last k = first_at (λ (earlier : List Carrier) (d : Desc). carrier_of earlier x y olds d) news no_carrier (suc k) k (omega arith)
+  -- what follows of each structure of new from the earlier ones
+  module _ (P : ℕ → Comparer → Carrier → Type 0) where
+    abbrev pub Below : ℕ → Type 0
+    Below k = (j : ℕ) → j < k → P j (get_or (comparers x y olds news k) j no_comparer) (get_or (carriers x y olds news k) j no_carrier)
 
-  pub carrier_earlier : (k j : ℕ) → j < k → get_or (carriers x y olds news (suc k)) j no_carrier ≡ get_or (carriers x y olds news k) j no_carrier
-  carrier_earlier k j h =
-      let row = λ (earlier : List Carrier) (d : Desc). carrier_of earlier x y olds d in
-      first_at row news no_carrier (suc k) j (omega arith) ∙ sym (first_at row news no_carrier k j h)
+    abbrev pub Next : ℕ → Type 0
+    Next k = P k (comparer_of (comparers x y olds news k) x y olds k (get_or news k no_desc)) (carrier_of (carriers x y olds news k) x y olds (get_or news k no_desc))
+
+    pub each_structure : ((k : ℕ) → k < length news → Below k → Next k) → (k : ℕ) → k ≤ length news → Below k
+    each_structure step k le j lt =
+        rw (comparer_at k j lt, carrier_at k j lt)
+        (by_less (λ m. m < length news → Next m) (λ m before less. step m less (λ i lt. rw (comparer_at m i lt, carrier_at m i lt) (before i lt (omega arith)))) k j lt (omega arith))
 
 -- structure i of old with structure k of new, the next one, if no rule fails at them
 module _ (olds news : List Desc) (numbers : List ℤ) (k i p : ℕ) where
@@ -102,16 +105,16 @@ module _ (olds news : List Desc) (numbers : List ℤ) (k i p : ℕ) where
     pub fits : FitsAt (desc_cells (cells_of olds) old_one) numbers p
     pub old : OldFields (length olds) (λ j. numbers_of (cells_of olds) old_one numbers p j) old_one.fields
 
-  pub beside : OldStructs olds → NewStructs news → k < length news → i < length olds → get_or (rules_to olds news (suc k)) k no_comparer i ≡ None
+  pub beside : OldStructs olds → NewStructs news → k < length news → i < length olds → comparer_of (rules_to olds news k) (cells_of olds) (cells_of news) olds k new_one i ≡ None
       → FitsAt (get_or (cells_of olds) i []) numbers p → Beside
   beside old new lt lt_i none fits =
       let below = plain_below i old_one.fields old_one.fields (old i lt_i).fields in
-      let fits' : FitsAt (desc_cells (cells_of olds) old_one) numbers p = subst (λ (l : List Cell). FitsAt l numbers p) (struct_cells_at olds (length olds) i lt_i below) fits in
+      let fits' : FitsAt (desc_cells (cells_of olds) old_one) numbers p = rw (struct_cells_at olds (length olds) i lt_i below) at fits in
       let plain = plains_further i (length olds) old_one.fields old_one.fields (omega arith) (old i lt_i).fields in
       record {
         below = below;
         below' = new_below k (is_steady_in new_one) new_one.fields (new k lt).fields;
-        none = subst (λ (c : Comparer). c i ≡ None) (comparer_last (cells_of olds) (cells_of news) olds news k) none;
+        none = none;
         fits = fits';
         old = old_fields (cells_of olds) (length olds) old_one.fields numbers p fits' old_one.fields (λ by most h. h) plain;
       }
@@ -148,84 +151,36 @@ module _ (olds news : List Desc) (numbers numbers' : List ℤ) where
     carry_desc_size lt = from_size 0 b.fields (present (cells_of olds) a v) lt
 
   module _ (old : OldStructs olds) (new : NewStructs news) where
-    abbrev old_at : ℕ → Desc
-    old_at i = get_or olds i no_desc
+    -- structure j of new with its comparer and its carrier
+    record Row (j : ℕ) (rule : Comparer) (carrier : Carrier) : Type 0 where
+      sized : (i p : ℕ) → length (carrier i numbers p) ≡ length (get_or (cells_of news) j [])
+      reads : (i : ℕ) → i < length olds → rule i ≡ None → (p q : ℕ) → FitsAt (get_or (cells_of olds) i []) numbers p → Holds numbers' q (carrier i numbers p)
+          → Carries numbers ((get_or (meanings_of olds) i no_meaning).slots numbers p) numbers' ((get_or (meanings_of news) j no_meaning).slots numbers' q)
+          × Settled ((get_or (meanings_of news) j no_meaning).slots numbers' q) q (get_or (cells_of news) j []) (carrier i numbers p)
 
-    abbrev new_at : ℕ → Desc
-    new_at j = get_or news j no_desc
+    abbrev Rows : ℕ → Type 0
+    Rows k = Below (cells_of olds) (cells_of news) olds news Row k
 
-    sized_next : (k : ℕ) → k < length news → KnownTable k → (j i p : ℕ) → j < suc k → length (get_or (carries_to olds news (suc k)) j no_carrier i numbers p) ≡ length (get_or (cells_of news) j [])
-    sized_next k lt table j i p h =
-        let below = new_below k (is_steady_in (new_at k)) (new_at k).fields (new k lt).fields in
-        let last : length (get_or (carries_to olds news (suc k)) k no_carrier i numbers p) ≡ length (get_or (cells_of news) k []) =
-        ap (λ (c : Carrier). length (c i numbers p)) (carrier_last (cells_of olds) (cells_of news) olds news k)
-        ∙ carry_desc_size k table (old_at i) (new_at k) (old_at i).version (new_at k).version p below
-        ∙ sym (ap (λ (l : List Cell). length l) (struct_cells_at news (length news) k lt below)) in
-        below_suc (λ (q : ℕ). length (get_or (carries_to olds news (suc k)) q no_carrier i numbers p) ≡ length (get_or (cells_of news) q [])) k last
-        (λ q less. ap (λ (c : Carrier). length (c i numbers p)) (carrier_earlier (cells_of olds) (cells_of news) olds news k q less) ∙ table.sized q i p less) j h
+    table_of : (k : ℕ) → Rows k → KnownTable k
+    table_of k rows = record {
+      sized = λ j i p lt. (rows j lt).sized i p;
+      carried = λ i j lt_i lt none p q fits held. ((rows j lt).reads i lt_i none p q fits held).0;
+      settled = λ i j lt_i lt none p q fits held. ((rows j lt).reads i lt_i none p q fits held).1;
+    }
 
-    abbrev Carried : ℕ → ℕ → ℕ → Type 0
-    Carried k i j = get_or (rules_to olds news k) j no_comparer i ≡ None → (p q : ℕ) → FitsAt (get_or (cells_of olds) i []) numbers p
-        → Holds numbers' q (get_or (carries_to olds news k) j no_carrier i numbers p) → Carries numbers ((get_or (meanings_of olds) i no_meaning).slots numbers p) numbers' ((get_or (meanings_of news) j no_meaning).slots numbers' q)
-
-    carried_last : (k : ℕ) → k < length news → KnownTable k → (i : ℕ) → i < length olds → Carried (suc k) i k
-    carried_last k lt table i lt_i none p q fits held =
-        let a = old_at i in
-        let b = new_at k in
-        let z = beside olds news numbers k i p old new lt lt_i none fits in
-        let held' : Holds numbers' q (carry_desc (carries_to olds news k) (cells_of olds) (cells_of news) numbers a.version b.version a b p) = subst (λ (c : Carrier). Holds numbers' q (c i numbers p)) (carrier_last (cells_of olds) (cells_of news) olds news k) held in
-        let done = desc_carries (rules_to olds news k) (carries_to olds news k) (meanings_of olds) (meanings_of news) a b a.version b.version (parts.Struct i) (parts.Struct k) numbers numbers' p q (length olds) k table z.none z.old (new k lt).fields z.fits held' (new k lt).rules in
-        subst (λ (l : List Slot). Carries numbers l numbers' ((get_or (meanings_of news) k no_meaning).slots numbers' q)) (sym (struct_slots olds (length olds) i numbers p lt_i z.below))
-        (subst (λ (l : List Slot). Carries numbers (desc_slots (meanings_of olds) a a.version numbers p) numbers' l) (sym (struct_slots news (length news) k numbers' q lt z.below')) done)
-
-    carried_earlier : (k : ℕ) → KnownTable k → (i j : ℕ) → i < length olds → j < k → Carried (suc k) i j
-    carried_earlier k table i j lt_i lt_j none p q fits held =
-        table.carried i j lt_i lt_j (subst (λ (c : Comparer). c i ≡ None) (comparer_earlier (cells_of olds) (cells_of news) olds news k j lt_j) none) p q fits
-        (subst (λ (c : Carrier). Holds numbers' q (c i numbers p)) (carrier_earlier (cells_of olds) (cells_of news) olds news k j lt_j) held)
-
-    carried_next : (k : ℕ) → k < length news → KnownTable k → (i j : ℕ) → i < length olds → j < suc k → Carried (suc k) i j
-    carried_next k lt table i j lt_i lt_j =
-        below_suc (λ (q : ℕ). Carried (suc k) i q) k (carried_last k lt table i lt_i) (λ q less. carried_earlier k table i q lt_i less) j lt_j
+    row : (k : ℕ) → k < length news → Rows k → Next (cells_of olds) (cells_of news) olds news Row k
+    row k lt rows =
+        let b = get_or news k no_desc in
+        let table = table_of k rows in
+        let below = new_below k (is_steady_in b) b.fields (new k lt).fields in
+        record {
+          sized = λ i p. carry_desc_size k table (get_or olds i no_desc) b (get_or olds i no_desc).version b.version p below ∙ sym (ap length (struct_cells_at news (length news) k lt below));
+          reads = λ i lt_i none p q fits held.
+              let a = get_or olds i no_desc in
+              let z = beside olds news numbers k i p old new lt lt_i none fits in
+              rw (struct_slots olds (length olds) i numbers p lt_i z.below, struct_slots news (length news) k numbers' q lt below, struct_cells_at news (length news) k lt below)
+              (desc_reads (rules_to olds news k) (carries_to olds news k) (meanings_of olds) (meanings_of news) a b a.version b.version (parts.Struct i) (parts.Struct k) numbers numbers' p q (length olds) k table z.none z.old (new k lt).fields z.fits held (new k lt).rules);
+        }
 
     pub tables : (k : ℕ) → k ≤ length news → KnownTable k
-    tables zero le = record { sized = λ j i p lt. absurd (omega arith); carried = λ i j lt_i lt_j none p q fits held. absurd (omega arith) }
-    tables (suc k) le =
-        let lt : k < length news = omega arith in
-        let table = tables k (omega arith) in
-        record { sized = sized_next k lt table; carried = λ i j lt_i lt_j none p q fits held. carried_next k lt table i j lt_i lt_j none p q fits held }
-
-    -- the same for what isn't in the bytes
-    abbrev Row : ℕ → ℕ → ℕ → Type 0
-    Row k i j = get_or (rules_to olds news k) j no_comparer i ≡ None → (p q : ℕ) → FitsAt (get_or (cells_of olds) i []) numbers p
-        → Holds numbers' q (get_or (carries_to olds news k) j no_carrier i numbers p) → Settled ((get_or (meanings_of news) j no_meaning).slots numbers' q) q (get_or (cells_of news) j []) (get_or (carries_to olds news k) j no_carrier i numbers p)
-
-    abbrev pub KnownRows : ℕ → Type 0
-    KnownRows k = SettledTable (rules_to olds news k) (carries_to olds news k) (meanings_of olds) (meanings_of news) numbers numbers' (length olds) k
-
-    row_last : (k : ℕ) → k < length news → KnownTable k → KnownRows k → (i : ℕ) → i < length olds → Row (suc k) i k
-    row_last k lt table rows i lt_i none p q fits held =
-        let a = old_at i in
-        let b = new_at k in
-        let z = beside olds news numbers k i p old new lt lt_i none fits in
-        let carried = carry_desc (carries_to olds news k) (cells_of olds) (cells_of news) numbers a.version b.version a b p in
-        let held' : Holds numbers' q carried = subst (λ (c : Carrier). Holds numbers' q (c i numbers p)) (carrier_last (cells_of olds) (cells_of news) olds news k) held in
-        let done = desc_settles (rules_to olds news k) (carries_to olds news k) (meanings_of olds) (meanings_of news) a b a.version b.version (parts.Struct i) (parts.Struct k) numbers numbers' p q (length olds) k table z.none z.old (new k lt).fields z.fits held' rows in
-        subst (λ (c : Carrier). Settled ((get_or (meanings_of news) k no_meaning).slots numbers' q) q (get_or (cells_of news) k []) (c i numbers p)) (sym (carrier_last (cells_of olds) (cells_of news) olds news k))
-        (subst (λ (l : List Cell). Settled ((get_or (meanings_of news) k no_meaning).slots numbers' q) q l carried) (sym (struct_cells_at news (length news) k lt z.below'))
-        (subst (λ (l : List Slot). Settled l q (desc_cells (cells_of news) b) carried) (sym (struct_slots news (length news) k numbers' q lt z.below')) done))
-
-    row_earlier : (k : ℕ) → KnownRows k → (i j : ℕ) → i < length olds → j < k → Row (suc k) i j
-    row_earlier k rows i j lt_i lt_j none p q fits held =
-        subst (λ (c : Carrier). Settled ((get_or (meanings_of news) j no_meaning).slots numbers' q) q (get_or (cells_of news) j []) (c i numbers p)) (sym (carrier_earlier (cells_of olds) (cells_of news) olds news k j lt_j))
-        (rows i j lt_i lt_j (subst (λ (c : Comparer). c i ≡ None) (comparer_earlier (cells_of olds) (cells_of news) olds news k j lt_j) none) p q fits
-        (subst (λ (c : Carrier). Holds numbers' q (c i numbers p)) (carrier_earlier (cells_of olds) (cells_of news) olds news k j lt_j) held))
-
-    row_next : (k : ℕ) → k < length news → KnownTable k → KnownRows k → (i j : ℕ) → i < length olds → j < suc k → Row (suc k) i j
-    row_next k lt table rows i j lt_i lt_j =
-        below_suc (λ (q : ℕ). Row (suc k) i q) k (row_last k lt table rows i lt_i) (λ q less. row_earlier k rows i q lt_i less) j lt_j
-
-    pub settled_tables : (k : ℕ) → k ≤ length news → KnownRows k
-    settled_tables zero le i j lt_i lt_j none p q fits held = absurd (omega arith)
-    settled_tables (suc k) le i j lt_i lt_j none p q fits held =
-        let lt : k < length news = omega arith in
-        row_next k lt (tables k (omega arith)) (settled_tables k (omega arith)) i j lt_i lt_j none p q fits held
+    tables k le = table_of k (each_structure (cells_of olds) (cells_of news) olds news Row row k le)

@@ -17,7 +17,7 @@ use Rattle.vms_check.proofs.ListLaws.{passes}
 use Rattle.vms_spec.proofs.WellFormedLaws.{sub_found}
 use Rattle.vms_check_laws.specs.Laws.{IsSaved}
 use Rattle.vms_check_laws.specs.Segments.{FitsAt}
-use Rattle.vms_check_laws.proofs.Segments.{fits_left, fits_right, rules_left, rules_right}
+use Rattle.vms_check_laws.proofs.Segments.{fits_left, fits_right, rules_left, rules_right, one_on, at_first, from_zero}
 use Rattle.vms_spec.proofs.Faultless.{or_else_none}
 use Rattle.vms_check_laws.proofs.Good.{sub_good}
 use Rattle.vms_check_laws.proofs.Parts.{good_cells}
@@ -169,9 +169,8 @@ module _ (old new : Set) (good_old : WellFormed old) (good_new : WellFormed new)
   facts_from : (l : ℕ) (ts : List Sub) → ((m : ℕ) → slice_get e.subs (l + m) ≡ slice_get ts m) → Facts old new good_old good_new d e image numbers' came_of ts
   facts_from l [] h = tt
   facts_from l (t ∷ ts) h =
-      let z : l + 0 ≡ l = omega arith in
-      (fact l t (ap (λ (n : ℕ). slice_get e.subs n) (sym z) ∙ h 0), facts_from (suc l) ts (λ m. let s : suc l + m ≡ l + suc m = omega arith in ap (λ (n : ℕ). slice_get e.subs n) s ∙ h (suc m)))
+      (fact l t (at_first (slice_get e.subs) l h), facts_from (suc l) ts (one_on (slice_get e.subs) l h))
 
   -- all subsections of new
   pub facts : Facts old new good_old good_new d e image numbers' came_of e.subs
-  facts = facts_from 0 e.subs (λ m. let s : 0 + m ≡ m = omega arith in ap (λ (n : ℕ). slice_get e.subs n) s)
+  facts = facts_from 0 e.subs (from_zero (slice_get e.subs))

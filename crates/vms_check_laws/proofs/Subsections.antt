@@ -10,7 +10,7 @@ use Rattle.vms_check.specs.Comparing.{comparing}
 use Rattle.vms_check.specs.Carrying.{carrying, carried_sub, defaults}
 use Rattle.vms_check_laws.specs.Segments.{Holds, FitsAt, Carries}
 use Rattle.vms_check_laws.proofs.Segments.{holds_left, holds_right, holds_at}
-use Rattle.vms_check_laws.proofs.Settling.{Settled, settled_defaults, settled_append, settled_empty, settled_at}
+use Rattle.vms_check_laws.proofs.Settling.{Settled, settled_defaults, settled_append, settled_empty}
 use Rattle.vms_check_laws.proofs.Fitting.{FitCells, GoodCells, fit_append, fit_defaults, fit_length}
 use Rattle.vms_check_laws.proofs.Good.{DescGood}
 use Rattle.vms_check_laws.proofs.Parts.{part_carries, part_fits, part_settles}
@@ -49,11 +49,9 @@ module _ (old new : Set) (good_old : WellFormed old) (good_new : WellFormed new)
   carried_of t = carried_sub old new d image t
 
   one_fit : (t : Sub) → Stayed t ⊎ Came t → FitCells (cells_of t) (carried_of t)
-  one_fit t f = go f where
-    go : Stayed t ⊎ Came t → FitCells (cells_of t) (carried_of t)
-    go (inl s) = subst (λ (l : List ℤ). FitCells (cells_of t) l) (sym s.numbers) (fit_defaults (cells_of t) s.good)
-    go (inr c) = subst (λ (l : List ℤ). FitCells (cells_of t) l) (sym c.numbers)
-        (part_fits old new good_old good_new c.sub.desc t.desc c.version c.part c.part' c.good c.good' c.same image.numbers c.place c.fits)
+  one_fit t (inl s) = rw s.numbers (fit_defaults (cells_of t) s.good)
+  one_fit t (inr c) =
+      rw c.numbers (part_fits old new good_old good_new c.sub.desc t.desc c.version c.part c.part' c.good c.good' c.same image.numbers c.place c.fits)
 
   one_size : (t : Sub) → Stayed t ⊎ Came t → length (carried_of t) ≡ length (cells_of t)
   one_size t f = fit_length (cells_of t) (carried_of t) (one_fit t f)
@@ -61,14 +59,6 @@ module _ (old new : Set) (good_old : WellFormed old) (good_new : WellFormed new)
   pub subs_fit : (ts : List Sub) → Facts ts → FitCells (flat_map cells_of ts) (flat_map carried_of ts)
   subs_fit [] h = tt
   subs_fit (t ∷ ts) h = fit_append (cells_of t) (flat_map cells_of ts) (carried_of t) (flat_map carried_of ts) (one_fit t h.0) (subs_fit ts h.1)
-
-  one_version : (t : Sub) (ts : List Sub) → Stayed t ⊎ Came t → AreVersionsOf ts (map came_of ts) → AreVersionsOf (t ∷ ts) (came_of t ∷ map came_of ts)
-  one_version t ts (inl s) h = subst (λ (o : Option ℕ). AreVersionsOf (t ∷ ts) (o ∷ map came_of ts)) (sym s.came) h
-  one_version t ts (inr c) h = subst (λ (o : Option ℕ). AreVersionsOf (t ∷ ts) (o ∷ map came_of ts)) (sym c.came) (c.within, h)
-
-  pub subs_versions : (ts : List Sub) → Facts ts → AreVersionsOf ts (map came_of ts)
-  subs_versions [] h = tt
-  subs_versions (t ∷ ts) h = one_version t ts h.0 (subs_versions ts h.1)
 
   -- the bytes of a subsection that came, and its rules
   pub sub_carries : (t : Sub) (c : Came t) (place' : ℕ) → Holds numbers' place' (carried_of t)
@@ -83,46 +73,30 @@ module _ (old new : Set) (good_old : WellFormed old) (good_new : WellFormed new)
       (part_settles old new good_old good_new c.sub.desc t.desc c.version c.part c.part' c.good c.good' c.same image.numbers c.place c.fits numbers' place'
       (subst (λ (l : List ℤ). Holds numbers' place' l) c.numbers held))
 
-  one_rule : (t : Sub) (ts : List Sub) (place : ℕ) → Stayed t ⊎ Came t → Holds numbers' place (carried_of t) → RulesHold (came_slots new e numbers' (place + length (cells_of t)) ts (map came_of ts))
-      → RulesHold (came_slots new e numbers' place (t ∷ ts) (came_of t ∷ map came_of ts))
-  one_rule t ts place (inl s) held h = subst (λ (o : Option ℕ). RulesHold (came_slots new e numbers' place (t ∷ ts) (o ∷ map came_of ts))) (sym s.came) h
-  one_rule t ts place (inr c) held h = subst (λ (o : Option ℕ). RulesHold (came_slots new e numbers' place (t ∷ ts) (o ∷ map came_of ts))) (sym c.came)
-      (rules_append (sub_slots new t c.version numbers' place) (came_slots new e numbers' (place + length (cells_of t)) ts (map came_of ts)) ((sub_carries t c place held).rules c.rules) h)
-
   next_place : (t : Sub) (ts : List Sub) (place : ℕ) → Stayed t ⊎ Came t → Holds numbers' place (flat_map carried_of (t ∷ ts)) → Holds numbers' (place + length (cells_of t)) (flat_map carried_of ts)
   next_place t ts place f held =
       holds_at numbers' _ _ (flat_map carried_of ts) (ap (λ (n : ℕ). place + n) (one_size t f)) (holds_right numbers' place (carried_of t) (flat_map carried_of ts) held)
 
-  pub subs_rules : (ts : List Sub) (place : ℕ) → Facts ts → Holds numbers' place (flat_map carried_of ts) → RulesHold (came_slots new e numbers' place ts (map came_of ts))
-  subs_rules [] place h held = tt
-  subs_rules (t ∷ ts) place h held =
-      one_rule t ts place h.0 (holds_left numbers' place (carried_of t) (flat_map carried_of ts) held)
-      (subs_rules ts (place + length (cells_of t)) h.1 (next_place t ts place h.0 held))
+  -- what is read of the subsections from one on, whose cells begin at a place
+  pub record Reads (ts : List Sub) (place : ℕ) : Type 0 where
+    pub versions : AreVersionsOf ts (map came_of ts)
+    pub rules : RulesHold (came_slots new e numbers' place ts (map came_of ts))
+    pub settled : Settled (came_slots new e numbers' place ts (map came_of ts)) place (flat_map cells_of ts) (flat_map carried_of ts)
 
-  one_settles : (t : Sub) (ts : List Sub) (place : ℕ) (f : Stayed t ⊎ Came t) → Holds numbers' place (carried_of t)
-      → Settled (came_slots new e numbers' (place + length (cells_of t)) ts (map came_of ts)) (place + length (carried_of t)) (flat_map cells_of ts) (flat_map carried_of ts)
-      → length (carried_of t) ≡ length (cells_of t)
-      → Settled (came_slots new e numbers' place (t ∷ ts) (came_of t ∷ map came_of ts)) place (cells_of t ++ flat_map cells_of ts) (carried_of t ++ flat_map carried_of ts)
-  one_settles t ts place (inl s) held h size =
-      let more = came_slots new e numbers' (place + length (cells_of t)) ts (map came_of ts) in
-      subst (λ (o : Option ℕ). Settled (came_slots new e numbers' place (t ∷ ts) (o ∷ map came_of ts)) place (cells_of t ++ flat_map cells_of ts) (carried_of t ++ flat_map carried_of ts)) (sym s.came)
-      (settled_append [] more place (cells_of t) (flat_map cells_of ts) (carried_of t) (flat_map carried_of ts) size
-      (subst (λ (l : List ℤ). Settled [] place (cells_of t) l) (sym s.numbers) (settled_defaults [] place (cells_of t))) h)
-  one_settles t ts place (inr c) held h size =
-      let more = came_slots new e numbers' (place + length (cells_of t)) ts (map came_of ts) in
-      subst (λ (o : Option ℕ). Settled (came_slots new e numbers' place (t ∷ ts) (o ∷ map came_of ts)) place (cells_of t ++ flat_map cells_of ts) (carried_of t ++ flat_map carried_of ts)) (sym c.came)
-      (settled_append (sub_slots new t c.version numbers' place) more place (cells_of t) (flat_map cells_of ts) (carried_of t) (flat_map carried_of ts) size (sub_settles t c place held) h)
+  one_reads : (t : Sub) (ts : List Sub) (place : ℕ) → Stayed t ⊎ Came t → Holds numbers' place (carried_of t) → length (carried_of t) ≡ length (cells_of t) → Reads ts (place + length (cells_of t)) → Reads (t ∷ ts) place
+  one_reads t ts place (inl s) held size h =
+      let first : Settled [] place (cells_of t) (carried_of t) = rw s.numbers (settled_defaults [] place (cells_of t)) in
+      record { versions = rw s.came h.versions; rules = rw s.came h.rules; settled = rw s.came (settled_append size first (ap (λ (n : ℕ). place + n) (sym size)) h.settled) }
+  one_reads t ts place (inr c) held size h = record {
+    versions = rw c.came (c.within, h.versions);
+    rules = rw c.came (rules_append (sub_slots new t c.version numbers' place) (came_slots new e numbers' (place + length (cells_of t)) ts (map came_of ts)) ((sub_carries t c place held).rules c.rules) h.rules);
+    settled = rw c.came (settled_append size (sub_settles t c place held) (ap (λ (n : ℕ). place + n) (sym size)) h.settled);
+  }
 
-  pub subs_settle : (ts : List Sub) (place : ℕ) → Facts ts → Holds numbers' place (flat_map carried_of ts)
-      → Settled (came_slots new e numbers' place ts (map came_of ts)) place (flat_map cells_of ts) (flat_map carried_of ts)
-  subs_settle [] place h held = settled_empty [] place [] [] refl
-  subs_settle (t ∷ ts) place h held =
-      let size = one_size t h.0 in
-      let more = came_slots new e numbers' (place + length (cells_of t)) ts (map came_of ts) in
-      one_settles t ts place h.0 (holds_left numbers' place (carried_of t) (flat_map carried_of ts) held)
-      (settled_at more _ _ (flat_map cells_of ts) (flat_map carried_of ts) (ap (λ (n : ℕ). place + n) (sym size))
-      (subs_settle ts (place + length (cells_of t)) h.1 (next_place t ts place h.0 held)))
-      size
+  pub subs_read : (ts : List Sub) (place : ℕ) → Facts ts → Holds numbers' place (flat_map carried_of ts) → Reads ts place
+  subs_read [] place h held = record { versions = tt; rules = tt; settled = settled_empty [] place [] [] refl }
+  subs_read (t ∷ ts) place h held =
+      one_reads t ts place h.0 (holds_left numbers' place (carried_of t) (flat_map carried_of ts) held) (one_size t h.0) (subs_read ts (place + length (cells_of t)) h.1 (next_place t ts place h.0 held))
 
   -- each subsection of new is where its cells begin
   pub sub_held : (ts : List Sub) (place l : ℕ) (t : Sub) → slice_get ts l ≡ Some t → Facts ts → Holds numbers' place (flat_map carried_of ts) → Holds numbers' (sub_place new place ts l) (carried_of t)

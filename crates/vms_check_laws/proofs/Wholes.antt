@@ -19,13 +19,13 @@ use Rattle.vms_bodies.proofs.ReadyLaws.{version_is}
 use Rattle.vms_bodies.proofs.SpellLaws.{rules_append}
 use Rattle.vms_check_laws.specs.Laws.{IsSaved}
 use Rattle.vms_check_laws.specs.Segments.{Holds, FitsAt}
-use Rattle.vms_check_laws.proofs.Segments.{holds_left, holds_right, holds_at, fits_left, rules_left}
-use Rattle.vms_check_laws.proofs.Settling.{Settled, settled_append, settled_at}
+use Rattle.vms_check_laws.proofs.Segments.{holds_left, holds_right, holds_at, fits_left, rules_left, one_on, at_first, from_zero}
+use Rattle.vms_check_laws.proofs.Settling.{Settled, settled_append}
 use Rattle.vms_check_laws.proofs.Fitting.{fit_append, fit_length, are_fit}
 use Rattle.vms_check_laws.proofs.Good.{device_good}
 use Rattle.vms_check_laws.proofs.Parts.{part_carries, part_fits, part_settles}
 use Rattle.vms_check_laws.proofs.Orders.{Among, NotIn, Apart, Come, comes_once, found_same}
-use Rattle.vms_check_laws.proofs.Subsections.{Came, Facts, subs_fit, subs_versions, subs_rules, subs_settle, sub_held, sub_carries}
+use Rattle.vms_check_laws.proofs.Subsections.{Came, Facts, subs_fit, subs_read, sub_held, sub_carries}
 use Rattle.vms_check_laws.proofs.SubFacts.{none_at, fits_whole, came_of, came_is, facts}
 use Rattle.vms_check_laws.proofs.PairDevices.{found as found_sub}
 
@@ -107,14 +107,13 @@ module _ (old new : Set) (good_old : WellFormed old) (good_new : WellFormed new)
     spell_subs j place (s ∷ subs) [] h h' h'' = refl
     spell_subs j place (s ∷ subs) (None ∷ cs) h h' h'' =
         spell_subs (suc j) (place + length (desc_cells (struct_cells old) s.desc)) subs cs
-        (λ m. let z : suc j + m ≡ j + suc m = omega arith in ap (λ (n : ℕ). slice_get d.subs n) z ∙ h (suc m))
-        (λ m. let z : suc j + m ≡ j + suc m = omega arith in ap (λ (n : ℕ). slice_get image.came n) z ∙ h' (suc m))
-        (λ m. let z : suc j + m ≡ j + suc m = omega arith in ap (λ (n : ℕ). sub_place old (own_cells old d) d.subs n) z ∙ h'' (suc m))
+        (one_on (slice_get d.subs) j h)
+        (one_on (slice_get image.came) j h')
+        (one_on (sub_place old (own_cells old d) d.subs) j h'')
     spell_subs j place (s ∷ subs) (Some v ∷ cs) h h' h'' =
-        let z : j + 0 ≡ j = omega arith in
-        let at_j : slice_get d.subs j ≡ Some s = ap (λ (n : ℕ). slice_get d.subs n) (sym z) ∙ h 0 in
-        let at_came : slice_get image.came j ≡ Some (Some v) = ap (λ (n : ℕ). slice_get image.came n) (sym z) ∙ h' 0 in
-        let place_is : sub_place old (own_cells old d) d.subs j ≡ place = ap (λ (n : ℕ). sub_place old (own_cells old d) d.subs n) (sym z) ∙ h'' 0 in
+        let at_j : slice_get d.subs j ≡ Some s = at_first (slice_get d.subs) j h in
+        let at_came : slice_get image.came j ≡ Some (Some v) = at_first (slice_get image.came) j h' in
+        let place_is : sub_place old (own_cells old d) d.subs j ≡ place = at_first (sub_place old (own_cells old d) d.subs) j h'' in
         let p = sub_pair j s at_j in
         let body = zeroed image.numbers (sub_slots old s v image.numbers place) in
         let front = sub_head s.desc.name v ++ body in
@@ -126,9 +125,9 @@ module _ (old new : Set) (good_old : WellFormed old) (good_new : WellFormed new)
           after,
           subst (λ (l : ℕ). SubSpells new e image' l (slice_get e.subs l) (slice_get image'.came l) front) number_is one,
           spell_subs (suc j) (place + length (desc_cells (struct_cells old) s.desc)) subs cs
-              (λ m. let z : suc j + m ≡ j + suc m = omega arith in ap (λ (n : ℕ). slice_get d.subs n) z ∙ h (suc m))
-              (λ m. let z : suc j + m ≡ j + suc m = omega arith in ap (λ (n : ℕ). slice_get image.came n) z ∙ h' (suc m))
-              (λ m. let z : suc j + m ≡ j + suc m = omega arith in ap (λ (n : ℕ). sub_place old (own_cells old d) d.subs n) z ∙ h'' (suc m)),
+              (one_on (slice_get d.subs) j h)
+              (one_on (slice_get image.came) j h')
+              (one_on (sub_place old (own_cells old d) d.subs) j h''),
           refl,
         )
 
@@ -175,19 +174,18 @@ module _ (old new : Set) (good_old : WellFormed old) (good_new : WellFormed new)
   order_within j [] cs h h' = tt
   order_within j (s ∷ subs) [] h h' = tt
   order_within j (s ∷ subs) (None ∷ cs) h h' =
-      order_within (suc j) subs cs (λ m. let z : suc j + m ≡ j + suc m = omega arith in ap (λ (n : ℕ). slice_get d.subs n) z ∙ h (suc m))
-      (λ m. let z : suc j + m ≡ j + suc m = omega arith in ap (λ (n : ℕ). slice_get image.came n) z ∙ h' (suc m))
+      order_within (suc j) subs cs (one_on (slice_get d.subs) j h)
+      (one_on (slice_get image.came) j h')
   order_within j (s ∷ subs) (Some v ∷ cs) h h' =
-      let z : j + 0 ≡ j = omega arith in
-      let at_j : slice_get d.subs j ≡ Some s = ap (λ (n : ℕ). slice_get d.subs n) (sym z) ∙ h 0 in
-      let at_came : slice_get image.came j ≡ Some (Some v) = ap (λ (n : ℕ). slice_get image.came n) (sym z) ∙ h' 0 in
+      let at_j : slice_get d.subs j ≡ Some s = at_first (slice_get d.subs) j h in
+      let at_came : slice_get image.came j ≡ Some (Some v) = at_first (slice_get image.came) j h' in
       let p = sub_pair j s at_j in
       let c = came_here j s v at_j at_came p in
       let came_t : slice_get image'.came p.number ≡ Some (Some v) = at_map came e.subs p.number p.sub p.stands ∙ ap Some c.came in
       let l_is : p.number ≡ index (find_sub 0 e.subs s.desc.name) = sym (ap index p.found) in (
         (v, ap (λ (n : ℕ). slice_get image'.came n) (sym l_is) ∙ came_t),
-        order_within (suc j) subs cs (λ m. let z : suc j + m ≡ j + suc m = omega arith in ap (λ (n : ℕ). slice_get d.subs n) z ∙ h (suc m))
-            (λ m. let z : suc j + m ≡ j + suc m = omega arith in ap (λ (n : ℕ). slice_get image.came n) z ∙ h' (suc m)),
+        order_within (suc j) subs cs (one_on (slice_get d.subs) j h)
+            (one_on (slice_get image.came) j h'),
       )
 
   two_apart : (j j' : ℕ) (s s' : Sub) → j < j' → slice_get d.subs j ≡ Some s → slice_get d.subs j' ≡ Some s' → index (find_sub 0 e.subs s.desc.name) ≡ index (find_sub 0 e.subs s'.desc.name) → ⊥
@@ -202,26 +200,24 @@ module _ (old new : Set) (good_old : WellFormed old) (good_new : WellFormed new)
   one_apart j j' s [] cs lt h h' = tt
   one_apart j j' s (x ∷ subs) [] lt h h' = tt
   one_apart j j' s (x ∷ subs) (None ∷ cs) lt h h' =
-      one_apart j (suc j') s subs cs (omega arith) h (λ m. let z : suc j' + m ≡ j' + suc m = omega arith in ap (λ (n : ℕ). slice_get d.subs n) z ∙ h' (suc m))
-  one_apart j j' s (x ∷ subs) (Some u ∷ cs) lt h h' =
-      let z : j' + 0 ≡ j' = omega arith in (
-        λ same. two_apart j j' s x lt h (ap (λ (n : ℕ). slice_get d.subs n) (sym z) ∙ h' 0) same,
-        one_apart j (suc j') s subs cs (omega arith) h (λ m. let z : suc j' + m ≡ j' + suc m = omega arith in ap (λ (n : ℕ). slice_get d.subs n) z ∙ h' (suc m)),
-      )
+      one_apart j (suc j') s subs cs (omega arith) h (one_on (slice_get d.subs) j' h')
+  one_apart j j' s (x ∷ subs) (Some u ∷ cs) lt h h' = (
+    λ same. two_apart j j' s x lt h (at_first (slice_get d.subs) j' h') same,
+    one_apart j (suc j') s subs cs (omega arith) h (one_on (slice_get d.subs) j' h'),
+  )
 
   order_apart : (j : ℕ) (subs : List Sub) (cs : List (Option ℕ)) → ((m : ℕ) → slice_get d.subs (j + m) ≡ slice_get subs m) → Apart (sub_order e subs cs)
   order_apart j [] cs h = tt
   order_apart j (s ∷ subs) [] h = tt
-  order_apart j (s ∷ subs) (None ∷ cs) h = order_apart (suc j) subs cs (λ m. let z : suc j + m ≡ j + suc m = omega arith in ap (λ (n : ℕ). slice_get d.subs n) z ∙ h (suc m))
+  order_apart j (s ∷ subs) (None ∷ cs) h = order_apart (suc j) subs cs (one_on (slice_get d.subs) j h)
   order_apart j (s ∷ subs) (Some u ∷ cs) h =
-      let z : j + 0 ≡ j = omega arith in
-      let more : (m : ℕ) → slice_get d.subs (suc j + m) ≡ slice_get subs m = λ m. let z : suc j + m ≡ j + suc m = omega arith in ap (λ (n : ℕ). slice_get d.subs n) z ∙ h (suc m) in
-      (one_apart j (suc j) s subs cs (omega arith) (ap (λ (n : ℕ). slice_get d.subs n) (sym z) ∙ h 0) more, order_apart (suc j) subs cs more)
+      let more : (m : ℕ) → slice_get d.subs (suc j + m) ≡ slice_get subs m = one_on (slice_get d.subs) j h in
+      (one_apart j (suc j) s subs cs (omega arith) (at_first (slice_get d.subs) j h) more, order_apart (suc j) subs cs more)
 
   each_once : ComesOnce image'.came (sub_order e d.subs image.came)
   each_once =
-      let all : (m : ℕ) → slice_get d.subs (0 + m) ≡ slice_get d.subs m = λ m. let z : 0 + m ≡ m = omega arith in ap (λ (n : ℕ). slice_get d.subs n) z in
-      let all' : (m : ℕ) → slice_get image.came (0 + m) ≡ slice_get image.came m = λ m. let z : 0 + m ≡ m = omega arith in ap (λ (n : ℕ). slice_get image.came n) z in
+      let all : (m : ℕ) → slice_get d.subs (0 + m) ≡ slice_get d.subs m = from_zero (slice_get d.subs) in
+      let all' : (m : ℕ) → slice_get image.came (0 + m) ≡ slice_get image.came m = from_zero (slice_get image.came) in
       comes_once image'.came (sub_order e d.subs image.came) (order_apart 0 d.subs image.came all) (order_within 0 d.subs image.came all all') each_come
 
   -- ---- the section
@@ -252,9 +248,8 @@ module _ (old new : Set) (good_old : WellFormed old) (good_new : WellFormed new)
       let settles = part_settles old new good_old good_new d.desc e.desc v part part' good_a good_b same_v numbers 0 fits numbers' 0 held_own in
       let slots = own_slots new e v numbers' in
       let more = came_slots new e numbers' (own_cells new e) e.subs image'.came in
-      let more_settled = settled_at more (own_cells new e) (0 + length own) sub_cells rest (sym place_is)
-      (subs_settle old new good_old good_new d e image numbers' came e.subs (own_cells new e) all_facts held_rest) in
-      let settled : Settled (slots ++ more) 0 (device_cells new e) numbers' = settled_append slots more 0 cells sub_cells own rest own_size settles more_settled in
+      let subs = subs_read old new good_old good_new d e image numbers' came e.subs (own_cells new e) all_facts held_rest in
+      let settled : Settled (slots ++ more) 0 (device_cells new e) numbers' = settled_append own_size settles (sym place_is) subs.settled in
       let rules_old = rules_left (own_slots old d v numbers) (came_slots old d numbers (own_cells old d) d.subs image.came) ready.valid in
       let body = zeroed numbers (own_slots old d v numbers) in
       let tail = written_subs old d image (own_cells old d) d.subs image.came in
@@ -263,22 +258,22 @@ module _ (old new : Set) (good_old : WellFormed old) (good_new : WellFormed new)
         fits = lt;
         normal = record {
           version = subst (λ (u : ℕ). IsVersionOf e.desc u) (sym ready.version) (version_is e.desc d.desc.version version);
-          subs = subs_versions old new good_old good_new d e image numbers' came e.subs all_facts;
+          subs = subs.versions;
           cells = fit;
           absent = λ c below absent.
               let z : 0 + c ≡ c = omega arith in
               absent_default (slots ++ more) c
               (subst (λ (q : ℕ). (has_cell (slots ++ more) q ≡ true) ⊎ (get_or numbers' c (pos 0) ≡ get_or (defaults (device_cells new e)) c (pos 0))) z (settled.each c below)) absent;
         };
-        valid = rules_append slots more (carries.rules rules_old) (subs_rules old new good_old good_new d e image numbers' came e.subs (own_cells new e) all_facts held_rest);
+        valid = rules_append slots more (carries.rules rules_old) subs.rules;
         body = body;
         own = carries.spells;
         order = sub_order e d.subs image.came;
         each_once = each_once;
         tail = tail;
         subs = spell_subs held_rest 0 (own_cells old d) d.subs image.came
-            (λ m. let z : 0 + m ≡ m = omega arith in ap (λ (n : ℕ). slice_get d.subs n) z)
-            (λ m. let z : 0 + m ≡ m = omega arith in ap (λ (n : ℕ). slice_get image.came n) z)
-            (λ m. let z : 0 + m ≡ m = omega arith in ap (λ (n : ℕ). sub_place old (own_cells old d) d.subs n) z);
+            (from_zero (slice_get d.subs))
+            (from_zero (slice_get image.came))
+            (from_zero (sub_place old (own_cells old d) d.subs));
         whole = ap (λ (name : List ℕ). section_head id name d.instance v ++ body ++ tail ++ foot id) names ∙ ap (λ (i : ℕ). section_head id e.desc.name i v ++ body ++ tail ++ foot id) instances;
       }

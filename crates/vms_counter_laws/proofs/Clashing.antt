@@ -18,6 +18,7 @@ use Rattle.vms_check.specs.declared.mismatch.Mismatch.{Mismatch}
 use Rattle.vms_check.specs.Reducing.{presence}
 use Rattle.vms_check.specs.Comparing.{Entry, Comparer, absent_hold, bound, compare_fields, entry_of, failing_pair, holds_as_much, is_covered, names_match, pair_rules, pair_structs, present_from, same_constant, same_count, same_item, same_rest, uncovered_rules}
 use Rattle.vms_check_laws.proofs.Pairing.{kinds_same}
+use Rattle.vms_check_laws.proofs.Segments.{at_first, one_on}
 use Rattle.vms_check_laws.proofs.AlignedDescs.{Clash, Clashes, Differ}
 use Rattle.vms_counter_laws.proofs.Inverted.{else_some, one_rule, IsStruct, StructsWithin}
 
@@ -34,9 +35,8 @@ entry_field all v i p f (Some rest) es h e more = ((e, h), more)
 pub present_fields : (y : List (List Cell)) (all : List Field) (v i p : ℕ) (fs : List Field) → ((k : ℕ) → slice_get all (i + k) ≡ slice_get fs k) → AreFields all v (present_from y all v i p fs)
 present_fields y all v i p [] h = tt
 present_fields y all v i p (f ∷ fs) h =
-    let z : i ≡ i + 0 = omega arith in
-    entry_field all v i p f (presence v f.test f.since) _ refl (ap (slice_get all) z ∙ h 0)
-    (present_fields y all v (suc i) (p + length (field_cells y all i f)) fs (λ k. let s : suc i + k ≡ i + suc k = omega arith in ap (slice_get all) s ∙ h (suc k)))
+    entry_field all v i p f (presence v f.test f.since) _ refl (at_first (slice_get all) i h)
+    (present_fields y all v (suc i) (p + length (field_cells y all i f)) fs (one_on (slice_get all) i h))
 
 -- ---- constants
 
@@ -62,12 +62,7 @@ differ (Equal k z) (Equal l u) fits fits' same h =
       item' = ap (λ (i : Kind). Equal i u) kinds;
       differ = other_code k z u fits (subst (λ (i : Kind). InRange i u) kinds fits') h;
     }
-differ (Num k) j fits fits' same h = absurd (cc)
-differ (Unused n) j fits fits' same h = absurd (cc)
-differ (Struct q) j fits fits' same h = absurd (cc)
-differ (Equal k z) (Num l) fits fits' same h = absurd (cc)
-differ (Equal k z) (Unused n) fits fits' same h = absurd (cc)
-differ (Equal k z) (Struct q) fits fits' same h = absurd (cc)
+differ _ _ fits fits' same h = absurd (cc)
 
 -- ---- rules in order
 
@@ -87,8 +82,7 @@ not_this r b rules p q m other h = elim (next_rule r b rules p q m h) [
 
 no_left : (o n : ℕ → Option ℕ) (r s : Option Formula) → r ≡ None → same_rest o n r s ≡ true → s ≡ None
 no_left o n None None e h = refl
-no_left o n None (Some t) e h = absurd (cc)
-no_left o n (Some t) s e h = absurd (cc)
+no_left o n _ _ e h = absurd (cc)
 
 module _ (ks : List Comparer) (a b : Desc) (v w : ℕ) (part part' : Part) (o n : ℕ → Option ℕ) (m : Mismatch) (twelve : m.rule ≡ 12) where
   other : (r : ℕ) → r < 12 → m.rule ≡ r → ⊥

@@ -1,15 +1,13 @@
 -- Which rule an answer of the comparison is of, and at which part.
-use Rattle.std.proofs.Common.{◌≡◌, ◌⊎◌, inl, inr, ℕ, zero, suc, ◌+◌, ◌<◌, ◌≤◌, Bool, true, false, List, [], ◌∷◌, length, get_or, nat_le, if◌then◌else◌, Option, Some, None, refl, sym, ap, ◌∙◌, subst, arith}
+use Rattle.std.proofs.Common.{◌≡◌, ◌⊎◌, inl, inr, ℕ, zero, suc, ◌+◌, ◌<◌, Bool, true, false, List, [], ◌∷◌, length, get_or, if◌then◌else◌, Option, Some, None, refl, sym, ap, ◌∙◌, subst, arith}
 use Rattle.std.specs.List.{slice_get, list_all}
-use Rattle.std.proofs.lemmas.Bool.{leb-true, leb-false}
-use Rattle.std.proofs.Math.Nat.{eq-or-lt_of_le}
 use Rattle.vms_kinds.specs.declared.Item.{Item}
 use Rattle.vms_kinds.specs.declared.Item.TheVariants.{Struct}
 use Rattle.vms_spec.specs.declared.Part.{Part}
 use Rattle.vms_spec.specs.declared.Part.TheVariants as parts
 use Rattle.vms_spec.specs.declared.Place.{Place}
 use Rattle.vms_spec.specs.Lists.{or_else, first_answer}
-use Rattle.vms_spec.specs.Layout.{Cell, no_desc, struct_cells}
+use Rattle.vms_spec.specs.Layout.{Cell, first, no_desc, struct_cells}
 use Rattle.vms_spec.specs.Sets.{Desc, Sub, Device, Set}
 use Rattle.vms_spec.specs.Streams.{is_one_of}
 use Rattle.vms_spec.specs.Lookup.{find_sub, index}
@@ -18,8 +16,7 @@ use Rattle.vms_spec.specs.WellFormed.{here, in_field}
 use Rattle.vms_check.specs.declared.mismatch.Mismatch.{Mismatch}
 use Rattle.vms_check.specs.Comparing.{first_mismatch, comparing, compare_device, compare_sub, compare_subs, paired_device, is_in, Entry, Comparer, no_comparer, comparer_of, comparers, compare_desc, compare_fields, compare_validations, failing_pair, is_covered, is_kept, pair_rules, pair_structs, present, position_from, same_rest, uncovered_rules}
 use Rattle.vms_check.specs.Reducing.{reduced}
-use Rattle.vms_spec.proofs.Tables.{first_long}
-use Rattle.vms_check_laws.proofs.Structures.{comparer_last, comparer_earlier}
+use Rattle.vms_spec.proofs.Tables.{one_more}
 
 -- ---- answers
 
@@ -145,38 +142,17 @@ struct_is i m r = (
   ],
 )
 
-get_past : (xs : List Comparer) (j : ℕ) → length xs ≤ j → get_or xs j no_comparer ≡ no_comparer
-get_past [] j le = refl
-get_past (x ∷ xs) zero le = absurd (omega arith)
-get_past (x ∷ xs) (suc j) le = get_past xs j (omega arith)
-
-none_past : (x y : List (List Cell)) (olds news : List Desc) (k i j : ℕ) (m : Mismatch) → k ≤ j → get_or (comparers x y olds news k) j no_comparer i ≡ Some m → ⊥
-none_past x y olds news k i j m le h =
-    let row = λ (earlier : List Comparer) (d : Desc). comparer_of earlier x y olds (length earlier) d in
-    let past = get_past (comparers x y olds news k) j (omega (arith, first_long row news k)) in
-    let e : None ≡ Some m = sym (ap (λ (c : Comparer). c i) past) ∙ h in
-    cc
-
 -- the comparers of the structures answer within them
 pub tables_within : (x y : List (List Cell)) (olds news : List Desc) (k : ℕ) → StructsWithin (comparers x y olds news k)
-tables_within x y olds news zero i j m h = absurd (none_past x y olds news 0 i j m (omega arith) h)
+unfolding first
+tables_within x y olds news zero i j m h = absurd (cc)
 tables_within x y olds news (suc k) i j m h =
-    let earlier = tables_within x y olds news k in
-    let last : j ≡ k → (4 < m.rule) × IsStruct m.in_old.part = λ e.
-    let here : get_or (comparers x y olds news (suc k)) k no_comparer i ≡ Some m = subst (λ (q : ℕ). get_or (comparers x y olds news (suc k)) q no_comparer i ≡ Some m) e h in
-    let a = get_or olds i no_desc in
+    let earlier = comparers x y olds news k in
     let b = get_or news k no_desc in
-    struct_is i m (desc_within (comparers x y olds news k) x y a b a.version b.version (parts.Struct i) (parts.Struct k) m earlier
-    (sym (ap (λ (c : Comparer). c i) (comparer_last x y olds news k)) ∙ here)) in
-    let inside : j ≤ k → (4 < m.rule) × IsStruct m.in_old.part = λ le. elim (eq-or-lt_of_le le) [
-      | inl e ↦ last e
-      | inr less ↦ earlier i j m (sym (ap (λ (c : Comparer). c i) (comparer_earlier x y olds news k j less)) ∙ h)
-    ] in
-    by (nat_le j k) refl inside
-  where
-    by : (c : Bool) → nat_le j k ≡ c → (j ≤ k → (4 < m.rule) × IsStruct m.in_old.part) → (4 < m.rule) × IsStruct m.in_old.part
-    by true e go = go (leb-true j k e)
-    by false e go = absurd (none_past x y olds news (suc k) i j m (leb-false j k e) h)
+    let within : StructsWithin earlier = tables_within x y olds news k in
+    one_more (λ (c : Comparer). (i : ℕ) (m : Mismatch) → c i ≡ Some m → (4 < m.rule) × IsStruct m.in_old.part) no_comparer (λ i m h. absurd (cc)) earlier (λ j i m h. within i j m h)
+    (comparer_of earlier x y olds (length earlier) b)
+    (λ i m h. let a = get_or olds i no_desc in struct_is i m (desc_within earlier x y a b a.version b.version (parts.Struct i) (parts.Struct (length earlier)) m within h)) j i m h
 
 -- ---- subsections and devices
 

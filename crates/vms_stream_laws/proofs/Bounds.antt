@@ -29,10 +29,8 @@ times_within (suc n) b part h at step =
 
 module _ (ms : List Meaning) (b : ℕ) (within : AreWithin b ms) where
   item_within : (item : Item) (caps : List ℕ) (numbers : List ℤ) (at : ℕ) → length (item_slots ms item caps numbers at) ≤ suc b
-  item_within (Num kind) caps numbers at = omega arith
-  item_within (Equal kind z) caps numbers at = omega arith
-  item_within (Unused n) caps numbers at = omega arith
   item_within (Struct j) caps numbers at = let h : length ((get_or ms j no_meaning).slots numbers at) ≤ b = within j numbers at in omega (arith, h)
+  item_within _ caps numbers at = omega arith
 
   if_within : (there : Bool) (xs : List Slot) (n : ℕ) → length xs ≤ n → length (if there then xs else []) ≤ n
   if_within true xs n h = h

@@ -177,22 +177,7 @@ module _ (set : Set) (names : List (List ℕ)) (well : WellFormed set) (heads : 
   may_id : (d : Due) (x : Piece) → May d x → IdFits x
   may_id _ _ (AtHead first after id name instance v f g h) = f
   may_id _ x (AtNext k t _ f may) = may_id (Between false false) x may
-  may_id _ _ (AtMagic bytes e) = tt
-  may_id _ _ (AtVersion v f) = tt
-  may_id _ _ (AtConfiguration after name f) = tt
-  may_id _ _ (AtLongName after n f g) = tt
-  may_id _ _ (AtStart first after id name f) = tt
-  may_id _ _ (AtEnd first after) = tt
-  may_id _ _ (AtMark first after b f) = tt
-  may_id _ _ (AtNumber k c kind capacities z r) = tt
-  may_id _ _ (AtConstant k kind z y r) = tt
-  may_id _ _ (AtFiller k n bytes e) = tt
-  may_id _ _ (AtSubHead k t name v f) = tt
-  may_id _ _ (AtFoot k t id f g) = tt
-  may_id _ _ (AtOther k t b f g) = tt
-  may_id _ _ (AtDescription text f) = tt
-  may_id _ _ (AtLongText n f g) = tt
-  may_id _ _ (AtTrailing b f) = tt
+  may_id _ _ _ = tt
 
   id_fits : (u : List Piece) → Fine u → fits_four (id_of u)
   id_fits [] front = omega arith

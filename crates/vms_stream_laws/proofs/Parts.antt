@@ -21,9 +21,7 @@ use Rattle.vms_stream_laws.proofs.Lists.{map_both}
 
 abbrev pub held_slot : Slot → Slot
 held_slot (Rule b) = Rule true
-held_slot (Number c kind capacities) = Number c kind capacities
-held_slot (Constant kind z) = Constant kind z
-held_slot (Filler n) = Filler n
+held_slot slot = slot
 
 abbrev pub held : List Slot → List Slot
 held slots = map held_slot slots
@@ -33,9 +31,7 @@ held_as : (t : Tail) (k : ℕ) (slots : List Slot) → (due_field t (Some k) (he
 held_as t k [] = (refl, refl, refl)
 held_as t k (Rule b ∷ slots) = let h = held_as t k slots in (h.0, h.1, ap suc h.2)
 held_as t k (Filler zero ∷ slots) = let h = held_as t k slots in (h.0, h.1, ap suc h.2)
-held_as t k (Filler (suc n) ∷ slots) = (refl, refl, refl)
-held_as t k (Number c kind capacities ∷ slots) = (refl, refl, refl)
-held_as t k (Constant kind z ∷ slots) = (refl, refl, refl)
+held_as t k (_ ∷ slots) = (refl, refl, refl)
 
 pub due_held : (t : Tail) (o : Option ℕ) (slots : List Slot) → due_field t o (held slots) ≡ due_field t o slots
 due_held t None slots = refl
@@ -74,10 +70,8 @@ times_held (suc n) f g h at step =
     ∙ sym (map-append held_slot (g at) (times n g (at + step) step))
 
 item_held : (ms : List Meaning) (item : Item) (caps : List ℕ) (numbers : List ℤ) (at : ℕ) → item_slots (map held_meaning ms) item caps numbers at ≡ held (item_slots ms item caps numbers at)
-item_held ms (Num kind) caps numbers at = refl
-item_held ms (Equal kind z) caps numbers at = refl
-item_held ms (Unused n) caps numbers at = refl
 item_held ms (Struct j) caps numbers at = ap (λ (m : Meaning). m.slots numbers at) (meaning_at ms j)
+item_held ms _ caps numbers at = refl
 
 if_held : (there : Bool) (xs ys : List Slot) → xs ≡ held ys → (if there then xs else []) ≡ held (if there then ys else [])
 if_held true xs ys e = e

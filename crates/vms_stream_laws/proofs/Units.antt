@@ -24,15 +24,7 @@ use Rattle.vms_stream.proofs.Streams.UnitRows.{passed_by}
 
 pub zero_in : (kind : Kind) → InRange (raw kind) (pos 0)
 zero_in U8 = (omega arith, omega arith)
-zero_in U16 = (omega arith, omega arith)
-zero_in U32 = (omega arith, omega arith)
-zero_in U64 = (omega arith, omega arith)
-zero_in I8 = (omega arith, omega arith)
-zero_in I16 = (omega arith, omega arith)
-zero_in I32 = (omega arith, omega arith)
-zero_in I64 = (omega arith, omega arith)
-zero_in Truth = (omega arith, omega arith)
-zero_in Timer = (omega arith, omega arith)
+zero_in _ = (omega arith, omega arith)
 
 pub raw_in : (kind : Kind) (z : ℤ) → InRange kind z → InRange (raw kind) z
 raw_in Truth (pos n) r = let few : n ≤ 1 = ltb-false 1 n (is_below (pos n) 1 r.1) in (r.0, not_above (pos n) 255 (le-ltb 255 n (omega (arith, few))))
@@ -90,10 +82,8 @@ next_of t k (ConstantSlot kind z ∷ left) a = AConstant kind z a.0 refl (omega 
 pub constants_left : (n : ℕ) (slots : List Slot) → AreConstants slots → AreConstants (drop n slots)
 constants_left zero slots a = a
 constants_left (suc n) [] a = tt
-constants_left (suc n) (NumberSlot c kind capacities ∷ slots) a = constants_left n slots a
 constants_left (suc n) (ConstantSlot kind z ∷ slots) a = constants_left n slots a.1
-constants_left (suc n) (FillerSlot m ∷ slots) a = constants_left n slots a
-constants_left (suc n) (RuleSlot b ∷ slots) a = constants_left n slots a
+constants_left (suc n) (_ ∷ slots) a = constants_left n slots a
 
 -- ---- devices that have not come
 
