@@ -1,14 +1,8 @@
 -- Bytes of both sides at one front. If slots of the newer set are at the front of what the older set wrote, they
 -- take exactly the bytes that it wrote for its own slots.
-use Rattle.std.proofs.Common.{◌≡◌, ℕ, Bool, List, [], ◌∷◌, ◌++◌, length, get_or, refl, sym, ap, ◌∙◌, arith, append_assoc, ℤ, pos}
-use Rattle.std.proofs.lemmas.List.{length-append}
-use Rattle.byteorder.specs.Endian.{big_number}
-use Rattle.vms_kinds.specs.declared.Kind.{Kind}
-use Rattle.vms_kinds.specs.Codes.{width, residue, code}
-use Rattle.vms_spec.specs.Layout.{Slot, Number, Constant, Filler, Rule}
-use Rattle.vms_spec.specs.Images.{Spells, zeroed}
-use Rattle.vms_spec.proofs.KindLaws.{length-code, code_read}
-use Rattle.vms_check_laws.specs.Segments.{Aligns}
+use Rattle.vms_check_laws.proofs.Facade.{◌≡◌, ℕ, Bool, List, [], ◌∷◌, ◌++◌, length, get_or, refl, sym, ap, ◌∙◌, arith, append_assoc, ℤ, pos, length-append}
+use Rattle.vms_check_laws.proofs.Facade.{big_number, Kind, width, residue, code, Slot, Number, Constant, Filler, Rule, Spells, zeroed, length-code, code_read}
+use Rattle.vms_check_laws.proofs.Facade.{Aligns}
 use Rattle.vms_check_laws.proofs.Segments.{zeroed_append}
 
 -- ---- lists

@@ -2,38 +2,21 @@
 -- newer set reads the same number of bytes for its field as the older set wrote for its own. A number that tests
 -- and counts may name is the same then. This is repeated position by position. Also a position at which two
 -- constants differ, which the newer set can't read.
-use Rattle.std.proofs.Common.{◌≡◌, inl, inr, ℕ, zero, suc, ◌+◌, ◌<◌, ◌≤◌, Bool, true, List, [], ◌∷◌, ◌++◌, length, get_or, Option, Some, None, sym, ap, ◌∙◌, subst, arith, replicate, ℤ, pos, if◌then◌else◌, ◌⊎◌, nat_lt, take, refl}
-use Rattle.std.specs.List.{slice_get}
-use Rattle.std.proofs.lemmas.List.{length-append, length-replicate, take_all}
-use Rattle.std.proofs.lemmas.Bool.{eqb-true, and_parts, ltb-true}
-use Rattle.vms_kinds.specs.declared.Kind.{Kind}
-use Rattle.vms_kinds.specs.declared.Item.{Item}
-use Rattle.vms_kinds.specs.declared.Item.TheVariants.{Num, Equal, Unused, Struct}
-use Rattle.vms_kinds.specs.Codes.{width, residue, code}
-use Rattle.vms_spec.specs.declared.Count.{Count}
-use Rattle.vms_spec.specs.declared.Count.TheVariants.{One}
-use Rattle.vms_spec.specs.declared.Part.{Part}
-use Rattle.vms_spec.specs.Sets.{Formula, Desc, Field}
-use Rattle.vms_spec.specs.Tests.{is_there}
-use Rattle.vms_spec.specs.Rules.{is_steady_in, is_num, is_one, is_earlier_in}
-use Rattle.vms_spec.specs.Layout.{Slot, Number, Filler, Meaning, no_meaning, no_parent, times, counted, capacity_of, item_cells, field_cells, elements_of, item_slots, numbers_of, kind_of, Constant, item_size}
-use Rattle.vms_spec.specs.Images.{Spells, zeroed}
-use Rattle.vms_spec.proofs.KindLaws.{length-code}
-use Rattle.vms_spec.proofs.Sizes.{size_same, elements_fit}
-use Rattle.vms_spec.proofs.Prefixes.{ItemBelow}
-use Rattle.vms_check.specs.Comparing.{Entry, same_count, same_item, is_covered, Comparer, no_comparer, pair_structs}
-use Rattle.vms_check.specs.Carrying.{Carrier}
-use Rattle.vms_check_laws.specs.Segments.{FitsAt, Aligns}
-use Rattle.vms_check_laws.proofs.Presence.{there}
+use Rattle.vms_check_laws.proofs.Facade.{◌≡◌, inl, inr, ℕ, zero, suc, ◌+◌, ◌<◌, ◌≤◌, Bool, true, List, [], ◌∷◌, ◌++◌, length, get_or, Option, Some, None, sym}
+use Rattle.vms_check_laws.proofs.Facade.{ap, ◌∙◌, subst, arith, replicate, ℤ, pos, if◌then◌else◌, ◌⊎◌, nat_lt, take, refl, slice_get, length-append}
+use Rattle.vms_check_laws.proofs.Facade.{length-replicate, take_all, eqb-true, and_parts, ltb-true, eq-or-lt_of_le, Kind, Item, Num, Equal, Unused, Struct}
+use Rattle.vms_check_laws.proofs.Facade.{width, residue, code, Count, One, Part, Desc, Field, is_there, is_steady_in, is_num, is_one, is_earlier_in, Slot}
+use Rattle.vms_check_laws.proofs.Facade.{Number, Filler, Meaning, no_meaning, no_parent, times, counted, capacity_of, item_cells, field_cells, elements_of}
+use Rattle.vms_check_laws.proofs.Facade.{item_slots, numbers_of, kind_of, Constant, item_size, Spells, zeroed, length-code, size_same, elements_fit, ItemBelow}
+use Rattle.vms_check_laws.proofs.Facade.{Entry, same_count, same_item, is_covered, Comparer, no_comparer, pair_structs, Carrier, FitsAt, Aligns}
 use Rattle.vms_check_laws.proofs.SameTests.{Agree, presence_named}
 use Rattle.vms_check_laws.proofs.Segments.{fits_left, fits_right, fits_at}
 use Rattle.vms_check_laws.proofs.Pairing.{kinds_same, cells_in, slots_at, IsKnown, entries_slots, AreKnown, FitEntries, known_there}
 use Rattle.vms_check_laws.proofs.Linking.{PairGood, Matched, decoded, Zip}
-use Rattle.vms_check_laws.proofs.Describing.{not_covered, steady, steady_rest, rest_none, there_here}
+use Rattle.vms_check_laws.proofs.Describing.{not_covered, steady, steady_rest, rest_none}
 use Rattle.vms_check_laws.proofs.Premises.{Table, IsSingle, OldGood, NewGood}
 use Rattle.vms_check_laws.proofs.FieldsCarry.{EntryGood, OldEntries, covered_slots, pair_by}
 use Rattle.vms_check_laws.proofs.Aligned.{apart, same_bytes, aligns_nil, aligns_append, aligns_number, aligns_constant, aligns_filler, same_code, spells_split, behind_first}
-use Rattle.std.proofs.Math.Nat.{eq-or-lt_of_le}
 use Rattle.vms_check_laws.proofs.Positioned.{same_some, Above, Upto, upto_next, upto_here, upto_earlier}
 
 -- the structures below a number, if no rule fails at two of them

@@ -1,15 +1,7 @@
 -- The structures by their numbers at one front, and devices whose constants differ.
-use Rattle.std.proofs.Common.{◌≡◌, ℕ, ◌<◌, ◌≤◌, List, [], ◌++◌, length, get_or, Some, None, arith, ℤ}
-use Rattle.std.specs.List.{slice_get}
-use Rattle.vms_spec.specs.declared.Part.{Part}
-use Rattle.vms_spec.specs.Sets.{Device, Set, Desc}
-use Rattle.vms_spec.specs.Layout.{Cell, no_meaning, no_desc, meanings, struct_cells, desc_cells}
-use Rattle.vms_spec.specs.Images.{Spells, zeroed, own_slots}
-use Rattle.vms_spec.specs.WellFormed.{WellFormed}
-use Rattle.vms_spec.proofs.Prefixes.{struct_slots}
-use Rattle.vms_check.specs.Comparing.{present, position_from, Comparer, comparers}
-use Rattle.vms_check.specs.Carrying.{Carrier, carriers}
-use Rattle.vms_check_laws.specs.Segments.{FitsAt, Aligns}
+use Rattle.vms_check_laws.proofs.Facade.{◌≡◌, ℕ, ◌<◌, ◌≤◌, List, [], ◌++◌, length, get_or, Some, None, arith, ℤ, slice_get, Part, Device, Set, Desc, Cell}
+use Rattle.vms_check_laws.proofs.Facade.{no_meaning, no_desc, meanings, struct_cells, desc_cells, Spells, zeroed, own_slots, WellFormed, struct_slots, present}
+use Rattle.vms_check_laws.proofs.Facade.{position_from, Comparer, comparers, Carrier, carriers, FitsAt, Aligns}
 use Rattle.vms_check_laws.proofs.Pairing.{cells_in}
 use Rattle.vms_check_laws.proofs.Counts.{old_fields}
 use Rattle.vms_check_laws.proofs.Structures.{OldStructs, NewStructs, Below, Next, each_structure, tables, beside, meanings_of, cells_of, rules_to, carries_to}

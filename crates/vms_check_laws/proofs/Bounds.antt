@@ -1,21 +1,9 @@
 -- A number that fits old's capacities fits new's.
-use Rattle.std.proofs.Common.{◌≡◌, ◌⊎◌, inl, inr, ℕ, zero, suc, ◌+◌, ◌≤◌, min, Bool, true, false, ◌&&◌, ◌==◌, List, ◌∷◌, ◌++◌, length, Option, Some, None, refl, sym, ap, ◌∙◌, subst, arith, ℤ, pos, negsuc, ◌≤ℤ◌, if◌then◌else◌, nat_le, []}
-use Rattle.std.specs.List.{AllByRecursion, slice_get}
-use Rattle.std.proofs.lemmas.Bool.{and_parts, eqb-true, leb-true, eq-eqb}
-use Rattle.std.proofs.lemmas.Int.{ints}
-use Rattle.vms_kinds.specs.declared.Kind.{Kind}
-use Rattle.vms_kinds.specs.declared.Kind.TheVariants.{U8, U16, U32, U64, I8, I16, I32, I64, Bool as Truth, Timer}
-use Rattle.vms_kinds.specs.declared.Item.{Item}
-use Rattle.vms_kinds.specs.declared.Item.TheVariants.{Num}
-use Rattle.vms_kinds.specs.Codes.{highest}
-use Rattle.vms_spec.specs.declared.Count.{Count}
-use Rattle.vms_spec.specs.declared.Count.TheVariants.{One, Fixed, Counted}
-use Rattle.vms_spec.specs.Sets.{Formula, Field, Desc}
-use Rattle.vms_spec.specs.Layout.{Cell, counted, field_cells}
-use Rattle.vms_spec.specs.declared.Part.{Part}
-use Rattle.vms_spec.specs.Rules.{is_one}
-use Rattle.vms_check.specs.Reducing.{presence}
-use Rattle.vms_check.specs.Comparing.{Entry, entry_of, present_from, position_from, same_place, same_count, is_covered, holds_as_much, absent_hold, is_nothing, bound, least_of, greatest, has_room, Comparer}
+use Rattle.vms_check_laws.proofs.Facade.{◌≡◌, ◌⊎◌, inl, inr, ℕ, zero, suc, ◌+◌, ◌≤◌, min, Bool, true, false, ◌&&◌, ◌==◌, List, ◌∷◌, ◌++◌, length, Option, Some}
+use Rattle.vms_check_laws.proofs.Facade.{None, refl, sym, ap, ◌∙◌, subst, arith, ℤ, pos, negsuc, ◌≤ℤ◌, if◌then◌else◌, nat_le, [], AllByRecursion, slice_get}
+use Rattle.vms_check_laws.proofs.Facade.{and_parts, eqb-true, leb-true, eq-eqb, ints, Kind, U8, Item, Num, highest, Count, One, Fixed, Counted, Formula, Field}
+use Rattle.vms_check_laws.proofs.Facade.{Desc, Cell, counted, field_cells, Part, is_one, presence, Entry, entry_of, present_from, position_from, same_place}
+use Rattle.vms_check_laws.proofs.Facade.{same_count, is_covered, holds_as_much, absent_hold, is_nothing, bound, least_of, greatest, has_room, Comparer}
 use Rattle.vms_check_laws.proofs.Linking.{PairGood, Zip, Matched, decoded}
 use Rattle.vms_check_laws.proofs.Premises.{at_or_later, IsSingle}
 use Rattle.vms_check_laws.proofs.Counts.{HasArray, counted_has}

@@ -1,18 +1,9 @@
 -- What is carried is said cell by cell, and that says all of it.
-use Rattle.std.proofs.Common.{◌≡◌, ◌⊎◌, inl, inr, ℕ, zero, suc, ◌<◌, Bool, true, false, ◌==◌, List, [], ◌∷◌, length, get_or, Option, Some, None, ℤ, pos, refl, sym, ap, ◌∙◌, arith}
-use Rattle.std.specs.List.{slice_get}
-use Rattle.std.proofs.lemmas.Bool.{eqb-true, eq-eqb}
-use Rattle.vms_spec.specs.Sets.{Device, Set}
-use Rattle.vms_spec.specs.Layout.{device_cells}
-use Rattle.vms_spec.specs.Images.{Image, image_slots, has_cell}
-use Rattle.vms_spec.specs.WellFormed.{WellFormed}
-use Rattle.vms_check.specs.Carrying.{carried_device}
-use Rattle.vms_check_laws.specs.Carried.{IsCarried}
-use Rattle.vms_check_laws.specs.CellLaws.{CarriedLaw}
-use Rattle.vms_check.specs.Partners.{device_partners}
+use Rattle.vms_check_laws.proofs.Facade.{◌≡◌, ◌⊎◌, inl, inr, ℕ, zero, suc, ◌<◌, Bool, true, false, ◌==◌, List, [], ◌∷◌, length, get_or, Option, Some, None, ℤ}
+use Rattle.vms_check_laws.proofs.Facade.{pos, refl, sym, ap, ◌∙◌, arith, slice_get, eqb-true, eq-eqb, ext_get_or, Device, Set, device_cells, Image, image_slots}
+use Rattle.vms_check_laws.proofs.Facade.{has_cell, WellFormed, carried_device, IsCarried, CarriedLaw, device_partners}
 use Rattle.vms_check_laws.proofs.GoesDevices.{carried_by_cell}
 use Rattle.vms_check_laws.proofs.PairDevices.{device_paired, one_sub}
-use Rattle.std.proofs.lemmas.List.{ext_get_or}
 
 -- where a partner is, if there is one
 is_some_of : (o : Option ℕ) (k : ℕ) → (o ≡ Some k) ⊎ (o ≡ Some k → ⊥)

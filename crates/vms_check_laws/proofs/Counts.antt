@@ -1,23 +1,9 @@
 -- A number that fits its cell is at most every capacity that it counts.
-use Rattle.std.proofs.Common.{◌≡◌, ◌⊎◌, inl, inr, ℕ, zero, suc, ◌+◌, ◌*◌, ◌^◌, ◌≤◌, Bool, true, ◌==◌, List, [], ◌∷◌, ◌++◌, length, get_or, Some, refl, sym, subst, arith, ℤ, pos, negsuc, ◌≤ℤ◌, if◌then◌else◌}
-use Rattle.std.specs.List.{AllByRecursion, slice_get}
-use Rattle.std.proofs.Math.Nat.{mod-le}
-use Rattle.std.proofs.lemmas.Bool.{eq-eqb}
-use Rattle.std.proofs.lemmas.Int.{ints}
-use Rattle.vms_kinds.specs.declared.Kind.{Kind}
-use Rattle.vms_kinds.specs.declared.Kind.TheVariants.{U8, U16, U32, U64, I8, I16, I32, I64, Bool as Truth, Timer}
-use Rattle.vms_kinds.specs.declared.Item.{Item}
-use Rattle.vms_kinds.specs.declared.Item.TheVariants.{Num, Equal, Unused, Struct}
-use Rattle.vms_kinds.specs.Codes.{width, residue}
-use Rattle.vms_spec.specs.declared.Count.{Count}
-use Rattle.vms_spec.specs.declared.Count.TheVariants.{One, Fixed, Counted}
-use Rattle.vms_spec.specs.Sets.{Field}
-use Rattle.vms_spec.specs.Layout.{Cell, times, counted, capacity_of, item_cells, field_cells, cells_from, place_of, no_field, kind_of}
-use Rattle.vms_spec.specs.Images.{FitsCell}
-use Rattle.vms_spec.specs.Rules.{is_num, is_one}
-use Rattle.vms_spec.proofs.Prefixes.{ItemBelow}
-use Rattle.vms_check_laws.specs.Segments.{FitsAt}
-use Rattle.vms_spec.proofs.ListLaws.{all_right}
+use Rattle.vms_check_laws.proofs.Facade.{◌≡◌, ◌⊎◌, inl, inr, ℕ, zero, suc, ◌+◌, ◌*◌, ◌^◌, ◌≤◌, Bool, true, ◌==◌, List, [], ◌∷◌, ◌++◌, length, get_or, Some}
+use Rattle.vms_check_laws.proofs.Facade.{refl, sym, subst, arith, ℤ, pos, negsuc, ◌≤ℤ◌, if◌then◌else◌, AllByRecursion, slice_get, mod-le, eq-eqb, ints, Kind}
+use Rattle.vms_check_laws.proofs.Facade.{U8, U16, U32, Item, Num, width, residue, Count, One, Fixed, Counted, Field, Cell, times, counted, capacity_of}
+use Rattle.vms_check_laws.proofs.Facade.{item_cells, field_cells, cells_from, place_of, no_field, kind_of, FitsCell, is_num, is_one, ItemBelow, FitsAt}
+use Rattle.vms_check_laws.proofs.Facade.{all_right}
 use Rattle.vms_check_laws.proofs.Segments.{fits_right}
 use Rattle.vms_check_laws.proofs.Describing.{Steady}
 use Rattle.vms_check_laws.proofs.Premises.{IsSingle, CountFits, OldFields}

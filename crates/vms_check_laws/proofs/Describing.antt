@@ -1,23 +1,9 @@
 -- Small facts of two descriptions: what covers, how long numbers are, and fields that may be named.
-use Rattle.std.proofs.Common.{◌≡◌, ℕ, zero, suc, ◌+◌, ◌*◌, Bool, true, false, ◌&&◌, List, ◌∷◌, ◌++◌, length, get_or, Option, Some, None, refl, ap, ◌∙◌, subst, arith, ℤ, pos, if◌then◌else◌, nat_le, []}
-use Rattle.std.proofs.lemmas.List.{length-append}
-use Rattle.std.proofs.lemmas.Bool.{and_parts}
-use Rattle.vms_kinds.specs.declared.Kind.{Kind}
-use Rattle.vms_kinds.specs.declared.Item.{Item}
-use Rattle.vms_kinds.specs.declared.Item.TheVariants.{Num, Equal, Unused}
-use Rattle.vms_kinds.specs.Codes.{width, code}
-use Rattle.vms_spec.specs.declared.Count.{Count}
-use Rattle.vms_spec.specs.declared.Count.TheVariants.{One, Fixed}
-use Rattle.vms_spec.specs.Sets.{Formula, Field}
-use Rattle.vms_spec.specs.Tests.{is_there}
-use Rattle.vms_spec.specs.Layout.{Number, Constant, times}
-use Rattle.vms_spec.specs.Images.{zeroed}
-use Rattle.vms_spec.specs.Rules.{is_steady, is_num, is_one, has_no_test}
-use Rattle.vms_spec.proofs.KindLaws.{length-code}
-use Rattle.vms_check.specs.Reducing.{presence}
-use Rattle.vms_check.specs.Comparing.{same_rest, is_covered}
+use Rattle.vms_check_laws.proofs.Facade.{◌≡◌, ℕ, zero, suc, ◌+◌, ◌*◌, Bool, true, false, ◌&&◌, List, ◌∷◌, ◌++◌, length, get_or, Option, Some, None, refl, ap}
+use Rattle.vms_check_laws.proofs.Facade.{◌∙◌, subst, arith, ℤ, pos, if◌then◌else◌, nat_le, [], length-append, and_parts, Kind, Item, Num, Equal, Unused, width}
+use Rattle.vms_check_laws.proofs.Facade.{code, Count, One, Fixed, Formula, Field, is_there, Number, Constant, times, zeroed, is_steady, is_num, is_one}
+use Rattle.vms_check_laws.proofs.Facade.{has_no_test, length-code, presence, same_rest, is_covered, Holds}
 use Rattle.vms_check_laws.proofs.Presence.{there, presence_there}
-use Rattle.vms_check_laws.specs.Segments.{Holds}
 
 -- what covers is unused bytes
 pub covers_unused : (i : Item) (c : Count) (j : Item) → is_covered i c j ≡ true → (r : ℕ) × (j ≡ Unused r)

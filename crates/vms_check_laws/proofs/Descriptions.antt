@@ -1,24 +1,17 @@
 -- A description on each side: its bytes carry, what isn't in them is at its default, and at one front the newer set
 -- takes exactly the bytes that the older one wrote.
-use Rattle.std.proofs.Common.{◌≡◌, ℕ, ◌+◌, List, [], ◌∷◌, Option, None, sym, ap, ◌∙◌, subst, arith, ℤ, inr, ◌++◌}
-use Rattle.vms_spec.specs.Sets.{Field, Desc}
-use Rattle.vms_spec.specs.Layout.{Slot, Rule, Meaning, desc_cells, slots_from, desc_slots, numbers_of, all_hold}
-use Rattle.vms_spec.specs.declared.Part.{Part}
-use Rattle.vms_spec.specs.Rules.{is_steady_in}
-use Rattle.vms_check.specs.Comparing.{Entry, present, position_from, Comparer, compare_desc, compare_fields, compare_validations}
-use Rattle.vms_check.specs.Carrying.{Carrier, carry_desc}
+use Rattle.vms_check_laws.proofs.Facade.{◌≡◌, ℕ, ◌+◌, List, [], ◌∷◌, Option, None, sym, ap, ◌∙◌, subst, arith, ℤ, inr, ◌++◌, Field, Desc, Slot, Rule, Meaning}
+use Rattle.vms_check_laws.proofs.Facade.{desc_cells, slots_from, desc_slots, numbers_of, all_hold, Part, is_steady_in, Entry, present, position_from, Comparer}
+use Rattle.vms_check_laws.proofs.Facade.{compare_desc, compare_fields, compare_validations, Carrier, carry_desc, Holds, FitsAt, Carries, Aligns, or_else_none}
+use Rattle.vms_check_laws.proofs.Facade.{FieldsBelow, Spells, zeroed}
 use Rattle.vms_check_laws.proofs.SameTests.{Agree}
-use Rattle.vms_check_laws.specs.Segments.{Holds, FitsAt, Carries, Aligns}
 use Rattle.vms_check_laws.proofs.Segments.{holds_at, fits_at, carries_append}
-use Rattle.vms_spec.proofs.Faultless.{or_else_none}
-use Rattle.vms_spec.proofs.Prefixes.{FieldsBelow}
 use Rattle.vms_check_laws.proofs.Pairing.{cells_in, entries_slots, slots_entries, all_known, fit_entries, FitEntries}
 use Rattle.vms_check_laws.proofs.Linking.{zip_of, linked, Linked}
 use Rattle.vms_check_laws.proofs.Settling.{Settled, settled_more}
 use Rattle.vms_check_laws.proofs.Premises.{Table, RulesNamed, OldFields, NewFields}
 use Rattle.vms_check_laws.proofs.FieldsSettle.{agree_from, fields_settle}
 use Rattle.vms_check_laws.proofs.FieldsCarry.{fields_carry, rule_carries, old_entries, new_entries, OldEntries, NewEntries}
-use Rattle.vms_spec.specs.Images.{Spells, zeroed}
 use Rattle.vms_check_laws.proofs.Aligned.{spells_split, behind_first, aligns_append, aligns_rule}
 use Rattle.vms_check_laws.proofs.AlignedDescs.{AlignTable, NamesEarlier, Clashes, entries_align, entries_clash}
 use Rattle.vms_check_laws.proofs.Positioned.{present_above}

@@ -1,36 +1,20 @@
 -- Fields: what the older set writes for a present field is bytes of the paired field with the carried numbers. Validations that
 -- hold in the older set hold in the newer.
-use Rattle.std.proofs.Common.{◌≡◌, inl, inr, ℕ, zero, suc, ◌+◌, ◌*◌, ◌≤◌, Bool, true, false, List, ◌∷◌, length, get_or, Option, None, refl, sym, ap, ◌∙◌, subst, arith, replicate, ℤ, pos, if◌then◌else◌, [], ◌++◌, Some, IsTrue, ◌||◌}
-use Rattle.std.proofs.lemmas.List.{length-append, length-replicate}
-use Rattle.std.proofs.lemmas.Bool.{eqb-true, leb-true, and_parts, and_from}
-use Rattle.vms_kinds.specs.declared.Kind.{Kind}
-use Rattle.vms_kinds.specs.declared.Item.{Item}
-use Rattle.vms_kinds.specs.declared.Item.TheVariants.{Num, Equal, Unused, Struct}
-use Rattle.vms_kinds.specs.Codes.{width}
-use Rattle.vms_spec.specs.declared.Count.{Count}
-use Rattle.vms_spec.specs.declared.Count.TheVariants.{One, Fixed, Counted}
-use Rattle.vms_spec.specs.Sets.{Desc, Formula, Field}
-use Rattle.vms_spec.specs.Tests.{is_there, truth}
-use Rattle.vms_spec.specs.Layout.{Slot, Number, Filler, Meaning, no_parent, times, counted, capacity_of, item_cells, field_cells, elements_of, item_slots, numbers_of, Rule, all_hold}
-use Rattle.vms_spec.specs.declared.Part.{Part}
-use Rattle.vms_check.specs.Comparing.{Entry, same_rest, same_count, same_item, same_kind, same_constant, is_covered, holds_as_much, Comparer, pair_structs, entry_of, present_from, compare_validations, is_kept, same_reduced}
-use Rattle.vms_check.specs.Carrying.{Carrier, defaults, carry_item, carry_items, carry_field}
+use Rattle.vms_check_laws.proofs.Facade.{◌≡◌, inl, inr, ℕ, zero, suc, ◌+◌, ◌*◌, ◌≤◌, Bool, true, false, List, ◌∷◌, length, get_or, Option, None, refl, sym, ap}
+use Rattle.vms_check_laws.proofs.Facade.{◌∙◌, subst, arith, replicate, ℤ, pos, if◌then◌else◌, [], ◌++◌, Some, IsTrue, ◌||◌, length-append, length-replicate}
+use Rattle.vms_check_laws.proofs.Facade.{eqb-true, leb-true, and_parts, and_from, list_all, list_any, Kind, Item, Num, Equal, Unused, Struct, width, Count, One}
+use Rattle.vms_check_laws.proofs.Facade.{Fixed, Counted, Desc, Formula, Field, is_there, truth, Slot, Number, Filler, Meaning, no_parent, times, counted}
+use Rattle.vms_check_laws.proofs.Facade.{capacity_of, item_cells, field_cells, elements_of, item_slots, numbers_of, Rule, all_hold, Part, Entry, same_rest}
+use Rattle.vms_check_laws.proofs.Facade.{same_count, same_item, same_kind, same_constant, is_covered, holds_as_much, Comparer, pair_structs, entry_of}
+use Rattle.vms_check_laws.proofs.Facade.{present_from, compare_validations, is_kept, same_reduced, Carrier, defaults, carry_item, carry_items, carry_field}
+use Rattle.vms_check_laws.proofs.Facade.{Holds, FitsAt, Carries, size_same, elements_fit, ItemBelow, same_number_is, here, presence, Reduced, Known, Open}
+use Rattle.vms_check_laws.proofs.Facade.{reduced, truth_of, reduced_holds, passes, zeroed}
 use Rattle.vms_check_laws.proofs.SameTests.{Agree, NamedRest, same_there, presence_named, Named, named_left, same_reduced_truth}
-use Rattle.vms_check_laws.specs.Segments.{Holds, FitsAt, Carries}
 use Rattle.vms_check_laws.proofs.Segments.{holds_left, holds_right, holds_at, fits_left, fits_right, fits_at, carries_nil, carries_append, carries_number, carries_constant, carries_filler, carries_rule}
-use Rattle.vms_spec.proofs.Sizes.{size_same, elements_fit}
-use Rattle.vms_spec.proofs.Prefixes.{ItemBelow}
-use Rattle.vms_spec.proofs.NumberLaws.{same_number_is}
 use Rattle.vms_check_laws.proofs.Pairing.{kinds_same, cells_in, slots_at, entries_slots, IsKnown, AreKnown, FitEntries}
 use Rattle.vms_check_laws.proofs.Linking.{PairGood, decoded, Linked, linked, carry_item_size, CoveredBy, Matched}
 use Rattle.vms_check_laws.proofs.Describing.{numbers_length, constant_length, there_here}
 use Rattle.vms_check_laws.proofs.Premises.{Table, IsSingle, CountFits, CountNamed, OldGood, NewGood, RulesNamed, OldFields, NewFields}
-use Rattle.std.specs.List.{list_all, list_any}
-use Rattle.vms_spec.specs.WellFormed.{here}
-use Rattle.vms_check.specs.Reducing.{presence, Reduced, Known, Open, reduced, truth_of}
-use Rattle.vms_check.proofs.ReducedLaws.{reduced_holds}
-use Rattle.vms_check.proofs.ListLaws.{passes}
-use Rattle.vms_spec.specs.Images.{zeroed}
 
 -- what is covered is one filler, as long as the slots that it covers
 module _ (ms ns : List Meaning) (numbers numbers' : List ℤ) (own own' : ℕ → ℕ) where

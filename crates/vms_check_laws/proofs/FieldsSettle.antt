@@ -1,34 +1,20 @@
 -- Fields: the numbers that tests and counts may name agree on both sides, and what isn't in the newer set's bytes
 -- is at its default.
-use Rattle.std.proofs.Common.{◌≡◌, inl, inr, ℕ, zero, suc, ◌+◌, ◌*◌, ◌<◌, ◌≤◌, Bool, true, false, List, [], ◌∷◌, ◌++◌, length, get_or, Option, Some, None, refl, sym, ap, ◌∙◌, subst, arith, ℤ, pos, if◌then◌else◌}
-use Rattle.vms_kinds.specs.declared.Kind.{Kind}
-use Rattle.vms_kinds.specs.declared.Item.{Item}
-use Rattle.vms_kinds.specs.declared.Item.TheVariants.{Num, Equal, Unused, Struct}
-use Rattle.vms_spec.specs.Sets.{Formula, Field, Desc}
-use Rattle.vms_spec.specs.Tests.{is_there}
-use Rattle.vms_spec.specs.Layout.{Cell, Slot, Number, Meaning, no_meaning, no_parent, times, counted, capacity_of, item_cells, field_cells, cells_from, elements_of, item_slots, slots_from, numbers_of, kind_of}
-use Rattle.vms_spec.specs.declared.Part.{Part}
-use Rattle.vms_spec.specs.Rules.{is_steady_in, is_num, is_one}
-use Rattle.vms_check.specs.Reducing.{presence}
-use Rattle.vms_check.specs.Comparing.{Entry, entry_of, present_from, same_item, same_kind, Comparer, no_comparer, pair_structs, position_from, same_place, same_count}
-use Rattle.vms_check.specs.Carrying.{Carrier, no_carrier, defaults, carry_item, carry_items, carry_field, carry_next, carry_from, entries_left, default_field}
-use Rattle.vms_spec.specs.Images.{has_cell}
+use Rattle.vms_check_laws.proofs.Facade.{◌≡◌, inl, inr, ℕ, zero, suc, ◌+◌, ◌*◌, ◌≤◌, Bool, true, false, List, [], ◌∷◌, ◌++◌, length, get_or, Option, Some, None}
+use Rattle.vms_check_laws.proofs.Facade.{refl, sym, ap, ◌∙◌, subst, arith, ℤ, pos, if◌then◌else◌, slice_get, Kind, Item, Num, Equal, Unused, Struct, Formula}
+use Rattle.vms_check_laws.proofs.Facade.{Field, Desc, is_there, Cell, Slot, Number, Meaning, no_parent, times, counted, capacity_of, item_cells, field_cells}
+use Rattle.vms_check_laws.proofs.Facade.{cells_from, elements_of, item_slots, slots_from, numbers_of, kind_of, Part, is_steady_in, is_num, is_one, presence}
+use Rattle.vms_check_laws.proofs.Facade.{Entry, entry_of, present_from, same_item, same_kind, Comparer, pair_structs, position_from, same_place, same_count}
+use Rattle.vms_check_laws.proofs.Facade.{Carrier, defaults, carry_item, carry_items, carry_field, carry_next, carry_from, entries_left, default_field, has_cell}
+use Rattle.vms_check_laws.proofs.Facade.{Holds, FitsAt, size_same, field_size, elements_fit, ItemBelow, FieldsBelow, width, residue, Count, One}
 use Rattle.vms_check_laws.proofs.SameTests.{Agree, same_there}
-use Rattle.vms_check_laws.specs.Segments.{Holds, FitsAt}
 use Rattle.vms_check_laws.proofs.Segments.{holds_left, holds_right, holds_at, fits_left, fits_right, fits_at}
-use Rattle.vms_spec.proofs.Sizes.{size_same, field_size, elements_fit}
-use Rattle.vms_spec.proofs.Prefixes.{ItemBelow, FieldsBelow}
 use Rattle.vms_check_laws.proofs.Pairing.{cells_in, slots_at, IsKnown, AreKnown, kinds_same, known_there}
 use Rattle.vms_check_laws.proofs.Linking.{defaults_size, PairGood, decoded, Linked, linked, carry_item_size, carry_field_size, Matched}
 use Rattle.vms_check_laws.proofs.Settling.{Settled, settled_defaults, settled_empty, settled_append, same_defaults, has_itself}
 use Rattle.vms_check_laws.proofs.Describing.{there_here, not_covered, steady, steady_rest, rest_none, one_number}
 use Rattle.vms_check_laws.proofs.Premises.{covered_empty, Table, OldGood, at_or_later}
 use Rattle.vms_check_laws.proofs.FieldsCarry.{same_elements, elements_room, EntryGood, Premises}
-use Rattle.std.specs.List.{slice_get}
-use Rattle.vms_kinds.specs.Codes.{width, residue}
-use Rattle.vms_spec.specs.declared.Count.{Count}
-use Rattle.vms_spec.specs.declared.Count.TheVariants.{One}
-use Rattle.vms_check_laws.proofs.Presence.{there}
 
 module _ (ks : List Comparer) (cs : List Carrier) (ms ns : List Meaning) (a b : Desc) (v w : ℕ) (part part' : Part) (o n : ℕ → Option ℕ)
     (numbers numbers' : List ℤ) (at at' : ℕ) (below below' : ℕ) (table : Table ks cs ms ns numbers numbers' below below') where

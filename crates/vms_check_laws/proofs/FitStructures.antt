@@ -1,17 +1,10 @@
 -- The carried numbers fit new's cells: a description, and then structures by induction on new's number.
-use Rattle.std.proofs.Common.{◌≡◌, ℕ, zero, suc, ◌+◌, ◌<◌, ◌≤◌, List, [], ◌∷◌, ◌++◌, length, get_or, Option, Some, None, sym, subst, arith, ℤ}
-use Rattle.vms_spec.specs.Sets.{Formula, Field, Desc}
-use Rattle.vms_spec.specs.Layout.{no_desc, Cell, Meaning, meanings, field_cells, cells_from, desc_cells, numbers_of}
-use Rattle.vms_spec.specs.declared.Part.{Part}
+use Rattle.vms_check_laws.proofs.Facade.{◌≡◌, ℕ, suc, ◌+◌, ◌<◌, ◌≤◌, List, [], ◌∷◌, ◌++◌, length, get_or, Option, Some, None, arith, ℤ, Formula, Field, Desc}
+use Rattle.vms_check_laws.proofs.Facade.{no_desc, Cell, Meaning, meanings, field_cells, cells_from, desc_cells, numbers_of, Part, is_steady_in, presence, Entry}
+use Rattle.vms_check_laws.proofs.Facade.{entry_of, present_from, present, position_from, Comparer, comparers, compare_desc, compare_fields, compare_validations}
+use Rattle.vms_check_laws.proofs.Facade.{Carrier, carriers, carry_desc, FitsAt, or_else_none, struct_cells_at}
 use Rattle.vms_spec.specs.declared.Part.TheVariants as parts
-use Rattle.vms_spec.specs.Rules.{is_steady_in}
-use Rattle.vms_check.specs.Reducing.{presence}
-use Rattle.vms_check.specs.Comparing.{Entry, entry_of, present_from, present, position_from, Comparer, no_comparer, comparers, compare_desc, compare_fields, compare_validations}
-use Rattle.vms_check.specs.Carrying.{Carrier, no_carrier, carriers, carry_desc}
-use Rattle.vms_check_laws.specs.Segments.{FitsAt}
 use Rattle.vms_check_laws.proofs.Segments.{fits_at, fits_left, fits_right}
-use Rattle.vms_spec.proofs.Faultless.{or_else_none}
-use Rattle.vms_spec.proofs.Prefixes.{struct_cells_at}
 use Rattle.vms_check_laws.proofs.Pairing.{cells_in, AreKnown, all_known}
 use Rattle.vms_check_laws.proofs.Linking.{zip_of}
 use Rattle.vms_check_laws.proofs.Premises.{OldGood, OldFields, NewGood, NewFields}

@@ -1,25 +1,14 @@
 -- The carried numbers fit new's cells.
-use Rattle.std.proofs.Common.{◌≡◌, inl, inr, ℕ, zero, suc, ◌+◌, ◌<◌, ◌≤◌, Bool, true, false, List, [], ◌∷◌, ◌++◌, length, get_or, Option, Some, None, refl, ap, subst, arith, ℤ, pos, if◌then◌else◌}
-use Rattle.vms_kinds.specs.declared.Kind.{Kind}
-use Rattle.vms_kinds.specs.declared.Item.{Item}
-use Rattle.vms_kinds.specs.declared.Item.TheVariants.{Num, Equal, Unused, Struct}
-use Rattle.vms_spec.specs.Sets.{Formula, Field, Desc}
-use Rattle.vms_spec.specs.Tests.{is_there}
-use Rattle.vms_spec.specs.Layout.{Cell, no_cell, no_parent, Meaning, times, counted, capacity_of, item_cells, field_cells, cells_from, elements_of}
-use Rattle.vms_spec.specs.declared.Part.{Part}
-use Rattle.vms_check.specs.Reducing.{presence}
-use Rattle.vms_check.specs.Comparing.{Entry, entry_of, present_from, same_kind, Comparer, no_comparer, pair_structs}
-use Rattle.vms_check.specs.Carrying.{Carrier, no_carrier, defaults, carry_item, carry_items, carry_next, carry_from, entries_left}
-use Rattle.vms_check_laws.specs.Segments.{FitsAt}
+use Rattle.vms_check_laws.proofs.Facade.{◌≡◌, inl, inr, ℕ, zero, suc, ◌+◌, ◌<◌, ◌≤◌, Bool, true, false, List, [], ◌∷◌, ◌++◌, length, get_or, Option, Some, None}
+use Rattle.vms_check_laws.proofs.Facade.{refl, ap, subst, arith, ℤ, pos, if◌then◌else◌, AllByRecursion, Kind, Item, Num, Equal, Unused, Struct, Formula, Field}
+use Rattle.vms_check_laws.proofs.Facade.{Desc, is_there, Cell, no_cell, no_parent, Meaning, times, counted, capacity_of, item_cells, field_cells, cells_from}
+use Rattle.vms_check_laws.proofs.Facade.{elements_of, Part, presence, Entry, entry_of, present_from, same_kind, Comparer, no_comparer, pair_structs, Carrier}
+use Rattle.vms_check_laws.proofs.Facade.{no_carrier, defaults, carry_item, carry_items, carry_next, carry_from, entries_left, FitsAt, size_same, elements_fit}
+use Rattle.vms_check_laws.proofs.Facade.{highest, InRange, is_num, FitsCell, ItemBelow, FieldsBelow}
 use Rattle.vms_check_laws.proofs.Segments.{fits_left, fits_right, fits_at}
 use Rattle.vms_check_laws.proofs.Pairing.{kinds_same}
-use Rattle.vms_spec.proofs.Sizes.{size_same, elements_fit}
-use Rattle.std.specs.List.{AllByRecursion}
 use Rattle.std.specs.Prelude.{◌≤ℤ◌}
-use Rattle.vms_kinds.specs.Codes.{highest, InRange}
-use Rattle.vms_spec.specs.Rules.{is_num}
-use Rattle.vms_spec.specs.Images.{FitsCell, FitCells as AreFit}
-use Rattle.vms_spec.proofs.Prefixes.{ItemBelow, FieldsBelow}
+use Rattle.vms_spec.specs.Images.{FitCells as AreFit}
 use Rattle.vms_check_laws.proofs.Linking.{Zip, Matched, decoded}
 use Rattle.vms_check_laws.proofs.Describing.{not_covered}
 use Rattle.vms_check_laws.proofs.Bounds.{Indexed, OldStand, NewSingle, caps_follow}

@@ -1,17 +1,10 @@
 -- What is carried of a run of cells, cell by cell: the older number if it is in the bytes, else the default.
-use Rattle.std.proofs.Common.{◌≡◌, ◌⊎◌, inl, inr, ℕ, ◌+◌, ◌<◌, ◌≤◌, Bool, true, false, ◌||◌, List, [], ◌++◌, length, length-append, get_or, replicate, Option, Some, None, ℤ, pos, refl, sym, ap, ◌∙◌, subst, arith}
-use Rattle.std.specs.List.{slice_get}
-use Rattle.std.proofs.lemmas.List.{get_or_append_left, get_or-append-add}
-use Rattle.std.proofs.Math.Bool.{or-false}
-use Rattle.vms_spec.specs.Layout.{Cell, no_cell, Slot}
-use Rattle.vms_spec.specs.Images.{has_cell}
-use Rattle.vms_spec.proofs.ListLaws.{or_second}
-use Rattle.std.proofs.lemmas.Bool.{or_parts, false_from_ne_true}
-use Rattle.vms_bodies.proofs.Names.{names_append}
-use Rattle.vms_bodies.proofs.SectionLaws.{defaults_at, defaults_long}
-use Rattle.vms_check.specs.Carrying.{defaults}
+use Rattle.vms_check_laws.proofs.Facade.{◌≡◌, ◌⊎◌, inl, inr, ℕ, ◌+◌, ◌<◌, ◌≤◌, Bool, true, false, ◌||◌, List, [], ◌++◌, length, get_or, replicate, Option, Some}
+use Rattle.vms_check_laws.proofs.Facade.{None, ℤ, pos, refl, sym, ap, ◌∙◌, subst, arith, slice_get, get_or_append_left, get_or-append-add, or-false, or_parts}
+use Rattle.vms_check_laws.proofs.Facade.{false_from_ne_true, slice_get_within, Cell, no_cell, Slot, has_cell, or_second, names_append, defaults_at}
+use Rattle.vms_check_laws.proofs.Facade.{defaults_long, defaults}
+use Rattle.std.proofs.Common.{length-append}
 use Rattle.vms_check_laws.proofs.PairLists.{AreFrom, IsBehind, at_left, at_right, at_none, before_or_behind, paired_none, paired_append}
-use Rattle.std.proofs.lemmas.Option.{slice_get_within}
 
 -- slots only of cells between a place and its end
 pub record IsWithin (at size : ℕ) (slots : List Slot) : Type 0 where

@@ -1,30 +1,19 @@
 -- What is carried of a device, cell by cell.
-use Rattle.std.proofs.Common.{◌≡◌, ◌⊎◌, inl, inr, ℕ, zero, suc, ◌+◌, ◌-◌, ◌<◌, ◌≤◌, Bool, true, false, ◌||◌, List, [], ◌∷◌, ◌++◌, length, length-append, get_or, Option, Some, None, ℤ, pos, refl, sym, ap, ◌∙◌, subst, arith, nat_lt}
-use Rattle.std.specs.List.{flat_map, slice_get}
-use Rattle.std.proofs.lemmas.List.{get_or_append_left, get_or-append-add}
-use Rattle.std.proofs.lemmas.Bool.{ltb-true, ltb-false, or_parts}
-use Rattle.vms_spec.specs.Lists.{at_option}
-use Rattle.vms_spec.specs.Sets.{Sub, Device, Set}
-use Rattle.vms_spec.specs.Layout.{Cell, no_cell, desc_cells, device_cells, struct_cells}
-use Rattle.vms_spec.specs.Images.{Image, has_cell, image_slots, own_slots, own_cells, came_slots, sub_slots, sub_place}
-use Rattle.vms_spec.specs.Lookup.{find_sub, index}
-use Rattle.vms_spec.specs.WellFormed.{WellFormed, device_rules, sub_rules}
-use Rattle.vms_bodies.proofs.Names.{names_append, none_in_both}
-use Rattle.vms_bodies.proofs.AgreeLaws.{its_below, its_in}
-use Rattle.vms_bodies.proofs.PartLaws.{sub_size, sub_place_up, places_apart, parts_together, part_apart}
-use Rattle.vms_bodies.proofs.SectionLaws.{defaults_at, defaults_long}
-use Rattle.vms_spec.proofs.WellFormedLaws.{device_parts, sub_clean, sub_found}
-use Rattle.vms_check.specs.Carrying.{defaults, carrying, carry_sub, carried_sub, carried_device}
-use Rattle.vms_check_laws.specs.SubCells.{IsCellOf}
-use Rattle.vms_check_laws.specs.Carried.{IsCarried, IsAtVersions}
-use Rattle.vms_check.specs.Partners.{part_partners, sub_partners, named_partners, device_partners}
+use Rattle.vms_check_laws.proofs.Facade.{◌≡◌, ◌⊎◌, inl, inr, ℕ, zero, suc, ◌+◌, ◌-◌, ◌<◌, ◌≤◌, Bool, true, false, ◌||◌, List, [], ◌∷◌, ◌++◌, length, get_or}
+use Rattle.vms_check_laws.proofs.Facade.{Option, Some, None, ℤ, pos, refl, sym, ap, ◌∙◌, subst, arith, flat_map, slice_get, get_or_append_left}
+use Rattle.vms_check_laws.proofs.Facade.{get_or-append-add, or_parts, slice_get_within, at_option, Sub, Device, Set, Cell, no_cell, desc_cells, device_cells}
+use Rattle.vms_check_laws.proofs.Facade.{struct_cells, Image, has_cell, image_slots, own_slots, own_cells, came_slots, sub_slots, sub_place, find_sub, index}
+use Rattle.vms_check_laws.proofs.Facade.{WellFormed, device_rules, sub_rules, names_append, none_in_both, its_below, its_in, sub_size, sub_place_up}
+use Rattle.vms_check_laws.proofs.Facade.{places_apart, parts_together, part_apart, defaults_at, defaults_long, device_parts, sub_clean, sub_found, defaults}
+use Rattle.vms_check_laws.proofs.Facade.{carrying, carry_sub, carried_sub, carried_device, IsCellOf, IsCarried, IsAtVersions, part_partners, sub_partners}
+use Rattle.vms_check_laws.proofs.Facade.{named_partners, device_partners}
+use Rattle.std.proofs.Common.{length-append}
 use Rattle.vms_check_laws.proofs.Goes.{Goes}
 use Rattle.vms_check_laws.proofs.GoesStructs.{part_goes}
 use Rattle.vms_check_laws.proofs.PairDevices.{Found, found, cell_of_sub}
 use Rattle.vms_check_laws.proofs.PairLists.{IsBehind, at_left, at_right, at_none, before_or_behind}
 use Rattle.vms_check_laws.proofs.PairStructs.{below_of}
 use Rattle.vms_check_laws.proofs.PartOf.{own_or_sub}
-use Rattle.std.proofs.lemmas.Option.{slice_get_within}
 
 -- ---- lists that have one part for each subsection
 

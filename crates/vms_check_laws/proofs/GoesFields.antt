@@ -1,29 +1,16 @@
 -- What is carried of a description, cell by cell.
-use Rattle.std.proofs.Common.{◌≡◌, ◌⊎◌, inl, inr, ℕ, zero, suc, ◌+◌, ◌*◌, ◌<◌, ◌≤◌, Bool, true, false, List, [], ◌∷◌, ◌++◌, length, get_or, replicate, Option, Some, None, ℤ, pos, refl, sym, ap, ◌∙◌, arith, if◌then◌else◌, ◌||◌}
-use Rattle.std.specs.List.{slice_get}
-use Rattle.std.proofs.lemmas.Bool.{cases_lt, eq-eqb}
-use Rattle.std.proofs.Math.Bool.{or-false}
-use Rattle.vms_kinds.specs.declared.Kind.{Kind}
-use Rattle.vms_kinds.specs.declared.Item.{Item}
-use Rattle.vms_kinds.specs.declared.Item.TheVariants.{Num, Equal, Unused, Struct}
-use Rattle.vms_spec.specs.Sets.{Formula, Field, Desc}
-use Rattle.vms_spec.specs.Tests.{is_there}
-use Rattle.vms_spec.specs.Layout.{Cell, no_cell, Slot, Number, Rule, Meaning, no_meaning, no_parent, times, counted, capacity_of, item_cells, item_size, field_cells, cells_from, desc_cells, elements_of, item_slots, field_slots, slots_from, desc_slots, numbers_of, all_hold}
-use Rattle.vms_spec.specs.Images.{has_cell}
-use Rattle.vms_spec.proofs.Sizes.{size_same, field_size, elements_fit}
-use Rattle.vms_spec.proofs.Prefixes.{ItemBelow, FieldsBelow}
-use Rattle.vms_bodies.specs.Cells.{AreCells}
-use Rattle.vms_bodies.proofs.AboveLaws.{MeanAbove, IsAbove, item_above, items_above, field_above}
-use Rattle.vms_bodies.proofs.CellLaws.{MeanCells, item_are, items_are, field_are}
-use Rattle.vms_bodies.proofs.AgreeLaws.{named_inside, skip_long, stands_behind}
-use Rattle.vms_bodies.proofs.Names.{names_append}
-use Rattle.vms_bodies.proofs.SettledLaws.{cells_in}
-use Rattle.vms_check.specs.Reducing.{presence}
-use Rattle.vms_check.specs.Comparing.{Entry, entry_of, present_from, same_kind}
-use Rattle.vms_check.specs.Carrying.{Carrier, no_carrier, defaults, carry_item, carry_items, carry_field, carry_next, carry_from, carry_desc, default_field, entries_left}
+use Rattle.vms_check_laws.proofs.Facade.{◌≡◌, ◌⊎◌, inl, inr, ℕ, zero, suc, ◌+◌, ◌*◌, ◌<◌, ◌≤◌, Bool, true, false, List, [], ◌∷◌, ◌++◌, length, get_or}
+use Rattle.vms_check_laws.proofs.Facade.{replicate, Option, Some, None, ℤ, pos, refl, sym, ap, ◌∙◌, arith, if◌then◌else◌, slice_get, cases_lt, eq-eqb, or-false}
+use Rattle.vms_check_laws.proofs.Facade.{Kind, Item, Num, Struct, Formula, Field, Desc, is_there, Cell, no_cell, Slot, Number, Rule, Meaning, no_meaning}
+use Rattle.vms_check_laws.proofs.Facade.{no_parent, times, counted, capacity_of, item_cells, item_size, field_cells, cells_from, desc_cells, elements_of}
+use Rattle.vms_check_laws.proofs.Facade.{item_slots, field_slots, slots_from, desc_slots, numbers_of, all_hold, has_cell, size_same, field_size, elements_fit}
+use Rattle.vms_check_laws.proofs.Facade.{ItemBelow, FieldsBelow, AreCells, MeanAbove, IsAbove, item_above, items_above, field_above, MeanCells, item_are}
+use Rattle.vms_check_laws.proofs.Facade.{items_are, field_are, named_inside, skip_long, stands_behind, names_append, cells_in, presence, Entry, entry_of}
+use Rattle.vms_check_laws.proofs.Facade.{present_from, same_kind, Carrier, no_carrier, defaults, carry_item, carry_items, carry_field, carry_next, carry_from}
+use Rattle.vms_check_laws.proofs.Facade.{carry_desc, default_field, entries_left, Pairer, no_pairer, unpaired, item_partners, array_partners, field_partners}
+use Rattle.vms_check_laws.proofs.Facade.{fields_left, partners_from, desc_partners}
 use Rattle.vms_check_laws.proofs.Presence.{there, presence_there}
 use Rattle.vms_check_laws.proofs.Settling.{same_defaults, defaults_append}
-use Rattle.vms_check.specs.Partners.{Pairer, no_pairer, unpaired, item_partners, array_partners, field_partners, fields_left, partners_from, desc_partners}
 use Rattle.vms_check_laws.proofs.PairLists.{AreFrom, paired_none}
 use Rattle.vms_check_laws.proofs.PairFields.{Structs, item_paired, array_paired}
 use Rattle.vms_check_laws.proofs.Goes.{Goes, IsWithin, goes_absent, goes_alone, goes_append}

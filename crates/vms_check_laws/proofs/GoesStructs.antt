@@ -1,15 +1,8 @@
 -- What is carried of structures, each by the earlier ones.
-use Rattle.std.proofs.Common.{◌≡◌, ℕ, ◌<◌, ◌≤◌, List, [], length, get_or, ℤ, sym, subst, arith}
-use Rattle.vms_spec.specs.Sets.{Desc, Set}
-use Rattle.vms_spec.specs.Layout.{Cell, Slot, Meaning, no_meaning, no_desc, meanings, desc_cells, desc_slots, struct_cells}
-use Rattle.vms_spec.specs.WellFormed.{WellFormed}
-use Rattle.vms_spec.proofs.Tables.{first_at}
-use Rattle.vms_spec.proofs.Prefixes.{FieldsBelow, struct_slots, struct_cells_at}
-use Rattle.vms_bodies.proofs.AboveLaws.{meanings_above}
-use Rattle.vms_bodies.proofs.CellLaws.{meanings_are, cells_first}
-use Rattle.vms_bodies.proofs.SettledLaws.{cells_in}
-use Rattle.vms_check.specs.Carrying.{Carrier, no_carrier, carrier_of, carriers, carry_desc, carrying}
-use Rattle.vms_check.specs.Partners.{Pairer, no_pairer, pairer_of, pairers, desc_partners, part_partners}
+use Rattle.vms_check_laws.proofs.Facade.{◌≡◌, ℕ, ◌<◌, ◌≤◌, List, [], length, get_or, ℤ, sym, subst, arith, Desc, Set, Cell, Meaning, no_meaning, no_desc}
+use Rattle.vms_check_laws.proofs.Facade.{meanings, desc_cells, desc_slots, struct_cells, WellFormed, first_at, FieldsBelow, struct_slots, struct_cells_at}
+use Rattle.vms_check_laws.proofs.Facade.{meanings_above, meanings_are, cells_first, cells_in, Carrier, no_carrier, carriers, carry_desc, carrying, Pairer}
+use Rattle.vms_check_laws.proofs.Facade.{no_pairer, pairer_of, pairers, desc_partners, part_partners}
 use Rattle.vms_check_laws.proofs.Premises.{by_less}
 use Rattle.vms_check_laws.proofs.Structures.{carrier_at}
 use Rattle.vms_check_laws.proofs.PairFields.{Structs}

@@ -1,20 +1,11 @@
 -- What well-formedness gives to the laws on pairs of sets.
-use Rattle.std.proofs.Common.{◌≡◌, ℕ, suc, ◌+◌, ◌<◌, Bool, true, List, [], ◌∷◌, length, get_or, Option, Some, None, refl, subst, arith, ℤ, nat_lt}
-use Rattle.std.specs.List.{slice_get}
-use Rattle.std.proofs.lemmas.Bool.{and_parts, and_from}
-use Rattle.vms_kinds.specs.declared.Kind.TheVariants.{U8, U16, U32}
-use Rattle.vms_kinds.specs.declared.Item.{Item}
-use Rattle.vms_kinds.specs.declared.Item.TheVariants.{Num, Equal, Unused, Struct}
-use Rattle.vms_spec.specs.declared.Count.{Count}
-use Rattle.vms_spec.specs.declared.Count.TheVariants.{One, Fixed, Counted}
-use Rattle.vms_spec.specs.declared.Whose.TheVariants.{Own, Parent}
-use Rattle.vms_spec.specs.Sets.{Formula, AtLeast, Below, Cell, Not, And, Or, Field, Desc, Sub, Device, Set}
-use Rattle.vms_spec.specs.Layout.{no_desc, counted}
-use Rattle.vms_spec.specs.Rules.{names_well, nobody, is_steady, is_steady_in, is_earlier_in, test_names_well, count_names_well, is_counting, uses_below, defaults_well, counts_well, has_good_count, field_rules, validation_rules}
-use Rattle.vms_spec.specs.WellFormed.{WellFormed, struct_rules, device_rules, sub_rules}
-use Rattle.vms_spec.proofs.Faultless.{AllTrue}
-use Rattle.vms_spec.proofs.Prefixes.{item_below}
-use Rattle.vms_spec.proofs.WellFormedLaws.{Clean, ranges, within, struct_clean, device_parts, sub_clean}
+use Rattle.vms_check_laws.proofs.Facade.{◌≡◌, ℕ, suc, ◌+◌, ◌<◌, Bool, true, List, [], ◌∷◌, length, get_or, Option, Some, None, refl, subst, arith, ℤ, nat_lt}
+use Rattle.vms_check_laws.proofs.Facade.{slice_get, and_parts, and_from, slice_get-get_or, U8, U16, U32, Item, Num, Equal, Unused, Struct, Count, One, Fixed}
+use Rattle.vms_check_laws.proofs.Facade.{Counted, Own, Parent, Formula, AtLeast, Below, Not, And, Or, Field, Desc, Sub, Device, Set, no_desc, counted}
+use Rattle.vms_check_laws.proofs.Facade.{names_well, nobody, is_steady, is_steady_in, is_earlier_in, test_names_well, count_names_well, is_counting, uses_below}
+use Rattle.vms_check_laws.proofs.Facade.{defaults_well, counts_well, has_good_count, field_rules, validation_rules, WellFormed, struct_rules, device_rules}
+use Rattle.vms_check_laws.proofs.Facade.{sub_rules, AllTrue, item_below, Clean, ranges, within, struct_clean, device_parts, sub_clean}
+use Rattle.vms_spec.specs.Sets.{Cell}
 use Rattle.vms_check_laws.proofs.SameTests.{NamedRest}
 use Rattle.vms_check_laws.proofs.Describing.{steady}
 use Rattle.vms_check_laws.proofs.Premises.{IsSingle, CountNamed, NewGood, NewFields, RulesNamed}
@@ -22,7 +13,6 @@ use Rattle.vms_check_laws.proofs.Counts.{IsCounting, Counter, CountKnown, OldPla
 use Rattle.vms_check_laws.proofs.Fitting.{ItemDefault, DefaultsGood}
 use Rattle.vms_check_laws.proofs.Structures.{OldStructs, NewStructs}
 use Rattle.vms_check_laws.proofs.FitStructures.{DefaultStructs}
-use Rattle.std.proofs.lemmas.Option.{slice_get-get_or}
 
 names_more : (ok ok' : ℕ → Bool) (t : Formula) → ((i : ℕ) → ok i ≡ true → ok' i ≡ true) → names_well ok nobody t ≡ true → names_well ok' nobody t ≡ true
 names_more ok ok' (AtLeast n) more h = refl

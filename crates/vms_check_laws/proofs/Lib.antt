@@ -6,6 +6,7 @@ pub mod CarriedLaws
 pub mod Counts
 pub mod Describing
 pub mod Descriptions
+pub mod Facade
 pub mod FieldsCarry
 pub mod FieldsSettle
 pub mod FitStructures

@@ -1,23 +1,12 @@
 -- Present fields paired by position: what is known of each pair, and which numbers agree.
-use Rattle.std.proofs.Common.{◌≡◌, ◌⊎◌, inl, inr, ℕ, zero, suc, ◌+◌, ◌*◌, ◌<◌, Bool, true, false, ◌&&◌, List, ◌∷◌, ◌++◌, length, get_or, Option, Some, None, refl, sym, ap, ◌∙◌, arith, ℤ, pos, if◌then◌else◌, []}
-use Rattle.std.proofs.lemmas.List.{length-append, length-map}
-use Rattle.std.proofs.lemmas.Bool.{and_parts}
-use Rattle.vms_kinds.specs.declared.Item.{Item}
-use Rattle.vms_kinds.specs.declared.Item.TheVariants.{Num, Equal, Unused, Struct}
-use Rattle.vms_spec.specs.Sets.{Formula, Field, Desc}
-use Rattle.vms_spec.specs.Layout.{Cell, counted, capacity_of, item_cells, field_cells}
-use Rattle.vms_spec.specs.WellFormed.{in_field}
-use Rattle.vms_spec.specs.declared.Part.{Part}
-use Rattle.vms_spec.specs.declared.Place.{Place}
-use Rattle.vms_check.specs.Reducing.{presence}
-use Rattle.vms_check.specs.Comparing.{Entry, entry_of, present_from, same_rest, same_count, same_item, same_kind, same_constant, is_covered, holds_as_much, absent_hold, bound, names_match, Comparer, failing_pair, pair_rules, pair_structs, compare_fields}
-use Rattle.vms_check.specs.Carrying.{Carrier, no_carrier, defaults, carry_item, carry_items, carry_field, carry_next, carry_from, entries_left, default_field}
-use Rattle.vms_check.proofs.ListLaws.{passes}
-use Rattle.vms_check_laws.specs.Segments.{Holds}
+use Rattle.vms_check_laws.proofs.Facade.{◌≡◌, ◌⊎◌, inl, inr, ℕ, zero, suc, ◌+◌, ◌*◌, ◌<◌, Bool, true, false, ◌&&◌, List, ◌∷◌, ◌++◌, length, get_or, Option}
+use Rattle.vms_check_laws.proofs.Facade.{Some, None, refl, sym, ap, ◌∙◌, arith, ℤ, pos, if◌then◌else◌, [], length-append, length-map, and_parts, Item, Num}
+use Rattle.vms_check_laws.proofs.Facade.{Struct, Formula, Field, Desc, Cell, counted, capacity_of, item_cells, field_cells, in_field, Part, Place, presence}
+use Rattle.vms_check_laws.proofs.Facade.{Entry, entry_of, present_from, same_rest, same_count, same_item, same_kind, same_constant, is_covered, holds_as_much}
+use Rattle.vms_check_laws.proofs.Facade.{absent_hold, bound, names_match, Comparer, failing_pair, pair_rules, pair_structs, compare_fields, Carrier, no_carrier}
+use Rattle.vms_check_laws.proofs.Facade.{defaults, carry_item, carry_items, carry_field, carry_next, carry_from, entries_left, default_field, passes, Holds}
+use Rattle.vms_check_laws.proofs.Facade.{ItemBelow, FieldsBelow, size_same, field_size, or_else_none}
 use Rattle.vms_check_laws.proofs.Segments.{holds_left, holds_right, holds_at}
-use Rattle.vms_spec.proofs.Prefixes.{ItemBelow, FieldsBelow}
-use Rattle.vms_spec.proofs.Sizes.{size_same, field_size}
-use Rattle.vms_spec.proofs.Faultless.{or_else_none}
 
 -- ---- pairs
 

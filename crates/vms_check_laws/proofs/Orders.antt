@@ -1,9 +1,6 @@
 -- An order that names each remaining one, and none twice, takes each once.
-use Rattle.std.proofs.Common.{◌≡◌, ◌⊎◌, inl, inr, ℕ, zero, suc, Bool, true, false, ◌==◌, List, [], ◌∷◌, slice_set, Option, Some, None, refl, sym, ap, ◌∙◌}
-use Rattle.std.specs.List.{slice_get}
-use Rattle.std.proofs.lemmas.Bool.{eqb-true, eq-eqb}
-use Rattle.vms_spec.specs.Streams.{AreAll, ComesOnce, AllCame, EachOnce}
-use Rattle.vms_bodies.proofs.PartLaws.{at_other}
+use Rattle.vms_check_laws.proofs.Facade.{◌≡◌, ◌⊎◌, inl, inr, ℕ, zero, suc, Bool, true, false, ◌==◌, List, [], ◌∷◌, slice_set, Option, Some, None, refl, sym, ap}
+use Rattle.vms_check_laws.proofs.Facade.{◌∙◌, slice_get, eqb-true, eq-eqb, AreAll, ComesOnce, AllCame, EachOnce, at_other}
 
 abbrev pub Among : ℕ → List ℕ → Type 0
 Among a [] = ⊥

@@ -1,21 +1,11 @@
 -- The partners of a device's cells.
-use Rattle.std.proofs.Common.{◌≡◌, ◌⊎◌, inl, inr, ℕ, zero, suc, ◌+◌, ◌<◌, ◌≤◌, Bool, true, false, List, [], ◌∷◌, ◌++◌, length, length-append, get_or, Option, Some, None, refl, sym, ap, ◌∙◌, subst, arith, nat_lt, if◌then◌else◌}
-use Rattle.std.specs.Str.{bytes_eq}
-use Rattle.std.specs.List.{flat_map, slice_get}
-use Rattle.std.proofs.lemmas.Slice.Eq.{bytes_eq-Decides}
-use Rattle.std.proofs.lemmas.List.{get_or_append_left, get_or-append-add, length-replicate}
-use Rattle.std.proofs.lemmas.Bool.{ltb-true, ltb-false}
-use Rattle.vms_spec.specs.Lists.{at_option}
-use Rattle.vms_spec.specs.Sets.{Sub, Device, Set}
-use Rattle.vms_spec.specs.Layout.{Cell, no_cell, desc_cells, device_cells, struct_cells}
-use Rattle.vms_spec.specs.Images.{own_cells, sub_place}
-use Rattle.vms_spec.specs.Lookup.{find_sub}
-use Rattle.vms_spec.specs.WellFormed.{WellFormed, device_rules, sub_rules}
-use Rattle.vms_bodies.proofs.PartLaws.{sub_size, sub_place_up, places_apart}
-use Rattle.vms_spec.proofs.WellFormedLaws.{device_parts, sub_clean, sub_found}
-use Rattle.vms_check_laws.specs.CellLaws.{PartnersLaw}
-use Rattle.vms_check_laws.specs.Pairing.{ArePartners}
-use Rattle.vms_check.specs.Partners.{part_partners, sub_partners, named_partners, device_partners}
+use Rattle.vms_check_laws.proofs.Facade.{◌≡◌, ◌⊎◌, inl, inr, ℕ, zero, suc, ◌+◌, ◌<◌, ◌≤◌, Bool, true, false, List, [], ◌∷◌, ◌++◌, length, get_or, Option, Some}
+use Rattle.vms_check_laws.proofs.Facade.{None, refl, sym, ap, ◌∙◌, subst, arith, nat_lt, if◌then◌else◌, bytes_eq, flat_map, slice_get, bytes_eq-Decides}
+use Rattle.vms_check_laws.proofs.Facade.{get_or_append_left, get_or-append-add, length-replicate, ltb-true, ltb-false, at_option, Sub, Device, Set, Cell}
+use Rattle.vms_check_laws.proofs.Facade.{no_cell, desc_cells, device_cells, struct_cells, own_cells, sub_place, find_sub, WellFormed, device_rules, sub_rules}
+use Rattle.vms_check_laws.proofs.Facade.{sub_size, sub_place_up, places_apart, device_parts, sub_clean, sub_found, PartnersLaw, ArePartners, part_partners}
+use Rattle.vms_check_laws.proofs.Facade.{sub_partners, named_partners, device_partners}
+use Rattle.std.proofs.Common.{length-append}
 use Rattle.vms_check_laws.proofs.PairLists.{AreFrom, IsPair, IsBehind, at_left, at_right, at_none, before_or_behind, IsOnce, Apart, once_append}
 use Rattle.vms_check_laws.proofs.PairStructs.{below_of, part_paired}
 

@@ -1,17 +1,11 @@
 -- The partners of a description's cells are cells of the other's, one for each.
-use Rattle.std.proofs.Common.{◌≡◌, ℕ, zero, suc, ◌+◌, ◌*◌, ◌<◌, Bool, true, false, List, [], ◌∷◌, ◌++◌, length, length-append, get_or, Option, Some, None, ℤ, refl, sym, arith, append_assoc, if◌then◌else◌}
-use Rattle.std.specs.List.{slice_get}
-use Rattle.vms_kinds.specs.declared.Kind.{Kind}
-use Rattle.vms_kinds.specs.declared.Item.{Item}
-use Rattle.vms_kinds.specs.declared.Item.TheVariants.{Num, Equal, Unused, Struct}
-use Rattle.vms_spec.specs.Sets.{Formula, Field, Desc}
-use Rattle.vms_spec.specs.Layout.{Cell, times, counted, capacity_of, item_cells, item_size, field_cells, cells_from, desc_cells}
-use Rattle.vms_spec.proofs.Sizes.{size_same, field_size}
-use Rattle.vms_spec.proofs.Prefixes.{ItemBelow, FieldsBelow}
-use Rattle.vms_check.specs.Reducing.{presence}
-use Rattle.vms_check.specs.Comparing.{Entry, entry_of, present_from, same_kind}
+use Rattle.vms_check_laws.proofs.Facade.{◌≡◌, ℕ, zero, suc, ◌+◌, ◌*◌, ◌<◌, Bool, true, false, List, [], ◌∷◌, ◌++◌, length, get_or, Option, Some, None, ℤ, refl}
+use Rattle.vms_check_laws.proofs.Facade.{sym, arith, append_assoc, if◌then◌else◌, slice_get, Kind, Item, Num, Struct, Formula, Field, Desc, Cell, times}
+use Rattle.vms_check_laws.proofs.Facade.{counted, capacity_of, item_cells, item_size, field_cells, cells_from, desc_cells, size_same, field_size, ItemBelow}
+use Rattle.vms_check_laws.proofs.Facade.{FieldsBelow, presence, Entry, entry_of, present_from, same_kind, Pairer, no_pairer, unpaired, item_partners}
+use Rattle.vms_check_laws.proofs.Facade.{array_partners, field_partners, fields_left, partners_from, desc_partners}
+use Rattle.std.proofs.Common.{length-append}
 use Rattle.vms_check_laws.proofs.Pairing.{kinds_same}
-use Rattle.vms_check.specs.Partners.{Pairer, no_pairer, unpaired, item_partners, array_partners, field_partners, fields_left, partners_from, desc_partners}
 use Rattle.vms_check_laws.proofs.PairLists.{AreFrom, IsPair, paired_none, paired_append, paired_behind, paired_skip}
 
 -- ---- the present fields of the other side are in its cells

@@ -1,9 +1,8 @@
 -- Partners of cells among the cells from a place on.
-use Rattle.std.proofs.Common.{◌≡◌, ◌⊎◌, inl, inr, ℕ, zero, suc, ◌+◌, ◌-◌, ◌<◌, ◌≤◌, List, [], ◌∷◌, ◌++◌, length, length-append, get_or, replicate, Option, Some, None, refl, sym, ap, ◌∙◌, arith}
-use Rattle.std.specs.List.{slice_get}
-use Rattle.std.proofs.lemmas.List.{get_or_append_left, get_or-append-add, length-replicate}
-use Rattle.std.proofs.lemmas.Bool.{cases_lt}
-use Rattle.vms_spec.specs.Layout.{Cell, no_cell}
+use Rattle.vms_check_laws.proofs.Facade.{◌≡◌, ◌⊎◌, inl, inr, ℕ, zero, suc, ◌+◌, ◌-◌, ◌<◌, ◌≤◌, List, [], ◌∷◌, ◌++◌, length, get_or, replicate, Option, Some}
+use Rattle.vms_check_laws.proofs.Facade.{None, refl, sym, ap, ◌∙◌, arith, slice_get, get_or_append_left, get_or-append-add, length-replicate, cases_lt, Cell}
+use Rattle.vms_check_laws.proofs.Facade.{no_cell}
+use Rattle.std.proofs.Common.{length-append}
 
 -- cell c of these and the one of number k, which is one of the others, the first of which has the number `at`
 pub record IsPair (cells others : List Cell) (at c k : ℕ) : Type 0 where

@@ -1,20 +1,11 @@
 -- The partners of structures, each by the earlier ones.
-use Rattle.std.proofs.Common.{◌≡◌, ℕ, suc, ◌<◌, ◌≤◌, Bool, true, false, List, [], ◌∷◌, length, get_or, Some, refl, sym, ap, ◌∙◌, arith, nat_lt}
-use Rattle.std.specs.List.{slice_get}
-use Rattle.std.proofs.lemmas.Bool.{ltb-true, ltb-false}
-use Rattle.vms_spec.specs.Sets.{Field, Desc, Set}
-use Rattle.vms_spec.specs.Layout.{Cell, first, no_desc, desc_cells, struct_cells}
-use Rattle.vms_spec.specs.WellFormed.{WellFormed, struct_rules}
-use Rattle.vms_spec.specs.Rules.{uses_below}
-use Rattle.vms_spec.proofs.Tables.{first_at, first_long}
-use Rattle.vms_spec.proofs.Prefixes.{FieldsBelow, item_below, desc_cells_same, first_same}
-use Rattle.vms_spec.proofs.WellFormedLaws.{Clean, struct_clean}
-use Rattle.vms_check.specs.Partners.{Pairer, no_pairer, pairer_of, pairers, part_partners}
+use Rattle.vms_check_laws.proofs.Facade.{◌≡◌, ℕ, suc, ◌<◌, ◌≤◌, Bool, true, false, List, [], ◌∷◌, length, get_or, Some, refl, sym, ap, ◌∙◌, arith, nat_lt}
+use Rattle.vms_check_laws.proofs.Facade.{slice_get, ltb-true, ltb-false, get_or_past, slice_get-get_or, Field, Desc, Set, Cell, first, no_desc, desc_cells}
+use Rattle.vms_check_laws.proofs.Facade.{struct_cells, WellFormed, struct_rules, uses_below, first_at, first_long, FieldsBelow, item_below, desc_cells_same}
+use Rattle.vms_check_laws.proofs.Facade.{first_same, Clean, struct_clean, Pairer, no_pairer, pairer_of, pairers, part_partners}
 use Rattle.vms_check_laws.proofs.Premises.{by_less}
 use Rattle.vms_check_laws.proofs.PairLists.{AreFrom}
 use Rattle.vms_check_laws.proofs.PairFields.{Structs, desc_paired}
-use Rattle.std.proofs.lemmas.List.{get_or_past}
-use Rattle.std.proofs.lemmas.Option.{slice_get-get_or}
 
 -- ---- the cells of a structure
 

@@ -1,17 +1,10 @@
 -- The present fields of a description: their slots, and what is known of each.
-use Rattle.std.proofs.Common.{◌≡◌, ℕ, zero, suc, ◌+◌, Bool, true, ◌==◌, List, ◌∷◌, ◌++◌, length, get_or, map, Option, Some, None, refl, sym, ap, ◌∙◌, arith, ℤ, pos, if◌then◌else◌, []}
-use Rattle.std.specs.List.{slice_get}
-use Rattle.std.proofs.lemmas.Bool.{eqb-true}
-use Rattle.vms_kinds.specs.declared.Kind.{Kind}
-use Rattle.vms_kinds.specs.declared.Kind.TheVariants.{U8, U16, U32, U64, I8, I16, I32, I64, Bool as Truth, Timer}
-use Rattle.vms_kinds.specs.Codes.{width, residue}
-use Rattle.vms_spec.specs.Sets.{Formula, Field}
-use Rattle.vms_spec.specs.Tests.{is_there}
-use Rattle.vms_spec.specs.Layout.{Cell, Slot, Meaning, no_field, no_parent, counted, field_cells, cells_from, elements_of, times, item_slots, item_size, field_slots, slots_from, place_of, kind_of}
-use Rattle.vms_check.specs.Reducing.{presence}
-use Rattle.vms_check.specs.Comparing.{Entry, entry_of, present_from, same_kind, kind_number}
-use Rattle.vms_check_laws.proofs.Presence.{there, presence_there}
-use Rattle.vms_check_laws.specs.Segments.{FitsAt}
+use Rattle.vms_check_laws.proofs.Facade.{◌≡◌, ℕ, zero, suc, ◌+◌, true, ◌==◌, List, ◌∷◌, ◌++◌, length, get_or, map, Option, Some, None, refl, sym, ap, ◌∙◌}
+use Rattle.vms_check_laws.proofs.Facade.{arith, ℤ, pos, if◌then◌else◌, [], slice_get, eqb-true, Kind, U8, U16, U32, U64, I8, I16, I32, I64, Timer, width}
+use Rattle.vms_check_laws.proofs.Facade.{residue, Formula, Field, is_there, Cell, Slot, Meaning, no_field, no_parent, field_cells, cells_from, field_slots}
+use Rattle.vms_check_laws.proofs.Facade.{slots_from, place_of, kind_of, presence, Entry, entry_of, present_from, same_kind, kind_number, FitsAt}
+use Rattle.vms_kinds.specs.declared.Kind.TheVariants.{Bool as Truth}
+use Rattle.vms_check_laws.proofs.Presence.{presence_there}
 use Rattle.vms_check_laws.proofs.Segments.{fits_left, fits_right, fits_at, one_on, at_first, from_zero}
 
 -- ---- tools

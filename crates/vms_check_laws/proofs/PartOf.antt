@@ -1,12 +1,8 @@
 -- Each cell of a device after its own fields is one of a subsection.
-use Rattle.std.proofs.Common.{◌≡◌, ◌⊎◌, inl, inr, ℕ, suc, ◌+◌, ◌<◌, ◌≤◌, List, [], ◌∷◌, length, length-append, Some, refl, arith, Bool, true, false, nat_lt}
-use Rattle.std.proofs.lemmas.Bool.{ltb-true, ltb-false}
-use Rattle.std.specs.List.{flat_map, slice_get}
-use Rattle.vms_spec.specs.Sets.{Sub, Device, Set}
-use Rattle.vms_spec.specs.Layout.{Cell, desc_cells, device_cells, struct_cells}
-use Rattle.vms_spec.specs.Images.{own_cells, sub_place}
-use Rattle.vms_bodies.proofs.PartLaws.{sub_size}
-use Rattle.vms_check_laws.specs.SubCells.{IsCellOf}
+use Rattle.vms_check_laws.proofs.Facade.{◌≡◌, ◌⊎◌, inl, inr, ℕ, suc, ◌+◌, ◌<◌, ◌≤◌, List, [], ◌∷◌, length, Some, refl, arith, Bool, true, false, nat_lt}
+use Rattle.vms_check_laws.proofs.Facade.{ltb-true, ltb-false, flat_map, slice_get, Sub, Device, Set, Cell, desc_cells, device_cells, struct_cells, own_cells}
+use Rattle.vms_check_laws.proofs.Facade.{sub_place, sub_size, IsCellOf}
+use Rattle.std.proofs.Common.{length-append}
 
 module _ (set : Set) where
   -- cell c is one of subsection j of these, the first of which begins at a place

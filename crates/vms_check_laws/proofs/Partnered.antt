@@ -1,18 +1,8 @@
 -- The device of the newer set that has the name and instance of one of the older's, where each of the older has one.
-use Rattle.std.proofs.Common.{◌≡◌, ℕ, suc, ◌+◌, Bool, true, false, ◌&&◌, ◌==◌, List, ◌∷◌, Option, Some, None, refl, ap, ◌∙◌, subst, arith, if◌then◌else◌, []}
-use Rattle.std.specs.List.{slice_get}
-use Rattle.std.specs.Str.{bytes_eq}
-use Rattle.std.proofs.lemmas.Slice.Eq.{bytes_eq-Decides}
-use Rattle.std.proofs.lemmas.Bool.{and_parts, eqb-true}
+use Rattle.vms_check_laws.proofs.Facade.{◌≡◌, ℕ, suc, ◌+◌, Bool, true, false, ◌&&◌, ◌==◌, List, ◌∷◌, Option, Some, None, refl, ap, ◌∙◌, subst, arith}
+use Rattle.vms_check_laws.proofs.Facade.{if◌then◌else◌, [], slice_get, bytes_eq, bytes_eq-Decides, and_parts, eqb-true, first_answer, Device, Set, find_device}
+use Rattle.vms_check_laws.proofs.Facade.{index, WellFormed, here, Mismatch, failing_pair, compare_device, paired_device, is_found, is_in, passes, device_found}
 use Rattle.vms_spec.specs.declared.Part.TheVariants as parts
-use Rattle.vms_spec.specs.Lists.{first_answer}
-use Rattle.vms_spec.specs.Sets.{Device, Set}
-use Rattle.vms_spec.specs.Lookup.{find_device, index}
-use Rattle.vms_spec.specs.WellFormed.{WellFormed, here}
-use Rattle.vms_check.specs.declared.mismatch.Mismatch.{Mismatch}
-use Rattle.vms_check.specs.Comparing.{failing_pair, compare_device, paired_device, is_found, is_in}
-use Rattle.vms_check.proofs.ListLaws.{passes}
-use Rattle.vms_spec.proofs.WellFormedLaws.{device_found}
 use Rattle.vms_check_laws.proofs.SubFacts.{none_at}
 
 -- ---- devices by name and instance

@@ -1,14 +1,8 @@
 -- A part of a device (its own fields, or a subsection) in two well-formed sets that compare well there.
-use Rattle.std.proofs.Common.{◌≡◌, ℕ, List, [], length, None, subst, sym, arith, ℤ}
-use Rattle.vms_spec.specs.declared.Part.{Part}
-use Rattle.vms_spec.specs.Sets.{Desc, Set}
-use Rattle.vms_spec.specs.Layout.{Cell, Meaning, meanings, struct_cells, desc_cells, desc_slots}
-use Rattle.vms_spec.specs.WellFormed.{WellFormed}
-use Rattle.vms_check.specs.Comparing.{Comparer, comparers, compare_desc, comparing}
-use Rattle.vms_check.specs.Carrying.{Carrier, carriers, carry_desc, carrying}
-use Rattle.vms_bodies.proofs.CellLaws.{cells_first}
+use Rattle.vms_check_laws.proofs.Facade.{◌≡◌, ℕ, List, [], length, None, subst, sym, arith, ℤ, Part, Desc, Set, Cell, Meaning, meanings, struct_cells}
+use Rattle.vms_check_laws.proofs.Facade.{desc_cells, desc_slots, WellFormed, Comparer, comparers, compare_desc, comparing, Carrier, carriers, carry_desc}
+use Rattle.vms_check_laws.proofs.Facade.{carrying, cells_first, Holds, FitsAt, Carries, is_steady_in}
 use Rattle.vms_check_laws.proofs.Pairing.{cells_in}
-use Rattle.vms_check_laws.specs.Segments.{Holds, FitsAt, Carries}
 use Rattle.vms_check_laws.proofs.Settling.{Settled}
 use Rattle.vms_check_laws.proofs.Descriptions.{desc_reads}
 use Rattle.vms_check_laws.proofs.Counts.{old_fields}
@@ -16,7 +10,6 @@ use Rattle.vms_check_laws.proofs.Structures.{tables, new_below}
 use Rattle.vms_check_laws.proofs.Fitting.{FitCells, GoodCells, good_fields}
 use Rattle.vms_check_laws.proofs.FitStructures.{desc_fits, fit_tables}
 use Rattle.vms_check_laws.proofs.Good.{DescGood, old_structs, new_structs, default_structs}
-use Rattle.vms_spec.specs.Rules.{is_steady_in}
 
 module _ (old new : Set) (good_old : WellFormed old) (good_new : WellFormed new) where
   abbrev ms : List Meaning

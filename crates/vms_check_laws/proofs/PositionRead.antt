@@ -1,15 +1,8 @@
 -- One position, and the first positions, of two descriptions anywhere in two sets, with the sets' own cells.
-use Rattle.std.proofs.Common.{◌≡◌, inl, inr, ℕ, zero, suc, ◌+◌, Bool, List, [], ◌∷◌, length, Option, Some, subst, arith, ℤ, ◌++◌, take, refl, ap}
-use Rattle.std.specs.List.{slice_get, flat_map}
-use Rattle.vms_spec.specs.declared.Part.{Part}
-use Rattle.vms_spec.specs.Rules.{is_earlier_in, is_steady_in}
-use Rattle.vms_spec.specs.Sets.{Field, Desc, Set}
-use Rattle.vms_spec.specs.Layout.{Meaning, meanings, desc_cells, field_cells, numbers_of, Slot, field_slots}
-use Rattle.vms_spec.specs.WellFormed.{WellFormed}
-use Rattle.vms_check.specs.Comparing.{Comparer, Entry, comparers, present, position_from}
-use Rattle.vms_check.specs.Carrying.{Carrier, carriers}
-use Rattle.vms_check_laws.specs.Segments.{FitsAt, Aligns}
-use Rattle.vms_check_laws.specs.Positions.{IsPartOf, IsRead, PositionLaw}
+use Rattle.vms_check_laws.proofs.Facade.{◌≡◌, inl, inr, ℕ, zero, suc, ◌+◌, Bool, List, [], ◌∷◌, length, Option, Some, subst, arith, ℤ, ◌++◌, take, refl, ap}
+use Rattle.vms_check_laws.proofs.Facade.{slice_get, flat_map, Part, is_earlier_in, is_steady_in, Field, Desc, Set, Meaning, meanings, desc_cells, field_cells}
+use Rattle.vms_check_laws.proofs.Facade.{numbers_of, Slot, field_slots, WellFormed, Comparer, Entry, comparers, present, position_from, Carrier, carriers}
+use Rattle.vms_check_laws.proofs.Facade.{FitsAt, Aligns, IsPartOf, IsRead, PositionLaw, AlignedLaw, FrontAligns}
 use Rattle.vms_check_laws.proofs.Segments.{fits_at}
 use Rattle.vms_check_laws.proofs.Pairing.{cells_in, IsKnown, AreKnown, all_known, FitEntries, fit_entries, entries_slots}
 use Rattle.vms_check_laws.proofs.Premises.{Table, OldGood, OldFields}
@@ -19,7 +12,6 @@ use Rattle.vms_check_laws.proofs.Counts.{old_fields}
 use Rattle.vms_check_laws.proofs.Structures.{tables}
 use Rattle.vms_check_laws.proofs.Good.{DescGood, old_structs, new_structs, device_good, sub_good, struct_good}
 use Rattle.vms_check_laws.proofs.Parts.{to_cells}
-use Rattle.vms_check_laws.specs.Fronts.{AlignedLaw, FrontAligns}
 use Rattle.vms_check_laws.proofs.AlignedDescs.{front_aligns, good_first}
 use Rattle.vms_check_laws.proofs.AlignedWholes.{align_rows}
 use Rattle.vms_check_laws.proofs.Positioned.{present_above}

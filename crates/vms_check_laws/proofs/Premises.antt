@@ -1,19 +1,10 @@
 -- What fields and structures on both sides need, and positions that differ.
-use Rattle.std.proofs.Common.{◌≡◌, ◌⊎◌, inl, inr, refl, ap, ℕ, zero, suc, ◌<◌, ◌≤◌, Bool, true, false, ◌==◌, List, [], ◌∷◌, length, get_or, Some, None, arith, ℤ, pos, if◌then◌else◌}
-use Rattle.std.proofs.lemmas.Bool.{eqb-true}
-use Rattle.vms_kinds.specs.declared.Item.{Item}
-use Rattle.vms_kinds.specs.declared.Item.TheVariants.{Equal, Unused}
-use Rattle.vms_spec.specs.declared.Count.{Count}
-use Rattle.vms_spec.specs.declared.Count.TheVariants.{Counted}
-use Rattle.vms_spec.specs.Sets.{Formula, Field}
-use Rattle.vms_spec.specs.Layout.{Cell, Meaning, no_meaning, item_cells}
-use Rattle.vms_spec.specs.Rules.{names_well, nobody, is_one}
-use Rattle.vms_spec.proofs.Prefixes.{ItemBelow}
-use Rattle.vms_check.specs.Comparing.{Entry, position_from, same_place, is_covered, Comparer, no_comparer}
-use Rattle.vms_check.specs.Carrying.{Carrier, no_carrier}
+use Rattle.vms_check_laws.proofs.Facade.{◌≡◌, ◌⊎◌, inl, inr, refl, ap, ℕ, zero, suc, ◌<◌, ◌≤◌, Bool, true, false, ◌==◌, List, [], ◌∷◌, length, get_or, Some}
+use Rattle.vms_check_laws.proofs.Facade.{None, arith, ℤ, pos, if◌then◌else◌, eqb-true, Item, Equal, Unused, Count, Counted, Formula, Field, Cell, Meaning}
+use Rattle.vms_check_laws.proofs.Facade.{no_meaning, item_cells, names_well, nobody, is_one, ItemBelow, Entry, position_from, same_place, is_covered, Comparer}
+use Rattle.vms_check_laws.proofs.Facade.{no_comparer, Carrier, no_carrier, Holds, FitsAt, Carries}
 use Rattle.vms_check_laws.proofs.SameTests.{NamedRest}
 use Rattle.vms_check_laws.proofs.Describing.{covers_unused}
-use Rattle.vms_check_laws.specs.Segments.{Holds, FitsAt, Carries}
 use Rattle.vms_check_laws.proofs.Pairing.{cells_in}
 use Rattle.vms_check_laws.proofs.Settling.{Settled}
 

@@ -1,9 +1,6 @@
 -- A field is there exactly where what its presence at a version leaves of the test holds.
-use Rattle.std.proofs.Common.{◌≡◌, ℕ, Bool, true, false, Option, Some, None, refl, sym, ◌∙◌, nat_le, if◌then◌else◌}
-use Rattle.vms_spec.specs.Sets.{Formula}
-use Rattle.vms_spec.specs.Tests.{truth, is_there}
-use Rattle.vms_check.specs.Reducing.{Reduced, Known, Open, reduced, left_of, presence, truth_of}
-use Rattle.vms_check.proofs.ReducedLaws.{reduced_holds}
+use Rattle.vms_check_laws.proofs.Facade.{◌≡◌, ℕ, Bool, true, false, Option, Some, None, refl, sym, ◌∙◌, nat_le, if◌then◌else◌, Formula, truth, is_there}
+use Rattle.vms_check_laws.proofs.Facade.{Reduced, Known, Open, reduced, left_of, presence, truth_of, reduced_holds}
 
 -- presence at a version, and then the remaining test, say whether a field is there
 abbrev pub there : Option (Option Formula) → ℕ → (ℕ → ℕ) → (ℕ → ℕ) → Bool

@@ -1,16 +1,10 @@
 -- The same remaining tests have the same truth where the numbers that they name are the same.
-use Rattle.std.proofs.Common.{◌≡◌, ℕ, Bool, true, false, not, ◌&&◌, ◌||◌, ◌==◌, Option, Some, None, refl, sym, ap, ◌∙◌, subst, nat_le, bit_and, if◌then◌else◌}
-use Rattle.std.proofs.lemmas.Bool.{and_parts, eqb-true, and_from}
-use Rattle.vms_spec.specs.declared.Rel.{Rel}
-use Rattle.vms_spec.specs.declared.Rel.TheVariants.{Eq, Ne, Lt, Ge}
-use Rattle.vms_spec.specs.declared.Whose.TheVariants.{Own}
-use Rattle.vms_spec.specs.Sets.{Formula, Cell, Not, And, Or}
-use Rattle.vms_spec.specs.Tests.{truth, compares}
-use Rattle.vms_spec.specs.Rules.{names_well, nobody}
-use Rattle.vms_check.specs.Reducing.{Reduced, Known, Open, reduced, left_of, presence, truth_of}
-use Rattle.vms_check.specs.Comparing.{same_place, same_test, same_rest, same_reduced, rel_number}
+use Rattle.vms_check_laws.proofs.Facade.{◌≡◌, ℕ, Bool, true, false, not, ◌&&◌, ◌||◌, ◌==◌, Option, Some, None, refl, sym, ap, ◌∙◌, subst, nat_le, bit_and}
+use Rattle.vms_check_laws.proofs.Facade.{if◌then◌else◌, and_parts, eqb-true, and_from, Rel, Eq, Ne, Lt, Ge, Own, Formula, Not, And, Or, truth, compares}
+use Rattle.vms_check_laws.proofs.Facade.{names_well, nobody, Reduced, Known, Open, reduced, left_of, presence, truth_of, same_place, same_test, same_rest}
+use Rattle.vms_check_laws.proofs.Facade.{same_reduced, rel_number, IfOpen, IsByParts, open_reduced}
+use Rattle.vms_spec.specs.Sets.{Cell}
 use Rattle.vms_check_laws.proofs.Presence.{there}
-use Rattle.vms_check.proofs.ReducedLaws.{IfOpen, IsByParts, open_reduced}
 
 -- a number's relation
 abbrev pub rel_of : ℕ → Rel

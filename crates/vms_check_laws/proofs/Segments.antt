@@ -1,12 +1,7 @@
 -- Segments of numbers, and slots of one side whose bytes are those of the other's.
-use Rattle.std.proofs.Common.{◌≡◌, ℕ, suc, ◌+◌, ◌<◌, List, ◌∷◌, ◌++◌, length, get_or, replicate, Bool, IsTrue, refl, sym, ap, ◌∙◌, subst, arith, append_assoc, ℤ, pos, []}
-use Rattle.std.proofs.lemmas.List.{length-append, get_or_append_left, get_or-append-add, append-nil}
-use Rattle.vms_kinds.specs.declared.Kind.{Kind}
-use Rattle.vms_kinds.specs.Codes.{code}
-use Rattle.vms_spec.specs.Layout.{Cell, no_cell, Slot, Number, Constant, Filler, Rule}
-use Rattle.vms_spec.specs.Images.{FitsCell, Spells, zeroed, RulesHold}
-use Rattle.vms_check_laws.specs.Segments.{Holds, FitsAt, Carries}
-use Rattle.vms_bodies.proofs.SpellLaws.{rules_append, spells_append}
+use Rattle.vms_check_laws.proofs.Facade.{◌≡◌, ℕ, suc, ◌+◌, List, ◌∷◌, ◌++◌, length, get_or, Bool, IsTrue, refl, sym, ◌∙◌, arith, append_assoc, ℤ, pos, []}
+use Rattle.vms_check_laws.proofs.Facade.{length-append, get_or_append_left, get_or-append-add, append-nil, Kind, Cell, no_cell, Slot, Number, Constant, Filler}
+use Rattle.vms_check_laws.proofs.Facade.{Rule, zeroed, RulesHold, Holds, FitsAt, Carries, rules_append, spells_append}
 
 -- values from a place on
 pub at_first : {A : Type 0} (f : ℕ → A) (j : ℕ) {g : ℕ → A} → ((m : ℕ) → f (j + m) ≡ g m) → f j ≡ g 0

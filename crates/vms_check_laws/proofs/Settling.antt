@@ -1,14 +1,7 @@
 -- Numbers that are in the bytes, or at their defaults.
-use Rattle.std.proofs.Common.{◌≡◌, ◌⊎◌, inl, inr, ℕ, ◌+◌, ◌<◌, List, ◌∷◌, ◌++◌, length, get_or, refl, sym, ◌∙◌, arith, ℤ, pos, Bool, true, []}
-use Rattle.std.proofs.lemmas.List.{length-append, length-map, get_or_append_left, get_or-append-add}
-use Rattle.std.proofs.lemmas.Bool.{eq-eqb}
-use Rattle.vms_kinds.specs.declared.Kind.{Kind}
-use Rattle.vms_kinds.specs.declared.Item.{Item}
-use Rattle.vms_kinds.specs.declared.Item.TheVariants.{Num}
-use Rattle.vms_spec.specs.Layout.{Cell, Slot, Number, item_cells}
-use Rattle.vms_spec.specs.Images.{has_cell}
-use Rattle.vms_bodies.proofs.Names.{has_left, has_right}
-use Rattle.vms_check.specs.Carrying.{defaults}
+use Rattle.vms_check_laws.proofs.Facade.{◌≡◌, ◌⊎◌, inl, inr, ℕ, ◌+◌, ◌<◌, List, ◌∷◌, ◌++◌, length, get_or, refl, sym, ◌∙◌, arith, ℤ, pos, true, []}
+use Rattle.vms_check_laws.proofs.Facade.{length-append, length-map, get_or_append_left, get_or-append-add, eq-eqb, Kind, Item, Num, Cell, Slot, Number}
+use Rattle.vms_check_laws.proofs.Facade.{item_cells, has_cell, has_left, has_right, defaults}
 use Rattle.vms_check_laws.proofs.PairLists.{IsBehind, before_or_behind}
 
 pub record Settled (slots : List Slot) (at : ℕ) (cells : List Cell) (segment : List ℤ) : Type 0 where

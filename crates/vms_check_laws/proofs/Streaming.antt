@@ -1,22 +1,11 @@
 -- Whole streams: each device's section is one of the newer set's, and the order takes each device once.
-use Rattle.std.proofs.Common.{◌≡◌, inl, inr, ℕ, zero, suc, ◌+◌, ◌<◌, ◌≤◌, true, false, List, ◌∷◌, length, map, get_or, Option, Some, None, refl, sym, ap, ◌∙◌, subst, arith, []}
-use Rattle.std.specs.List.{slice_get, list_all}
+use Rattle.vms_check_laws.proofs.Facade.{◌≡◌, inl, inr, ℕ, zero, suc, ◌+◌, ◌<◌, ◌≤◌, true, false, List, ◌∷◌, length, map, get_or, Option, Some, None, refl, sym}
+use Rattle.vms_check_laws.proofs.Facade.{ap, ◌∙◌, subst, arith, [], slice_get, list_all, first_answer, Device, Set, Image, HasSection, SectionsSpell, IsReady}
+use Rattle.vms_check_laws.proofs.Facade.{EachOnce, is_one_of, written_section, written_sections, find_device, index, is_version_of, WellFormed, here}
+use Rattle.vms_check_laws.proofs.Facade.{Compatible, failing_pair, first_mismatch, comparing, compare_device, compare_subs, is_found, is_in, carried}
+use Rattle.vms_check_laws.proofs.Facade.{carried_device, carried_at, no_image, passes, device_found, ArePaired, DeviceLaw, or_else_none}
 use Rattle.vms_spec.specs.declared.Part.TheVariants as parts
-use Rattle.vms_spec.specs.Lists.{first_answer}
-use Rattle.vms_spec.specs.Sets.{Device, Set}
-use Rattle.vms_spec.specs.Images.{Image}
-use Rattle.vms_stream.specs.Streams.{HasSection, SectionsSpell}
-use Rattle.vms_spec.specs.Streams.{IsReady, EachOnce, is_one_of, written_section, written_sections}
-use Rattle.vms_spec.specs.Lookup.{find_device, index}
-use Rattle.vms_spec.specs.Readiness.{is_version_of}
-use Rattle.vms_spec.specs.WellFormed.{WellFormed, here}
-use Rattle.vms_check.specs.Comparing.{Compatible, failing_pair, first_mismatch, comparing, compare_device, compare_subs, is_found, is_in}
-use Rattle.vms_check.specs.Carrying.{carried, carried_device, carried_at, no_image}
-use Rattle.vms_check.proofs.ListLaws.{passes}
-use Rattle.vms_spec.proofs.WellFormedLaws.{device_found}
 use Rattle.vms_check_laws.proofs.Segments.{one_on, at_first, from_zero}
-use Rattle.vms_check_laws.specs.Laws.{ArePaired, DeviceLaw}
-use Rattle.vms_spec.proofs.Faultless.{or_else_none}
 use Rattle.vms_check_laws.proofs.Partnered.{found_device, found_some, compared, Pair, pair, back}
 use Rattle.vms_check_laws.proofs.Orders.{Among, NotIn, Apart, Wait, each_comes, found_same}
 use Rattle.vms_check_laws.proofs.SubFacts.{none_at, saved}

@@ -1,19 +1,11 @@
 -- Structures on both sides, by induction on new's number.
-use Rattle.std.proofs.Common.{◌≡◌, ℕ, zero, suc, ◌+◌, ◌<◌, ◌≤◌, Bool, List, [], ◌∷◌, length, get_or, Option, Some, None, refl, sym, ap, ◌∙◌, subst, arith, ℤ}
-use Rattle.std.proofs.lemmas.List.{length-append}
-use Rattle.vms_kinds.specs.declared.Item.{Item}
-use Rattle.vms_kinds.specs.declared.Item.TheVariants.{Num, Equal, Unused, Struct}
-use Rattle.vms_spec.specs.Sets.{Formula, Field, Desc}
-use Rattle.vms_spec.specs.Layout.{no_desc, Cell, Slot, Meaning, no_meaning, meanings, field_cells, cells_from, desc_cells, desc_slots, numbers_of}
+use Rattle.vms_check_laws.proofs.Facade.{◌≡◌, ℕ, suc, ◌+◌, ◌<◌, ◌≤◌, Bool, List, [], ◌∷◌, length, get_or, Option, Some, None, refl, sym, ap, ◌∙◌, arith, ℤ}
+use Rattle.vms_check_laws.proofs.Facade.{length-append, Item, Num, Equal, Unused, Struct, Formula, Field, Desc, no_desc, Cell, Meaning, no_meaning, meanings}
+use Rattle.vms_check_laws.proofs.Facade.{field_cells, cells_from, desc_cells, numbers_of, is_steady_in, first_at, first_long, ItemBelow, FieldsBelow}
+use Rattle.vms_check_laws.proofs.Facade.{struct_slots, struct_cells_at, presence, Entry, present, Comparer, no_comparer, comparer_of, comparers, compare_desc}
+use Rattle.vms_check_laws.proofs.Facade.{Carrier, no_carrier, carrier_of, carriers, carry_desc, carry_from, carry_next, entries_left, Holds, FitsAt, Carries}
 use Rattle.vms_spec.specs.declared.Part.TheVariants as parts
-use Rattle.vms_spec.specs.Rules.{is_steady_in}
-use Rattle.vms_spec.proofs.Tables.{first_at, first_long}
-use Rattle.vms_spec.proofs.Prefixes.{ItemBelow, FieldsBelow, struct_slots, struct_cells_at}
-use Rattle.vms_check.specs.Reducing.{presence}
-use Rattle.vms_check.specs.Comparing.{Entry, present, Comparer, no_comparer, comparer_of, comparers, compare_desc}
-use Rattle.vms_check.specs.Carrying.{Carrier, no_carrier, carrier_of, carriers, carry_desc, carry_from, carry_next, entries_left}
 use Rattle.vms_check_laws.proofs.Pairing.{cells_in}
-use Rattle.vms_check_laws.specs.Segments.{Holds, FitsAt, Carries}
 use Rattle.vms_check_laws.proofs.Settling.{Settled}
 use Rattle.vms_check_laws.proofs.Linking.{defaults_size, carry_field_size}
 use Rattle.vms_check_laws.proofs.Premises.{Table, NewFields, RulesNamed, by_less, OldFields}

@@ -1,24 +1,12 @@
 -- What two well-formed sets without a mismatch give for each subsection of new.
-use Rattle.std.proofs.Common.{◌≡◌, ◌⊎◌, inl, inr, ℕ, zero, suc, ◌+◌, ◌≤◌, true, List, ◌∷◌, length, get_or, Option, Some, None, refl, sym, ap, ◌∙◌, subst, arith, ℤ, pos, nat_le, []}
-use Rattle.std.specs.List.{flat_map, slice_get}
-use Rattle.std.proofs.lemmas.Bool.{and_parts, leb-true}
+use Rattle.vms_check_laws.proofs.Facade.{◌≡◌, ◌⊎◌, inl, inr, ℕ, zero, suc, ◌+◌, ◌≤◌, true, List, ◌∷◌, length, get_or, Option, Some, None, refl, sym, ap, ◌∙◌}
+use Rattle.vms_check_laws.proofs.Facade.{subst, arith, ℤ, pos, nat_le, [], flat_map, slice_get, and_parts, leb-true, first_answer, Sub, Device, Set, Cell}
+use Rattle.vms_check_laws.proofs.Facade.{no_cell, struct_cells, desc_cells, device_cells, Image, FitsCell, FitCells, AreVersionsOf, RulesHold, own_slots}
+use Rattle.vms_check_laws.proofs.Facade.{own_cells, sub_slots, sub_place, came_slots, IsReady, ComeAsNeeded, find_sub, index, is_version_of, WellFormed, here}
+use Rattle.vms_check_laws.proofs.Facade.{failing_pair, comparing, compare_sub, compare_subs, carried_sub, carry_sub, sub_came, defaults, passes, sub_found}
+use Rattle.vms_check_laws.proofs.Facade.{IsSaved, FitsAt, or_else_none}
 use Rattle.vms_spec.specs.declared.Part.TheVariants as parts
-use Rattle.vms_spec.specs.Lists.{first_answer}
-use Rattle.vms_spec.specs.Sets.{Sub, Device, Set}
-use Rattle.vms_spec.specs.Layout.{Cell, no_cell, struct_cells, desc_cells, device_cells}
-use Rattle.vms_spec.specs.Images.{Image, FitsCell, FitCells, AreVersionsOf, RulesHold, own_slots, own_cells, sub_slots, sub_place, came_slots}
-use Rattle.vms_spec.specs.Streams.{IsReady, ComeAsNeeded}
-use Rattle.vms_spec.specs.Lookup.{find_sub, index}
-use Rattle.vms_spec.specs.Readiness.{is_version_of}
-use Rattle.vms_spec.specs.WellFormed.{WellFormed, here}
-use Rattle.vms_check.specs.Comparing.{failing_pair, comparing, compare_sub, compare_subs}
-use Rattle.vms_check.specs.Carrying.{carried_sub, carry_sub, sub_came, defaults}
-use Rattle.vms_check.proofs.ListLaws.{passes}
-use Rattle.vms_spec.proofs.WellFormedLaws.{sub_found}
-use Rattle.vms_check_laws.specs.Laws.{IsSaved}
-use Rattle.vms_check_laws.specs.Segments.{FitsAt}
 use Rattle.vms_check_laws.proofs.Segments.{fits_left, fits_right, rules_left, rules_right, one_on, at_first, from_zero}
-use Rattle.vms_spec.proofs.Faultless.{or_else_none}
 use Rattle.vms_check_laws.proofs.Good.{sub_good}
 use Rattle.vms_check_laws.proofs.Parts.{good_cells}
 use Rattle.vms_check_laws.proofs.Subsections.{Came, Stayed, Facts}

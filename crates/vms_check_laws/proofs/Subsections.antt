@@ -1,20 +1,13 @@
 -- Subsections of a device: new's own list, each from old's of its name where it came.
-use Rattle.std.proofs.Common.{◌≡◌, ◌⊎◌, inl, inr, ℕ, zero, suc, ◌+◌, List, ◌∷◌, ◌++◌, length, map, Option, Some, None, refl, sym, ap, subst, ℤ, []}
-use Rattle.std.specs.List.{flat_map, slice_get}
-use Rattle.vms_spec.specs.declared.Part.{Part}
-use Rattle.vms_spec.specs.Sets.{Sub, Device, Set}
-use Rattle.vms_spec.specs.Layout.{Cell, struct_cells, desc_cells}
-use Rattle.vms_spec.specs.Images.{Image, IsVersionOf, AreVersionsOf, RulesHold, sub_slots, sub_place, came_slots}
-use Rattle.vms_spec.specs.WellFormed.{WellFormed}
-use Rattle.vms_check.specs.Comparing.{comparing}
-use Rattle.vms_check.specs.Carrying.{carrying, carried_sub, defaults}
-use Rattle.vms_check_laws.specs.Segments.{Holds, FitsAt, Carries}
+use Rattle.vms_check_laws.proofs.Facade.{◌≡◌, ◌⊎◌, inl, inr, ℕ, zero, suc, ◌+◌, List, ◌∷◌, length, map, Option, Some, None, refl, sym, ap, subst, ℤ, []}
+use Rattle.vms_check_laws.proofs.Facade.{flat_map, slice_get, Part, Sub, Device, Set, Cell, struct_cells, desc_cells, Image, IsVersionOf, AreVersionsOf}
+use Rattle.vms_check_laws.proofs.Facade.{RulesHold, sub_slots, sub_place, came_slots, WellFormed, comparing, carrying, carried_sub, defaults, Holds, FitsAt}
+use Rattle.vms_check_laws.proofs.Facade.{Carries, rules_append}
 use Rattle.vms_check_laws.proofs.Segments.{holds_left, holds_right, holds_at}
 use Rattle.vms_check_laws.proofs.Settling.{Settled, settled_defaults, settled_append, settled_empty}
 use Rattle.vms_check_laws.proofs.Fitting.{FitCells, GoodCells, fit_append, fit_defaults, fit_length}
 use Rattle.vms_check_laws.proofs.Good.{DescGood}
 use Rattle.vms_check_laws.proofs.Parts.{part_carries, part_fits, part_settles}
-use Rattle.vms_bodies.proofs.SpellLaws.{rules_append}
 
 module _ (old new : Set) (good_old : WellFormed old) (good_new : WellFormed new) (d e : Device) (image : Image) (numbers' : List ℤ) (came_of : Sub → Option ℕ) where
   abbrev cells_of : Sub → List Cell

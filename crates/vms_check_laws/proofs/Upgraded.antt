@@ -1,17 +1,7 @@
 -- What the older set writes is a stream of the newer, with the carried images.
-use Rattle.std.proofs.Common.{◌≡◌, ℕ, ◌+◌, ◌≤◌, true, List, length, get_or, Option, Some, None, IfSome, refl, ap, arith}
-use Rattle.std.specs.List.{slice_get}
-use Rattle.std.proofs.lemmas.List.{length-map}
-use Rattle.vms_spec.specs.Sets.{Set}
-use Rattle.vms_spec.specs.Images.{Image}
-use Rattle.vms_stream.specs.Streams.{IsStream}
-use Rattle.vms_spec.specs.Streams.{IsConfiguration, configuration, trailer, optional, longest_text, is_one_of, written, written_sections, AreReady}
-use Rattle.vms_spec.specs.WellFormed.{WellFormed}
-use Rattle.vms_check.specs.Comparing.{Compatible}
-use Rattle.vms_check.specs.Carrying.{carried, no_image}
-use Rattle.vms_spec.proofs.Faultless.{every_one, machine_short, few_devices}
-use Rattle.vms_check_laws.specs.Laws.{UpgradeLaw}
-use Rattle.vms_stream.proofs.Stated.{trailed}
+use Rattle.vms_check_laws.proofs.Facade.{◌≡◌, ℕ, ◌+◌, ◌≤◌, true, List, length, get_or, Option, Some, None, IfSome, refl, ap, arith, slice_get, length-map, Set}
+use Rattle.vms_check_laws.proofs.Facade.{Image, IsStream, IsConfiguration, configuration, trailer, optional, longest_text, is_one_of, written, written_sections}
+use Rattle.vms_check_laws.proofs.Facade.{AreReady, WellFormed, Compatible, carried, no_image, every_one, machine_short, few_devices, UpgradeLaw, trailed}
 use Rattle.vms_check_laws.proofs.Streaming.{device_order, rules, spell, each_once}
 
 module _ (old new : Set) (good_old : WellFormed old) (good_new : WellFormed new) (none : Compatible old new) where

@@ -1,24 +1,11 @@
 -- A device with subsections: what the older set writes is a section of the newer with the carried image.
-use Rattle.std.proofs.Common.{◌≡◌, ◌⊎◌, inl, inr, ℕ, zero, suc, ◌+◌, ◌<◌, true, false, List, ◌∷◌, ◌++◌, length, map, get_or, Option, Some, None, refl, sym, ap, ◌∙◌, subst, arith, ℤ, pos, []}
-use Rattle.std.specs.List.{flat_map, slice_get}
-use Rattle.vms_spec.specs.declared.Part.{Part}
-use Rattle.vms_spec.specs.Lists.{first_answer}
-use Rattle.vms_spec.specs.Sets.{Sub, Device, Set}
-use Rattle.vms_spec.specs.Layout.{Slot, no_cell, struct_cells, desc_cells, device_cells}
-use Rattle.vms_spec.specs.Images.{Image, IsVersionOf, zeroed, own_slots, own_cells, sub_slots, sub_place, came_slots, has_cell}
-use Rattle.vms_stream.specs.Streams.{IsSection}
-use Rattle.vms_spec.specs.Streams.{SubSpells, SubsSpell, ComesOnce, sub_head, section_head, foot, written_subs, written_section}
-use Rattle.vms_spec.specs.Lookup.{find_sub, index}
-use Rattle.vms_spec.specs.Readiness.{is_version_of}
-use Rattle.vms_spec.specs.WellFormed.{WellFormed}
-use Rattle.vms_check.specs.Comparing.{comparing, compare_sub, compare_subs}
-use Rattle.vms_check.specs.Carrying.{carrying, carried_sub, carried_device, defaults, sub_came}
-use Rattle.vms_spec.proofs.WellFormedLaws.{sub_found}
-use Rattle.vms_bodies.proofs.SectionLaws.{defaults_at}
-use Rattle.vms_bodies.proofs.ReadyLaws.{version_is}
-use Rattle.vms_bodies.proofs.SpellLaws.{rules_append}
-use Rattle.vms_check_laws.specs.Laws.{IsSaved}
-use Rattle.vms_check_laws.specs.Segments.{Holds, FitsAt}
+use Rattle.vms_check_laws.proofs.Facade.{◌≡◌, ◌⊎◌, inl, inr, ℕ, zero, suc, ◌+◌, ◌<◌, true, false, List, ◌∷◌, ◌++◌, length, map, get_or, Option, Some, None}
+use Rattle.vms_check_laws.proofs.Facade.{refl, sym, ap, ◌∙◌, subst, arith, ℤ, pos, [], flat_map, slice_get, Part, first_answer, Sub, Device, Set, Slot, no_cell}
+use Rattle.vms_check_laws.proofs.Facade.{struct_cells, desc_cells, device_cells, Image, IsVersionOf, zeroed, own_slots, own_cells, sub_slots, sub_place}
+use Rattle.vms_check_laws.proofs.Facade.{came_slots, has_cell, IsSection, SubSpells, SubsSpell, ComesOnce, sub_head, section_head, foot, written_subs}
+use Rattle.vms_check_laws.proofs.Facade.{written_section, find_sub, index, is_version_of, WellFormed, comparing, compare_sub, compare_subs, carrying}
+use Rattle.vms_check_laws.proofs.Facade.{carried_sub, carried_device, defaults, sub_came, sub_found, defaults_at, version_is, rules_append, IsSaved, Holds}
+use Rattle.vms_check_laws.proofs.Facade.{FitsAt}
 use Rattle.vms_check_laws.proofs.Segments.{holds_left, holds_right, holds_at, fits_left, rules_left, one_on, at_first, from_zero}
 use Rattle.vms_check_laws.proofs.Settling.{Settled, settled_append}
 use Rattle.vms_check_laws.proofs.Fitting.{fit_append, fit_length, are_fit}
