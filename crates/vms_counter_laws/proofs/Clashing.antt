@@ -3,7 +3,7 @@ use Rattle.std.proofs.Common.{◌≡◌, ◌⊎◌, inl, inr, ℕ, zero, suc, �
 use Rattle.std.specs.List.{slice_get}
 use Rattle.vms_kinds.specs.declared.Kind.{Kind}
 use Rattle.vms_kinds.specs.declared.Item.{Item}
-use Rattle.vms_kinds.specs.declared.Item.TheVariants.{Num, Equal, Unused, Struct}
+use Rattle.vms_kinds.specs.declared.Item.TheVariants.{Equal, Struct}
 use Rattle.vms_kinds.specs.Codes.{InRange, code, value_of}
 use Rattle.vms_spec.specs.declared.Part.{Part}
 use Rattle.vms_spec.specs.declared.Place.{Place}
@@ -18,7 +18,6 @@ use Rattle.vms_check.specs.declared.mismatch.Mismatch.{Mismatch}
 use Rattle.vms_check.specs.Reducing.{presence}
 use Rattle.vms_check.specs.Comparing.{Entry, Comparer, absent_hold, bound, compare_fields, entry_of, failing_pair, holds_as_much, is_covered, names_match, pair_rules, pair_structs, present_from, same_constant, same_count, same_item, same_rest, uncovered_rules}
 use Rattle.vms_check_laws.proofs.Pairing.{kinds_same}
-use Rattle.vms_check_laws.proofs.Segments.{at_first, one_on}
 use Rattle.vms_check_laws.proofs.AlignedDescs.{Clash, Clashes, Differ}
 use Rattle.vms_counter_laws.proofs.Inverted.{else_some, one_rule, IsStruct, StructsWithin}
 
@@ -35,8 +34,9 @@ entry_field all v i p f (Some rest) es h e more = ((e, h), more)
 pub present_fields : (y : List (List Cell)) (all : List Field) (v i p : ℕ) (fs : List Field) → ((k : ℕ) → slice_get all (i + k) ≡ slice_get fs k) → AreFields all v (present_from y all v i p fs)
 present_fields y all v i p [] h = tt
 present_fields y all v i p (f ∷ fs) h =
-    entry_field all v i p f (presence v f.test f.since) _ refl (at_first (slice_get all) i h)
-    (present_fields y all v (suc i) (p + length (field_cells y all i f)) fs (one_on (slice_get all) i h))
+    let z : i ≡ i + 0 = omega arith in
+    entry_field all v i p f (presence v f.test f.since) _ refl (ap (slice_get all) z ∙ h 0)
+    (present_fields y all v (suc i) (p + length (field_cells y all i f)) fs (λ k. let s : suc i + k ≡ i + suc k = omega arith in ap (slice_get all) s ∙ h (suc k)))
 
 -- ---- constants
 

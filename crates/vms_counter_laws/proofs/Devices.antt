@@ -25,7 +25,6 @@ use Rattle.vms_check.specs.Comparing.{compare_device, failing_pair, is_in}
 use Rattle.vms_check.specs.Carrying.{carried_device}
 use Rattle.vms_check_laws.specs.Laws.{ArePaired}
 use Rattle.vms_check_laws.proofs.Partnered.{compared, Pair, pair, back}
-use Rattle.vms_check_laws.proofs.Segments.{at_first, one_on}
 use Rattle.vms_check_laws.proofs.Streaming.{device_stands}
 use Rattle.vms_check_laws.proofs.SubFacts.{saved}
 
@@ -82,7 +81,7 @@ module _ (old new : Set) (good_old : WellFormed old) (good_new : WellFormed new)
         let J = judge (by_state new names) in
         let z : i + 0 ≡ i = omega arith in
         let s : suc i + c ≡ i + suc c = omega arith in
-        let at_i : slice_get old.devices i ≡ Some x = at_first (slice_get old.devices) i devices_are in
+        let at_i : slice_get old.devices i ≡ Some x = ap (λ (k : ℕ). slice_get old.devices k) (sym z) ∙ devices_are 0 in
         let p = pair old new good_old all_in i x at_i in
         let none_here : compare_device old new i x (Some p.number) (Some p.device) ≡ None = sym p.compared_is ∙ ap (λ (k : ℕ). compared old new k x) (sym z) ∙ none 0 x (omega arith) refl in
         let front = written_section old x im i in
@@ -94,7 +93,8 @@ module _ (old new : Set) (good_old : WellFormed old) (good_new : WellFormed new)
         let carried = carried_device old new x p.device im in
         let on = section_read_holds new names good_new heads p.number p.device carried p.stands None images came tail first after (omega (arith, inside, images_long)) (waits i x p (omega arith) at_i) foots i place front rest section in
         let r = comes c (suc i) ds ims
-        (one_on (slice_get old.devices) i devices_are) (omega arith) (λ j. ready (suc j))
+        (λ j. let t : suc i + j ≡ i + suc j = omega arith in ap (λ (k : ℕ). slice_get old.devices k) t ∙ devices_are (suc j)) (omega arith)
+        (λ j. ready (suc j))
         (λ j u lt f. let t : suc i + j ≡ i + suc j = omega arith in ap (λ (k : ℕ). compared old new k u) t ∙ none (suc j) u (omega arith) f)
         d image at_c im_c (slice_set images p.number carried) (slice_set came p.number true) Footed false false
         (length-set images p.number carried ∙ images_long) (length-set came p.number true ∙ came_long) (waits_next came i x p at_i waits) (λ f. cc) (place + length front)
