@@ -75,7 +75,7 @@ module _ (old new : Set) (good_old : WellFormed old) (good_new : WellFormed new)
         record {
           came = came;
           rest = rest;
-          begins = rw (d_is, im_is, z) at b;
+          begins = subst (λ (k : ℕ). BeginsSection new came (written_section old d image k ++ rest)) z (rw (d_is, im_is) at b);
         }
     comes (suc c) i (x ∷ ds) (im ∷ ims) devices_are few ready none d image at_c im_c images came tail first after images_long came_long waits foots place ok h =
         let J = judge (by_state new names) in
