@@ -176,7 +176,7 @@ static const struct part {
     {"extended control registers", KVM_GET_XCRS, KVM_SET_XCRS, sizeof(struct kvm_xcrs)},
     {"floating point", KVM_GET_XSAVE, KVM_SET_XSAVE, sizeof(struct kvm_xsave)},
     {"debug registers", KVM_GET_DEBUGREGS, KVM_SET_DEBUGREGS, sizeof(struct kvm_debugregs)},
-    {"interrupt on its way", KVM_GET_VCPU_EVENTS, KVM_SET_VCPU_EVENTS, sizeof(struct kvm_vcpu_events)},
+    {"events on their way", KVM_GET_VCPU_EVENTS, KVM_SET_VCPU_EVENTS, sizeof(struct kvm_vcpu_events)},
 };
 static const struct part *const END = PARTS + sizeof PARTS / sizeof *PARTS;
 static uint8_t bytes[sizeof(struct kvm_xsave)]; /* of a part: that of floating point is the largest */

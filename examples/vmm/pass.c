@@ -95,7 +95,6 @@ void resume(struct vmm *vmm)
              (int)restored.device, restored.reason, restored.rule);
     make_machine(vmm, ram_file);
     restore_processor(vmm, state);
-    finish_access(vmm); /* there is none: KVM only says now whether the processor takes an interrupt */
     checked(write(reply, "", 1), "the answer");
     close(state);
     close(reply);
