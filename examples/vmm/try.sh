@@ -76,10 +76,10 @@ for set in 3 4; do
 done
 
 echo "-- refused by the other program"
-./vmm --clock steps --upgrade $((exits / 3)) --program "$here/damaged.sh" guest.bin <early >refused.out
-cmp plain.out refused.out
-./vmm --clock steps --upgrade $((exits / 3)) --program /bin/false guest.bin <early >refused.out
-cmp plain.out refused.out
+for program in "$here/damaged.sh" /bin/false ./none; do
+    ./vmm --clock steps --upgrade $((exits / 3)) --program "$program" guest.bin <early >refused.out
+    cmp plain.out refused.out
+done
 
 echo "-- each board, with the host's clock, passed on"
 for board in isa-1 isa-2 isa-3 isa-4 clk-1 clk-2; do
