@@ -1,6 +1,6 @@
 #!/usr/bin/env python3
-"""change.py BOCHS: changes the sources of Bochs 2.7 or 3.0 in the folder BOCHS, so that its ports, its acknowledge and its halt are
-those of processor.cc. Each edit names what it looks for and how often that must be there. If anything isn't there, nothing is changed."""
+"""change.py BOCHS: changes the sources of Bochs 3.0 in the folder BOCHS, so that its ports, its acknowledge and its halt are
+those of processor.cc. Each edit has a pattern and how often it must be found. If one isn't, nothing is changed."""
 import os
 import re
 import sys

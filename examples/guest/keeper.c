@@ -1,7 +1,7 @@
 /* keeper KIND LEVEL: a process of its own that has a board for a while.
  *
- * Standard input is a socket. The keeper restores a board from the stream that comes first, makes the calls that are requested, and
- * ends when the board is to be saved, with its stream as the last answer. */
+ * Standard input is a socket. The keeper restores a board from the stream that comes first, and makes the calls that are
+ * requested. It ends when the board is to be saved, with the board's stream as the last answer. */
 #include <stdlib.h>
 #include <unistd.h>
 

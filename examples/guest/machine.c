@@ -12,8 +12,8 @@
 
 enum { LEVEL = 3, NEWEST = 4, PROMPT_WAIT = 5000000 };
 
-/* A migration comes after each access whose number is a multiple of EVERY, after others with a chance of one in RANDOM, and between an
- * acknowledge and the injection with a chance of one in ACKNOWLEDGED. The board of each FRESHth goes to a fresh process. */
+/* A migration comes after each access whose number is a multiple of EVERY, after others with a chance of one in RANDOM, and
+ * between an acknowledge and the injection with a chance of one in ACKNOWLEDGED. Each FRESHth goes to a fresh process. */
 enum { EVERY = 700, RANDOM = 2000, ACKNOWLEDGED = 40, FRESH = 10 };
 
 #define PROMPT "guest# "
@@ -92,8 +92,8 @@ static void show_progress(void)
     if (is_shown || t < shown + 5)
         return;
     shown = t;
-    fprintf(stderr, "   %3" PRIu64 " s: %" PRIu64 ".%" PRIu64 " s of the guest, %" PRIu64 " accesses, %" PRIu64 " migrations\n", t,
-            now / 1000000000, now / 100000000 % 10, accesses, migrations());
+    fprintf(stderr, "   %3" PRIu64 " s: %" PRIu64 ".%" PRIu64 " s of the guest, %" PRIu64 " accesses, %" PRIu64 " migrations\n",
+            t, now / 1000000000, now / 100000000 % 10, accesses, migrations());
 }
 
 /* Looks for a prompt in what the guest sends. */
@@ -233,7 +233,8 @@ void machine_end(uint64_t moment)
     fclose(script);
     fclose(trace);
     fclose(console);
-    fprintf(stderr, "-- halted after %" PRIu64 " s: %" PRIu64 ".%" PRIu64 " s of the guest, %" PRIu64 " accesses, %" PRIu64 " events\n",
+    fprintf(stderr,
+            "-- halted after %" PRIu64 " s: %" PRIu64 ".%" PRIu64 " s of the guest, %" PRIu64 " accesses, %" PRIu64 " events\n",
             seconds(), now / 1000000000, now / 100000000 % 10, accesses, events);
     if (is_migrated)
         fprintf(stderr,

@@ -20,8 +20,8 @@ void place_new(struct place *place, uint8_t kind, uint8_t level, const char *pro
 /* Makes a call of the board, wherever it is. Ends the program if it answers a status other than 0. */
 struct reply place_do(struct place *place, struct request request);
 
-/* Migrates the board: it is saved under `set`, freed where it was, and restored in a new board: in a process that has just been started
- * if `is_fresh`, else here. Returns the length of the stream. */
+/* Migrates the board: it is saved under `set`, freed where it was, and restored in a new board. That one is in a process that
+ * has just been started if `is_fresh`, else here. Returns the length of the stream. */
 size_t place_migrate(struct place *place, uint8_t set, bool describe, bool is_fresh);
 
 /* Frees the board, here or there. */

@@ -1,7 +1,8 @@
 /* play BOARD EVERY SCRIPT TRACE: makes the events of a script on a board, and compares what it answers with a trace.
  *
- * After EVERY events, where that isn't 0, the board is saved, freed, and restored in a new one. The sets are in turn those from the
- * board's level on; each second stream ends with the description of itself. The status is 0 if each line is as in the trace. */
+ * If EVERY isn't 0, the board is saved after so many events, freed, and restored in a new one. The sets are in turn those from
+ * the board's level on; each second stream ends with the description of itself. The status is 0 if all answers are as in the
+ * trace. */
 #include <inttypes.h>
 #include <stdlib.h>
 #include <string.h>

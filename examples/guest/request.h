@@ -22,7 +22,8 @@ enum request_kind {
     REQUEST_SAVE /* of a keeper alone: it answers the stream, and ends */
 };
 
-/* `place` is a port, an interrupt input or a counter; `value` is what is written or received, 1 for a wire that rises, or a set. */
+/* `place` is a port, an interrupt input or a counter, or 1 for a stream with its description. `value` is what is written or
+ * received, 1 for a wire that rises, or a set. */
 struct request {
     uint64_t moment;
     uint16_t place;

@@ -1,9 +1,11 @@
 #!/bin/sh
-# Boots a stock Linux on the board isa-3, once plain and once with a thousand migrations, and compares: sh examples/guest/try.sh [LIBRARY]
+# Boots a stock Linux on the board isa-3, once plain and once with 1,700 migrations, and compares what it did:
 #
-# LIBRARY is a folder with libvmstate_board_c.a. Without it the library is proved and built first, which takes two hours of processor
-# time from nothing. Nothing is installed: Debian's packages are fetched to examples/guest/out (or the folder WORK), about 60 MB, and
-# built there. A second run fetches and builds only what isn't there.
+#     sh examples/guest/try.sh [LIBRARY]
+#
+# LIBRARY is a folder with libvmstate_board_c.a. Without it the library is proved and built first, which takes two hours of
+# processor time from nothing. Nothing is installed: Debian's packages are fetched to examples/guest/out (or the folder WORK),
+# 60 MB with their lists, and built there. A second run fetches and builds only what isn't there.
 set -eu
 here=$(cd "$(dirname "$0")" && pwd)
 top=$(cd "$here/../.." && pwd)
@@ -41,11 +43,14 @@ build_programs() {
 }
 
 play_traces() {
+    clean=
+    if command -v valgrind >/dev/null; then clean="valgrind -q --leak-check=full --error-exitcode=9"; fi
     for name in grub:isa-2 linux-isa2-short:isa-2 linux-isa2-stuck:isa-2 linux-clk2:clk-2; do
         for kind in script trace; do
             xz -dc "$here/traces/${name%:*}.$kind.xz" >"$work/$kind"
         done
-        "$work/play" "${name#*:}" 100 "$work/script" "$work/trace"
+        $clean "$work/play" "${name#*:}" 100 "$work/script" "$work/trace"
+        clean=
     done
 }
 
@@ -164,7 +169,7 @@ build_bochs
 say "a boot without a migration"
 SHOW=1 run plain
 say "the same boot, with migrations"
-KEEPER="$work/keeper" run migrated
+KEEPER="$work/keeper" run migrated >"$work/bochs.out"
 for name in script trace console; do
     cmp "$work/plain/$name" "$work/migrated/$name"
     say "$name: $(wc -c <"$work/plain/$name") bytes, the same in both runs"
