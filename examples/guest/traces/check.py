@@ -2,7 +2,7 @@
 """check.py EVERY [NAME..]: plays the traces of stock guests with `vmstate`, and compares each answer with what the guest was told.
 
 An isa board is saved and restored by `play` after each EVERY events, under the sets from its level on in turn. A clk board has no
-sessions: it is saved by `save` at nine moments, and `load` goes on from each stream to the end. `vmstate` must be on the path."""
+sessions: it is saved by `save` at ten moments, and `load` continues from each stream to the end. `vmstate` must be on the path."""
 import lzma
 import os
 import subprocess
