@@ -115,3 +115,5 @@ class Sets(Case):
         self.assertEqual((got["rule"], got["old"][0], got["says"]), (7, "i8254", "the lengths differ"))
         self.says(["explain", path, path, "compatible"], 3, "no line of vmstate check")
         self.says(["explain", path, path, line.replace("device 0", "device 9")], 3, "of other sets")
+        for rule in (1, 2, 3):
+            self.says(["explain", path, path, f"not compatible: rule {rule} at set against set"], 3, "of other sets")

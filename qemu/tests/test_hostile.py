@@ -2,6 +2,7 @@
 import json
 import os
 import struct
+from unittest import mock
 
 from tests.kit import DEVICES, ISAPC, PC, Case, called, read
 from vmstate_qemu.description import find
@@ -129,6 +130,31 @@ class Deceiving(Case):
                     "fields": [{"name": "x", "type": "struct", "size": 0, "struct": part}]}
         deep_one = {**device("a", 0), "fields": part["fields"]}
         self.says(["list", self.made(section(b"a", b""), b"\0", described(deep_one))], 1, "isn't as QEMU writes it")
+
+    def test_more_than_is_read(self):
+        tail = section(b"a", b"1234") + b"\0" + described(device("a", 4))
+        path = self.made(tail, bytes(4 << 20))
+        self.assertEqual(called("list", path)[0], 0)
+        with mock.patch("vmstate_qemu.description.MOST_ZEROS", 1 << 20):
+            self.says(["list", path], 1, "more than 1 GiB of zeros")
+        with mock.patch("vmstate_qemu.stream.LONGEST_BODY", 3):
+            self.assertEqual(called("list", path)[0], 0)
+            self.says(["show", path], 1, "refused at 8 in a: it has more than 100,000,000 bytes")
+        few = {"name": "x", "type": "struct", "size": 2, "array_len": 50, "struct": {
+            "vmsd_name": "s", "version": 1, "fields": [{"name": each, "type": "uint8", "size": 1} for each in "yz"]}}
+        path = self.made(section(b"a", bytes(100)), b"\0", described({**device("a", 0), "fields": [few]}))
+        with mock.patch("vmstate_qemu.stream.MOST_LEAVES", 100):
+            self.assertEqual(called("show", path)[0], 0)
+        with mock.patch("vmstate_qemu.stream.MOST_LEAVES", 99):
+            self.says(["show", path], 1, "refused at 8 in a: the description has more than a million fields")
+
+    def test_a_section_that_comes_twice_under_a_set(self):
+        desc = {"name": "a", "version": 1, "fields": [{"name": "x", "kind": "u8"}]}
+        made = {"machines": [], "structs": [], "devices": [{"instance": 0, "desc": desc}]}
+        path = self.made(section(b"a", b"1"), section(b"a", b"2"), b"\0")
+        got, _, notes = called("list", "--set", self.put("set", json.dumps(made).encode()), path)
+        self.assertEqual(got, 1)
+        self.assertIn("refused at 29 in a: the section comes twice", notes.splitlines()[0])
 
     def test_ram_that_lies(self):
         start = b"\1\0\0\0\2\3ram" + struct.pack(">II", 0, 4)

@@ -11,6 +11,12 @@ from vmstate_qemu import qmp
 STREAM = b"QEVM\0\0\0\3\0"
 
 
+def written(path: str) -> None:
+    """Writes the stream as QEMU does."""
+    with open(path, "wb") as file:
+        file.write(STREAM)
+
+
 class Vm:
     """A server at a socket that answers QMP's commands, and notes them in `commands`."""
 
@@ -52,8 +58,7 @@ class Vm:
             self.status = {"stop": "paused", "cont": "running"}[command]
         if command == "xen-save-devices-state":
             assert arguments["live"] is False
-            with open(arguments["filename"], "wb") as file:
-                file.write(STREAM)
+            written(arguments["filename"])
             return [{"event": "STOP", "timestamp": {"seconds": 5, "microseconds": 0}},
                     {"event": "RESUME", "timestamp": {"seconds": 5, "microseconds": 2000}}, {"return": {}}]
         return [{"return": {}}]
@@ -108,6 +113,46 @@ class Save(Case):
         with mock.patch.object(qmp, "GREETING_SECONDS", 0.3):
             self.assertIn("no greeting within", self.saved(greeting=b"")[1])
         self.says(["save", self.put("plain", b""), self.path("x")], 5, "plain")
+
+    def test_answers_that_are_none_of_qemu(self):
+        for answer in (None, 7, [], "running", {}, {"status": ""}):
+            for command in ("query-status", "query-migrate"):
+                got, notes, commands = self.saved(**{command: [{"return": answer}]})
+                if command == "query-status":
+                    self.assertEqual((got, commands), (5, []), notes)
+                else:
+                    self.assertEqual(got, 0, notes)
+                    os.unlink(self.path("file"))
+        for stamp in (None, 7, [], {}, {"seconds": "1", "microseconds": 2}, {"seconds": 1e400, "microseconds": 0},
+                      {"seconds": 10 ** 400, "microseconds": 0}):
+            events = [{"event": name, "timestamp": stamp} for name in ("STOP", "RESUME", "OTHER")]
+            got, notes, _ = self.saved(**{"query-migrate": [*events, {"return": {}}]})
+            self.assertEqual(got, 0, notes)
+            os.unlink(self.path("file"))
+        self.assertIn("the VM was run\\nning", self.saved(status="run\nning")[1])
+        os.unlink(self.path("file"))
+        self.assertEqual(self.saved(**{"query-status": [{"error": error} for error in (7,)]})[0], 5)
+
+    def test_what_qemu_made_must_be_a_file(self):
+        with mock.patch(f"{__name__}.written", os.mkfifo):
+            got, notes, _ = self.saved()
+        self.assertEqual(got, 5)
+        self.assertIn("something else than a file", notes)
+
+    def test_a_vm_that_does_not_answer(self):
+        with mock.patch.object(qmp, "ANSWER_SECONDS", 0.3):
+            for command in ("query-status", "query-migrate", "stop"):
+                got, notes, commands = self.saved("--stop", **{command: [{"event": "OTHER"}]})
+                self.assertEqual(got, 5)
+                self.assertIn(f"{command}: no answer within", notes)
+                self.assertEqual(commands[-1:], ["cont"] if command == "stop" else [], "a VM that stops late goes on")
+
+    def test_nothing_but_a_file_is_replaced(self):
+        os.mkfifo(self.path("pipe"))
+        vm = Vm(self.path("qmp"))
+        self.says(["save", self.path("qmp"), self.path("pipe")], 5, "is a pipe or a device")
+        vm.thread.join(10)
+        self.assertNotIn("xen-save-devices-state", vm.commands)
 
     def test_a_connection_that_ends_leaves_nothing(self):
         got, notes, _ = self.saved(**{"xen-save-devices-state": None})

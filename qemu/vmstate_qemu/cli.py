@@ -5,13 +5,12 @@ import argparse
 import contextlib
 import json
 import os
-import signal
 import sys
 from typing import Any, Callable, List, Optional
 
 from . import comparing, cut, edit, folder, inputs, listing, measure, mending, sets, values
-from .errors import DIFFERENT, DONE, FAULT, REFUSED, WORDS, Trouble, printable
-from .files import write_out
+from .errors import DIFFERENT, DONE, FAULT, REFUSED, WORDS, Trouble, note, printable
+from .files import read_bytes, write_out
 from .nodes import Dump
 from .program import Shelf, path_of
 from .progress import Progress
@@ -107,8 +106,8 @@ def finish(stream: Stream, section: Section, old: bytes, new: bytes, path: str, 
     edit.written(stream, section, new, path, words.in_place)
     differ = [at for at, (one, other) in enumerate(zip(old, new)) if one != other]
     where = f", the first at {section.body[0] + differ[0]}" if differ else ""
-    print(f"{printable(path)}: {len(differ)} bytes of {printable(section.word)} differ{where}; "
-          "every other byte is as it was", file=sys.stderr)
+    note(f"{printable(path)}: {len(differ)} bytes of {printable(section.word)} differ{where}; "
+         "every other byte is as it was")
     return DONE
 
 
@@ -124,18 +123,15 @@ def do_put(words: argparse.Namespace) -> int:
     path = target(words)
     stream = opened(words, words.stream)
     section = stream.find(words.section)
-    with open(words.packed, "rb") as file:
-        new = cut.body_of_packed(file.read(), stream, section, printable(words.packed))
+    new = cut.body_of_packed(read_bytes(words.packed), stream, section, printable(words.packed))
     return finish(stream, section, stream.body(section), new, path, words)
 
 
 def do_save(words: argparse.Namespace) -> int:
     """Saves the devices of a running VM."""
-    for number in (signal.SIGTERM, signal.SIGHUP):
-        signal.signal(number, signal.default_int_handler)
     session = Session(words.socket)
     try:
-        print(save(session, words.file, words.stop).sentence(words.file), file=sys.stderr)
+        note(save(session, words.file, words.stop).sentence(words.file))
     finally:
         session.close()
     return DONE
@@ -180,8 +176,8 @@ def do_set(words: argparse.Namespace) -> int:
         maker = sets.of_dump(found, words.section)
     else:
         raise Trouble(f"{printable(words.stream)}: a set is made of a stream, or of a dump and names in it", WORDS)
-    for note in maker.notes:
-        print(f"vmstate-qemu: {note}", file=sys.stderr)
+    for each in maker.notes:
+        note(f"vmstate-qemu: {each}")
     text = json.dumps(maker.whole(), indent=1).encode() + b"\n"
     if len(text) > LONGEST_SET:
         text = json.dumps(maker.whole(), separators=(",", ":")).encode() + b"\n"
@@ -328,15 +324,17 @@ def main(arguments: Optional[List[str]] = None) -> int:
         sys.stdout.flush()
         return status
     except Trouble as error:
-        print(f"vmstate-qemu: {error}", file=sys.stderr)
+        note(f"vmstate-qemu: {error}")
         return error.status
-    except BrokenPipeError:
+    except OSError as error:
+        if not isinstance(error, BrokenPipeError):
+            note(f"vmstate-qemu: {printable(str(error.filename or 'standard output'))}: {error.strerror}")
         with contextlib.suppress(OSError):
             os.dup2(os.open(os.devnull, os.O_WRONLY), sys.stdout.fileno())
         return FAULT
-    except OSError as error:
-        print(f"vmstate-qemu: {printable(str(error.filename or 'standard output'))}: {error.strerror}", file=sys.stderr)
+    except MemoryError:
+        note("vmstate-qemu: out of memory")
         return FAULT
     except KeyboardInterrupt:
-        print("vmstate-qemu: interrupted", file=sys.stderr)
+        note("vmstate-qemu: interrupted")
         return FAULT

@@ -5,6 +5,7 @@ import json
 import re
 from dataclasses import dataclass
 from functools import cached_property
+from itertools import accumulate
 from typing import Any, Dict, Iterator, List, Optional, Tuple
 
 from .errors import Refused
@@ -15,9 +16,11 @@ KINDS = {"uint8": "u8", "uint16": "u16", "uint32": "u32", "uint64": "u64", "int8
          "int32": "i32", "int64": "i64", "bool": "bool", "timer": "timer"}
 MARK = 0x06
 NO_CONTROL = bytes(range(0x20, 0x100))
-LONGEST_TEXT = 1 << 28
+LONGEST_TEXT = 1 << 26
+MOST_ZEROS = 1 << 30
 MOST_BYTES = 1 << 48
-MOST_ELEMENTS = 1 << 22
+MOST_LEAVES = 1 << 20
+BLOCK = 1 << 20
 DEEPEST = 48
 
 
@@ -61,6 +64,12 @@ class Part:
     def length(self) -> int:
         """The number of bytes of the fields and subsections in the stream."""
         return sum(entry.length for entry in self.entries) + sum(sub.headed for sub in self.subsections)
+
+    @cached_property
+    def filled(self) -> Tuple[Tuple[int, Entry], ...]:
+        """The fields that have bytes, each with its offset."""
+        ends = accumulate(entry.length for entry in self.entries)
+        return tuple((end - entry.length, entry) for entry, end in zip(self.entries, ends) if entry.length)
 
     @property
     def headed(self) -> int:
@@ -191,19 +200,26 @@ def find(source: Source) -> Optional[Description]:
 
 
 def last_byte(source: Source) -> int:
-    """Returns the offset after the last byte that isn't zero."""
+    """Returns the offset after the last byte that isn't zero.
+
+    # Errors
+
+    Refused: more than 1 GiB of zeros are at the end.
+    """
     end = source.size
     while end > 0:
-        start = max(end - 65536, 0)
+        start = max(end - BLOCK, 0)
         some = source.read(start, end - start).rstrip(b"\0")
         if some:
             return start + len(some)
+        if source.size - start > MOST_ZEROS:
+            raise Refused(start, "", "more than 1 GiB of zeros are at the end")
         end = start
     return 0
 
 
 def last_control(source: Source, end: int) -> int:
-    """Returns the offset of the last control character before `end`; QEMU's JSON has none. Looks back 256 MiB."""
+    """Returns the offset of the last control character before `end`; QEMU's JSON has none. Looks back 64 MiB."""
     stop = max(end - LONGEST_TEXT, 0)
     while end > stop:
         start = max(end - 65536, stop)
@@ -218,18 +234,14 @@ def leaves(part: Part, path: str = "", at: int = 0) -> Iterator[Leaf]:
     """Yields what is in a part, in the order of the stream: its numbers, its bytes, and the heads of subsections.
 
     A number of a subsection has the subsection's name and a colon before its own: `serial/recv_fifo:recv_fifo.num`.
-
-    # Errors
-
-    Damaged: there are more than four million elements.
     """
-    for entry in part.entries:
+    for inside, entry in part.filled:
         base = path + entry.name + ("" if entry.index is None else f"[{entry.index}]")
         if entry.part is not None:
-            yield from elements(entry, entry.part, base, at)
-        elif entry.length:
-            yield leaf_of(entry, base, at)
-        at += entry.length
+            yield from elements(entry, entry.part, base, at + inside)
+        else:
+            yield leaf_of(entry, base, at + inside)
+    at += part.length - sum(sub.headed for sub in part.subsections)
     for sub in part.subsections:
         head = 6 + len(sub.name.encode())
         yield Leaf(path + sub.name, at, head, None, "sub", True, sub.version)
@@ -242,9 +254,7 @@ def elements(entry: Entry, part: Part, base: str, at: int) -> Iterator[Leaf]:
     if entry.count is None:
         yield from leaves(part, base + ".", at)
         return
-    if part.length and entry.count > MOST_ELEMENTS:
-        raise Damaged("an array of it has more than four million structures")
-    for index in range(entry.count if part.length else 0):
+    for index in range(entry.count):
         yield from leaves(part, f"{base}[{index}].", at + index * part.length)
 
 

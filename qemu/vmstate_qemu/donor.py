@@ -4,7 +4,7 @@ from __future__ import annotations
 from dataclasses import dataclass, replace
 from typing import Dict, List, Protocol, Tuple
 
-from .description import Device, Entry, Part
+from .description import MOST_LEAVES, Device, Entry, Part
 from .errors import Refused, printable
 from .source import Source
 
@@ -99,6 +99,8 @@ def fitted(part: Part, source: Source, at: int, where: str) -> Tuple[Part, int]:
             entries.append(entry)
             at += entry.length
             continue
+        if entry.count is not None and entry.count > MOST_LEAVES:
+            raise Refused(at, where, "the other stream has more than a million structures in an array of it")
         for index in range(1 if entry.count is None else entry.count):
             inner, end = fitted(entry.part, source, at, where)
             number = index if entry.count is not None else entry.index

@@ -131,7 +131,7 @@ def write(stream: Stream, section: Section, body: bytes, file: BinaryIO) -> None
 
     # Errors
 
-    Trouble: what was written can't be read again, or differs elsewhere.
+    Trouble: what was written can't be read again, or differs elsewhere; or the stream changed meanwhile.
     """
     start, end = section.body
     for some in stream.source.chunks(0, start):
@@ -140,8 +140,8 @@ def write(stream: Stream, section: Section, body: bytes, file: BinaryIO) -> None
     for some in stream.source.chunks(end, stream.source.size):
         file.write(some)
     file.flush()
-    if not file.seekable():
-        return
+    if not stream.source.is_unchanged():
+        raise Trouble(f"{stream.source.name}: it was changed while it was read; nothing is written", FAULT)
     for first, last in ((0, start), (end, stream.source.size)):
         file.seek(first)
         for some in stream.source.chunks(first, last):

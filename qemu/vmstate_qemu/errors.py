@@ -1,6 +1,9 @@
 """What can go wrong: one line for the reader, and the status of the program."""
 from __future__ import annotations
 
+import os
+import sys
+
 DONE = 0
 REFUSED = 1
 WORDS = 2
@@ -25,6 +28,14 @@ class Refused(Trouble):
         self.at = at
         self.where = where
         self.reason = reason
+
+
+def note(text: str) -> None:
+    """Writes a line on standard error. Where that fails, nothing more is written there."""
+    try:
+        print(text, file=sys.stderr, flush=True)
+    except OSError:
+        os.dup2(os.open(os.devnull, os.O_WRONLY), 2)
 
 
 def printable(name: str) -> str:

@@ -5,6 +5,7 @@ import contextlib
 import json
 import os
 import shutil
+import stat
 import sys
 import tempfile
 from typing import Any, BinaryIO, Iterator, Optional
@@ -12,9 +13,27 @@ from typing import Any, BinaryIO, Iterator, Optional
 from .errors import FAULT, TEXT, Trouble, printable
 
 
+LONGEST = 1 << 26
+
+
 def reason(error: OSError) -> str:
     """Returns the text of the operating system for `error`."""
     return error.strerror or str(error)
+
+
+def free_for_a_file(path: str) -> None:
+    """Refuses a `path` where something else than a file is: a folder, or a pipe or device, which a file would replace.
+
+    # Errors
+
+    Trouble: there is such a thing.
+    """
+    with contextlib.suppress(OSError):
+        mode = os.stat(path).st_mode
+        if stat.S_ISDIR(mode):
+            raise Trouble(f"{printable(path)}: is a folder", FAULT)
+        if not stat.S_ISREG(mode):
+            raise Trouble(f"{printable(path)}: is a pipe or a device, which no file takes the place of", FAULT)
 
 
 @contextlib.contextmanager
@@ -24,7 +43,12 @@ def replacing(path: str, mode_of: Optional[str] = None) -> Iterator[BinaryIO]:
     The bytes go to a new file in the same folder, which is synced and then renamed. After an error it is removed, and
     `path` is as it was. A link at `path` stays, and its target is replaced. With `mode_of`, the permissions are those
     of that file.
+
+    # Errors
+
+    Trouble: something else than a file is at `path`, or writing fails.
     """
+    free_for_a_file(path)
     target = os.path.realpath(path)
     try:
         number, new = tempfile.mkstemp(prefix=".vmstate-qemu-", dir=os.path.dirname(target))
@@ -69,13 +93,16 @@ def read_bytes(path: str) -> bytes:
 
     # Errors
 
-    Trouble: it can't be read.
+    Trouble: it can't be read, or has more than 64 MiB.
     """
     try:
         with open(path, "rb") as file:
-            return file.read()
+            some = file.read(LONGEST + 1)
     except OSError as error:
         raise Trouble(f"{printable(path)}: {reason(error)}", FAULT) from None
+    if len(some) > LONGEST:
+        raise Trouble(f"{printable(path)}: has more than 64 MiB", FAULT)
+    return some
 
 
 def read_json(path: str) -> Any:
@@ -85,8 +112,17 @@ def read_json(path: str) -> Any:
 
     Trouble: it can't be read, or is no JSON.
     """
-    text = read_bytes(path)
+    return json_of(read_bytes(path), printable(path))
+
+
+def json_of(text: bytes, name: str) -> Any:
+    """Returns the JSON value that the text of the file `name` is.
+
+    # Errors
+
+    Trouble: it is no JSON.
+    """
     try:
         return json.loads(text)
     except (ValueError, RecursionError) as error:
-        raise Trouble(f"{printable(path)}: no JSON: {error}", TEXT) from None
+        raise Trouble(f"{name}: no JSON: {printable(str(error))}", TEXT) from None

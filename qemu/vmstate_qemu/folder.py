@@ -6,6 +6,7 @@ import re
 import signal
 from collections import Counter
 from concurrent.futures import ProcessPoolExecutor
+from concurrent.futures.process import BrokenProcessPool
 from dataclasses import asdict, dataclass
 from functools import partial
 from typing import Any, Dict, Iterator, List, Optional, Tuple
@@ -122,21 +123,30 @@ def judged(judge: Judge, paths: List[str]) -> List[Verdict]:
 
 
 def verdicts(judge: Judge, paths: List[str], jobs: int, progress: Progress) -> Iterator[Verdict]:
-    """Yields a verdict for each file, in their order, with a bar on the terminal meanwhile."""
+    """Yields a verdict for each file, in their order, with a bar on the terminal meanwhile.
+
+    # Errors
+
+    Trouble: one of the processes was ended.
+    """
     batches = [paths[at:at + BATCH] for at in range(0, len(paths), BATCH)]
     done = refused = 0
     with ProcessPoolExecutor(jobs, initializer=in_folder, initargs=(judge,)) as pool:
-        for batch in pool.map(partial(judged, judge), batches):
-            for verdict in batch:
-                done, refused = done + 1, refused + (verdict.status != 0)
-                progress.bar(done, len(paths), f"{refused} refused")
-                yield verdict
+        try:
+            for batch in pool.map(partial(judged, judge), batches):
+                for verdict in batch:
+                    done, refused = done + 1, refused + (verdict.status != 0)
+                    progress.bar(done, len(paths), f"{refused} refused")
+                    yield verdict
+        except BrokenProcessPool:
+            raise Trouble("a process that judges was ended, perhaps because memory ran out", FAULT) from None
     progress.clear()
 
 
 def in_folder(judge: Judge) -> None:
     """Goes to the folder of the set, since the program takes a name without a path. An interrupt ends the caller."""
     signal.signal(signal.SIGINT, signal.SIG_IGN)
+    signal.signal(signal.SIGTERM, signal.SIG_DFL)
     if judge.shelf is not None:
         os.chdir(judge.shelf)
 
@@ -151,5 +161,5 @@ def summary(found: List[Verdict]) -> Dict[str, Any]:
 def as_text(found: List[Verdict]) -> str:
     """Returns the summary as text: each file that wasn't read, and how often each reason came."""
     lines = [f"{printable(each.file)}: {each.line}" for each in found if each.status != 0]
-    counts = Counter(each.kind for each in found).most_common()
+    counts = Counter(each.kind for each in found).most_common() or [("read", 0)]
     return "\n".join(lines + [f"{count:8} {kind}" for kind, count in counts]) + "\n"

@@ -3,12 +3,13 @@ from __future__ import annotations
 
 from typing import Any, Dict, Optional, Tuple, Union
 
-from . import checking, qcow2
+from . import checking
 from .errors import FAULT, TEXT, WORDS, Trouble, printable
-from .files import read_json, reason
+from .files import LONGEST, json_of, read_json
 from .nodes import Dump, Node, dump_of, is_dump, node_of
 from .program import Shelf
-from .stream import MAGIC, Stream, open_stream
+from .source import MAGIC, Source
+from .stream import Stream, read_stream
 
 MEMBERS = ("machines", "structs", "devices")
 Input = Union[Stream, Dump, Dict[str, Any]]
@@ -21,15 +22,13 @@ def read(path: str) -> Input:
 
     Trouble: it can't be read, or is none of these.
     """
-    try:
-        with open(path, "rb") as file:
-            head = file.read(4)
-    except OSError as error:
-        raise Trouble(f"{printable(path)}: {reason(error)}", FAULT) from None
-    if head in (MAGIC, qcow2.MAGIC):
-        return open_stream(path)
-    value = read_json(path)
-    return dump_of(value, printable(path)) if is_dump(value) else as_set(value, path)
+    source = Source(path)
+    if source.pieces is not None or source.read_some(0, 4) == MAGIC:
+        return read_stream(source)
+    if source.size > LONGEST:
+        raise Trouble(f"{source.name}: no stream, and more than 64 MiB", FAULT)
+    value = json_of(source.read(0, source.size), source.name)
+    return dump_of(value, source.name) if is_dump(value) else as_set(value, path)
 
 
 def as_set(value: Any, path: str) -> Dict[str, Any]:

@@ -2,7 +2,7 @@
 from __future__ import annotations
 
 import re
-from typing import Any, Dict, Tuple
+from typing import Any, Dict, Set, Tuple
 
 from .description import Part
 from .donor import Head, opaque
@@ -26,6 +26,7 @@ class Measured:
             self.structs = whole["structs"]
             self.devices: Dict[Tuple[str, int], Any] = {
                 (device["desc"]["name"], device["instance"]): device for device in whole["devices"]}
+            self.seen: Set[Tuple[str, int]] = set()
         except (KeyError, TypeError):
             raise Trouble(f"{self.path}: no description set", TEXT) from None
 
@@ -36,7 +37,11 @@ class Measured:
 
         Refused: the set has no such section, or the program refuses it.
         """
-        device = self.devices.get((head.name, head.instance))
+        key = head.name, head.instance
+        device = self.devices.get(key)
+        if key in self.seen:
+            raise Refused(head.at, printable(head.name), "the section comes twice, and a set has it once")
+        self.seen.add(key)
         if device is None:
             raise Refused(head.at, printable(head.name), f"the set {self.path} has no section of this name")
         self.shelf.put("one.json", {"machines": [], "structs": self.structs, "devices": [device]})

@@ -111,7 +111,7 @@ def explained(line: str, old: Set, new: Set) -> Fault:
         if rule in (1, 2, 3):
             return Fault(rule, line, *missing(rule, old, new), says)
         return Fault(rule, line, old_place.names(old), new_place.names(new), says)
-    except (KeyError, IndexError, TypeError):
+    except (KeyError, IndexError, TypeError, StopIteration):
         raise Trouble(f"the line is of other sets: {line}", TEXT) from None
 
 

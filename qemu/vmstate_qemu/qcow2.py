@@ -4,7 +4,7 @@ from __future__ import annotations
 import os
 import struct
 from dataclasses import dataclass
-from typing import TYPE_CHECKING, Dict, List, Optional
+from typing import TYPE_CHECKING, List, Optional
 
 from .errors import FAULT, Trouble, printable
 
@@ -31,32 +31,54 @@ class Snapshot:
     disk: Optional[int]
 
 
-@dataclass
 class Pieces:
-    """The state of a VM in an image: cluster by cluster, the offset in the file or none where all is zero."""
+    """The state of a VM in an image, behind the end of its disk, cluster by cluster."""
 
-    cluster: int
-    size: int
-    offsets: List[Optional[int]]
+    def __init__(self, image: Image, snapshot: Snapshot) -> None:
+        if snapshot.state > LARGEST:
+            raise image.trouble(f"snapshot {printable(snapshot.name)} has a state of more than 16 TiB")
+        self.image, self.snapshot, self.size = image, snapshot, snapshot.state
+        self.cluster = 1 << image.bits
+        self.per_table = self.cluster // image.entry
+        disk = image.size if snapshot.disk is None else snapshot.disk
+        self.first = -(-disk // (self.cluster * self.per_table))
+        self.known, self.table = -1, b""
 
-    def read(self, number: int, at: int, length: int) -> bytes:
-        """Returns up to `length` bytes of the state at offset `at`, from the file with this descriptor."""
+    def read(self, at: int, length: int) -> bytes:
+        """Returns up to `length` bytes of the state at offset `at`: fewer only at the end of the state or file."""
         out = bytearray()
         end = min(at + length, self.size)
         while at < end:
             index, inside = divmod(at, self.cluster)
             some = min(self.cluster - inside, end - at)
-            offset = self.offsets[index]
-            out += bytes(some) if offset is None else os.pread(number, some, offset + inside)
+            offset = self.offset(index)
+            got = bytes(some) if offset is None else os.pread(self.image.number, some, offset + inside)
+            out += got
+            if len(got) < some:
+                break
             at += some
         return bytes(out)
+
+    def offset(self, index: int) -> Optional[int]:
+        """Returns where the cluster `index` of the state is in the file, or none where all of it is zero."""
+        outer, inner = self.first + index // self.per_table, index % self.per_table
+        name = printable(self.snapshot.name)
+        if outer >= self.snapshot.entries:
+            raise self.image.trouble(f"snapshot {name} has no table for its state")
+        if outer != self.known:
+            where = int.from_bytes(self.image.at(self.snapshot.table + 8 * outer, 8), "big") & OFFSET
+            self.known, self.table = outer, self.image.at(where, self.cluster) if where else bytes(self.cluster)
+        entry = int.from_bytes(self.table[inner * self.image.entry:][:8], "big")
+        if entry & COMPRESSED:
+            raise self.image.trouble(f"snapshot {name} is compressed")
+        return entry & OFFSET if entry & OFFSET and not entry & 1 else None
 
 
 class Image:
     """The parts of an image's header that lead to its snapshots."""
 
     def __init__(self, source: Source) -> None:
-        self.source = source
+        self.number, self.name = source.number, source.name
         head = self.at(0, 72)
         (self.version, self.bits, self.size, crypt, self.count,
          self.table) = struct.unpack(">4xI12xIQI24xIQ", head)
@@ -69,11 +91,11 @@ class Image:
 
     def trouble(self, text: str) -> Trouble:
         """Returns the error that says `text` of this image."""
-        return Trouble(f"{self.source.name}: {text}", FAULT)
+        return Trouble(f"{self.name}: {text}", FAULT)
 
     def at(self, at: int, length: int) -> bytes:
         """Returns the `length` bytes of the file at offset `at`."""
-        got = os.pread(self.source.number, length, at) if at < LARGEST else b""
+        got = os.pread(self.number, length, at) if at < LARGEST else b""
         if len(got) != length:
             raise self.trouble(f"the image ends before {at + length}")
         return got
@@ -91,29 +113,6 @@ class Image:
             at += (40 + extra + id_length + name_length + 7) // 8 * 8
         return found
 
-    def pieces(self, snapshot: Snapshot) -> Pieces:
-        """Returns where the state of `snapshot` is: behind the end of its disk."""
-        if snapshot.state > LARGEST:
-            raise self.trouble(f"snapshot {printable(snapshot.name)} has a state of more than 16 TiB")
-        cluster, per_table = 1 << self.bits, (1 << self.bits) // self.entry
-        span = cluster * per_table
-        disk = self.size if snapshot.disk is None else snapshot.disk
-        first = -(-disk // span)
-        tables: Dict[int, bytes] = {}
-        offsets: List[Optional[int]] = []
-        for index in range(-(-snapshot.state // cluster)):
-            outer, inner = first + index // per_table, index % per_table
-            if outer >= snapshot.entries:
-                raise self.trouble(f"snapshot {printable(snapshot.name)} has no table for its state")
-            if outer not in tables:
-                where = int.from_bytes(self.at(snapshot.table + 8 * outer, 8), "big") & OFFSET
-                tables = {outer: self.at(where, cluster) if where else bytes(cluster)}
-            entry = int.from_bytes(tables[outer][inner * self.entry:inner * self.entry + 8], "big")
-            if entry & COMPRESSED:
-                raise self.trouble(f"snapshot {printable(snapshot.name)} is compressed")
-            offsets.append((entry & OFFSET) if entry & OFFSET and not entry & 1 else None)
-        return Pieces(cluster, snapshot.state, offsets)
-
 
 def snapshot_pieces(source: Source, name: Optional[str]) -> Pieces:
     """Returns where the state of the snapshot `name` is, or of the only one with a state if `name` is none.
@@ -128,4 +127,4 @@ def snapshot_pieces(source: Source, name: Optional[str]) -> Pieces:
     if len(fitting) != 1:
         names = ", ".join(printable(each.name) for each in found) or "none"
         raise image.trouble(f"say which snapshot by --snapshot; those with a VM's state: {names}")
-    return image.pieces(fitting[0])
+    return Pieces(image, fitting[0])

@@ -5,17 +5,18 @@ import json
 import select
 import socket
 import time
-from typing import Any, Callable, Dict, List, Optional
+from typing import Any, Callable, Dict, Optional
 
 from .errors import FAULT, Trouble, printable
 from .files import reason
 
 GREETING_SECONDS = 5.0
+ANSWER_SECONDS = 120.0
 LONGEST_LINE = 1 << 24
 
 
 class Session:
-    """A session: commands are answered one by one, and events are kept in `events`."""
+    """A session: commands are answered one by one. `events` has the first event STOP and the last event RESUME."""
 
     def __init__(self, path: str) -> None:
         """Connects to the socket at `path` and waits for QMP's greeting.
@@ -25,11 +26,12 @@ class Session:
         Trouble: there is no such socket, or no QMP behind it, or it serves another client.
         """
         self.name = printable(path)
-        self.events: List[Dict[str, Any]] = []
+        self.events: Dict[str, Dict[str, Any]] = {}
         self.waiting = b""
         self.count = 0
         self.socket = socket.socket(socket.AF_UNIX)
         try:
+            self.socket.settimeout(GREETING_SECONDS)
             self.socket.connect(path)
             self.socket.setblocking(False)
             self.greet()
@@ -88,12 +90,13 @@ class Session:
         return found
 
     def execute(self, command: str, meanwhile: Optional[Callable[[], None]] = None, **arguments: Any) -> Any:
-        """Executes a command and returns its answer, however long QEMU takes for it.
+        """Executes a command and returns its answer. With `meanwhile` QEMU may take any time for it.
 
         # Errors
 
-        Trouble: QEMU refuses the command, or the connection ends.
+        Trouble: QEMU refuses the command, doesn't answer within two minutes, or the connection ends.
         """
+        end = None if meanwhile is not None else time.monotonic() + ANSWER_SECONDS
         self.count += 1
         text = json.dumps({"execute": command, "id": self.count, "arguments": arguments}).encode() + b"\n"
         try:
@@ -103,10 +106,13 @@ class Session:
         except OSError as error:
             raise Trouble(f"{self.name}: {reason(error)}", FAULT) from None
         while True:
-            found = self.message(None, meanwhile)
-            if found is not None and "event" in found:
-                self.events.append(found)
-            if found is None or found.get("id") != self.count:
+            left = None if end is None else end - time.monotonic()
+            found = self.message(left, meanwhile) if left is None or left > 0 else None
+            if found is None:
+                raise Trouble(f"{self.name}: {command}: no answer within {ANSWER_SECONDS:.0f} s", FAULT)
+            if found.get("event") == "RESUME" or (found.get("event") == "STOP" and "STOP" not in self.events):
+                self.events[found["event"]] = found
+            if found.get("id") != self.count:
                 continue
             if "error" in found:
                 said = found["error"].get("desc", "") if isinstance(found["error"], dict) else ""

@@ -4,12 +4,13 @@ from __future__ import annotations
 import contextlib
 import os
 import secrets
+import stat
 import time
 from dataclasses import dataclass
-from typing import Any, Dict, Iterator, Optional
+from typing import Iterator, Optional
 
 from .errors import FAULT, Trouble, printable
-from .files import reason
+from .files import free_for_a_file, reason
 from .progress import Progress
 from .qmp import Session
 
@@ -50,7 +51,7 @@ def save(session: Session, path: str, stops: bool) -> Saved:
     before = status_of(session)
     if before in NO_STATE:
         raise Trouble(f"{session.name}: the VM is {before}: it has no state of its own to save", FAULT)
-    if session.execute("query-migrate").get("status") in BUSY:
+    if said(session, "query-migrate") in BUSY:
         raise Trouble(f"{session.name}: a migration of this VM is going on; save it afterwards", FAULT)
     with new_file(path) as new, stopped(session, stops and before == "running"):
         write_devices(session, new)
@@ -59,16 +60,30 @@ def save(session: Session, path: str, stops: bool) -> Saved:
 
 
 def status_of(session: Session) -> str:
-    """Returns the VM's status, `running` or `paused` mostly."""
-    return str(session.execute("query-status").get("status"))
+    """Returns the VM's status, `running` or `paused` mostly.
+
+    # Errors
+
+    Trouble: QEMU says none.
+    """
+    status = said(session, "query-status")
+    if not status:
+        raise Trouble(f"{session.name}: query-status: no answer as QEMU gives it", FAULT)
+    return printable(status)
+
+
+def said(session: Session, command: str) -> str:
+    """Returns the member `status` of what QEMU answers to `command`, or nothing if there is none."""
+    answer = session.execute(command)
+    return str(answer.get("status", "")) if isinstance(answer, dict) else ""
 
 
 @contextlib.contextmanager
 def stopped(session: Session, stops: bool) -> Iterator[None]:
     """Stops the VM for the block if `stops`, and lets it go on afterwards, whatever happens in the block."""
-    if stops:
-        session.execute("stop")
     try:
+        if stops:
+            session.execute("stop")
         yield
     finally:
         if stops:
@@ -81,9 +96,8 @@ def new_file(path: str) -> Iterator[str]:
 
     QEMU makes the file, since it may run as another user.
     """
+    free_for_a_file(path)
     target = os.path.abspath(path)
-    if os.path.isdir(target):
-        raise Trouble(f"{printable(path)}: is a folder", FAULT)
     new = os.path.join(os.path.dirname(target), f".vmstate-qemu-{secrets.token_hex(6)}")
     try:
         yield new
@@ -119,6 +133,8 @@ def checked(path: str) -> int:
 
     Trouble: it isn't a stream from its head to its end mark.
     """
+    if not stat.S_ISREG(os.lstat(path).st_mode):
+        raise Trouble("QEMU made something else than a file; nothing is saved", FAULT)
     try:
         file = open(path, "rb")
     except PermissionError:
@@ -135,12 +151,11 @@ def checked(path: str) -> int:
 
 def stood_still(session: Session) -> Optional[float]:
     """Returns the seconds between the first event STOP and the last event RESUME, or none if they didn't come."""
-
-    def moment(event: Dict[str, Any]) -> float:
-        """Returns the time of an event, in seconds."""
-        stamp = event.get("timestamp", {})
-        return stamp.get("seconds", 0) + stamp.get("microseconds", 0) / 1e6
-
-    stops = [moment(event) for event in session.events if event.get("event") == "STOP"]
-    resumes = [moment(event) for event in session.events if event.get("event") == "RESUME"]
-    return resumes[-1] - stops[0] if stops and resumes else None
+    moments = []
+    for name in ("STOP", "RESUME"):
+        stamp = session.events.get(name, {}).get("timestamp")
+        parts = [stamp.get(each) for each in ("seconds", "microseconds")] if isinstance(stamp, dict) else []
+        if not parts or any(type(part) is not int or not 0 <= part < 1 << 40 for part in parts):
+            return None
+        moments.append(parts[0] + parts[1] / 1e6)
+    return moments[1] - moments[0]

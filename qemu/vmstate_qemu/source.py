@@ -2,19 +2,18 @@
 from __future__ import annotations
 
 import os
-import shutil
 import stat
-import sys
 import tempfile
 import weakref
-from typing import Iterator, Optional
+from typing import Iterator, Optional, Tuple
 
 from . import qcow2
-from .errors import FAULT, Refused, Trouble, printable
-from .files import reason
+from .errors import FAULT, Refused, Trouble, note, printable
+from .files import LONGEST, reason
 
 CHUNK = 1 << 20
 STANDARD_INPUT = "-"
+MAGIC = b"QEVM"
 
 
 class Source:
@@ -42,7 +41,7 @@ class Source:
             if not stat.S_ISREG(mode):
                 self.number = self.spooled()
                 weakref.finalize(self, os.close, self.number)
-            self.size = os.fstat(self.number).st_size
+            self.size, self.changed = self.state()
         except OSError as error:
             raise Trouble(f"{self.name}: {reason(error)}", FAULT) from None
         if self.read_some(0, 4) == qcow2.MAGIC:
@@ -51,19 +50,38 @@ class Source:
         elif snapshot is not None:
             raise Trouble(f"{self.name}: is no qcow2 image, so it has no snapshot", FAULT)
 
+    def state(self) -> Tuple[int, int]:
+        """Returns the size of the file and the time of its last change."""
+        found = os.fstat(self.number)
+        return found.st_size, found.st_mtime_ns
+
+    def is_unchanged(self) -> bool:
+        """Whether the file is as it was when it was opened. An image may change, since a snapshot in it doesn't."""
+        return self.pieces is not None or self.state() == (self.size, self.changed)
+
     def spooled(self) -> int:
-        """Returns the descriptor of a temporary file with all that comes from the pipe."""
+        """Returns the descriptor of a temporary file with all that comes from the pipe.
+
+        # Errors
+
+        Trouble: more than 64 MiB come that are no stream and no image.
+        """
         with tempfile.TemporaryFile(prefix="vmstate-qemu-") as copy, os.fdopen(os.dup(self.number), "rb") as pipe:
-            shutil.copyfileobj(pipe, copy, CHUNK)
+            head = some = pipe.read(CHUNK)
+            while some:
+                copy.write(some)
+                if head[:4] not in (MAGIC, qcow2.MAGIC) and copy.tell() > LONGEST:
+                    raise Trouble(f"{self.name}: no migration stream, and more than 64 MiB", FAULT)
+                some = pipe.read(CHUNK)
             copy.flush()
-            print(f"{self.name}: a pipe; its {copy.tell()} bytes were copied to a temporary file", file=sys.stderr)
+            note(f"{self.name}: a pipe; its {copy.tell()} bytes were copied to a temporary file")
             return os.dup(copy.fileno())
 
     def read_some(self, at: int, length: int) -> bytes:
         """Returns up to `length` bytes at offset `at`: fewer only at the end of the file."""
         try:
             if self.pieces is not None:
-                return self.pieces.read(self.number, at, length)
+                return self.pieces.read(at, length)
             return os.pread(self.number, length, at)
         except OSError as error:
             raise Trouble(f"{self.name}: {reason(error)}", FAULT) from None

@@ -2,18 +2,19 @@
 from __future__ import annotations
 
 from dataclasses import dataclass, field
+from itertools import islice
 from typing import Dict, Iterator, List, Optional, Tuple
 
 from . import donor as donors
 from . import ram
-from .description import Damaged, Description, Device, Leaf, Part, find, leaves
+from .description import MOST_LEAVES, Description, Device, Leaf, Part, find, leaves
 from .donor import Head
 from .errors import WORDS, Refused, Trouble, printable
-from .source import Source
+from .source import MAGIC, Source
 
-MAGIC = b"QEVM"
 START, PART, END, FULL, SUBSECTION, DESCRIPTION, CONFIGURATION, COMMAND, FOOTER = 1, 2, 3, 4, 5, 6, 7, 8, 0x7E
 IGNORE_SHARED = b"x-ignore-shared"
+LONGEST_BODY = 100_000_000
 
 
 @dataclass(frozen=True)
@@ -45,11 +46,16 @@ class Section:
         return self.name + (f"@{self.instance}" if self.instance else "")
 
     def leaves(self) -> List[Leaf]:
-        """Returns what is in the section, in the order of the stream."""
-        try:
-            return list(leaves(self.part))
-        except Damaged as error:
-            raise Refused(self.at, self.word, f"the description is damaged: {error}") from None
+        """Returns what is in the section, in the order of the stream.
+
+        # Errors
+
+        Refused: there are more than a million numbers or runs of them.
+        """
+        found = list(islice(leaves(self.part), MOST_LEAVES + 1))
+        if len(found) > MOST_LEAVES:
+            raise Refused(self.at, printable(self.word), "the description has more than a million fields of it")
+        return found
 
 
 @dataclass(frozen=True)
@@ -75,8 +81,15 @@ class Stream:
     front: List[Front] = field(default_factory=list)
 
     def body(self, section: Section) -> bytes:
-        """Returns the bytes of the fields and subsections of a section."""
+        """Returns the bytes of the fields and subsections of a section.
+
+        # Errors
+
+        Refused: they are more than 100,000,000.
+        """
         start, end = section.body
+        if end - start > LONGEST_BODY:
+            raise Refused(section.at, printable(section.word), "it has more than 100,000,000 bytes, and isn't read")
         return self.source.read(start, end - start)
 
     def find(self, word: str) -> Section:
