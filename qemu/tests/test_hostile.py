@@ -187,6 +187,29 @@ class Unknown(Case):
         self.says(["show", cut, "--like", like], 1, "a subsection a/x, which the other stream doesn't have")
 
 
+class OfAnyLength(Case):
+    """Bytes that a function of QEMU writes, which have another length in the other stream."""
+
+    def test_they_end_at_the_footer(self):
+        tail = section(b"b", b"3", b"\0\0\0\2") + b"\0"
+        like = self.put("like", HEAD + section(b"a", b"1234") + tail + described(device("a", 4, type="virtio"),
+                                                                                device("b", 1)))
+        for some in (b"", b"12", b"1234", b"1234\5", b"1234\5\1a/x", b"\x7e\0\0\0\1\4zz", b"123456\x7e\0\0\0\2"):
+            path = self.put("one", HEAD + section(b"a", some) + tail)
+            shown = self.gives(["show", path, "--like", like])
+            self.assertEqual(shown, "section a 0 v1\n" + (f"data = 0x{some.hex()}\n" if some else "")
+                             + "section b 0 v1\ndata = 0x33\n")
+            self.gives(["edit", path, "--like", like, "b", "data[0]=7", "-o", self.path("new")])
+            self.assertEqual(read(self.path("new")), read(path).replace(b"\0\0\0\x013", b"\0\0\0\1\7"))
+        cut = self.put("cut", HEAD + section(b"a", b"12"))
+        self.says(["show", cut, "--like", like], 1, "zeros follow the end mark")
+        self.says(["show", self.put("more", HEAD + section(b"a", b"1234") + tail + b"\0\1"), "--like", like], 1,
+                  "refused at 54 in -: more than zeros follow the end mark")
+        fixed = self.put("fixed", HEAD + section(b"a", b"1234") + tail + described(device("a", 4), device("b", 1)))
+        one = self.put("one", HEAD + section(b"b", b"3") + section(b"a", b"12") + tail)
+        self.says(["show", one, "--like", fixed], 1, "the section doesn't fit what is known of it")
+
+
 class Unfooted(Case):
     """Streams of old machines, without footers."""
 

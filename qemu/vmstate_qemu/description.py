@@ -14,6 +14,7 @@ from .source import Source
 WIDTHS = {"u8": 1, "u16": 2, "u32": 4, "u64": 8, "i8": 1, "i16": 2, "i32": 4, "i64": 8, "bool": 1, "timer": 8}
 KINDS = {"uint8": "u8", "uint16": "u16", "uint32": "u32", "uint64": "u64", "int8": "i8", "int16": "i16",
          "int32": "i32", "int64": "i64", "bool": "bool", "timer": "timer"}
+FIXED = {"buffer", "bitmap", "pci config", "pci irq state", "float64", "CPU_Double_U", "unused_buffer"}
 MARK = 0x06
 NO_CONTROL = bytes(range(0x20, 0x100))
 LONGEST_TEXT = 1 << 26
@@ -44,6 +45,11 @@ class Entry:
         """The kind of its numbers, or none if QEMU itself only calls them bytes."""
         kind = KINDS.get(re.sub(" (equal|le)$", "", self.type))
         return kind if kind and WIDTHS[kind] == self.size else None
+
+    @property
+    def is_open(self) -> bool:
+        """Whether a function of QEMU writes it, as many bytes as the state needs."""
+        return self.kind is None and self.part is None and self.type not in FIXED
 
     @property
     def length(self) -> int:

@@ -2,7 +2,7 @@
 from __future__ import annotations
 
 from dataclasses import dataclass, replace
-from typing import Dict, List, Protocol, Tuple
+from typing import Dict, List, Optional, Protocol, Tuple
 
 from .description import MOST_LEAVES, Device, Entry, Part
 from .errors import Refused, printable
@@ -56,14 +56,27 @@ class Donor:
         if known.version and known.version != head.version:
             raise Refused(head.at, where, f"it has version {head.version}, and {known.version} in the other stream")
         part, end = fitted(known, source, head.body, where)
+        if part.entries and part.entries[-1].is_open and not part.subsections \
+                and source.read_some(end, 5) != b"\x7e" + head.identity:
+            return self.with_other_length(part, source, end, head)
         if source.read_some(end, 1) == bytes([SUBSECTION]):
             return self.with_unknown(part, source, end, head)
         return part, end
 
+    def with_other_length(self, part: Part, source: Source, end: int, head: Head) -> Tuple[Part, int]:
+        """Returns the part with its last field, which a function of QEMU writes, as far as the footer.
+
+        Without such a footer it is returned as it was.
+        """
+        start = end - part.entries[-1].length
+        length = self.to_the_footer(source, start, head.identity)
+        if length is None:
+            return part, end
+        last = replace(part.entries[-1], size=length, count=None)
+        return replace(part, entries=part.entries[:-1] + (last,)), start + length
+
     def with_unknown(self, part: Part, source: Source, at: int, head: Head) -> Tuple[Part, int]:
         """Returns the part with a subsection at `at` that the donor doesn't have, as bytes up to the footer.
-
-        The footer is the first one of this section behind which the end mark or a section of the donor begins.
 
         # Errors
 
@@ -73,14 +86,22 @@ class Donor:
         length = source.number_at(at + 1, 1, where)
         sub = source.read(at + 2, length, where).decode("utf-8", "surrogateescape")
         version, body = source.number_at(at + 2 + length, 4, where), at + 6 + length
-        some, footer = source.read_some(body, FURTHEST), b"\x7e" + head.identity
-        found = some.find(footer)
-        while found >= 0 and not self.goes_on(source, body + found + 5):
-            found = some.find(footer, found + 1)
-        if found < 0:
+        found = self.to_the_footer(source, body, head.identity)
+        if found is None:
             raise Refused(at, where, f"a subsection {printable(sub)}, which the other stream doesn't have")
         unknown = Part(sub, version, (Entry("data", "buffer", found, None, None, None),), ())
         return replace(part, subsections=part.subsections + (unknown,)), body + found
+
+    def to_the_footer(self, source: Source, at: int, identity: bytes) -> Optional[int]:
+        """Returns how far from `at` the footer of a section is, or none if it isn't within 16 MiB.
+
+        It is the first footer of this section after which the end mark or a section of the donor follows.
+        """
+        some, footer = source.read_some(at, FURTHEST), b"\x7e" + identity
+        found = some.find(footer)
+        while found >= 0 and not self.goes_on(source, at + found + 5):
+            found = some.find(footer, found + 1)
+        return found if found >= 0 else None
 
     def goes_on(self, source: Source, at: int) -> bool:
         """Whether the end of the stream is at `at`, or a section that the donor has."""
@@ -108,7 +129,7 @@ def fitted(part: Part, source: Source, at: int, where: str) -> Tuple[Part, int]:
             at = end
     came: List[Part] = []
     known = {sub.name.encode(): sub for sub in part.subsections}
-    while source.read_some(at, 1) == bytes([SUBSECTION]):
+    while known and source.read_some(at, 1) == bytes([SUBSECTION]):
         length = source.number_at(at + 1, 1, where)
         sub = known.pop(source.read(at + 2, length, where), None)
         if sub is None:

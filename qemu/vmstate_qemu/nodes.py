@@ -8,7 +8,6 @@ from typing import Any, Dict, List, Optional, Tuple
 from .description import Entry, Part
 from .errors import TEXT, Trouble, printable
 
-FIXED = {"buffer", "bitmap", "pci config", "pci irq state", "float64", "CPU_Double_U"}
 BY_SIZE = {1: "u8", 2: "u16", 4: "u32", 8: "u64"}
 
 
@@ -167,7 +166,7 @@ def joined_fields(run: List[Entry], said: Optional[NodeField]) -> List[NodeField
     if first.type == "unused_buffer":
         return [NodeField(first.name, "unused", length, None, since, None, is_tested)]
     if first.kind is None:
-        return [NodeField(first.name, "bytes", length, None, since, None, is_tested, first.type not in FIXED)]
+        return [NodeField(first.name, "bytes", length, None, since, None, is_tested, first.is_open)]
     count = first.count if first.index is None else len(run)
     return [NodeField(first.name, first.kind, first.size, count, since, None, is_tested)]
 

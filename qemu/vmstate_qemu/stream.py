@@ -7,7 +7,7 @@ from typing import Dict, Iterator, List, Optional, Tuple
 
 from . import donor as donors
 from . import ram
-from .description import MOST_LEAVES, Description, Device, Leaf, Part, find, leaves
+from .description import MOST_LEAVES, Description, Device, Leaf, Part, find, last_byte, leaves
 from .donor import Head
 from .errors import WORDS, Refused, Trouble, printable
 from .source import MAGIC, Source
@@ -297,6 +297,8 @@ def forwards(stream: Stream, fits: donors.Fits) -> None:
         at = end
     if source.read_some(at, 1) != b"\0":
         raise Refused(at, "", "no section and no end mark begins here")
+    if last_byte(source) > at + 1:
+        raise Refused(at + 1, "", "more than zeros follow the end mark")
     stream.end = at
 
 
