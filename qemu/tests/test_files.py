@@ -56,16 +56,37 @@ class Pipes(Case):
 class Changed(Case):
     """A stream that another program writes to."""
 
+    def editor(self, also: str) -> str:
+        """Returns the words of an editor that changes a number, and does something else before."""
+        script = f"""{also}; sed -i 's/^state.scr = .*/state.scr = 7/' "$1"\n"""
+        return "sh " + self.put("editor", script.encode())
+
     def test_it_is_not_edited(self):
         path = self.put("stream", read(ISAPC))
-        editor = self.put("editor", f"""printf x >> '{path}'; sed -i 's/^state.scr = .*/state.scr = 7/' "$1"
-""".encode())
         for more in (["--in-place"], ["-o", self.path("new")]):
-            with mock.patch.dict(os.environ, {"EDITOR": f"sh {editor}"}), mock.patch.dict(os.environ, {"VISUAL": ""}):
+            with mock.patch.dict(os.environ, {"EDITOR": self.editor(f"printf x >> '{path}'"), "VISUAL": ""}):
                 self.says(["edit", path, "serial", *more], 5, "it was changed while it was read; nothing is written")
             self.assertEqual(read(path), read(ISAPC) + b"x")
             os.truncate(path, os.path.getsize(ISAPC))
         self.assertEqual(sorted(os.listdir(self.folder)), ["editor", "stream"])
+
+    def test_a_file_that_took_its_place_stays(self):
+        path, other = self.put("stream", read(ISAPC)), self.put("other", read(ISAPC) + bytes(9))
+        with mock.patch.dict(os.environ, {"EDITOR": self.editor(f"mv '{other}' '{path}'"), "VISUAL": ""}):
+            self.says(["edit", path, "serial", "--in-place"], 5, "another file took its place meanwhile")
+        self.assertEqual(read(path), read(ISAPC) + bytes(9))
+        self.assertEqual(sorted(os.listdir(self.folder)), ["editor", "stream"])
+
+    def test_it_keeps_owner_and_permissions(self):
+        path = self.put("stream", read(ISAPC))
+        os.chmod(path, 0o604)
+        if os.geteuid() == 0:
+            os.chown(path, 12345, 54321)
+        before = os.stat(path)
+        self.gives(["edit", path, "serial", "state.scr=7", "--in-place"])
+        after = os.stat(path)
+        self.assertEqual((after.st_mode, after.st_uid, after.st_gid), (before.st_mode, before.st_uid, before.st_gid))
+        self.assertNotEqual(after.st_ino, before.st_ino)
 
 
 class Process(Case):

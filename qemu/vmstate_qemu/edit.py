@@ -153,14 +153,16 @@ def write(stream: Stream, section: Section, body: bytes, file: BinaryIO) -> None
 
 
 def written(stream: Stream, section: Section, body: bytes, path: str, in_place: bool) -> None:
-    """Writes the edited stream to `path`, whole or not at all; `in_place` keeps the permissions of the old file.
+    """Writes the edited stream to `path`, whole or not at all; `in_place` keeps owner and permissions of the old file.
 
     # Errors
 
-    Trouble: the stream is no file, so it can't be edited in place; or writing fails.
+    Trouble: the stream is no file, so it can't be edited in place; another file has taken its place; or writing fails.
     """
     source: Source = stream.source
     if in_place and (source.pieces is not None or source.path == "-"):
         raise Trouble(f"{source.name}: only a file that is a stream is edited in place", WORDS)
     with replacing(path, source.path if in_place else None) as file:
         write(stream, section, body, file)
+        if in_place and not source.is_still_at(path):
+            raise Trouble(f"{source.name}: another file took its place meanwhile; nothing is written", FAULT)

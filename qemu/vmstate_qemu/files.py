@@ -42,7 +42,7 @@ def replacing(path: str, mode_of: Optional[str] = None) -> Iterator[BinaryIO]:
 
     The bytes go to a new file in the same folder, which is synced and then renamed. After an error it is removed, and
     `path` is as it was. A link at `path` stays, and its target is replaced. With `mode_of`, the permissions are those
-    of that file.
+    of that file, and so are its owner and group if the user may give files away.
 
     # Errors
 
@@ -60,6 +60,9 @@ def replacing(path: str, mode_of: Optional[str] = None) -> Iterator[BinaryIO]:
             file.flush()
             os.fsync(file.fileno())
         if mode_of is not None:
+            old = os.stat(mode_of)
+            with contextlib.suppress(PermissionError):
+                os.chown(new, old.st_uid, old.st_gid)
             shutil.copymode(mode_of, new)
         else:
             os.chmod(new, 0o666 & ~umask())

@@ -59,6 +59,10 @@ class Source:
         """Whether the file is as it was when it was opened. An image may change, since a snapshot in it doesn't."""
         return self.pieces is not None or self.state() == (self.size, self.changed)
 
+    def is_still_at(self, path: str) -> bool:
+        """Whether the file at `path` is the one that was opened."""
+        return os.path.samestat(os.stat(path), os.fstat(self.number))
+
     def spooled(self) -> int:
         """Returns the descriptor of a temporary file with all that comes from the pipe.
 
