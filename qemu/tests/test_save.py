@@ -110,6 +110,8 @@ class Save(Case):
     def test_sockets_that_are_not_qmp(self):
         for greeting in (b"SSH-2.0\n", b"{}\n", b"[]\n", b"\xff\n", b'{"QMP": 1}\n'):
             self.assertIn("this is no QMP socket", self.saved(greeting=greeting)[1])
+        with mock.patch.object(qmp, "LONGEST_LINE", 1 << 10):
+            self.assertIn("a line has more than 16 MiB", self.saved(greeting=b"x" * (1 << 20))[1])
         with mock.patch.object(qmp, "GREETING_SECONDS", 0.3):
             self.assertIn("no greeting within", self.saved(greeting=b"")[1])
         self.says(["save", self.put("plain", b""), self.path("x")], 5, "plain")

@@ -77,7 +77,9 @@ class Session:
                 continue
             except OSError as error:
                 raise Trouble(f"{self.name}: {reason(error)}", FAULT) from None
-            if not some or len(self.waiting) > LONGEST_LINE:
+            if len(self.waiting) > LONGEST_LINE:
+                raise Trouble(f"{self.name}: this is no QMP socket: a line has more than 16 MiB", FAULT)
+            if not some:
                 raise Trouble(f"{self.name}: the connection ended; QEMU may have ended too", FAULT)
             self.waiting += some
         line, self.waiting = self.waiting.split(b"\n", 1)
