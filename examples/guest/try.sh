@@ -175,4 +175,6 @@ for name in script trace console; do
     say "$name: $(wc -c <"$work/plain/$name") bytes, the same in both runs"
 done
 grep -q '^second 3' "$work/plain/console" || { echo "the guest didn't do what was typed" >&2 && exit 1; }
+say "the recorded boot again, without a processor, saved and restored every 100 events"
+"$work/play" isa-3 100 "$work/plain/script" "$work/plain/trace"
 say "done"
