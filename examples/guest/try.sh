@@ -32,7 +32,9 @@ check_tools() {
 
 # The static library, the programs over it, and the traces of other guests.
 build_programs() {
-    cp "$library/libvmstate_board_c.a" "$(dirname "$(rt doc)")/c/liblibc_c.a" "$work"
+    object=$library/liblibc_c.a
+    [ -f "$object" ] || object=$(dirname "$(rt doc)")/c/liblibc_c.a
+    cp "$library/libvmstate_board_c.a" "$object" "$work"
     for name in request trace place machine play keeper; do
         gcc -std=c11 -Wall -Wextra -O2 -I"$top/examples/embed" -c -o "$work/$name.o" "$here/$name.c"
     done
