@@ -34,8 +34,8 @@ class Vm:
         """Serves one client."""
         client, _ = self.server.accept()
         with client, self.server, client.makefile("rb") as lines:
-            client.sendall(self.greeting)
             try:
+                client.sendall(self.greeting)
                 for line in lines:
                     said = json.loads(line)
                     self.commands.append(said["execute"])

@@ -40,7 +40,7 @@ class Entry:
     index: Optional[int]
     part: Optional["Part"]
 
-    @property
+    @cached_property
     def kind(self) -> Optional[str]:
         """The kind of its numbers, or none if QEMU itself only calls them bytes."""
         kind = KINDS.get(re.sub(" (equal|le)$", "", self.type))

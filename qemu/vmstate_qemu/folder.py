@@ -84,8 +84,6 @@ class Judge:
         for unit in found.front or stream.front_units(found, at):
             if unit.at + unit.length > at:
                 return REFUSED, f"refused at {unit.at} in {printable(unit.what)}: it goes on into the devices"
-        for section in found.sections:
-            section.leaves()
         return 0, ""
 
 
