@@ -5,7 +5,8 @@
 #
 # LIBRARY is a folder with libvmstate_board_c.a. Without it the library is proved and built first, which takes two hours of
 # processor time from nothing. Nothing is installed: Debian's packages are fetched to examples/guest/out (or the folder WORK),
-# 60 MB with their lists, and built there. A second run fetches and builds only what isn't there.
+# 60 MB with their lists, and built there. They come from the first mirror of Debian that apt-get knows, or from DEBIAN_MIRROR. A
+# second run fetches and builds only what isn't there.
 set -eu
 here=$(cd "$(dirname "$0")" && pwd)
 top=$(cd "$here/../.." && pwd)
@@ -25,8 +26,12 @@ check_tools() {
         echo "there is no $program; on Debian: apt-get install gcc g++ make binutils python3 xz-utils" >&2
         exit 1
     done
-    [ -r "$keys" ] && return
-    echo "there is no $keys; on Debian and Ubuntu: apt-get install debian-archive-keyring" >&2
+    if ! [ -r "$keys" ]; then
+        echo "there is no $keys; on Debian and Ubuntu: apt-get install debian-archive-keyring" >&2
+        exit 1
+    fi
+    [ -n "$mirror" ] && return
+    echo "apt-get has no mirror of Debian here: set DEBIAN_MIRROR to the address of one" >&2
     exit 1
 }
 
