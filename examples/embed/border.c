@@ -30,6 +30,26 @@ static void call(const char *what, const struct vmstate_request *request, size_t
     free(notes);
 }
 
+/* The same with files: what a session saved. */
+static void call_stored(const char *what, const struct vmstate_request *request, size_t file_room, size_t byte_room)
+{
+    uint8_t out[ROOM], notes[ROOM], *bytes = byte_room ? malloc(byte_room) : NULL;
+    struct vmstate_stored *files = file_room ? calloc(file_room, sizeof *files) : NULL;
+    if (bytes)
+        memset(bytes, '.', byte_room);
+    struct vmstate_stored_answer answer =
+        vmstate_call_stored(request, out, ROOM, notes, ROOM, files, file_room, bytes, byte_room);
+    printf("%s: status %u, lengths %zu and %zu, %zu files of %zu bytes\n", what, answer.status, answer.out, answer.notes,
+           answer.files, answer.bytes);
+    for (size_t i = 0; i < file_room; i++)
+        printf("%zu, %zu, %zu, %zu\n", files[i].name, files[i].name_length, files[i].bytes, files[i].length);
+    for (size_t i = 0; i < byte_room; i += 512)
+        putchar(bytes[i]);
+    putchar('\n');
+    free(bytes);
+    free(files);
+}
+
 int main(void)
 {
     static const uint8_t stream[] = "QEVM\0\0\0\3\4\0\0\0\0\5timer\0\0\0\0\0\0\0\1\0\0\0\0\0\0\0\0\x7e\0\0\0\0";
@@ -40,6 +60,9 @@ int main(void)
     const struct vmstate_file twice[] = {
         {BYTES("a"), BYTES("{}")}, {NOTHING, NOTHING}, {BYTES("\xff"), BYTES("{}")}, {BYTES("a"), NOTHING}};
     const struct vmstate_bytes input = {stream, sizeof stream};
+    const struct vmstate_bytes play[] = {BYTES("play"), BYTES("isa-1"), BYTES("s")};
+    const struct vmstate_file saves[] = {{BYTES("s"), BYTES("save @1 b\nsave @1 a\nsave @1 b\n")}, {BYTES("c"), BYTES("d")}};
+    const struct vmstate_request session = {play, 3, NOTHING, saves, 2};
 
     call("a stream", &(struct vmstate_request){show, 2, input, NULL, 0}, ROOM, ROOM);
     call("room for it alone", &(struct vmstate_request){show, 2, input, NULL, 0}, 27, 0);
@@ -51,5 +74,12 @@ int main(void)
     call("words that aren't UTF-8", &(struct vmstate_request){other, 2, input, NULL, 0}, 0, ROOM);
     call("no files", &(struct vmstate_request){check, 3, NOTHING, NULL, 0}, 0, ROOM);
     call("a file twice, and names that are none", &(struct vmstate_request){check, 3, NOTHING, twice, 4}, 0, ROOM);
+    size_t need = vmstate_call_stored(&session, NULL, 0, NULL, 0, NULL, 0, NULL, 0).bytes;
+    call_stored("two files", &session, 3, need + 100);
+    call_stored("room for them alone", &session, 2, need);
+    call_stored("a file too little", &session, 1, need);
+    call_stored("a byte too little", &session, 2, need - 1);
+    call_stored("no room", &session, 0, 0);
+    call_stored("nothing stored", &(struct vmstate_request){show, 2, input, NULL, 0}, 1, 1);
     return 0;
 }

@@ -1,5 +1,5 @@
-/* Loads a snapshot, refuses a damaged one with its offset, calls again if a buffer was too small, and writes the state of a
- * board for an older program.
+/* Loads a snapshot, refuses a damaged one with its offset, calls again if a buffer was too small, writes the state of a board for
+ * an older program, and keeps what a session saved for another one.
  *
  *     embed SET STREAM SAVED          a description file, a stream of it, and what a board saved
  *     embed SET STREAM SAVED CALLS    makes CALLS calls, and prints the time of one and by how much memory grew
@@ -14,7 +14,7 @@
 
 #define BYTES(text) {(const uint8_t *)(text), sizeof(text) - 1}
 
-enum { FIRST_ROOM = 16, NOTES_ROOM = 256 };
+enum { FIRST_ROOM = 16, NOTES_ROOM = 256, TRACE_ROOM = 256, KEPT_ROOM = 8192 };
 
 static struct vmstate_bytes read_file(const char *path)
 {
@@ -90,6 +90,33 @@ static void rewrite(const char *target, struct vmstate_bytes saved)
     free(out);
 }
 
+/* Plays a script on a board isa-2. `file` is a file from which it may restore. Returns the first file that it saved, of `kept`. */
+static struct vmstate_file play(const char *script, struct vmstate_file file, uint8_t *kept)
+{
+    const struct vmstate_bytes words[] = {BYTES("play"), BYTES("isa-2"), BYTES("script")};
+    const struct vmstate_file files[] = {{BYTES("script"), {(const uint8_t *)script, strlen(script)}}, file};
+    const struct vmstate_request request = {words, 3, {NULL, 0}, files, 2};
+    uint8_t out[TRACE_ROOM], notes[NOTES_ROOM];
+    struct vmstate_stored stored = {0, 0, 0, 0};
+    struct vmstate_stored_answer answer =
+        vmstate_call_stored(&request, out, sizeof out, notes, sizeof notes, &stored, 1, kept, KEPT_ROOM);
+    printf("session: status %u, %zu files\n%.*s%.*s", answer.status, answer.files, (int)answer.out, (char *)out,
+           (int)answer.notes, (char *)notes);
+    return (struct vmstate_file){{kept + stored.name, stored.name_length}, {kept + stored.bytes, stored.length}};
+}
+
+/* A session writes a byte to the serial port and saves its board. Another restores it, and the byte leaves there. */
+static void sessions(void)
+{
+    const struct vmstate_file none = {{NULL, 0}, {NULL, 0}};
+    uint8_t *kept = malloc(KEPT_ROOM), *more = malloc(KEPT_ROOM);
+    struct vmstate_file saved = play("out 03f8 68\nsave @2 box\n", none, kept);
+    printf("%.*s: %zu bytes\n", (int)saved.name.length, (char *)saved.name.at, saved.bytes.length);
+    play("restore box\nwait 10000000\n", saved, more);
+    free(kept);
+    free(more);
+}
+
 static long most_memory(void)
 {
     struct rusage usage;
@@ -134,6 +161,7 @@ int main(int count, char **words)
         tell("damaged", set, damaged(stream));
         rewrite("@3", saved);
         rewrite("@1", saved);
+        sessions();
     }
     free((void *)set.at);
     free((void *)stream.at);

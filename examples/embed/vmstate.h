@@ -1,4 +1,4 @@
-/* vmstate as a function for C and C++: the static library of the crate vmstate_c.
+/* vmstate as two functions for C and C++: the static library of the crate vmstate_c.
  *
  * Nothing checks a C caller. It isn't proved that pointers and lengths are right, nor that these declarations match those of
  * crates/vmstate_c/src. */
@@ -24,7 +24,8 @@ struct vmstate_file {
 };
 
 /* A call: the arguments after the program's name, such as "show" and "@2"; the bytes of standard input; and the files of the
- * current folder. If two files have one name, the later counts. What a session of `play` saves is kept until the call ends. */
+ * current folder. If two files have one name, the later counts. What a session of `play` saves is kept until the call ends;
+ * vmstate_call_stored returns it. */
 struct vmstate_request {
     const struct vmstate_bytes *words;
     size_t word_count;
@@ -50,6 +51,30 @@ struct vmstate_answer {
  * returns. Two threads may each make a call at the same time. */
 struct vmstate_answer vmstate_call(const struct vmstate_request *request, uint8_t *out, size_t out_room,
                                    uint8_t *notes, size_t notes_room);
+
+/* A file that a call stored: its name and its bytes, by their offsets and lengths in the buffer `bytes`. */
+struct vmstate_stored {
+    size_t name, name_length, bytes, length;
+};
+
+/* As vmstate_answer, with the number of stored files (files) and the length of their names and bytes together (bytes). */
+struct vmstate_stored_answer {
+    uint32_t status;
+    size_t out, notes, files, bytes;
+};
+
+/* Does what vmstate_call does, and also returns the files that the command stored, as the line `save @2 box` of a session does.
+ *
+ * They are the files that the current folder has after the command and that the request doesn't have with the same bytes, whatever
+ * the status is. They come in the order of their names, each once. `bytes` gets the name and the bytes of each, one after the other,
+ * and `files` where they are; `file_room` counts elements of `files`.
+ *
+ * If one of the four buffers is too small, the status is VMSTATE_TOO_SMALL, the lengths are the required ones, and all buffers are
+ * unchanged: the command has left nothing, so call again. If memory runs out for the texts or for the files, the status is 10, all
+ * lengths are 0 and all buffers are unchanged. Everything else is as for vmstate_call. */
+struct vmstate_stored_answer vmstate_call_stored(const struct vmstate_request *request, uint8_t *out, size_t out_room,
+                                                 uint8_t *notes, size_t notes_room, struct vmstate_stored *files,
+                                                 size_t file_room, uint8_t *bytes, size_t byte_room);
 
 #ifdef __cplusplus
 }

@@ -29,32 +29,29 @@ outlet_of bytes faults = record { written = Some bytes; faults = faults; promise
 pub sink-is : (bytes : List ℕ) (faults : ℕ) → bytes ≡ [] → faults ≡ 0 → outlet_of bytes faults ≡ outlet_of [] 0
 sink-is bytes faults e f = ap (λ (x : List ℕ). outlet_of x faults) e ∙ ap (outlet_of []) f
 
-abbrev stock_of : Held → ℕ → List ℕ → Stock
-stock_of held faults failing = record { held = Some held; faults = faults; promise = is_empty failing }
-
-pub shelf-is : (held : Held) (faults : ℕ) (failing : List ℕ) → faults ≡ 0 → failing ≡ [] → stock_of held faults failing ≡ stock_of held 0 []
-shelf-is held faults failing e f = ap (λ (n : ℕ). stock_of held n failing) e ∙ ap (stock_of held 0) f
+abbrev stock_of : Held → Stock
+stock_of held = record { held = Some held; faults = 0; promise = true }
 
 abbrev outside : Intake → Outlet → Outlet → Stock → Outside
 outside input out notes shelf = record { input = input; out = out; notes = notes; shelf = shelf }
 
-pub comes : (request : Request) (status : ℕ) (words : List (List ℕ)) (held : Held) (input : Intake) (out notes : Outlet) (shelf : Stock) (after : Outside) (text line : List ℕ)
+pub comes : (request : Request) (status : ℕ) (words : List (List ℕ)) (held : Held) (input : Intake) (out notes : Outlet) (after : Outside) (text line : List ℕ)
     → words ≡ words_of request.words.now
     → ((name : List ℕ) → held name ≡ file_of name request.files.now)
-    → input ≡ fresh request.input.now → out ≡ outlet_of [] 0 → notes ≡ outlet_of [] 0 → shelf ≡ stock_of held 0 []
-    → Answers words status (outside input out notes shelf) after
+    → input ≡ fresh request.input.now → out ≡ outlet_of [] 0 → notes ≡ outlet_of [] 0
+    → Answers words status (outside input out notes (stock_of held)) after
     → after.out.written ≡ Some text → after.notes.written ≡ Some line → NoneFailed after
     → Comes request status text line
-comes request status words held input out notes shelf after text line same files i o n s answers wrote told none =
-    let began : outside input out notes shelf ≡ before request.input.now held =
-    ap (λ (x : Intake). outside x out notes shelf) i ∙ ap (λ (x : Outlet). outside (fresh request.input.now) x notes shelf) o
-    ∙ ap (λ (x : Outlet). outside (fresh request.input.now) (outlet_of [] 0) x shelf) n
-    ∙ ap (outside (fresh request.input.now) (outlet_of [] 0) (outlet_of [] 0)) s in
+comes request status words held input out notes after text line same files i o n answers wrote told none =
+    let began : outside input out notes (stock_of held) ≡ before request.input.now held =
+    ap (λ (x : Intake). outside x out notes (stock_of held)) i ∙ ap (λ (x : Outlet). outside (fresh request.input.now) x notes (stock_of held)) o
+    ∙ ap (λ (x : Outlet). outside (fresh request.input.now) (outlet_of [] 0) x (stock_of held)) n in
     record {
       held = held;
       files = files;
       after = after;
-      answers = subst (λ (x : Outside). Answers (words_of request.words.now) status x after) began (subst (λ (x : List (List ℕ)). Answers x status (outside input out notes shelf) after) same answers);
+      answers = subst (λ (x : Outside). Answers (words_of request.words.now) status x after) began
+          (subst (λ (x : List (List ℕ)). Answers x status (outside input out notes (stock_of held)) after) same answers);
       out_is = wrote;
       notes_is = told;
       none = none;

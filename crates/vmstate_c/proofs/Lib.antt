@@ -1,4 +1,5 @@
 mod CallLemmas
 mod CompleteLaws
 mod FileLemmas
+mod StoredLemmas
 mod WordLemmas

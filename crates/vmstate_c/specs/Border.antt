@@ -17,9 +17,9 @@ both out notes = record { out = out; notes = notes }
 abbrev pub do_fit : Both → Both → Bool
 do_fit texts rooms = nat_le (length texts.out) (length rooms.out) && nat_le (length texts.notes) (length rooms.notes)
 
--- A buffer with a text at its beginning.
-abbrev pub put_in : List ℕ → List ℕ → List ℕ
-put_in text room = text ++ drop (length text) room
+-- A buffer with these items at its beginning.
+abbrev pub put_in : {A : Type 0} → List A → List A → List A
+put_in items room = items ++ drop (length items) room
 
 -- The texts are in the buffers, with their status; or one buffer is too small and both are
 -- unchanged. In both cases the result has their lengths.

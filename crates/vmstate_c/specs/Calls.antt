@@ -51,3 +51,8 @@ pub record Comes (request : Request) (status : ℕ) (out notes : List ℕ) : Typ
   pub out_is : after.out.written ≡ Some out
   pub notes_is : after.notes.written ≡ Some notes
   pub none : NoneFailed after
+
+-- The same, and this is what the files are then.
+pub record Leaves (request : Request) (status : ℕ) (out notes : List ℕ) (held : Held) : Type 0 where
+  pub comes : Comes request status out notes
+  pub held_is : comes.after.shelf.held ≡ Some held

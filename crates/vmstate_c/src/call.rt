@@ -1,17 +1,18 @@
 // The top call on objects in memory.
 ghost use Rattle.std.specs.Prelude.{◌≡◌, ◌∷◌, [], IfOk, OnOk, List, ℕ};
-ghost use Rattle.vms_io.specs.Cabinets.{cabinet};
 ghost use Rattle.vms_io.specs.Supplies.{supply};
-ghost use Rattle.vmstate_c.specs.Calls.{Comes, words_of, file_of, file_over};
+ghost use Rattle.vmstate_c.specs.Calls.{Leaves, words_of, file_of, file_over};
+ghost use Rattle.vmstate_c.specs.Folders.{held_of};
 
+use crate::folder::Folder;
 use crate::growing::Growing;
 use crate::request::{Bytes, File, Request};
 use std::alloc::Global;
 use std::str;
 use vms_cli::{Words, vmstate};
-use vms_io::{MemShelf, MemSource, NoMemory};
+use vms_io::{MemSource, NoMemory};
 
-/// The result of a call: the status, and both outputs.
+/// The result of a call: the status, both outputs and the files.
 #[derive(Drop)]
 pub(crate) struct Ended {
     /// The status.
@@ -20,6 +21,8 @@ pub(crate) struct Ended {
     pub out: Vec<u8>,
     /// The bytes written to standard error.
     pub notes: Vec<u8>,
+    /// The files after the call.
+    pub folder: Folder,
 }
 
 /// Makes the call in `request` on objects in memory.
@@ -29,10 +32,11 @@ pub(crate) struct Ended {
 /// [`NoMemory`] if memory runs out.
 pub(crate) fn call(alloc: Global, request: &Request<'_>) -> Result<Ended, NoMemory>
     ensures { IfOk result (λ ended.
-        Comes request.now ended.status ended.out.items ended.notes.items) }
+        Leaves request.now ended.status ended.out.items ended.notes.items
+        (held_of ended.folder)) }
 {
     let words = words_of(alloc, request.words)?;
-    let mut shelf = shelf_of(alloc, request.files)?;
+    let mut folder = folder_of(alloc, request.files)?;
     let mut input = MemSource::new(
         request.input.to_vec(alloc)?,
         Vec::new(alloc),
@@ -40,7 +44,7 @@ pub(crate) fn call(alloc: Global, request: &Request<'_>) -> Result<Ended, NoMemo
     );
     let mut out = Growing::new(alloc);
     let mut notes = Growing::new(alloc);
-    let status = vmstate(alloc, &words, &mut input, &mut out, &mut notes, &mut shelf);
+    let status = vmstate(alloc, &words, &mut input, &mut out, &mut notes, &mut folder);
     if out.is_wanting() || notes.is_wanting() {
         return Err(NoMemory);
     }
@@ -48,6 +52,7 @@ pub(crate) fn call(alloc: Global, request: &Request<'_>) -> Result<Ended, NoMemo
         status,
         out: out.into_bytes(),
         notes: notes.into_bytes(),
+        folder,
     })
 }
 
@@ -73,28 +78,23 @@ fn empty_word(alloc: Global) -> Result<Words, NoMemory>
     Ok(words)
 }
 
-// Returns a shelf with these files. No word names a file whose name isn't UTF-8.
-fn shelf_of(alloc: Global, files: &[File<'_>]) -> Result<MemShelf, NoMemory>
-    ensures held { (name : List ℕ) →
-        IfOk result (λ shelf. (cabinet shelf).held name ≡ file_of name files.now) }
-    ensures faults { IfOk result (λ shelf. (cabinet shelf).faults ≡ 0) }
-    ensures failing { IfOk result (λ shelf. (cabinet shelf).failing ≡ []) }
+// Returns a folder with these files. No word names a file whose name isn't UTF-8.
+fn folder_of(alloc: Global, files: &[File<'_>]) -> Result<Folder, NoMemory>
+    ensures { (name : List ℕ) → IfOk result (λ folder. held_of folder name ≡ file_of name files.now) }
 {
-    let mut shelf = MemShelf::new(alloc, Vec::new(alloc));
+    let mut folder = Folder::new(alloc);
     for file in files {
-        put(alloc, &mut shelf, file)?;
+        put(alloc, &mut folder, file)?;
     }
-    Ok(shelf)
+    Ok(folder)
 }
 
-fn put(alloc: Global, shelf: &mut MemShelf, file: &File<'_>) -> Result<(), NoMemory>
-    ensures put { (name : List ℕ) → OnOk result
-        ((cabinet shelf.new).held name ≡ file_over file.now (cabinet shelf.old).held name) }
-    ensures faults { (cabinet shelf.new).faults ≡ (cabinet shelf.old).faults }
-    ensures failing { (cabinet shelf.new).failing ≡ (cabinet shelf.old).failing }
+fn put(alloc: Global, folder: &mut Folder, file: &File<'_>) -> Result<(), NoMemory>
+    ensures { (name : List ℕ) → OnOk result
+        (held_of folder.new name ≡ file_over file.now (held_of folder.old) name) }
 {
     if let Ok(name) = str::from_utf8(file.name) {
-        shelf.put(name, file.bytes.to_vec(alloc)?)?;
+        folder.put(name, file.bytes.to_vec(alloc)?)?;
     }
     Ok(())
 }

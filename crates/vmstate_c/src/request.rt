@@ -45,3 +45,33 @@ pub struct Answer {
     /// The length of standard error, in bytes.
     pub notes: usize,
 }
+
+/// Where a file that a call stored is in the caller's buffer, with its name.
+#[repr(C)]
+#[derive(Clone, Copy, Debug, PartialEq, Eq)]
+pub struct Stored {
+    /// The offset of the name, in bytes.
+    pub name: usize,
+    /// The length of the name, in bytes.
+    pub name_length: usize,
+    /// The offset of the file's bytes.
+    pub bytes: usize,
+    /// The number of the file's bytes.
+    pub length: usize,
+}
+
+/// The result of a call that returns the files that it stored.
+#[repr(C)]
+#[derive(Clone, Copy, Debug, PartialEq, Eq)]
+pub struct StoredAnswer {
+    /// The status.
+    pub status: u32,
+    /// The length of standard output, in bytes.
+    pub out: usize,
+    /// The length of standard error, in bytes.
+    pub notes: usize,
+    /// The number of stored files.
+    pub files: usize,
+    /// The length of their names and bytes together.
+    pub bytes: usize,
+}

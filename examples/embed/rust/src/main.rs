@@ -1,5 +1,5 @@
-//! Loads a snapshot, refuses a damaged one with its place, and writes the state of a board for an older program:
-//! `embed SET STREAM SAVED`.
+//! Loads a snapshot, refuses a damaged one with its offset, writes the state of a board for an older program, and keeps what a session
+//! saved for another one: `embed SET STREAM SAVED`.
 
 mod vmstate;
 
@@ -19,6 +19,26 @@ fn rewrite(target: &str, saved: &[u8]) {
     print!("{}", String::from_utf8_lossy(&answer.notes));
 }
 
+// Plays a script on a board isa-2, and returns the files that it saved.
+fn play(script: &str, files: &[(&str, &[u8])]) -> Vec<(String, Vec<u8>)> {
+    let mut all = vec![("script", script.as_bytes())];
+    all.extend(files);
+    let (answer, stored) = vmstate::call_stored(&["play", "isa-2", "script"], &[], &all);
+    println!("session: status {}, {} files", answer.status, stored.len());
+    print!("{}", String::from_utf8_lossy(&answer.out));
+    print!("{}", String::from_utf8_lossy(&answer.notes));
+    stored
+}
+
+// A session writes a byte to the serial port and saves its board. Another restores it, and the byte leaves there.
+fn sessions() {
+    let saved = play("out 03f8 68\nsave @2 box\n", &[]);
+    for (name, bytes) in &saved {
+        println!("{name}: {} bytes", bytes.len());
+        play("restore box\nwait 10000000\n", &[(name, bytes)]);
+    }
+}
+
 fn main() -> io::Result<ExitCode> {
     let words: Vec<String> = env::args().skip(1).collect();
     let [set, stream, saved] = words.as_slice() else {
@@ -30,5 +50,6 @@ fn main() -> io::Result<ExitCode> {
     tell("damaged", &set, &stream[..stream.len() - stream.len() / 4]);
     rewrite("@3", &saved);
     rewrite("@1", &saved);
+    sessions();
     Ok(ExitCode::SUCCESS)
 }

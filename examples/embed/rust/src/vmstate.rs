@@ -1,4 +1,4 @@
-//! Safe Rust over `vmstate_call`.
+//! Safe Rust over `vmstate_call` and `vmstate_call_stored`.
 //!
 //! Nothing compares these declarations with those of `crates/vmstate_c/src`, and nothing checks the pointers.
 
@@ -44,7 +44,36 @@ struct RawAnswer {
     notes: usize,
 }
 
+#[repr(C)]
+#[derive(Clone, Copy)]
+struct RawStored {
+    name: usize,
+    name_length: usize,
+    bytes: usize,
+    length: usize,
+}
+
+#[repr(C)]
+struct RawStoredAnswer {
+    status: u32,
+    out: usize,
+    notes: usize,
+    files: usize,
+    bytes: usize,
+}
+
 extern "C" {
+    fn vmstate_call_stored(
+        request: *const Request<'_>,
+        out: *mut u8,
+        out_room: usize,
+        notes: *mut u8,
+        notes_room: usize,
+        files: *mut RawStored,
+        file_room: usize,
+        bytes: *mut u8,
+        byte_room: usize,
+    ) -> RawStoredAnswer;
     fn vmstate_call(
         request: *const Request<'_>,
         out: *mut u8,
@@ -69,14 +98,8 @@ pub struct Answer {
 /// there isn't room enough for its text, so a caller who knows how long it is gives that.
 #[must_use]
 pub fn call(words: &[&str], input: &[u8], files: &[(&str, &[u8])], room: usize) -> Answer {
-    let words: Vec<Bytes<'_>> = words.iter().map(|word| Bytes::new(word.as_bytes())).collect();
-    let files: Vec<File<'_>> = files
-        .iter()
-        .map(|(name, bytes)| File {
-            name: Bytes::new(name.as_bytes()),
-            bytes: Bytes::new(bytes),
-        })
-        .collect();
+    let words = lent_words(words);
+    let files = lent_files(files);
     let request = Request {
         words: words.as_ptr(),
         word_count: words.len(),
@@ -99,6 +122,88 @@ pub fn call(words: &[&str], input: &[u8], files: &[(&str, &[u8])], room: usize) 
     answer.out.truncate(raw.out);
     answer.notes.truncate(raw.notes);
     answer
+}
+
+/// Does the same, and also returns the files that the command stored, by name and in the order of their names.
+#[must_use]
+pub fn call_stored(words: &[&str], input: &[u8], files: &[(&str, &[u8])]) -> (Answer, Vec<(String, Vec<u8>)>) {
+    let words = lent_words(words);
+    let files = lent_files(files);
+    let request = Request {
+        words: words.as_ptr(),
+        word_count: words.len(),
+        input: Bytes::new(input),
+        files: files.as_ptr(),
+        file_count: files.len(),
+    };
+    let mut rooms = Rooms::default();
+    let mut raw = rooms.fill(&request);
+    if raw.status == TOO_SMALL {
+        rooms = Rooms {
+            out: vec![0; raw.out],
+            notes: vec![0; raw.notes],
+            files: vec![RawStored { name: 0, name_length: 0, bytes: 0, length: 0 }; raw.files],
+            bytes: vec![0; raw.bytes],
+        };
+        raw = rooms.fill(&request);
+    }
+    let stored = rooms.files[..raw.files].iter().map(|file| file.of(&rooms.bytes)).collect();
+    rooms.out.truncate(raw.out);
+    rooms.notes.truncate(raw.notes);
+    let answer = Answer {
+        status: raw.status,
+        out: rooms.out,
+        notes: rooms.notes,
+    };
+    (answer, stored)
+}
+
+fn lent_words<'a>(words: &[&'a str]) -> Vec<Bytes<'a>> {
+    words.iter().map(|word| Bytes::new(word.as_bytes())).collect()
+}
+
+fn lent_files<'a>(files: &[(&'a str, &'a [u8])]) -> Vec<File<'a>> {
+    let lent = |(name, bytes): &(&'a str, &'a [u8])| File {
+        name: Bytes::new(name.as_bytes()),
+        bytes: Bytes::new(bytes),
+    };
+    files.iter().map(lent).collect()
+}
+
+/// What a call with files fills.
+#[derive(Default)]
+struct Rooms {
+    out: Vec<u8>,
+    notes: Vec<u8>,
+    files: Vec<RawStored>,
+    bytes: Vec<u8>,
+}
+
+impl Rooms {
+    fn fill(&mut self, request: &Request<'_>) -> RawStoredAnswer {
+        // SAFETY: as in `Answer::fill`.
+        unsafe {
+            vmstate_call_stored(
+                request,
+                self.out.as_mut_ptr(),
+                self.out.len(),
+                self.notes.as_mut_ptr(),
+                self.notes.len(),
+                self.files.as_mut_ptr(),
+                self.files.len(),
+                self.bytes.as_mut_ptr(),
+                self.bytes.len(),
+            )
+        }
+    }
+}
+
+impl RawStored {
+    fn of(&self, bytes: &[u8]) -> (String, Vec<u8>) {
+        let name = &bytes[self.name..self.name + self.name_length];
+        let content = &bytes[self.bytes..self.bytes + self.length];
+        (String::from_utf8_lossy(name).into_owned(), content.to_vec())
+    }
 }
 
 impl Answer {
