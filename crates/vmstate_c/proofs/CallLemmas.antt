@@ -5,7 +5,7 @@ use Rattle.vms_io.specs.Shelves.{Held}
 use Rattle.vms_io.specs.Told.{Intake, Outlet, Stock}
 use Rattle.vms_commands.specs.Outcomes.{Outside}
 use Rattle.vms_cli.specs.Answers.{Answers}
-use Rattle.vmstate_c.specs.Calls.{Comes, NoneFailed, before, file_of, words_of}
+use Rattle.vmstate_c.specs.Calls.{Leaves, NoneFailed, before, file_of, words_of}
 use Rattle.vmstate_c.specs.declared.request.Request.{Request}
 
 -- a source of bytes before the first read; no read fails
@@ -35,24 +35,27 @@ stock_of held = record { held = Some held; faults = 0; promise = true }
 abbrev outside : Intake → Outlet → Outlet → Stock → Outside
 outside input out notes shelf = record { input = input; out = out; notes = notes; shelf = shelf }
 
-pub comes : (request : Request) (status : ℕ) (words : List (List ℕ)) (held : Held) (input : Intake) (out notes : Outlet) (after : Outside) (text line : List ℕ)
-    → words ≡ words_of request.words.now
+pub leaves : (request : Request) (status : ℕ) (words : List (List ℕ)) (held kept : Held) (input : Intake) (out notes : Outlet) (after : Outside)
+    (text line : List ℕ) → words ≡ words_of request.words.now
     → ((name : List ℕ) → held name ≡ file_of name request.files.now)
     → input ≡ fresh request.input.now → out ≡ outlet_of [] 0 → notes ≡ outlet_of [] 0
     → Answers words status (outside input out notes (stock_of held)) after
-    → after.out.written ≡ Some text → after.notes.written ≡ Some line → NoneFailed after
-    → Comes request status text line
-comes request status words held input out notes after text line same files i o n answers wrote told none =
+    → after.out.written ≡ Some text → after.notes.written ≡ Some line → after.shelf.held ≡ Some kept → NoneFailed after
+    → Leaves request status text line kept
+leaves request status words held kept input out notes after text line same files i o n answers wrote told now none =
     let began : outside input out notes (stock_of held) ≡ before request.input.now held =
     ap (λ (x : Intake). outside x out notes (stock_of held)) i ∙ ap (λ (x : Outlet). outside (fresh request.input.now) x notes (stock_of held)) o
     ∙ ap (λ (x : Outlet). outside (fresh request.input.now) (outlet_of [] 0) x (stock_of held)) n in
     record {
-      held = held;
-      files = files;
-      after = after;
-      answers = subst (λ (x : Outside). Answers (words_of request.words.now) status x after) began
-          (subst (λ (x : List (List ℕ)). Answers x status (outside input out notes (stock_of held)) after) same answers);
-      out_is = wrote;
-      notes_is = told;
-      none = none;
+      comes = record {
+        held = held;
+        files = files;
+        after = after;
+        answers = subst (λ (x : Outside). Answers (words_of request.words.now) status x after) began
+            (subst (λ (x : List (List ℕ)). Answers x status (outside input out notes (stock_of held)) after) same answers);
+        out_is = wrote;
+        notes_is = told;
+        none = none;
+      };
+      held_is = now;
     }

@@ -1,4 +1,4 @@
-use Rattle.std.proofs.Common.{rules, ◌≡◌, subst, List, []}
+use Rattle.std.proofs.Common.{◌≡◌, subst, []}
 use Rattle.vmstate_c.proofs.StoredLemmas.{Rest, at_end, is_stored, news}
 use Rattle.vmstate_c.proofs.stored.pack.Goals as goal
 
