@@ -5,7 +5,7 @@ ghost use Rattle.dev_serial.specs.Parts.{IsShort};
 ghost use Rattle.dev_serial.specs.declared.transmitter.TheConstants.{MOST_SENT};
 ghost use Rattle.dev_serial.specs.declared.fifo.TheConstants.{FIFO_BYTES};
 
-use crate::fifo::FIFO_BYTES;
+use crate::fifo::{FIFO_BYTES, copied};
 use crate::mode::{LONGEST_CHARACTER, Mode};
 use crate::receiver::Receiver;
 use crate::shift::Shift;
@@ -44,6 +44,16 @@ impl Transmitter {
         ensures { result ≡ record { waiting = waiting.items; shift = shift } }
     {
         Transmitter { waiting, shift }
+    }
+
+    /// Returns another transmitter in the same state.
+    pub fn copy(&self) -> Transmitter
+        ensures { result ≡ self.now }
+    {
+        Transmitter {
+            waiting: copied(&self.waiting),
+            shift: self.shift,
+        }
     }
 
     /// Writes `byte` to be sent.
