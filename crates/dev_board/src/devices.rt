@@ -9,6 +9,8 @@ ghost use Rattle.dev_serial.specs.Line.{character_time};
 
 use crate::event::{Answer, Event};
 use crate::parts::Parts;
+use dev_pit::Pit;
+use dev_serial::Serial;
 use std::marker::Model;
 
 /// The pair of 8259A, the timer chip and the serial port of a board, at a present moment.
@@ -126,5 +128,35 @@ impl Devices {
         ensures { result ≡ character_time self.now.serial.divisor self.now.serial.lcr }
     {
         self.parts.character()
+    }
+
+    /// Returns the timer chip.
+    pub fn pit(&self) -> &Pit
+        ensures { result.now ≡ self.now.pit }
+    {
+        &self.parts.pit
+    }
+
+    /// Returns the serial port.
+    pub fn serial(&self) -> &Serial
+        ensures { result.now ≡ self.now.serial }
+    {
+        &self.parts.serial
+    }
+
+    /// States that the devices are sound at any time.
+    pub fn is_sound(&self)
+        ensures { IsSound self.now }
+    {
+        let _ = &self.parts;
+    }
+
+    /// Returns other devices in the same state.
+    pub fn copy(&self) -> Devices
+        ensures { result ≡ self.now }
+    {
+        Devices {
+            parts: self.parts.copy(),
+        }
     }
 }

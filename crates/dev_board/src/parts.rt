@@ -172,6 +172,16 @@ impl Parts {
         self.serial.character()
     }
 
+    /// Returns other devices in the same state.
+    pub(crate) fn copy(&self) -> Parts
+        ensures { result ≡ self.now }
+    {
+        Parts {
+            serial: self.serial.copy(),
+            ..*self
+        }
+    }
+
     // Returns the wires as they are now.
     #[tactic(auto, unfolding(crate::specs::Wires::wires_of))]
     fn wires(&self) -> u16
