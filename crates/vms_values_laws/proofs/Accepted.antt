@@ -49,11 +49,11 @@ none_answers set text v n =
 -- no part is bad
 pub none_good : (set : Set) (line : ℕ) (es : List Entry) → parts_from set line es ≡ None → AreGood set es
 none_good set line [] h = tt
-none_good set line (e ∷ es) h = go (part_reason set e) refl h (λ g. none_good set (suc line) es g)
+none_good set line (e ∷ es) h = go (part_reason set e) refl h
   where
-    go : (o : Option ValuesReason) → part_reason set e ≡ o → or_bad (as_bad line o) (parts_from set (suc line) es) ≡ None → (parts_from set (suc line) es ≡ None → AreGood set es) → (part_reason set e ≡ None) × AreGood set es
-    go None is h more = (is, more h)
-    go (Some reason) is h more = cc
+    go : (o : Option ValuesReason) → part_reason set e ≡ o → or_bad (as_bad line o) (parts_from set (suc line) es) ≡ None → (part_reason set e ≡ None) × AreGood set es
+    go None is h = (is, none_good set (suc line) es h)
+    go (Some reason) is h = cc
 
 -- ---- ready
 
@@ -83,14 +83,14 @@ module _ (set : Set) (well : WellFormed set) (good : IsGood set) where
       record { one_each = ap suc others.one_each; ready = λ k e j a b. place k e j a b mine others.ready }
     where
       next : (k : ℕ) (d : Device) → slice_get set.devices (i + suc k) ≡ Some d → slice_get set.devices (suc i + k) ≡ Some d
-      next k d e = let same : suc i + k ≡ i + suc k = omega arith in ap (λ (m : ℕ). slice_get set.devices m) same ∙ e
+      next k d e = let same : suc i + k ≡ i + suc k = omega arith in rw same e
 
       place : (k : ℕ) (e : Device) (j : Image) → slice_get (d ∷ devices) k ≡ Some e → slice_get (image ∷ images) k ≡ Some j → IsReady set d image
           → ((k : ℕ) (d : Device) (image : Image) → slice_get devices k ≡ Some d → slice_get images k ≡ Some image → IsReady set d image) → IsReady set e j
       place zero e j a b mine others =
           let device : d ≡ e = cc in
           let state : image ≡ j = cc in
-          subst (λ (x : Device). IsReady set x j) device (subst (λ (x : Image). IsReady set d x) state mine)
+          rw (← device, ← state) mine
       place (suc k) e j a b mine others = others k e j a b
 
   machine_good : (machine : Option (List ℕ)) (images : List Image) → AreFine (entries set machine images) → AreGood set (entries set machine images)
@@ -101,7 +101,6 @@ module _ (set : Set) (well : WellFormed set) (good : IsGood set) where
   pub says_ready : (text : List ℕ) (machine : Option (List ℕ)) (images : List Image) → Says set text machine images → AreGood set (entries set machine images) → AreReady set images
   says_ready text machine images s g =
       let p = machine_good machine images s.fine g in
-      let from : (k : ℕ) (d : Device) → slice_get set.devices k ≡ Some d → slice_get set.devices (0 + k) ≡ Some d =
-      λ k d e. let same : 0 + k ≡ k = omega arith in ap (λ (m : ℕ). slice_get set.devices m) same ∙ e in
+      let from : (k : ℕ) (d : Device) → slice_get set.devices k ≡ Some d → slice_get set.devices (0 + k) ≡ Some d = λ k d e. let same : 0 + k ≡ k = omega arith in rw same e in
       let all = ready_from 0 set.devices images from s.shaped s.unsaid p.0 p.1 in
       record { one_each = all.one_each; ready = all.ready }

@@ -1,7 +1,7 @@
 -- The devices of a set one after the other, read as entries.
 use Rattle.std.proofs.Common.{◌≡◌, ℕ, zero, suc, ◌+◌, ◌<◌, ◌≤◌, List, [], ◌∷◌, ◌++◌, length, get_or, map, slice_set, Bool, true, false, nat_lt, nat_le, ◌||◌, ◌&&◌, ◌==◌, if◌then◌else◌, Some, None, ℤ, pos, negsuc, Ok, Err, Result, refl, sym, ap, ◌∙◌, subst, arith, get_or-set_other, append-nil}
 use Rattle.std.specs.List.{list_all}
-use Rattle.std.proofs.lemmas.Bool.{ltb-true, ltb-false, eqb-true, and_parts, leb-true, le-leb}
+use Rattle.std.proofs.lemmas.Bool.{ltb-true, ltb-false, eqb-true, eq-eqb, and_parts, leb-true, le-leb}
 use Rattle.std.proofs.lemmas.List.{length-map, length-set, get_or-set_same, get_or-map}
 use Rattle.std.proofs.Math.ListN.{get_or-eq_default}
 use Rattle.vms_spec.specs.declared.ValuesReason.TheVariants as reasons
@@ -30,22 +30,13 @@ use Rattle.vms_values_laws.proofs.DevicesCome.{AllShort, default_numbers, image_
 short_set : (n : List ℤ) (i c : ℕ) (z : ℤ) → IsShort z → AreShort n → IsShort (get_or (slice_set n i z) c (pos 0))
 short_set n i c z h short = by_same (c == i) refl
   where
-    inside : (b : Bool) → nat_lt c (length n) ≡ b → c ≡ i → IsShort (get_or (slice_set n i z) c (pos 0))
-    inside true lt e =
-        let l : c < length n = ltb-true c (length n) lt in
-        subst (λ (y : ℤ). IsShort y) (sym (ap (λ (k : ℕ). get_or (slice_set n i z) k (pos 0)) e ∙ get_or-set_same n i z (pos 0) (omega arith))) h
-    inside false ge e =
-        let l : length n ≤ c = ltb-false c (length n) ge in
-        subst (λ (y : ℤ). IsShort y) (sym (get_or-eq_default (slice_set n i z) (pos 0) (omega (arith, length-set n i z)))) (omega arith)
+    inside : (b : Bool) → nat_lt i (length n) ≡ b → IsShort (get_or (slice_set n i z) i (pos 0))
+    inside true lt = rw (get_or-set_same n i z (pos 0) (ltb-true i (length n) lt)) h
+    inside false ge = let l = ltb-false i (length n) ge in rw (get_or-eq_default (slice_set n i z) (pos 0) (omega (arith, length-set n i z))) (omega arith)
 
     by_same : (b : Bool) → (c == i) ≡ b → IsShort (get_or (slice_set n i z) c (pos 0))
-    by_same true e = inside (nat_lt c (length n)) refl (eqb-true c i e)
-    by_same false e = subst (λ (y : ℤ). IsShort y) (sym (get_or-set_other n i c z (pos 0) (λ s. differ s e))) (short c)
-      where
-        differ : c ≡ i → (c == i) ≡ false → ⊥
-        differ s e = no (sym (Rattle.std.proofs.lemmas.Bool.eq-eqb c i s) ∙ e) where
-          no : true ≡ false → ⊥
-          no e = cc
+    by_same true e = rw (eqb-true c i e) (inside (nat_lt i (length n)) refl)
+    by_same false e = rw (get_or-set_other n i c z (pos 0) (λ s. let f = eq-eqb c i s in cc)) (short c)
 
 pub short_all : (n : List ℤ) (said : List Said) → AreShortSaid said → AreShort n → AreShort (put_all n said)
 short_all n [] h short = short
@@ -57,7 +48,7 @@ is_short_one (pos n) h = either (nat_le n 0x7fff_ffff_ffff_ffff) (le-leb 0 n (om
   where
     either : (a : Bool) → nat_le 0 n ≡ true → nat_le n 0xffff_ffff_ffff_ffff ≡ true → (a || (nat_le 0 n && nat_le n 0xffff_ffff_ffff_ffff)) ≡ true
     either true e f = refl
-    either false e f = ap (λ (b : Bool). b && nat_le n 0xffff_ffff_ffff_ffff) e ∙ f
+    either false e f = rw (e, f) refl
 is_short_one (negsuc n) h = let e = le-leb n 0x7fff_ffff_ffff_ffff (omega arith) in rw e refl
 
 pub are_short : (n : List ℤ) → AreShort n → list_all is_short n ≡ true
@@ -70,9 +61,7 @@ short_one (pos n) e = by_test (nat_le n 0x7fff_ffff_ffff_ffff) refl (nat_le n 0x
     by_test : (a : Bool) → nat_le n 0x7fff_ffff_ffff_ffff ≡ a → (b : Bool) → nat_le n 0xffff_ffff_ffff_ffff ≡ b → (a || (nat_le 0 n && b)) ≡ true → IsShort (pos n)
     by_test true f b g h = omega (arith, leb-true n 0x7fff_ffff_ffff_ffff f)
     by_test false f true g h = omega (arith, leb-true n 0xffff_ffff_ffff_ffff g)
-    by_test false f false g h = no (and_parts (nat_le 0 n) false h).1 where
-      no : false ≡ true → IsShort (pos n)
-      no e = cc
+    by_test false f false g h = let e = (and_parts (nat_le 0 n) false h).1 in cc
 short_one (negsuc n) e = by_test (nat_le n 0x7fff_ffff_ffff_ffff) refl e
   where
     by_test : (a : Bool) → nat_le n 0x7fff_ffff_ffff_ffff ≡ a → ((a && true) || (false && false)) ≡ true → IsShort (negsuc n)
@@ -86,9 +75,8 @@ short_are (z ∷ n) e (suc c) = short_are n (and_parts (is_short z) (list_all is
 
 pub all_short : (set : Set) (devices : List Device) (images : List Image) → AreShaped set devices images → AllShort images
 all_short set [] [] h = tt
-all_short set [] (image ∷ images) h = absurd h
-all_short set (d ∷ devices) [] h = absurd h
 all_short set (d ∷ devices) (image ∷ images) h = (short_are image.numbers h.0.short, all_short set devices images h.1)
+all_short set _ _ h = absurd h
 
 -- ---- devices
 
@@ -148,7 +136,7 @@ module _ (set : Set) (d : Device) (devices : List Device) (line : ℕ) (text : L
   stopped_here : (e : BadLine) → AreGoodDevices set devices → DeviceStop set d line text e → AllStop set (d ∷ devices) line text e
   stopped_here e later s =
       let image : Image = record { version = d.desc.version; came = s.came; numbers = s.numbers } in
-      let fits : AreShort s.numbers = subst (λ (n : List ℤ). AreShort n) (sym s.told.numbers) (short_all (default_numbers set d) s.said s.told.short good) in
+      let fits : AreShort s.numbers = rw (s.told.numbers) (short_all (default_numbers set d) s.said s.told.short good) in
       record {
         taken = s.taken;
         demand = s.demand;
@@ -171,7 +159,7 @@ module _ (set : Set) (d : Device) (devices : List Device) (line : ℕ) (text : L
     image = image_of d r
 
     image_short : AreShort image.numbers
-    image_short = subst (λ (n : List ℤ). AreShort n) (sym x.told.numbers) (short_all (default_numbers set d) x.said x.told.short good)
+    image_short = rw (x.told.numbers) (short_all (default_numbers set d) x.said x.told.short good)
 
     image_shaped : IsShaped set d image
     image_shaped = record { version = refl; subs = x.one_each; versions = x.versions; cells = x.told.long ∙ length-map (device_cells set d) (λ c. c.default); short = are_short r.place.numbers image_short }
@@ -180,23 +168,18 @@ module _ (set : Set) (d : Device) (devices : List Device) (line : ℕ) (text : L
         → (images : List Image) → AreShaped set (d ∷ devices) images → AllShort images → Follows (x.taken ++ taken) P (devices_entries set (d ∷ devices) images)
     follows_both taken P h [] shaped short = absurd shaped
     follows_both taken P h (i ∷ images) shaped short =
-        follows_then x.taken taken (λ es. es ≡ devices_entries set devices images) P (device_entries set d i ++ devices_entries set devices images)
-        (x.follows i (devices_entries set devices images) shaped.0.subs short.0)
-        (λ es is. subst (λ (l : List Entry). Follows taken P l) (sym is) (h images shaped.1 short.1))
+        follows_then x.taken taken (λ es. es ≡ devices_entries set devices images) P _ (x.follows i _ shaped.0.subs short.0) (λ es is. rw is (h images shaped.1 short.1))
 
     along_both : (taken : List Taken) (P : List Entry → Type 0) (images : List Image) → Along taken P (devices_entries set devices images)
         → Along (x.taken ++ taken) P (devices_entries set (d ∷ devices) (image ∷ images))
     along_both taken P images h =
-        along_then x.taken taken (λ es. es ≡ devices_entries set devices images) P (device_entries set d image ++ devices_entries set devices images)
-        (x.along (devices_entries set devices images)) (λ es is. subst (λ (l : List Entry). Along taken P l) (sym is) h)
+        along_then x.taken taken (λ es. es ≡ devices_entries set devices images) P _ (x.along _) (λ es is. rw is h)
 
     -- a number about which nothing was said is its default
     image_unsaid : AreUnsaid set d image
     image_unsaid c lt bare =
         let room : c < length (device_cells set d) = omega (arith, x.told.long, length-map (device_cells set d) (λ c. c.default)) in
-        ap (λ (n : List ℤ). get_or n c (pos 0)) x.told.numbers
-        ∙ unsaid_kept (default_numbers set d) x.said c (sym (x.heard c) ∙ bare)
-        ∙ get_or-map (λ c. c.default) (device_cells set d) c no_cell (pos 0) room
+        rw (x.told.numbers, unsaid_kept (default_numbers set d) x.said c (sym (x.heard c) ∙ bare)) (get_or-map (λ c. c.default) (device_cells set d) c no_cell (pos 0) room)
 
     image_lined : IsLined set d line (record { image = image; line = line; sub_lines = r.lines })
     image_lined = record { own = refl; subs = x.lines }
@@ -214,10 +197,10 @@ module _ (set : Set) (d : Device) (devices : List Device) (line : ℕ) (text : L
           shaped = (image_shaped, a.shaped);
           short = (image_short, a.short);
           unsaid = (image_unsaid, a.unsaid);
-          lined = (image_lined, subst (λ (l : ℕ). AreLined set l devices all.devices) after_it a.lined);
+          lined = (image_lined, rw after_it at a.lined);
           follows = follows_both a.taken (λ es. es ≡ []) a.follows;
           along = along_both a.taken (λ es. es ≡ []) (images_of all.devices) a.along;
-          moved = moved_then line r.place.line all.line text r.place.rest all.rest x.taken a.taken x.moved a.moved;
+          moved = moved_then x.moved a.moved;
         }
     others_come (Err e) a =
         record {
@@ -227,9 +210,9 @@ module _ (set : Set) (d : Device) (devices : List Device) (line : ℕ) (text : L
           rest = a.rest;
           shaped = (image_shaped, a.shaped);
           short = (image_short, a.short);
-          follows = follows_both a.taken (λ es. Begins a.demand es) a.follows;
-          along = along_both a.taken (λ es. Begins a.demand es) a.images a.along;
-          moved = moved_then line r.place.line e.line text r.place.rest a.rest x.taken a.taken x.moved a.moved;
+          follows = follows_both a.taken (Begins a.demand) a.follows;
+          along = along_both a.taken (Begins a.demand) a.images a.along;
+          moved = moved_then x.moved a.moved;
           wrong = a.wrong;
         }
 

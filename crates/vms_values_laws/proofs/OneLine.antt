@@ -54,16 +54,11 @@ short I32 (pos n) e = omega (arith, leb-true n 0x7fff_ffff e)
 short I64 (pos n) e = omega (arith, leb-true n 0x7fff_ffff_ffff_ffff e)
 short Truth (pos n) e = omega (arith, leb-true n 1 (and_parts (nat_le 0 n) (nat_le n 1) e).1)
 short Timer (pos n) e = omega (arith, leb-true n 0xffff_ffff_ffff_ffff (and_parts (nat_le 0 n) (nat_le n 0xffff_ffff_ffff_ffff) e).1)
-short U8 (negsuc n) e = cc
-short U16 (negsuc n) e = cc
-short U32 (negsuc n) e = cc
-short U64 (negsuc n) e = cc
 short I8 (negsuc n) e = omega (arith, leb-true n 0x7f (and_parts (nat_le n 0x7f) true e).0)
 short I16 (negsuc n) e = omega (arith, leb-true n 0x7fff (and_parts (nat_le n 0x7fff) true e).0)
 short I32 (negsuc n) e = omega (arith, leb-true n 0x7fff_ffff (and_parts (nat_le n 0x7fff_ffff) true e).0)
 short I64 (negsuc n) e = omega (arith, leb-true n 0x7fff_ffff_ffff_ffff (and_parts (nat_le n 0x7fff_ffff_ffff_ffff) true e).0)
-short Truth (negsuc n) e = cc
-short Timer (negsuc n) e = cc
+short _ (negsuc n) e = cc
 
 module _ (steps : List (ℕ × ℕ)) (path : List ℕ) (present : Bool) (at : ℕ) (c : Cell) (p : Standing) where
   abbrev here : Element
@@ -91,7 +86,7 @@ module _ (steps : List (ℕ × ℕ)) (path : List ℕ) (present : Bool) (at : �
     taken z e range f =
         let is : text ≡ signed_decimal z = spelled_holds text z (short c.kind z range) e in
         let whole : line ≡ path ++ (codes " = " ++ signed_decimal z) =
-        begun front line begins ∙ ap (λ (l : List ℕ). front ++ l) is ∙ append_assoc path (codes " = ") (signed_decimal z) in
+        begun front line begins ∙ ap (λ (l : List ℕ). front ++ l) is ∙ append_assoc path (codes " = ") _ in
         record {
           number = z;
           rest = splits ∙ ap (λ (l : List ℕ). l ++ 10 ∷ rest) whole;

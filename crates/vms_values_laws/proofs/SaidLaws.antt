@@ -25,7 +25,7 @@ pub meets_all : (said : List Said) (left : List Element) (n : List ℤ) (xs : Li
 meets_all [] left n xs a h = h
 meets_all (s ∷ said) left n [] a h = absurd h
 meets_all (s ∷ said) left n (x ∷ xs) a h =
-    ap (λ (y : Element). y ∷ xs) h.0 ∙ ap (λ (l : List Element). s.element ∷ l) (meets_all said left n xs a.1 (h.1 a.0))
+    rw (h.0, meets_all said left n xs a.1 (h.1 a.0)) refl
 
 -- ---- agreeing
 
@@ -90,9 +90,7 @@ pub ran_more : (p q r : Standing) (said more : List Said) → Ran p said q → R
 ran_more p q r said more f g =
     record {
       line = omega (arith, f.line, g.line, length-append said more);
-      rest = f.rest ∙ ap (λ (l : List ℕ). text_of (map said_line said) ++ l) g.rest
-          ∙ sym (append_assoc (text_of (map said_line said)) (text_of (map said_line more)) r.rest)
-          ∙ ap (λ (l : List ℕ). l ++ r.rest) (sym (text_append (map said_line said) (map said_line more)) ∙ ap text_of (sym (map-append said_line said more)));
-      numbers = g.numbers ∙ ap (λ (n : List ℤ). put_all n more) f.numbers ∙ sym (put_more p.numbers said more);
+      rest = f.rest ∙ rw (g.rest, map-append said_line said more, text_append (map said_line said) (map said_line more)) (sym (append_assoc (text_of (map said_line said)) _ r.rest));
+      numbers = rw (g.numbers, f.numbers) (sym (put_more p.numbers said more));
       fine = fine_more said more f.fine g.fine;
     }

@@ -61,17 +61,15 @@ by_parts set text machine images (Some b) fit says e = inr (bad_part set text ma
 by_parts set text machine images None fit says e = text_of_ready set text machine images fit says (none_good set 1 (entries set machine images) e)
 
 by_pass : (set : Set) (text : List ℕ) (v : ValuesRead) → IsFit set → FirstPass set text v → Reads set text v
-by_pass set text v fit (inl b) = subst (λ (v : ValuesRead). Reads set text v) (sym b.is) (inl b.first.is_bad)
+by_pass set text v fit (inl b) = rw (b.is) (inl b.first.is_bad)
 by_pass set text v fit (inr n) =
-    let images = images_of n.all.devices in
-    subst (λ (v : ValuesRead). Reads set text v) (sym (none_answers set text v n))
-    (by_parts set text n.machine images (parts_from set 1 (entries set n.machine images)) fit (none_says set text v n) refl)
+    rw (none_answers set text v n) (by_parts set text n.machine (images_of n.all.devices) _ fit (none_says set text v n) refl)
 
 pub read_holds : ReadLaw
 read_holds set text fit = by_pass set text (values_read set text) fit (its_first_pass set text fit)
 
 pub accepted_holds : AcceptedLaw
-accepted_holds set text machine images fit e = subst (λ (v : ValuesRead). Reads set text v) e (read_holds set text fit)
+accepted_holds set text machine images fit e = rw e at (read_holds set text fit)
 
 -- ---- and nothing else
 
@@ -83,17 +81,15 @@ line_back set text line reason fit x =
 
 part_back : (set : Set) (text : List ℕ) (line : ℕ) (reason : ValuesReason) → IsFit set → IsBadPart set text line reason → values_read set text ≡ Bad line reason
 part_back set text line reason fit x =
-    let es = entries set x.machine x.images in
     let here : 1 + length x.before ≡ line = omega (arith, x.number) in
     says_answers set fit.well text x.machine x.images x.says (values_read set text) (its_first_pass set text fit)
-    ∙ ap (λ (o : Option BadLine). answer_by x.machine x.images o) (ap (parts_from set 1) x.state ∙ bad_part_found set 1 x.before x.entry x.after reason x.good x.bad)
-    ∙ ap (λ (n : ℕ). Bad n reason) here
+    ∙ rw (x.state, bad_part_found set 1 x.before x.entry x.after reason x.good x.bad, here) refl
 
 text_back : (set : Set) (text : List ℕ) (machine : Option (List ℕ)) (images : List Image) → IsFit set → IsText set text machine images → values_read set text ≡ Values machine images
 text_back set text machine images fit t =
     let s = text_says set text machine images t in
     says_answers set fit.well text machine images s.says (values_read set text) (its_first_pass set text fit)
-    ∙ ap (λ (o : Option BadLine). answer_by machine images o) (good_none set 1 (entries set machine images) s.good)
+    ∙ rw (good_none set 1 (entries set machine images) s.good) refl
 
 refused_back : (set : Set) (text : List ℕ) (line : ℕ) (reason : ValuesReason) → IsFit set → Refused set text line reason → values_read set text ≡ Bad line reason
 refused_back set text line reason fit (inl x) = line_back set text line reason fit x

@@ -56,7 +56,7 @@ clean_says : (set : Set) → WellFormed set → (machine : Option (List ℕ)) (i
 clean_says set well None images named = clean_entries set (clean_structs set well) None images (clean_devices set well) (λ name e. cc)
 clean_says set well (Some name) images named =
     clean_entries set (clean_structs set well) (Some name) images (clean_devices set well)
-    (λ other e. subst (λ (l : List ℕ). NoFeed l) (same_Some name other e) (clean_named set well name named))
+    (λ other e. rw (same_Some name other e) at (clean_named set well name named))
 
 -- ---- the state
 
@@ -70,7 +70,7 @@ module _ (set : Set) (well : WellFormed set) (text : List ℕ) (machine : Option
       let es = entries set machine images in
       let whole : es ≡ es ++ [] = sym (append-nil es) in
       let f : Follows taken (λ es. Ends o rest es) es = subst (λ (m : Option (List ℕ)). Follows taken (λ es. Ends o rest es) (entries set m images)) (t.named ∙ its_machine) (t.follows images says.shaped) in
-      meet taken es [] rest [] o None (subst (λ (l : List Entry). Follows taken (λ es. Ends o rest es) l) whole f) (subst (λ (l : List Entry). AreClean l) whole (clean_says set well machine images says.named))
+      meet taken es [] rest [] o None (rw (whole) at f) (subst (λ (l : List Entry). AreClean l) whole (clean_says set well machine images says.named))
       t.fine says.fine (sym t.texts ∙ says.printed ∙ sym (append-nil (text_of (map entry_line es)))) (refl, refl)
 
   same_devices : (machine : Option (List ℕ)) (i j : List Image) → Match (entries set machine i) (entries set machine j) → Match (devices_entries set set.devices i) (devices_entries set set.devices j)
@@ -94,12 +94,8 @@ module _ (set : Set) (well : WellFormed set) (text : List ℕ) (machine : Option
   pub says_answers : (v : ValuesRead) → FirstPass set text v → v ≡ answer_by machine images (parts_from set 1 (entries set machine images))
   says_answers v (inl b) =
       let f = b.first in
-      let same = beside f.machine f.taken f.rest (Some b.reason) (taken_before set text v b) in
-      no same.reason
-    where
-      no : Some b.reason ≡ None → v ≡ answer_by machine images (parts_from set 1 (entries set machine images))
-      no e = cc
+      let e = (beside f.machine f.taken f.rest (Some b.reason) (taken_before set text v b)).reason in
+      cc
   says_answers v (inr n) =
       none_answers set text v n
-      ∙ ap (λ (m : Option (List ℕ)). answer_by m (images_of n.all.devices) (parts_from set 1 (entries set m (images_of n.all.devices)))) (same_machine v n)
-      ∙ ap (λ (i : List Image). answer_by machine i (parts_from set 1 (entries set machine i))) (same_images v n)
+      ∙ rw (same_machine v n, same_images v n) refl
