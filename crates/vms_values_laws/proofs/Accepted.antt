@@ -49,11 +49,12 @@ none_answers set text v n =
 -- no part is bad
 pub none_good : (set : Set) (line : ℕ) (es : List Entry) → parts_from set line es ≡ None → AreGood set es
 none_good set line [] h = tt
-none_good set line (e ∷ es) h = go (part_reason set e) refl h
+none_good set line (e ∷ es) h = go (part_reason set e) refl h (λ g. none_good set (suc line) es g)
   where
-    go : (o : Option ValuesReason) → part_reason set e ≡ o → or_bad (as_bad line o) (parts_from set (suc line) es) ≡ None → (part_reason set e ≡ None) × AreGood set es
-    go None is h = (is, none_good set (suc line) es h)
-    go (Some reason) is h = cc
+    go : (o : Option ValuesReason) → part_reason set e ≡ o → or_bad (as_bad line o) (parts_from set (suc line) es) ≡ None
+        → (parts_from set (suc line) es ≡ None → AreGood set es) → (part_reason set e ≡ None) × AreGood set es
+    go None is h more = (is, more h)
+    go (Some reason) is h more = cc
 
 -- ---- ready
 

@@ -32,7 +32,7 @@ short_set n i c z h short = by_same (c == i) refl
   where
     inside : (b : Bool) → nat_lt i (length n) ≡ b → IsShort (get_or (slice_set n i z) i (pos 0))
     inside true lt = rw (get_or-set_same n i z (pos 0) (ltb-true i (length n) lt)) h
-    inside false ge = let l = ltb-false i (length n) ge in rw (get_or-eq_default (slice_set n i z) (pos 0) (omega (arith, length-set n i z))) (omega arith)
+    inside false ge = let l = ltb-false i (length n) ge in rw (get_or-eq_default (slice_set n i z) (pos 0) {n = i} (omega (arith, length-set n i z))) (omega arith)
 
     by_same : (b : Bool) → (c == i) ≡ b → IsShort (get_or (slice_set n i z) c (pos 0))
     by_same true e = rw (eqb-true c i e) (inside (nat_lt i (length n)) refl)

@@ -18,11 +18,12 @@ pub record FirstPart (set : Set) (line : ℕ) (es : List Entry) (b : BadLine) : 
 
 pub first_part : (set : Set) (line : ℕ) (es : List Entry) (b : BadLine) → parts_from set line es ≡ Some b → FirstPart set line es b
 first_part set line [] b h = absurd (cc)
-first_part set line (e ∷ es) b h = go (part_reason set e) refl h
+first_part set line (e ∷ es) b h = go (part_reason set e) refl h (λ g. first_part set (suc line) es b g)
   where
-    go : (o : Option ValuesReason) → part_reason set e ≡ o → or_bad (as_bad line o) (parts_from set (suc line) es) ≡ Some b → FirstPart set line (e ∷ es) b
-    go None is h =
-        let p = first_part set (suc line) es b h in
+    go : (o : Option ValuesReason) → part_reason set e ≡ o → or_bad (as_bad line o) (parts_from set (suc line) es) ≡ Some b
+        → (parts_from set (suc line) es ≡ Some b → FirstPart set (suc line) es b) → FirstPart set line (e ∷ es) b
+    go None is h more =
+        let p = more h in
         record {
           before = e ∷ p.before;
           entry = p.entry;
@@ -32,7 +33,7 @@ first_part set line (e ∷ es) b h = go (part_reason set e) refl h
           number = omega (arith, p.number);
           bad = p.bad;
         }
-    go (Some reason) is h =
+    go (Some reason) is h more =
         let same : record { line = line; reason = reason } ≡ b = cc in
         record {
           before = [];

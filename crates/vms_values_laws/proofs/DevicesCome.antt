@@ -98,11 +98,12 @@ module _ (set : Set) (d : Device) (line : ℕ) (text : List ℕ) where
 
   follows_head : (taken : List Taken) (P : List Entry → Type 0) (image : Image) (more : List Entry) → Follows taken P (behind_head image more)
       → Follows (head ∷ taken) P (device_entries set d image ++ more)
-  follows_head taken P image more h = rw (entries_are image more) (refl, λ e. h)
+  follows_head taken P image more h = subst (λ (l : List Entry). Follows (head ∷ taken) P l) (sym (entries_are image more)) (refl, λ e. h)
 
   along_head : (taken : List Taken) (P : List Entry → Type 0) (image : Image) (more : List Entry) → image.version ≡ d.desc.version → Along taken P (behind_head image more)
       → Along (head ∷ taken) P (device_entries set d image ++ more)
-  along_head taken P image more v h = rw (entries_are image more) (ap (λ (n : ℕ). section_line d n) v, h)
+  along_head taken P image more v h =
+      subst (λ (l : List Entry). Along (head ∷ taken) P l) (sym (entries_are image more)) (ap (λ (n : ℕ). section_line d n) v, h)
 
   module _ (headed : Moved line text (head ∷ []) (suc line) start.rest) where
     stopped_inside : (e : BadLine) → NumbersStop set d.desc 0 start e → DeviceStop set d line text e
@@ -193,7 +194,8 @@ section_read d text None e h line = cc
 section_read d text (Some (first, rest)) e h line =
     let is : first ≡ section_line d d.desc.version = (bytes_eq-Decides first (section_line d d.desc.version)).0 h in
     moved_one line text (record { demand = ForSection d; line = section_line d d.desc.version }) _
-    (line_taken text (section_line d d.desc.version) rest (e ∙ ap (λ (l : List ℕ). Some (l, rest)) is)) (rw (← is, h) refl)
+    (line_taken text (section_line d d.desc.version) rest (e ∙ ap (λ (l : List ℕ). Some (l, rest)) is))
+    (ap (λ (l : List ℕ). reason_for (ForSection d) (Some (l, []))) (sym is) ∙ rw h refl)
 
 pub section_not : (d : Device) (o : Option (List ℕ × List ℕ)) → is_line (section_line d d.desc.version) o ≡ false → reason_for (ForSection d) o ≡ Some reasons.Form
 section_not d None h = refl

@@ -1,5 +1,5 @@
 -- The number of lines that a text of a set may have.
-use Rattle.std.proofs.Common.{◌⊎◌, inl, inr, ℕ, suc, ◌+◌, ◌≤◌, Bool, true, false, List, [], ◌∷◌, length, sum_by, Option, Some, None, ℤ, ap, subst, arith, if◌then◌else◌}
+use Rattle.std.proofs.Common.{inl, inr, ℕ, suc, ◌+◌, ◌≤◌, Bool, true, false, List, [], ◌∷◌, length, sum_by, Option, Some, None, ℤ, ap, subst, arith, if◌then◌else◌, ⊎_elim}
 use Rattle.std.proofs.lemmas.List.{length-append, length-map}
 use Rattle.std.proofs.lemmas.List.Sums.{sum_by-cons}
 use Rattle.vms_spec.specs.declared.ValuesReason.{ValuesReason}

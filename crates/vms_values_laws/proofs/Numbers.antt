@@ -132,7 +132,7 @@ module _ {set : Set} {d : Desc} {at : ℕ} {p q : Standing} (n : NumbersRead set
 
   pub heard_on : (numbers : List ℤ) (es : List Entry) (said : List Said) (c : ℕ) → Agrees n.said numbers → has_line es c ≡ has_said said c
       → has_line (number_entries set d numbers at ++ es) c ≡ has_said (n.said ++ said) c
-  heard_on numbers es said c agrees h = rw (lines_both (number_entries set d numbers at), n.heard numbers agrees, lines_said, said_both, h) refl
+  heard_on numbers es said c agrees h = rw (lines_both (number_entries set d numbers at), n.heard numbers agrees, lines_said numbers n.said c, said_both n.said said c, h) refl
 
   pub line_on : (numbers : List ℤ) → Agrees n.said numbers → q.line ≡ p.line + length (printed (elements_in set d d.version numbers at))
   line_on numbers agrees =

@@ -24,16 +24,16 @@ use Rattle.vms_values_laws.proofs.Rights.{IsRight, AreRight, AreBare, IsNumberOf
 pub bare_bytes : (n : List ℤ) (xs : List Element) → AreCounted xs → (k : ℕ) → has_line (of_numbers n (printed xs)) k ≡ false → has_cell (slots_of xs) k ≡ false
 bare_bytes n [] h k e = refl
 bare_bytes n (x ∷ xs) h k e =
-    ⊎_elim (λ (v : IsNumberOf x xs). rw (v.bytes) (by_both v x.present x.counted h.0 (rw (v.lines) at e)))
+    ⊎_elim (λ (v : IsNumberOf x xs). rw (v.bytes) (by_both v (bare_bytes n xs h.1 k) x.present x.counted h.0 (rw (v.lines) at e)))
     (λ (v : IsNoNumber x xs). v.bytes k ∙ bare_bytes n xs h.1 k (rw (v.lines) at e))
     (view x xs)
   where
-    by_both : (v : IsNumberOf x xs) (p c : Bool) → (p ≡ true → c ≡ true) → has_line (of_numbers n (if c then x ∷ printed xs else printed xs)) k ≡ false
+    by_both : (v : IsNumberOf x xs) → (has_line (of_numbers n (printed xs)) k ≡ false → has_cell (slots_of xs) k ≡ false) → (p c : Bool) → (p ≡ true → c ≡ true) → has_line (of_numbers n (if c then x ∷ printed xs else printed xs)) k ≡ false
         → has_cell (if p then slots.Number x.cell v.cell.kind v.cell.capacities ∷ slots_of xs else slots_of xs) k ≡ false
-    by_both v true true c e = let q = or_parts (x.cell == k) _ e in or_from (x.cell == k) _ q.0 (bare_bytes n xs h.1 k q.1)
-    by_both v true false c e = let f = c refl in cc
-    by_both v false true c e = bare_bytes n xs h.1 k (or_parts (x.cell == k) _ e).1
-    by_both v false false c e = bare_bytes n xs h.1 k e
+    by_both v more true true c e = let q = or_parts (x.cell == k) _ e in or_from (x.cell == k) _ q.0 (more q.1)
+    by_both v more true false c e = let f = c refl in cc
+    by_both v more false true c e = more (or_parts (x.cell == k) _ e).1
+    by_both v more false false c e = more e
 
 -- ---- right numbers, part by part
 

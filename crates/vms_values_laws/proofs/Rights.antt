@@ -111,14 +111,14 @@ view x xs = by_what x.what refl
       what = e;
       cells = rw e refl;
       numbers = rw e refl;
-      lines = rw e (counted_number x.counted x (printed xs));
+      lines = rw e (counted_number x.counted _ (printed xs));
       bytes = rw e refl;
       defaults = λ n. rw e refl;
     })
     by_what _ e = inr (record {
       cells = rw e refl;
       numbers = rw e refl;
-      lines = rw e (not_printed x.counted x (printed xs));
+      lines = rw e (not_printed x.counted _ (printed xs));
       bytes = λ k. rw e (no_cell_of x.present _ (slots_of xs) k refl);
       defaults = λ n. rw e refl;
     })

@@ -82,11 +82,21 @@ one_way : (s : Sub) (line rest : List ℕ) (came : Option ℕ) (a b : Bool) → 
     → (if a then Some (Some s.desc.version) else if b then Some None else None) ≡ Some came → SaidSub s (Some (line, rest)) came
 one_way s line rest (Some v) true b e f h =
     let version : Some s.desc.version ≡ Some v = cc in
-    let whole : line ≡ sub_line s (Some v) = rw (← version) ((bytes_eq-Decides line (sub_line s (Some s.desc.version))).0 e) in
-    record { rest = rest; is = ap (λ (l : List ℕ). Some (l, rest)) whole; fine = rw (← whole, e) refl; version = cc }
+    let whole : line ≡ sub_line s (Some v) = (bytes_eq-Decides line (sub_line s (Some s.desc.version))).0 e ∙ ap (λ (o : Option ℕ). sub_line s o) version in
+    record {
+      rest = rest;
+      is = ap (λ (l : List ℕ). Some (l, rest)) whole;
+      fine = ap (λ (l : List ℕ). reason_for (ForSub s) (Some (l, []))) (sym whole) ∙ rw e refl;
+      version = cc;
+    }
 one_way s line rest None false true e f h =
     let whole : line ≡ sub_line s None = (bytes_eq-Decides line (sub_line s None)).0 f in
-    record { rest = rest; is = ap (λ (l : List ℕ). Some (l, rest)) whole; fine = rw (← whole, e, f) refl; version = tt }
+    record {
+      rest = rest;
+      is = ap (λ (l : List ℕ). Some (l, rest)) whole;
+      fine = ap (λ (l : List ℕ). reason_for (ForSub s) (Some (l, []))) (sym whole) ∙ rw (e, f) refl;
+      version = tt;
+    }
 one_way s line rest _ _ _ e f h = cc
 
 sub_taken : (s : Sub) (o : Option (List ℕ × List ℕ)) (came : Option ℕ) → sub_said s o ≡ Some came → SaidSub s o came
@@ -196,11 +206,12 @@ module _ (set : Set) (d : Device) where
           → ((others : List (Option ℕ)) → length others ≡ length subs → Follows taken P (behind_head image others more))
           → Follows (taken_head ∷ taken) P (subs_entries set d image j at (s ∷ subs) others ++ more)
       follows_head taken P image [] more long h = absurd (omega (arith, long))
-      follows_head taken P image (o ∷ others) more long h = rw (entries_are image o others more) (refl, λ e. h others (omega (arith, long)))
+      follows_head taken P image (o ∷ others) more long h =
+          subst (λ (l : List Entry). Follows (taken_head ∷ taken) P l) (sym (entries_are image o others more)) (refl, λ e. h others (omega (arith, long)))
 
       along_head : (taken : List Taken) (P : List Entry → Type 0) (image : Image) (others : List (Option ℕ)) (more : List Entry) → Along taken P (behind_head image others more)
           → Along (taken_head ∷ taken) P (subs_entries set d image j at (s ∷ subs) (came ∷ others) ++ more)
-      along_head taken P image others more h = rw (entries_are image came others more) (refl, h)
+      along_head taken P image others more h = subst (λ (l : List Entry). Along (taken_head ∷ taken) P l) (sym (entries_are image came others more)) (refl, h)
 
       stopped_inside : (e : BadLine) → NumbersStop set s.desc at (next_line p) e → SubsStop (s ∷ subs) j at p e
       stopped_inside e n = record {

@@ -47,7 +47,8 @@ module _ (steps : List (ℕ × ℕ)) (path : List ℕ) (present : Bool) (f : Fie
 
 dropped : (fields : List Field) (i : ℕ) (f : Field) (fs : List Field) → drop i fields ≡ f ∷ fs → get_or fields i no_field ≡ f
 dropped (g ∷ fields) (suc i) f fs e = dropped fields i f fs e
-dropped _ _ f fs e = cc
+dropped _ zero f fs e = cc
+dropped _ (suc i) f fs e = cc
 
 -- a single number, whose cell is then known
 abbrev pub single_cell : Item → ℕ → List ℕ
