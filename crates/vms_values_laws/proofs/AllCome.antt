@@ -32,7 +32,8 @@ short_set n i c z h short = by_same (c == i) refl
   where
     inside : (b : Bool) → nat_lt i (length n) ≡ b → IsShort (get_or (slice_set n i z) i (pos 0))
     inside true lt = rw (get_or-set_same n i z (pos 0) (ltb-true i (length n) lt)) h
-    inside false ge = let l = ltb-false i (length n) ge in rw (get_or-eq_default (slice_set n i z) (pos 0) {n = i} (omega (arith, length-set n i z))) (omega arith)
+    inside false ge =
+        let l = ltb-false i (length n) ge in rw (get_or-eq_default (slice_set n i z) (pos 0) {n = i} (omega (arith, length-set n i z))) (omega arith)
 
     by_same : (b : Bool) → (c == i) ≡ b → IsShort (get_or (slice_set n i z) c (pos 0))
     by_same true e = rw (eqb-true c i e) (inside (nat_lt i (length n)) refl)
@@ -58,7 +59,8 @@ are_short (z ∷ n) h = let e = is_short_one z (h 0) in let f = are_short n (λ 
 short_one : (z : ℤ) → is_short z ≡ true → IsShort z
 short_one (pos n) e = by_test (nat_le n 0x7fff_ffff_ffff_ffff) refl (nat_le n 0xffff_ffff_ffff_ffff) refl e
   where
-    by_test : (a : Bool) → nat_le n 0x7fff_ffff_ffff_ffff ≡ a → (b : Bool) → nat_le n 0xffff_ffff_ffff_ffff ≡ b → (a || (nat_le 0 n && b)) ≡ true → IsShort (pos n)
+    by_test : (a : Bool) → nat_le n 0x7fff_ffff_ffff_ffff ≡ a → (b : Bool) → nat_le n 0xffff_ffff_ffff_ffff ≡ b → (a || (nat_le 0 n && b)) ≡ true
+        → IsShort (pos n)
     by_test true f b g h = omega (arith, leb-true n 0x7fff_ffff_ffff_ffff f)
     by_test false f true g h = omega (arith, leb-true n 0xffff_ffff_ffff_ffff g)
     by_test false f false g h = let e = (and_parts (nat_le 0 n) false h).1 in cc
@@ -105,7 +107,8 @@ pub record AllStop (set : Set) (devices : List Device) (line : ℕ) (text : List
   pub rest : List ℕ
   pub shaped : AreShaped set devices images
   pub short : AllShort images
-  pub follows : (images : List Image) → AreShaped set devices images → AllShort images → Follows taken (λ es. Begins demand es) (devices_entries set devices images)
+  pub follows : (images : List Image) → AreShaped set devices images → AllShort images
+      → Follows taken (λ es. Begins demand es) (devices_entries set devices images)
   pub along : Along taken (λ es. Begins demand es) (devices_entries set devices images)
   pub moved : Moved line text taken e.line rest
   pub wrong : reason_for demand (first_line rest) ≡ Some e.reason
@@ -125,8 +128,17 @@ default_images set devices = map (λ d. default_image set d) devices
 
 defaults_shaped : (set : Set) (devices : List Device) → AreGoodDevices set devices → AreShaped set devices (default_images set devices)
 defaults_shaped set [] good = tt
-defaults_shaped set (d ∷ devices) good =
-    (record { version = refl; subs = length-map d.subs (λ s. None); versions = none_at set d d.subs; cells = length-map (device_cells set d) (λ c. c.default); short = are_short (default_numbers set d) good.2 }, defaults_shaped set devices good.3)
+defaults_shaped set (d ∷ devices) good = (
+  record {
+    version = refl;
+    subs = length-map d.subs (λ s. None);
+    versions = none_at set d d.subs;
+    cells = length-map (device_cells set d)
+        (λ c. c.default);
+    short = are_short (default_numbers set d) good.2;
+  },
+  defaults_shaped set devices good.3,
+)
 
 defaults_short : (set : Set) (devices : List Device) → AreGoodDevices set devices → AllShort (default_images set devices)
 defaults_short set [] good = tt
@@ -142,7 +154,17 @@ module _ (set : Set) (d : Device) (devices : List Device) (line : ℕ) (text : L
         demand = s.demand;
         images = image ∷ default_images set devices;
         rest = s.rest;
-        shaped = (record { version = refl; subs = s.one_each; versions = s.versions; cells = s.told.long ∙ length-map (device_cells set d) (λ c. c.default); short = are_short s.numbers fits }, defaults_shaped set devices later);
+        shaped = (
+          record {
+            version = refl;
+            subs = s.one_each;
+            versions = s.versions;
+            cells = s.told.long ∙ length-map (device_cells set d)
+                (λ c. c.default);
+            short = are_short s.numbers fits;
+          },
+          defaults_shaped set devices later,
+        );
         short = (fits, defaults_short set devices later);
         follows = λ images shaped short. go images shaped short;
         along = s.along (devices_entries set devices (default_images set devices));
@@ -150,7 +172,8 @@ module _ (set : Set) (d : Device) (devices : List Device) (line : ℕ) (text : L
         wrong = s.wrong;
       }
     where
-      go : (images : List Image) → AreShaped set (d ∷ devices) images → AllShort images → Follows s.taken (λ es. Begins s.demand es) (devices_entries set (d ∷ devices) images)
+      go : (images : List Image) → AreShaped set (d ∷ devices) images → AllShort images
+          → Follows s.taken (λ es. Begins s.demand es) (devices_entries set (d ∷ devices) images)
       go [] shaped short = absurd shaped
       go (image ∷ images) shaped short = s.follows image (devices_entries set devices images) shaped.0.subs short.0
 
@@ -162,13 +185,23 @@ module _ (set : Set) (d : Device) (devices : List Device) (line : ℕ) (text : L
     image_short = rw (x.told.numbers) (short_all (default_numbers set d) x.said x.told.short good)
 
     image_shaped : IsShaped set d image
-    image_shaped = record { version = refl; subs = x.one_each; versions = x.versions; cells = x.told.long ∙ length-map (device_cells set d) (λ c. c.default); short = are_short r.place.numbers image_short }
+    image_shaped =
+        record {
+          version = refl;
+          subs = x.one_each;
+          versions = x.versions;
+          cells = x.told.long ∙ length-map (device_cells set d)
+              (λ c. c.default);
+          short = are_short r.place.numbers image_short;
+        }
 
-    follows_both : (taken : List Taken) (P : List Entry → Type 0) → ((images : List Image) → AreShaped set devices images → AllShort images → Follows taken P (devices_entries set devices images))
+    follows_both : (taken : List Taken) (P : List Entry → Type 0)
+        → ((images : List Image) → AreShaped set devices images → AllShort images → Follows taken P (devices_entries set devices images))
         → (images : List Image) → AreShaped set (d ∷ devices) images → AllShort images → Follows (x.taken ++ taken) P (devices_entries set (d ∷ devices) images)
     follows_both taken P h [] shaped short = absurd shaped
     follows_both taken P h (i ∷ images) shaped short =
-        follows_then x.taken taken (λ es. es ≡ devices_entries set devices images) P _ (x.follows i _ shaped.0.subs short.0) (λ es is. rw is (h images shaped.1 short.1))
+        follows_then x.taken taken (λ es. es ≡ devices_entries set devices images) P _ (x.follows i _ shaped.0.subs short.0)
+        (λ es is. rw is (h images shaped.1 short.1))
 
     along_both : (taken : List Taken) (P : List Entry → Type 0) (images : List Image) → Along taken P (devices_entries set devices images)
         → Along (x.taken ++ taken) P (devices_entries set (d ∷ devices) (image ∷ images))
@@ -179,7 +212,8 @@ module _ (set : Set) (d : Device) (devices : List Device) (line : ℕ) (text : L
     image_unsaid : AreUnsaid set d image
     image_unsaid c lt bare =
         let room : c < length (device_cells set d) = omega (arith, x.told.long, length-map (device_cells set d) (λ c. c.default)) in
-        rw (x.told.numbers, unsaid_kept (default_numbers set d) x.said c (sym (x.heard c) ∙ bare)) (get_or-map (λ c. c.default) (device_cells set d) c no_cell (pos 0) room)
+        rw (x.told.numbers, unsaid_kept (default_numbers set d) x.said c (sym (x.heard c) ∙ bare))
+        (get_or-map (λ c. c.default) (device_cells set d) c no_cell (pos 0) room)
 
     image_lined : IsLined set d line (record { image = image; line = line; sub_lines = r.lines })
     image_lined = record { own = refl; subs = x.lines }
@@ -221,19 +255,25 @@ module _ (set : Set) (d : Device) (devices : List Device) (line : ℕ) (text : L
   by_device (Ok r) go later x h = others_come r x (go r.place.line r.place.rest) (h r.place.line r.place.rest)
   by_device (Err e) go later x h = stopped_here e later x
 
-  by_section : (b : Bool) → is_line (section_line d d.desc.version) (first_line text) ≡ b → AreSound set.structs → IsSound d.desc → AreSoundSubs set d d.subs → AreGoodDevices set devices
+  by_section : (b : Bool) → is_line (section_line d d.desc.version) (first_line text) ≡ b → AreSound set.structs → IsSound d.desc → AreSoundSubs set d d.subs
+      → AreGoodDevices set devices
       → (go : ℕ → List ℕ → Result ReadAll BadLine) → ((line : ℕ) (text : List ℕ) → AllCome set devices line text (go line text))
       → AllCome set (d ∷ devices) line text
       (if b
       then device_read d line
-      (then_subs (read_desc (readers set) d.desc d.desc.version [] true 0 (next_line (record { numbers = default_numbers set d; line = line; rest = text }))) (read_subs set (own_cells set d) d.subs)) go
+      (then_subs (read_desc (readers set) d.desc d.desc.version [] true 0 (next_line (record { numbers = default_numbers set d; line = line; rest = text })))
+      (read_subs set (own_cells set d) d.subs)) go
       else Err (record { line = line; reason = reasons.Form }))
-  by_section true e structs sound subs later go h = by_device _ go later (inside_comes set d line text structs sound subs (section_read d text (first_line text) refl e line)) h
-  by_section false e structs sound subs later go h = stopped_here (record { line = line; reason = reasons.Form }) later (section_refused set d line text (section_not d (first_line text) e))
+  by_section true e structs sound subs later go h =
+      by_device _ go later (inside_comes set d line text structs sound subs (section_read d text (first_line text) refl e line)) h
+  by_section false e structs sound subs later go h =
+      stopped_here (record { line = line; reason = reasons.Form }) later (section_refused set d line text (section_not d (first_line text) e))
 
-pub devices_come : (set : Set) → AreSound set.structs → (devices : List Device) → AreGoodDevices set devices → (line : ℕ) (text : List ℕ) → AllCome set devices line text (read_devices set devices line text)
+pub devices_come : (set : Set) → AreSound set.structs → (devices : List Device) → AreGoodDevices set devices → (line : ℕ) (text : List ℕ)
+    → AllCome set devices line text (read_devices set devices line text)
 devices_come set structs [] good line text =
     record { taken = []; shaped = tt; short = tt; unsaid = tt; lined = tt; follows = λ images shaped short. refl; along = refl; moved = moved_none line text }
 devices_come set structs (d ∷ devices) good line text =
-    by_section set d devices line text good.2 (is_line (section_line d d.desc.version) (first_line text)) refl structs good.0 good.1 good.3 (λ line text. read_devices set devices line text)
+    by_section set d devices line text good.2 (is_line (section_line d d.desc.version) (first_line text)) refl structs good.0 good.1 good.3
+    (λ line text. read_devices set devices line text)
     (λ line text. devices_come set structs devices good.3 line text)

@@ -10,9 +10,11 @@ use Rattle.vms_values_laws.proofs.FirstPass.{FirstPass}
 use Rattle.vms_values_laws.proofs.FirstTaken.{TakenOf, taken_all, taken_before}
 use Rattle.vms_values_laws.proofs.Meeting.{AreClean, Ends, Same, meet}
 
-module _ (set : Set) (text : List ℕ) (line : ℕ) (reason : ValuesReason) (x : IsBadLine set text line reason) (clean : AreClean (entries set x.machine x.images)) where
+module _ (set : Set) (text : List ℕ) (line : ℕ) (reason : ValuesReason) (x : IsBadLine set text line reason)
+    (clean : AreClean (entries set x.machine x.images)) where
   -- what was taken, beside the state that the relation has
-  against : (machine : Option (List ℕ)) (taken : List Taken) (rest : List ℕ) (o : Option ValuesReason) → TakenOf set text machine taken rest o → Same taken x.before o (Some reason)
+  against : (machine : Option (List ℕ)) (taken : List Taken) (rest : List ℕ) (o : Option ValuesReason) → TakenOf set text machine taken rest o
+      → Same taken x.before o (Some reason)
   against machine taken rest o t =
       let same : machine ≡ x.machine = t.named ∙ sym x.named in
       let f : Follows taken (λ es. Ends o rest es) (x.before ++ x.after) =

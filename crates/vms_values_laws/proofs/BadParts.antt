@@ -45,7 +45,8 @@ first_part set line (e ∷ es) b h = go (part_reason set e) refl h (λ g. first_
           bad = rw (← same) is;
         }
 
-pub bad_part_found : (set : Set) (line : ℕ) (before : List Entry) (entry : Entry) (after : List Entry) (reason : ValuesReason) → map (part_reason set) before ≡ map (λ e. None) before
+pub bad_part_found : (set : Set) (line : ℕ) (before : List Entry) (entry : Entry) (after : List Entry) (reason : ValuesReason)
+    → map (part_reason set) before ≡ map (λ e. None) before
     → part_reason set entry ≡ Some reason → parts_from set line (before ++ entry ∷ after) ≡ Some (record { line = line + length before; reason = reason })
 bad_part_found set line [] entry after reason good bad =
     let same : line ≡ line + 0 = omega arith in

@@ -49,13 +49,16 @@ fields_from [] h = tt
 fields_from (f ∷ fs) h = (h 0 f refl, fields_from fs (λ i g e. h (suc i) g e))
 
 clean_fields : (k : ℕ) (d : Desc) (rules : List Bool) → Clean k d rules → AreCleanFields d.fields
-clean_fields k d rules c = fields_from d.fields (λ i f e. clean_name 32 f.name (and_parts (is_name 32 f.name) (list_all (is_name 32) f.former) (c.fields i f e).0).0)
+clean_fields k d rules c =
+    fields_from d.fields (λ i f e. clean_name 32 f.name (and_parts (is_name 32 f.name) (list_all (is_name 32) f.former) (c.fields i f e).0).0)
 
 subs_from : (subs : List Sub) → ((j : ℕ) (s : Sub) → slice_get subs j ≡ Some s → NoFeed s.desc.name × AreCleanFields s.desc.fields) → AreCleanSubs subs
 subs_from [] h = tt
 subs_from (s ∷ subs) h = let c = h 0 s refl in (c.0, c.1, subs_from subs (λ j t e. h (suc j) t e))
 
-devices_from : (devices : List Device) → ((k : ℕ) (d : Device) → slice_get devices k ≡ Some d → NoFeed d.desc.name × AreCleanFields d.desc.fields × AreCleanSubs d.subs) → AreCleanDevices devices
+devices_from : (devices : List Device)
+    → ((k : ℕ) (d : Device) → slice_get devices k ≡ Some d → NoFeed d.desc.name × AreCleanFields d.desc.fields × AreCleanSubs d.subs)
+    → AreCleanDevices devices
 devices_from [] h = tt
 devices_from (d ∷ devices) h = let c = h 0 d refl in (c.0, c.1, c.2, devices_from devices (λ k t e. h (suc k) t e))
 
@@ -69,7 +72,8 @@ named_one (m ∷ machines) name e h =
     let p = and_parts (is_name 64 m) (list_all (is_name 64) machines) e in
     either_of (bytes_eq m name) _ h (λ f. rw (← ((bytes_eq-Decides m name).0 f)) (clean_name 64 m p.0)) (λ f. named_one machines name p.1 f)
 
-by_tests : (machines : List (List ℕ)) (line name : List ℕ) (b c : Bool) → is_one_of machines (drop 8 line) ≡ c → (if b && c then Some (drop 8 line) else None) ≡ Some name → is_one_of machines name ≡ true
+by_tests : (machines : List (List ℕ)) (line name : List ℕ) (b c : Bool) → is_one_of machines (drop 8 line) ≡ c
+    → (if b && c then Some (drop 8 line) else None) ≡ Some name → is_one_of machines name ≡ true
 by_tests machines line name true true e h = rw (← (same_Some (drop 8 line) name h)) e
 by_tests machines line name _ _ e h = cc
 
@@ -105,7 +109,8 @@ module _ (set : Set) (well : WellFormed set) where
   machines_named =
       first_true (list_all (is_name 64) set.machines) _ (here parts.Set)
       (or_else_none (failing 1 (set_rules set) (here parts.Set))
-      (or_else (first_answer (struct_fault set.structs) 0 set.structs) (or_else (first_answer (device_fault set) 0 set.devices) (failing 1 (size_rules set) (here parts.Set)))) well).0
+      (or_else (first_answer (struct_fault set.structs) 0 set.structs)
+      (or_else (first_answer (device_fault set) 0 set.devices) (failing 1 (size_rules set) (here parts.Set)))) well).0
 
   pub clean_named : (name : List ℕ) → is_one_of set.machines name ≡ true → NoFeed name
   clean_named name h = named_one set.machines name machines_named h

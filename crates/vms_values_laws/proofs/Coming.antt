@@ -91,7 +91,8 @@ module _ (total : List ℤ → List Element) (start : Standing) (low : ℕ) wher
     ran = a.ran;
   }
 
-  pub at_less : (cell further : ℕ) (p : Standing) (said : List Said) (left : List ℤ → List Element) → cell ≤ further → At cell p said left → At further p said left
+  pub at_less : (cell further : ℕ) (p : Standing) (said : List Said) (left : List ℤ → List Element) → cell ≤ further → At cell p said left
+      → At further p said left
   at_less cell further p said left le a = record {
     meets = a.meets;
     agrees = a.agrees;
@@ -103,10 +104,12 @@ module _ (total : List ℤ → List Element) (start : Standing) (low : ℕ) wher
     ran = a.ran;
   }
 
-  pub stay : (cell further : ℕ) (p : Standing) (said : List Said) (left : List ℤ → List Element) → cell ≤ further → At cell p said left → Comes further [] said left (Ok p)
+  pub stay : (cell further : ℕ) (p : Standing) (said : List Said) (left : List ℤ → List Element) → cell ≤ further → At cell p said left
+      → Comes further [] said left (Ok p)
   stay cell further p said left le a = record { comes = record { said = said; stands = at_less cell further p said left le a; grows = λ m g. g; knows = tt } }
 
-  pub forget : {cell : ℕ} {known : List ℕ} {before : List Said} {left : List ℤ → List Element} (r : Read) → Comes cell known before left r → Comes cell [] before left r
+  pub forget : {cell : ℕ} {known : List ℕ} {before : List Said} {left : List ℤ → List Element} (r : Read) → Comes cell known before left r
+      → Comes cell [] before left r
   forget (Ok q) c = let f = c.comes in record { comes = record { said = f.said; stands = f.stands; grows = f.grows; knows = tt } }
   forget (Err e) c = record { comes = c.comes }
 
@@ -160,8 +163,10 @@ module _ (total : List ℤ → List Element) (start : Standing) (low : ℕ) wher
   by_read cell x p said left (Err e) is room a not =
       record { comes = record { cell = cell; place = p; said = said; element = x; after = left; stood = a; line = not.line; wrong = not.bad } }
 
-  pub line_comes : (steps : List (ℕ × ℕ)) (path : List ℕ) (present : Bool) (cell : ℕ) (c : Cell) (p : Standing) (said : List Said) (left : List ℤ → List Element)
+  pub line_comes : (steps : List (ℕ × ℕ)) (path : List ℕ) (present : Bool) (cell : ℕ) (c : Cell) (p : Standing) (said : List Said)
+  (left : List ℤ → List Element)
       → cell < length start.numbers → At cell p said (λ m. spot steps path present cell c ∷ left m)
       → Comes (cell + 1) (cell ∷ []) said left (put_line path (cell_line present cell c) p (first_line p.rest))
   line_comes steps path present cell c p said left room a =
-      by_read cell (spot steps path present cell c) p said left (put_line path (cell_line present cell c) p (first_line p.rest)) refl room a (one_line steps path present cell c p)
+      by_read cell (spot steps path present cell c) p said left (put_line path (cell_line present cell c) p (first_line p.rest)) refl room a
+      (one_line steps path present cell c p)

@@ -43,14 +43,17 @@ pub record DeviceRead (set : Set) (d : Device) (line : ℕ) (text : List ℕ) (r
   pub versions : AreAtVersions d.subs r.came
   pub heard : (c : ℕ) → has_line (device_entries set d (image_of d r)) c ≡ has_said said c
   pub lines : r.lines ≡ sub_numbers line (device_entries set d (image_of d r))
-  pub follows : (image : Image) (more : List Entry) → length image.came ≡ length d.subs → AreShort image.numbers → Follows taken (λ es. es ≡ more) (device_entries set d image ++ more)
+  pub follows : (image : Image) (more : List Entry) → length image.came ≡ length d.subs → AreShort image.numbers
+      → Follows taken (λ es. es ≡ more) (device_entries set d image ++ more)
   pub along : (more : List Entry) → Along taken (λ es. es ≡ more) (device_entries set d (image_of d r) ++ more)
   pub moved : Moved line text taken r.place.line r.place.rest
 
 abbrev pub DeviceStop : Set → Device → ℕ → List ℕ → BadLine → Type 0
 DeviceStop set d line text e = Stopped d.subs 0 (record { numbers = default_numbers set d; line = line; rest = text }) e
-    (λ demand taken. (image : Image) (more : List Entry) → length image.came ≡ length d.subs → AreShort image.numbers → Follows taken (λ es. Begins demand es) (device_entries set d image ++ more))
-    (λ demand taken said came numbers. (more : List Entry) → Along taken (λ es. Begins demand es) (device_entries set d (record { version = d.desc.version; came = came; numbers = numbers }) ++ more))
+    (λ demand taken. (image : Image) (more : List Entry) → length image.came ≡ length d.subs → AreShort image.numbers → Follows taken
+    (λ es. Begins demand es) (device_entries set d image ++ more))
+    (λ demand taken said came numbers. (more : List Entry) → Along taken (λ es. Begins demand es)
+    (device_entries set d (record { version = d.desc.version; came = came; numbers = numbers }) ++ more))
 
 abbrev pub DeviceComes : Set → Device → ℕ → List ℕ → Result ReadSubs BadLine → Type 0
 DeviceComes set d line text (Ok r) = DeviceRead set d line text r
@@ -60,7 +63,8 @@ module _ (set : Set) (d : Device) (line : ℕ) (text : List ℕ) where
   abbrev none_came : List (Option ℕ)
   none_came = map (λ s. None) d.subs
 
-  pub section_refused : reason_for (ForSection d) (first_line text) ≡ Some reasons.Form → DeviceStop set d line text (record { line = line; reason = reasons.Form })
+  pub section_refused : reason_for (ForSection d) (first_line text) ≡ Some reasons.Form
+      → DeviceStop set d line text (record { line = line; reason = reasons.Form })
   section_refused wrong =
       record {
         said = [];
@@ -73,7 +77,13 @@ module _ (set : Set) (d : Device) (line : ℕ) (text : List ℕ) where
         one_each = length-map d.subs (λ s. None);
         versions = none_at set d d.subs;
         follows = λ image more long short. record { first = OfSection d image; others = _; is = refl; demands = refl };
-        along = λ more. record { first = OfSection d (record { version = d.desc.version; came = none_came; numbers = default_numbers set d }); others = _; is = refl; demands = refl };
+        along = λ more. record {
+          first = OfSection d
+              (record { version = d.desc.version; came = none_came; numbers = default_numbers set d });
+          others = _;
+          is = refl;
+          demands = refl;
+        };
         moved = moved_none line text;
         wrong = wrong;
       }
@@ -90,7 +100,8 @@ module _ (set : Set) (d : Device) (line : ℕ) (text : List ℕ) where
   abbrev behind_head : Image → List Entry → List Entry
   behind_head image more = number_entries set d.desc image.numbers 0 ++ (subs_entries set d image 0 own d.subs image.came ++ more)
 
-  told_own : {q : Standing} {k : List ℤ} {more : List Said} (n : NumbersRead set d.desc 0 start q) → Told own q.numbers more k → Told 0 (default_numbers set d) (n.said ++ more) k
+  told_own : {q : Standing} {k : List ℤ} {more : List Said} (n : NumbersRead set d.desc 0 start q) → Told own q.numbers more k
+      → Told 0 (default_numbers set d) (n.said ++ more) k
   told_own n t = told_both n.told t (omega arith) (let e : 0 + own ≡ own = omega arith in rw e at n.below)
 
   entries_are : (image : Image) (more : List Entry) → device_entries set d image ++ more ≡ OfSection d image ∷ behind_head image more
@@ -100,7 +111,8 @@ module _ (set : Set) (d : Device) (line : ℕ) (text : List ℕ) where
       → Follows (head ∷ taken) P (device_entries set d image ++ more)
   follows_head taken P image more h = subst (λ (l : List Entry). Follows (head ∷ taken) P l) (sym (entries_are image more)) (refl, λ e. h)
 
-  along_head : (taken : List Taken) (P : List Entry → Type 0) (image : Image) (more : List Entry) → image.version ≡ d.desc.version → Along taken P (behind_head image more)
+  along_head : (taken : List Taken) (P : List Entry → Type 0) (image : Image) (more : List Entry) → image.version ≡ d.desc.version
+      → Along taken P (behind_head image more)
       → Along (head ∷ taken) P (device_entries set d image ++ more)
   along_head taken P image more v h =
       subst (λ (l : List Entry). Along (head ∷ taken) P l) (sym (entries_are image more)) (ap (λ (n : ℕ). section_line d n) v, h)
@@ -141,7 +153,8 @@ module _ (set : Set) (d : Device) (line : ℕ) (text : List ℕ) where
               (follows_on n r.taken (Begins r.demand) image.numbers _ short (r.follows image image.came more long short));
           along = λ more.
               along_head (all_taken n.said ++ r.taken) (Begins r.demand) _ more refl
-              (along_on n r.taken (Begins r.demand) r.numbers _ (agrees_front n.said r.said r.numbers all) (r.along _ more (agrees_later n.said r.said r.numbers all)));
+              (along_on n r.taken (Begins r.demand) r.numbers _ (agrees_front n.said r.said r.numbers all)
+              (r.along _ more (agrees_later n.said r.said r.numbers all)));
           moved = moved_then headed (moved_then n.moved r.moved);
           wrong = r.wrong;
         }
@@ -164,11 +177,13 @@ module _ (set : Set) (d : Device) (line : ℕ) (text : List ℕ) where
               follows_head (all_taken n.said ++ x.taken) (λ es. es ≡ more) image more
               (follows_on n x.taken (λ es. es ≡ more) image.numbers _ short (x.follows image image.came more long short));
           along = λ more.
-              along_head (all_taken n.said ++ x.taken) (λ es. es ≡ more) image more refl (along_on n x.taken (λ es. es ≡ more) image.numbers _ front (x.along image more later));
+              along_head (all_taken n.said ++ x.taken) (λ es. es ≡ more) image more refl
+              (along_on n x.taken (λ es. es ≡ more) image.numbers _ front (x.along image more later));
           moved = moved_then headed (moved_then n.moved x.moved);
         }
 
-    subs_behind : (q : Standing) (o : Result ReadSubs BadLine) → NumbersRead set d.desc 0 start q → SubsCome set d d.subs 0 own q o → DeviceComes set d line text o
+    subs_behind : (q : Standing) (o : Result ReadSubs BadLine) → NumbersRead set d.desc 0 start q → SubsCome set d d.subs 0 own q o
+        → DeviceComes set d line text o
     subs_behind q (Ok r) n x = read_whole q r n x
     subs_behind q (Err e) n x = stopped_behind q e n x
 
@@ -197,6 +212,7 @@ section_read d text (Some (first, rest)) e h line =
     (line_taken text (section_line d d.desc.version) rest (e ∙ ap (λ (l : List ℕ). Some (l, rest)) is))
     (ap (λ (l : List ℕ). reason_for (ForSection d) (Some (l, []))) (sym is) ∙ rw h refl)
 
-pub section_not : (d : Device) (o : Option (List ℕ × List ℕ)) → is_line (section_line d d.desc.version) o ≡ false → reason_for (ForSection d) o ≡ Some reasons.Form
+pub section_not : (d : Device) (o : Option (List ℕ × List ℕ)) → is_line (section_line d d.desc.version) o ≡ false
+    → reason_for (ForSection d) o ≡ Some reasons.Form
 section_not d None h = refl
 section_not d (Some (first, rest)) h = rw h refl

@@ -33,23 +33,45 @@ few_numbers set d n at =
     let xs = elements_in set d d.version n at in
     omega (arith, length-map (printed xs) (λ x. OfNumber x n), few_printed xs, ap length (walks set d d.version d.version n n at at).cells_are)
 
-few_subs : (set : Set) (d : Device) (image : Image) (j at : ℕ) (subs : List Sub) (came : List (Option ℕ)) → length (subs_entries set d image j at subs came) ≤ length subs + length (sub_cells set subs)
+few_subs : (set : Set) (d : Device) (image : Image) (j at : ℕ) (subs : List Sub) (came : List (Option ℕ))
+    → length (subs_entries set d image j at subs came) ≤ length subs + length (sub_cells set subs)
 few_subs set d image j at (s ∷ subs) (o ∷ came) =
     let own = desc_cells (struct_cells set) s.desc in
     let numbers = number_entries set s.desc image.numbers at in
     let others = subs_entries set d image (suc j) (at + length own) subs came in
-    omega (arith, length-append numbers others, few_numbers set s.desc image.numbers at, few_subs set d image (suc j) (at + length own) subs came, length-append own (sub_cells set subs))
+    omega (
+      arith,
+      length-append numbers others,
+      few_numbers set s.desc image.numbers at,
+      few_subs set d image (suc j)
+          (at + length own) subs came,
+      length-append own (sub_cells set subs),
+    )
 few_subs set d image j at _ _ = omega arith
 
 few_device : (set : Set) (d : Device) (image : Image) → length (device_entries set d image) ≤ device_lines set d
 few_device set d image =
     let numbers = number_entries set d.desc image.numbers 0 in
     let others = subs_entries set d image 0 (own_cells set d) d.subs image.came in
-    omega (arith, length-append numbers others, few_numbers set d.desc image.numbers 0, few_subs set d image 0 (own_cells set d) d.subs image.came, length-append (desc_cells (struct_cells set) d.desc) (sub_cells set d.subs))
+    omega (
+      arith,
+      length-append numbers others,
+      few_numbers set d.desc image.numbers 0,
+      few_subs set d image 0
+          (own_cells set d) d.subs image.came,
+      length-append (desc_cells (struct_cells set) d.desc) (sub_cells set d.subs),
+    )
 
 few_devices : (set : Set) (devices : List Device) (images : List Image) → length (devices_entries set devices images) ≤ sum_by (device_lines set) devices
 few_devices set (d ∷ devices) (image ∷ images) =
-    omega (arith, length-append (device_entries set d image) (devices_entries set devices images), few_device set d image, few_devices set devices images, sum_by-cons (device_lines set) d devices)
+    omega (
+      arith,
+      length-append (device_entries set d image)
+          (devices_entries set devices images),
+      few_device set d image,
+      few_devices set devices images,
+      sum_by-cons (device_lines set) d devices,
+    )
 few_devices set _ _ = omega arith
 
 few_entries : (set : Set) (machine : Option (List ℕ)) (images : List Image) → length (entries set machine images) ≤ most_lines set

@@ -46,14 +46,20 @@ pub record IsFitting (cell : Cell) (present : Bool) (z : ℤ) : Type 0 where
   pub fits : FitsCell cell z
   pub absent : present ≡ false → z ≡ cell.default
 
-by_tests : (cell : Cell) (present : Bool) (z : ℤ) (a b c : Bool) → in_range cell.kind z ≡ a → exceeds cell.capacities z ≡ b → (present || same_number z cell.default) ≡ c
+by_tests : (cell : Cell) (present : Bool) (z : ℤ) (a b c : Bool) → in_range cell.kind z ≡ a → exceeds cell.capacities z ≡ b
+    → (present || same_number z cell.default) ≡ c
     → or_else (if_not a reasons.Number) (or_else (if_not (not b) reasons.Count) (if_not c reasons.Absent)) ≡ None → IsFitting cell present z
 by_tests cell present z true false true e f g h =
-    record { fits = (ranges cell.kind z e, within_all cell.capacities z f); absent = λ p. same_number_is z cell.default (or_second present (same_number z cell.default) g p) }
+    record {
+      fits = (ranges cell.kind z e, within_all cell.capacities z f);
+      absent = λ p. same_number_is z cell.default
+          (or_second present (same_number z cell.default) g p);
+    }
 by_tests cell present z _ _ _ e f g h = cc
 
 pub reason_fits : (cell : Cell) (present : Bool) (z : ℤ) → number_reason cell present z ≡ None → IsFitting cell present z
-reason_fits cell present z h = by_tests cell present z (in_range cell.kind z) (exceeds cell.capacities z) (present || same_number z cell.default) refl refl refl h
+reason_fits cell present z h =
+    by_tests cell present z (in_range cell.kind z) (exceeds cell.capacities z) (present || same_number z cell.default) refl refl refl h
 
 pub fits_reason : (cell : Cell) (present : Bool) (z : ℤ) → IsFitting cell present z → number_reason cell present z ≡ None
 fits_reason cell present z f =

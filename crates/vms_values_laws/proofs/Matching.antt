@@ -76,15 +76,19 @@ module _ (P : Entry → Type 0) where
   all_both [] fs a b = b
   all_both (e ∷ es) fs a b = (a.0, all_both es fs a.1 b)
 
-  module _ (set : Set) (d : Device) (image : Image) (number : (x : Element) → P (OfNumber x image.numbers)) (sub : (j at : ℕ) (s : Sub) (o : Option ℕ) → IsAtVersion s o → P (OfSub d image j s at o)) where
+  module _ (set : Set) (d : Device) (image : Image) (number : (x : Element) → P (OfNumber x image.numbers))
+      (sub : (j at : ℕ) (s : Sub) (o : Option ℕ) → IsAtVersion s o → P (OfSub d image j s at o)) where
     numbers_all : (xs : List Element) → AllByRecursion P (of_numbers image.numbers xs)
     numbers_all [] = tt
     numbers_all (x ∷ xs) = (number x, numbers_all xs)
 
     subs_all : (j at : ℕ) (subs : List Sub) (came : List (Option ℕ)) → AreAtVersions subs came → AllByRecursion P (subs_entries set d image j at subs came)
     subs_all j at (s ∷ subs) (o ∷ came) h =
-        let next = at + length (desc_cells (struct_cells set) s.desc) in
-        (sub j at s o h.0, all_both (number_entries set s.desc image.numbers at) _ (numbers_all (printed (elements_in set s.desc s.desc.version image.numbers at))) (subs_all (suc j) next subs came h.1))
+        let next = at + length (desc_cells (struct_cells set) s.desc) in (
+          sub j at s o h.0,
+          all_both (number_entries set s.desc image.numbers at) _
+              (numbers_all (printed (elements_in set s.desc s.desc.version image.numbers at))) (subs_all (suc j) next subs came h.1),
+        )
     subs_all j at _ _ h = tt
 
     device_all : AreAtVersions d.subs image.came → AllByRecursion P (inside_of set d image)
@@ -117,7 +121,8 @@ abbrev AreOf : List ℤ → List Entry → Type 0
 AreOf n = AllByRecursion (IsOf n)
 
 module _ (n m : List ℤ) (short : AreShort n) (short' : AreShort m) where
-  one_number : (x : Element) (k : List ℤ) (f : Entry) (c : ℕ) → k ≡ n → IsOf m f → ForNumber x ≡ demand_of f → entry_line (OfNumber x k) ≡ entry_line f → x.cell ≡ c
+  one_number : (x : Element) (k : List ℤ) (f : Entry) (c : ℕ) → k ≡ n → IsOf m f → ForNumber x ≡ demand_of f → entry_line (OfNumber x k) ≡ entry_line f
+      → x.cell ≡ c
       → get_or n c (pos 0) ≡ get_or m c (pos 0)
   one_number x k (OfNumber y l) c is of demand line at =
       let same : y ≡ x = cc in
@@ -154,7 +159,8 @@ numbers_came n (x ∷ xs) es = numbers_came n xs es
 
 not_both : (s : Sub) (v : ℕ) → sub_line s None ≡ sub_line s (Some v) → ⊥
 not_both s v e =
-    let f = cancel (codes " ") (version_text None) (version_text (Some v)) (cancel s.desc.name (codes " " ++ version_text None) (codes " " ++ version_text (Some v)) (cancel (codes "sub ") _ _ e)) in
+    let f = cancel (codes " ") (version_text None) (version_text (Some v))
+    (cancel s.desc.name (codes " " ++ version_text None) (codes " " ++ version_text (Some v)) (cancel (codes "sub ") _ _ e)) in
     cc
 
 one_came : (s t : Sub) (o p : Option ℕ) → s ≡ t → IsAtVersion s o → IsAtVersion t p → sub_line s o ≡ sub_line t p → o ≡ p
@@ -163,7 +169,8 @@ one_came s t (Some v) (Some w) same a b e = rw (a, b, same) refl
 one_came s t None (Some w) same a b e = absurd (not_both t w (rw same at e))
 one_came s t (Some v) None same a b e = absurd (not_both t v (sym (rw same at e)))
 
-came_one : (e f : Entry) (came : List (Option ℕ)) → IsAt e → IsAt f → demand_of e ≡ demand_of f → entry_line e ≡ entry_line f → came_with e came ≡ came_with f came
+came_one : (e f : Entry) (came : List (Option ℕ)) → IsAt e → IsAt f → demand_of e ≡ demand_of f → entry_line e ≡ entry_line f
+    → came_with e came ≡ came_with f came
 came_one (OfSub d image j s at o) (OfSub d' image' j' t at' p) came a b h l = let same : s ≡ t = cc in rw (one_came s t o p same a b l) refl
 came_one (OfSub d image j s at o) _ came a b h l = absurd (cc)
 came_one _ (OfSub d image j s at o) came a b h l = absurd (cc)
@@ -181,7 +188,8 @@ module _ (set : Set) (d : Device) (image : Image) where
   subs_came j at [] [] long = refl
   subs_came j at (s ∷ subs) (o ∷ came) long =
       let next = at + length (desc_cells (struct_cells set) s.desc) in
-      ap (λ (l : List (Option ℕ)). o ∷ l) (numbers_came image.numbers (printed (elements_in set s.desc s.desc.version image.numbers at)) _ ∙ subs_came (suc j) next subs came (omega (arith, long)))
+      ap (λ (l : List (Option ℕ)). o ∷ l)
+      (numbers_came image.numbers (printed (elements_in set s.desc s.desc.version image.numbers at)) _ ∙ subs_came (suc j) next subs came (omega (arith, long)))
   subs_came j at _ _ long = absurd (omega (arith, long))
 
   whole_inside : AreAtVersions d.subs image.came → AreInside (inside_of set d image)
@@ -194,7 +202,8 @@ module _ (set : Set) (d : Device) (image : Image) where
   whole_at = device_all IsAt set d image (λ x. tt) (λ j at s o h. h)
 
   whole_came : length image.came ≡ length d.subs → came_of (inside_of set d image) ≡ image.came
-  whole_came long = numbers_came image.numbers (printed (elements_in set d.desc d.desc.version image.numbers 0)) _ ∙ subs_came 0 (own_cells set d) d.subs image.came long
+  whole_came long =
+      numbers_came image.numbers (printed (elements_in set d.desc d.desc.version image.numbers 0)) _ ∙ subs_came 0 (own_cells set d) d.subs image.came long
 
 same_image : (i j : Image) → i.version ≡ j.version → i.came ≡ j.came → i.numbers ≡ j.numbers → i ≡ j
 same_image i j e f g = let same : i ≡ record { version = j.version; came = j.came; numbers = j.numbers } = rw (← e, ← f, ← g) refl in same
@@ -206,7 +215,8 @@ device_same set d image image' a b short short' u u' m =
     let fs = inside_of set d image' in
     let long : length image.numbers ≡ length image'.numbers = a.cells ∙ sym b.cells in
     same_image image image' (a.version ∙ sym b.version)
-    (sym (whole_came set d image a.subs) ∙ came_same es fs (whole_at set d image a.versions) (whole_at set d image' b.versions) m ∙ whole_came set d image' b.subs)
+    (sym (whole_came set d image a.subs) ∙ came_same es fs (whole_at set d image a.versions) (whole_at set d image' b.versions) m
+    ∙ whole_came set d image' b.subs)
     (ext_get_or (pos 0) image.numbers image'.numbers long (λ c lt. by_line c lt (omega (arith, long)) (has_line es c) refl))
   where
     by_line : (c : ℕ) → c < length image.numbers → c < length image'.numbers → (t : Bool) → has_line (inside_of set d image) c ≡ t
@@ -220,8 +230,10 @@ begins_new : (set : Set) (devices : List Device) (images : List Image) → Begin
 begins_new set (d ∷ devices) (image ∷ images) = refl
 begins_new set _ _ = tt
 
-pub devices_same : (set : Set) (devices : List Device) (images images' : List Image) → AreShaped set devices images → AreShaped set devices images' → AllShort images
-    → AllShort images' → AllUnsaid set devices images → AllUnsaid set devices images' → Match (devices_entries set devices images) (devices_entries set devices images')
+pub devices_same : (set : Set) (devices : List Device) (images images' : List Image) → AreShaped set devices images → AreShaped set devices images'
+    → AllShort images
+    → AllShort images' → AllUnsaid set devices images → AllUnsaid set devices images'
+    → Match (devices_entries set devices images) (devices_entries set devices images')
     → images ≡ images'
 devices_same set [] [] [] a b s s' u u' m = refl
 devices_same set [] (i ∷ images) images' a b s s' u u' m = absurd a
@@ -229,6 +241,7 @@ devices_same set [] [] (i ∷ images') a b s s' u u' m = absurd b
 devices_same set (d ∷ devices) [] images' a b s s' u u' m = absurd a
 devices_same set (d ∷ devices) (i ∷ images) [] a b s s' u u' m = absurd b
 devices_same set (d ∷ devices) (i ∷ images) (j ∷ images') a b s s' u u' m =
-    let p = parted (inside_of set d i) (devices_entries set devices images) (inside_of set d j) (devices_entries set devices images') (whole_inside set d i a.0.versions)
+    let p = parted (inside_of set d i) (devices_entries set devices images) (inside_of set d j) (devices_entries set devices images')
+    (whole_inside set d i a.0.versions)
     (whole_inside set d j b.0.versions) (begins_new set devices images) (begins_new set devices images') m.2 in
     rw (device_same set d i j a.0 b.0 s.0 s'.0 u.0 u'.0 p.inside, devices_same set devices images images' a.1 b.1 s.1 s'.1 u.1 u'.1 p.rest) refl

@@ -32,7 +32,8 @@ both_end (Some r) None rest es f g = sym (rw (g.0, g.1) at f)
 both_end (Some r) (Some r') rest es f g = sym f ∙ g
 
 -- a fine line doesn't end them
-not_ended : (o : Option ValuesReason) (e : Entry) (es : List Entry) (line rest : List ℕ) → NoFeed line → reason_for (demand_of e) (Some (line, [])) ≡ None → Ends o (line ++ 10 ∷ rest) (e ∷ es) → ⊥
+not_ended : (o : Option ValuesReason) (e : Entry) (es : List Entry) (line rest : List ℕ) → NoFeed line → reason_for (demand_of e) (Some (line, [])) ≡ None
+    → Ends o (line ++ 10 ∷ rest) (e ∷ es) → ⊥
 not_ended None e es line rest feed fine h = let f = h.0 in cc
 not_ended (Some r) e es line rest feed fine h =
     let f : None ≡ Some r = sym fine ∙ sym (reason_same e (Some (line, rest))) ∙ rw (line_first line rest feed) at h in
@@ -44,13 +45,16 @@ two_lines a b r r' p q e = some_pair_parts a b r r' (sym (line_first a r p) ∙ 
 fine_entry : (e : Entry) → line_reason e (entry_line e) ≡ None → reason_for (demand_of e) (Some (entry_line e, [])) ≡ None
 fine_entry e h = sym (reason_same e (Some (entry_line e, []))) ∙ h
 
-pub meet : (taken : List Taken) (before after : List Entry) (rest rest' : List ℕ) (o o' : Option ValuesReason) → Follows taken (λ es. Ends o rest es) (before ++ after) → AreClean (before ++ after)
-    → AreFineTaken taken → AreFine before → text_of (lines_of taken) ++ rest ≡ text_of (map entry_line before) ++ rest' → Ends o' rest' after → Same taken before o o'
+pub meet : (taken : List Taken) (before after : List Entry) (rest rest' : List ℕ) (o o' : Option ValuesReason)
+    → Follows taken (λ es. Ends o rest es) (before ++ after) → AreClean (before ++ after)
+    → AreFineTaken taken → AreFine before → text_of (lines_of taken) ++ rest ≡ text_of (map entry_line before) ++ rest' → Ends o' rest' after
+    → Same taken before o o'
 meet [] [] after rest rest' o o' f clean fine fine' e ends =
     record { long = refl; lines = refl; reason = both_end o o' rest after f (rw e ends) }
 meet [] (x ∷ before) after rest rest' o o' f clean fine fine' e ends =
     let feed = fine_feed (demand_of x) (entry_line x) clean.0 (fine_entry x fine'.0) in
-    let is : rest ≡ entry_line x ++ 10 ∷ (text_of (map entry_line before) ++ rest') = e ∙ append_assoc (entry_line x) (10 ∷ text_of (map entry_line before)) rest' in
+    let is : rest ≡ entry_line x ++ 10 ∷ (text_of (map entry_line before) ++ rest') =
+    e ∙ append_assoc (entry_line x) (10 ∷ text_of (map entry_line before)) rest' in
     absurd (not_ended o x (before ++ after) (entry_line x) (text_of (map entry_line before) ++ rest') feed (fine_entry x fine'.0) (rw (is) at f))
 meet (t ∷ taken) [] [] rest rest' o o' f clean fine fine' e ends = absurd f
 meet (t ∷ taken) [] (x ∷ after) rest rest' o o' f clean fine fine' e ends =

@@ -50,12 +50,14 @@ cancel (x ∷ front) a b e = cancel front a b (tail (x ∷ front ++ a) (x ∷ fr
   tail : (xs ys : List ℕ) → xs ≡ ys → rest_of xs ≡ rest_of ys
   tail xs ys e = ap rest_of e
 
-pub number_same : (name : List ℕ) (y z : ℤ) → IsShort y → IsShort z → name ++ (codes " = " ++ signed_decimal y) ≡ name ++ (codes " = " ++ signed_decimal z) → y ≡ z
+pub number_same : (name : List ℕ) (y z : ℤ) → IsShort y → IsShort z → name ++ (codes " = " ++ signed_decimal y) ≡ name ++ (codes " = " ++ signed_decimal z)
+    → y ≡ z
 number_same name y z p q e =
     let same = cancel (codes " = ") (signed_decimal y) (signed_decimal z) (cancel name (codes " = " ++ signed_decimal y) (codes " = " ++ signed_decimal z) e) in
     some_same y z (sym (number_holds y p) ∙ ap number_spelled same ∙ number_holds z q)
 
-pub follows_meets : (said : List Said) (left : List Element) (n : List ℤ) (xs : List Element) (more : List Entry) (P : List Entry → Type 0) → AreShort n → AreShortSaid said
+pub follows_meets : (said : List Said) (left : List Element) (n : List ℤ) (xs : List Element) (more : List Entry) (P : List Entry → Type 0) → AreShort n
+    → AreShortSaid said
     → Meets said left n xs → P (of_numbers n left ++ more) → Follows (all_taken said) P (of_numbers n xs ++ more)
 follows_meets [] left n xs more P short said-short h p = rw h p
 follows_meets (s ∷ said) left n [] more P short said-short h p = absurd h
@@ -115,8 +117,10 @@ pub record NumbersStop (set : Set) (d : Desc) (at : ℕ) (p : Standing) (e : Bad
   pub place : Standing
   pub element : Element
   pub told : Told at p.numbers said place.numbers
-  pub follows : (n : List ℤ) (more : List Entry) → AreShort n → Follows (all_taken said) (λ es. Begins (ForNumber element) es) (number_entries set d n at ++ more)
-  pub along : (n : List ℤ) (more : List Entry) → Agrees said n → Along (all_taken said) (λ es. Begins (ForNumber element) es) (number_entries set d n at ++ more)
+  pub follows : (n : List ℤ) (more : List Entry) → AreShort n
+      → Follows (all_taken said) (λ es. Begins (ForNumber element) es) (number_entries set d n at ++ more)
+  pub along : (n : List ℤ) (more : List Entry) → Agrees said n
+      → Along (all_taken said) (λ es. Begins (ForNumber element) es) (number_entries set d n at ++ more)
   pub moved : Moved p.line p.rest (all_taken said) e.line place.rest
   pub wrong : reason_for (ForNumber element) (first_line place.rest) ≡ Some e.reason
 
@@ -132,11 +136,19 @@ module _ {set : Set} {d : Desc} {at : ℕ} {p q : Standing} (n : NumbersRead set
 
   pub heard_on : (numbers : List ℤ) (es : List Entry) (said : List Said) (c : ℕ) → Agrees n.said numbers → has_line es c ≡ has_said said c
       → has_line (number_entries set d numbers at ++ es) c ≡ has_said (n.said ++ said) c
-  heard_on numbers es said c agrees h = rw (lines_both (number_entries set d numbers at), n.heard numbers agrees, lines_said numbers n.said c, said_both n.said said c, h) refl
+  heard_on numbers es said c agrees h =
+      rw (lines_both (number_entries set d numbers at), n.heard numbers agrees, lines_said numbers n.said c, said_both n.said said c, h) refl
 
   pub line_on : (numbers : List ℤ) → Agrees n.said numbers → q.line ≡ p.line + length (printed (elements_in set d d.version numbers at))
   line_on numbers agrees =
-      omega (arith, n.moved.further, length-map n.said (λ (s : Said). taken_of s), ap length (n.heard numbers agrees), length-map n.said (λ (s : Said). s.element))
+      omega (
+        arith,
+        n.moved.further,
+        length-map n.said (λ (s : Said). taken_of s),
+        ap length (n.heard numbers agrees),
+        length-map n.said
+            (λ (s : Said). s.element),
+      )
 
 abbrev pub NumbersCome : Set → Desc → ℕ → Standing → Read → Type 0
 NumbersCome set d at p (Ok q) = NumbersRead set d at p q
@@ -164,7 +176,8 @@ module _ (set : Set) (d : Desc) (at : ℕ) (p : Standing) where
         told = told_of end q f.said (λ m. []) f.stands;
         below = f.stands.below;
         heard = λ n agrees. sym (under_none _) ∙ meets_all f.said [] n (total n) agrees (f.stands.meets n) ∙ append-nil (map (λ (s : Said). s.element) f.said);
-        follows = λ n more short. rw (← (entries_are n)) (follows_meets f.said [] n (total n) more (λ es. es ≡ more) short f.stands.short (f.stands.meets n) refl);
+        follows = λ n more short. rw (← (entries_are n))
+            (follows_meets f.said [] n (total n) more (λ es. es ≡ more) short f.stands.short (f.stands.meets n) refl);
         along = λ n more agrees. rw (← (entries_are n)) (along_meets f.said [] n (total n) more (λ es. es ≡ more) agrees (f.stands.meets n) refl);
         moved = ran_moved p q f.said f.stands.ran;
       }
@@ -178,8 +191,10 @@ module _ (set : Set) (d : Desc) (at : ℕ) (p : Standing) where
         place = s.place;
         element = s.element;
         told = told_of s.cell s.place s.said left a;
-        follows = λ n more short. rw (← (entries_are n)) (follows_meets s.said (left n) n (total n) more (Begins (ForNumber s.element)) short a.short (a.meets n) (next n more));
-        along = λ n more agrees. rw (← (entries_are n)) (along_meets s.said (left n) n (total n) more (Begins (ForNumber s.element)) agrees (a.meets n) (next n more));
+        follows = λ n more short. rw (← (entries_are n))
+            (follows_meets s.said (left n) n (total n) more (Begins (ForNumber s.element)) short a.short (a.meets n) (next n more));
+        along = λ n more agrees. rw (← (entries_are n))
+            (along_meets s.said (left n) n (total n) more (Begins (ForNumber s.element)) agrees (a.meets n) (next n more));
         moved = rw (s.line) (ran_moved p s.place s.said a.ran);
         wrong = s.wrong;
       }

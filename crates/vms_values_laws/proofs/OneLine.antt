@@ -77,7 +77,8 @@ module _ (steps : List (ℕ × ℕ)) (path : List ℕ) (present : Bool) (at : �
     wanted : (o : Option ℤ) → number_spelled text ≡ o → wanted_reason (OfNumber here []) (Some (line, rest)) ≡ spelled_reason c present o
     wanted o e = rw (begins, e) refl
 
-    refused : (z : ℤ) (reason : Rattle.vms_spec.specs.declared.ValuesReason.ValuesReason) → number_spelled text ≡ Some z → number_reason c present z ≡ Some reason
+    refused : (z : ℤ) (reason : Rattle.vms_spec.specs.declared.ValuesReason.ValuesReason) → number_spelled text ≡ Some z
+        → number_reason c present z ≡ Some reason
         → NotPut here p (Some (line, rest)) (record { line = p.line; reason = reason })
     refused z reason e f = record { line = refl; bad = wanted (Some z) e ∙ f }
 
@@ -97,7 +98,8 @@ module _ (steps : List (ℕ × ℕ)) (path : List ℕ) (present : Bool) (at : �
         }
 
     -- by the three tests on a number
-    judged : (z : ℤ) → number_spelled text ≡ Some z → (a b d : Bool) → in_range c.kind z ≡ a → exceeds c.capacities z ≡ b → (present || same_number z c.default) ≡ d
+    judged : (z : ℤ) → number_spelled text ≡ Some z → (a b d : Bool) → in_range c.kind z ≡ a → exceeds c.capacities z ≡ b
+        → (present || same_number z c.default) ≡ d
         → Stepped here p (Some (line, rest)) (put_number its p rest (Some z))
     judged z e false b d ra eb pd = rw ra (refused z reasons.Number e (rw ra refl))
     judged z e true true d ra eb pd = rw (ra, eb) (refused z reasons.Count e (rw (ra, eb) refl))
@@ -108,7 +110,8 @@ module _ (steps : List (ℕ × ℕ)) (path : List ℕ) (present : Bool) (at : �
     spelled None e = record { line = refl; bad = wanted None e }
     spelled (Some z) e = judged z e (in_range c.kind z) (exceeds c.capacities z) (present || same_number z c.default) refl refl refl
 
-  by_front : (line rest : List ℕ) → p.rest ≡ line ++ 10 ∷ rest → (b : Bool) → begins_with front line ≡ b → Stepped here p (Some (line, rest)) (put_line path its p (Some (line, rest)))
+  by_front : (line rest : List ℕ) → p.rest ≡ line ++ 10 ∷ rest → (b : Bool) → begins_with front line ≡ b
+      → Stepped here p (Some (line, rest)) (put_line path its p (Some (line, rest)))
   by_front line rest splits true e =
       let stepped = spelled line rest splits e (number_spelled (drop (length front) line)) refl in
       rw e stepped

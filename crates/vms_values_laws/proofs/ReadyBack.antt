@@ -43,7 +43,8 @@ good_then : (set : Set) (es fs : List Entry) → AreGood set es → AreGood set 
 good_then set [] fs a b = b
 good_then set (e ∷ es) fs a b = (a.0, good_then set es fs a.1 b)
 
-numbers_good : (set : Set) (n : List ℤ) (xs : List Rattle.vms_elements.specs.Elements.Element) → AreGood set (Rattle.vms_values_laws.proofs.Numbers.of_numbers n xs)
+numbers_good : (set : Set) (n : List ℤ) (xs : List Rattle.vms_elements.specs.Elements.Element)
+    → AreGood set (Rattle.vms_values_laws.proofs.Numbers.of_numbers n xs)
 numbers_good set n [] = tt
 numbers_good set n (x ∷ xs) = (refl, numbers_good set n xs)
 
@@ -64,7 +65,8 @@ module _ (set : Set) (n : List ℤ) (short_all : AreShort n) where
       let w = walks set d d.version d.version n n at at in bare_have n at (elements_in set d d.version n at) w.up (rw (w.cells_are) bare)
 
   desc_below : (d : Desc) (v at k : ℕ) → k < at → has_cell (bytes d v at) k ≡ false
-  desc_below d v at k lt = rw (elements_slots set d v n at) at (none_outside n at (elements_in set d v n at) (walks set d v v n n at at).up k (λ le. omega arith)).1
+  desc_below d v at k lt =
+      rw (elements_slots set d v n at) at (none_outside n at (elements_in set d v n at) (walks set d v v n n at at).up k (λ le. omega arith)).1
 
   desc_above : (d : Desc) (v at k : ℕ) → at + length (cells d) ≤ k → has_cell (bytes d v at) k ≡ false
   desc_above d v at k le =
@@ -117,7 +119,8 @@ module _ (set : Set) (d : Device) (image : Image) (short_all : AreShort image.nu
     abbrev others : List Entry
     others = subs_entries set d image (suc j) next subs came
 
-    it_came : (v : ℕ) → v ≡ s.desc.version → is_needed set d image s j ≡ true → AreRight n at own (sub_slots set s v n at) → RulesHold (sub_slots set s v n at) → SubsSay (suc j) next subs came
+    it_came : (v : ℕ) → v ≡ s.desc.version → is_needed set d image s j ≡ true → AreRight n at own (sub_slots set s v n at)
+        → RulesHold (sub_slots set s v n at) → SubsSay (suc j) next subs came
         → SubsSay j at (s ∷ subs) (Some v ∷ came)
     it_came v same needed right rules later =
         let mine : AreRight n at own (sub_slots set s s.desc.version n at) = rw (same) at right in
@@ -157,7 +160,8 @@ module _ (set : Set) (d : Device) (image : Image) (short_all : AreShort image.nu
           unsaid = λ k e. later.unsaid k (or_parts (has_line numbers k) (has_line others k) (sym (lines_both numbers others k) ∙ e)).1;
         }
 
-  subs_say : (j at : ℕ) (subs : List Sub) (came : List (Option ℕ)) → ComeAsNeeded set d image j subs came → AreRight n at (sub_cells set subs) (came_slots set d n at subs came) → RulesHold (came_slots set d n at subs came)
+  subs_say : (j at : ℕ) (subs : List Sub) (came : List (Option ℕ)) → ComeAsNeeded set d image j subs came
+      → AreRight n at (sub_cells set subs) (came_slots set d n at subs came) → RulesHold (came_slots set d n at subs came)
       → SubsSay j at subs came
   subs_say j at [] [] needed right rules = record { long = refl; versions = tt; fine = tt; good = tt; unsaid = λ k e. refl }
   subs_say j at [] (o ∷ came) needed right rules = absurd (cc)
@@ -175,7 +179,8 @@ module _ (set : Set) (d : Device) (image : Image) (short_all : AreShort image.nu
       let later = came_slots set d n next subs came in
       let p = rules_split mine later rules in
       it_came s j at subs came v needed.1 needed.0 (right_front n at own (sub_cells set subs) mine later (λ k lt. came_below next subs came k lt) right) p.0
-      (subs_say (suc j) next subs came needed.2 (right_back n at own (sub_cells set subs) mine later (λ k le. desc_above set n short_all s.desc v at k le) right) p.1)
+      (subs_say (suc j) next subs came needed.2
+      (right_back n at own (sub_cells set subs) mine later (λ k le. desc_above set n short_all s.desc v at k le) right) p.1)
 
   -- what the lines of a device are
   pub record DeviceSays : Type 0 where
@@ -197,14 +202,17 @@ module _ (set : Set) (d : Device) (image : Image) (short_all : AreShort image.nu
         right = λ c k lt e. let same : k ≡ c = omega arith in
             record {
               fits = rw same (ready.normal.cells.fits c lt);
-              absent = λ h. ready.normal.absent k (omega (arith, ready.normal.cells.long)) h ∙ ap (λ (i : ℕ). (get_or (device_cells set d) i no_cell).default) same;
+              absent = λ h. ready.normal.absent k (omega (arith, ready.normal.cells.long)) h ∙ ap
+                  (λ (i : ℕ). (get_or (device_cells set d) i no_cell).default) same;
             };
       } in
       let rules = rules_split mine later ready.valid in
       let subs : SubsSay 0 (own_cells set d) d.subs image.came =
       subs_say 0 (own_cells set d) d.subs image.came ready.needed
-      (subst (λ (i : ℕ). AreRight n i (sub_cells set d.subs) later) start (right_back n 0 own (sub_cells set d.subs) mine later (λ k le. desc_above set n short_all d.desc image.version 0 k le) all)) rules.1 in
-      let front : AreRight n 0 own mine = right_front n 0 own (sub_cells set d.subs) mine later (λ k lt. came_below (own_cells set d) d.subs image.came k (omega arith)) all in
+      (subst (λ (i : ℕ). AreRight n i (sub_cells set d.subs) later) start
+      (right_back n 0 own (sub_cells set d.subs) mine later (λ k le. desc_above set n short_all d.desc image.version 0 k le) all)) rules.1 in
+      let front : AreRight n 0 own mine =
+      right_front n 0 own (sub_cells set d.subs) mine later (λ k lt. came_below (own_cells set d) d.subs image.came k (omega arith)) all in
       let at_version : AreRight n 0 own (own_slots set d d.desc.version n) = rw (ready.version) at front in
       record {
         shaped = record { version = ready.version; subs = subs.long; versions = subs.versions; cells = ready.normal.cells.long; short = are_short n short_all };
@@ -263,11 +271,13 @@ pub record SaysWell (set : Set) (text : List ℕ) (machine : Option (List ℕ)) 
   pub says : Says set text machine images
   pub good : AreGood set (entries set machine images)
 
-with_machine : (set : Set) (machine : Option (List ℕ)) (images : List Image) → AllSay set set.devices images → AreFine (entries set machine images) × AreGood set (entries set machine images)
+with_machine : (set : Set) (machine : Option (List ℕ)) (images : List Image) → AllSay set set.devices images
+    → AreFine (entries set machine images) × AreGood set (entries set machine images)
 with_machine set None images a = (a.fine, a.good)
 with_machine set (Some name) images a = ((bytes_same (codes "machine " ++ name) (codes "machine " ++ name) refl, a.fine), (refl, a.good))
 
-pub text_says : (set : Set) (text : List ℕ) (machine : Option (List ℕ)) (images : List Image) → IsText set text machine images → SaysWell set text machine images
+pub text_says : (set : Set) (text : List ℕ) (machine : Option (List ℕ)) (images : List Image) → IsText set text machine images
+    → SaysWell set text machine images
 text_says set text machine images t =
     let a = all_say set set.devices images t.ready.one_each t.ready.ready in
     let p = with_machine set machine images a in

@@ -59,7 +59,8 @@ module _ (set : Set) (n : List ℤ) (short : AreShort n) where
   abbrev bytes : Desc → ℕ → List Slot
   bytes d at = slots.desc_slots (slots.meanings set.structs (length set.structs)) d d.version n at
 
-  pub desc_right : (d : Desc) (at : ℕ) → AreFine (number_entries set d n at) → DefaultsFit (cells d) → AreBare n at (cells d) (λ k. has_line (number_entries set d n at) k) → AreRight n at (cells d) (bytes d at)
+  pub desc_right : (d : Desc) (at : ℕ) → AreFine (number_entries set d n at) → DefaultsFit (cells d)
+      → AreBare n at (cells d) (λ k. has_line (number_entries set d n at) k) → AreRight n at (cells d) (bytes d at)
   desc_right d at fine defaults bare =
       let w = walks set d d.version d.version n n at at in
       rw (← (w.cells_are), ← (elements_slots set d d.version n at))
@@ -108,19 +109,22 @@ module _ (set : Set) (d : Device) (image : Image) (short : AreShort image.number
     next = at + length (desc_cells (struct_cells set) s.desc)
 
     it_came : (v : ℕ) → v ≡ s.desc.version → AreRight n at (desc_cells (struct_cells set) s.desc) (sub_slots set s s.desc.version n at)
-        → (b : Bool) → is_needed set d image s j ≡ b → sub_holds set s (Some v) n at ≡ true → came_well b (Some v) (have_defaults n (elements_in set s.desc s.desc.version n at)) ≡ true
+        → (b : Bool) → is_needed set d image s j ≡ b → sub_holds set s (Some v) n at ≡ true
+        → came_well b (Some v) (have_defaults n (elements_in set s.desc s.desc.version n at)) ≡ true
         → SubsReady (suc j) next subs came → SubsReady j at (s ∷ subs) (Some v ∷ came)
     it_came v same right true needed holds well later =
         record {
           right = right_both n at (desc_cells (struct_cells set) s.desc) (sub_cells set subs) (sub_slots set s v n at) (came_slots set d n next subs came)
               (rw same right) later.right;
-          valid = rules_append (sub_slots set s v n at) (came_slots set d n next subs came) (rules_are (sub_slots set s v n at) (sym (desc_rules set s.desc v n at) ∙ holds)) later.valid;
+          valid = rules_append (sub_slots set s v n at) (came_slots set d n next subs came)
+              (rules_are (sub_slots set s v n at) (sym (desc_rules set s.desc v n at) ∙ holds)) later.valid;
           needed = (needed, same, later.needed);
         }
     it_came v same right false needed holds well later = cc
 
     it_did_not : DefaultsFit (desc_cells (struct_cells set) s.desc) → (b : Bool) → is_needed set d image s j ≡ b
-        → came_well b None (have_defaults n (elements_in set s.desc s.desc.version n at)) ≡ true → SubsReady (suc j) next subs came → SubsReady j at (s ∷ subs) (None ∷ came)
+        → came_well b None (have_defaults n (elements_in set s.desc s.desc.version n at)) ≡ true → SubsReady (suc j) next subs came
+        → SubsReady j at (s ∷ subs) (None ∷ came)
     it_did_not defaults true needed well later = cc
     it_did_not defaults false needed well later =
         record {
@@ -130,7 +134,8 @@ module _ (set : Set) (d : Device) (image : Image) (short : AreShort image.number
           needed = (needed, later.needed);
         }
 
-    by_line : (o : Option ℕ) → IsAtVersion s o → AreRight n at (desc_cells (struct_cells set) s.desc) (sub_slots set s s.desc.version n at) → DefaultsFit (desc_cells (struct_cells set) s.desc)
+    by_line : (o : Option ℕ) → IsAtVersion s o → AreRight n at (desc_cells (struct_cells set) s.desc) (sub_slots set s s.desc.version n at)
+        → DefaultsFit (desc_cells (struct_cells set) s.desc)
         → part_reason set (OfSub d image j s at o) ≡ None → SubsReady (suc j) next subs came → SubsReady j at (s ∷ subs) (o ∷ came)
     by_line (Some v) same right defaults good later =
         let well = came_well (is_needed set d image s j) (Some v) (have_defaults n (elements_in set s.desc s.desc.version n at)) in
@@ -140,8 +145,10 @@ module _ (set : Set) (d : Device) (image : Image) (short : AreShort image.number
         let well = came_well (is_needed set d image s j) None (have_defaults n (elements_in set s.desc s.desc.version n at)) in
         it_did_not defaults (is_needed set d image s j) refl (two_none true well good).1 later
 
-  pub subs_ready : (j at : ℕ) (subs : List Sub) (came : List (Option ℕ)) → length came ≡ length subs → AreAtVersions subs came → AreFine (subs_entries set d image j at subs came)
-      → AreGood set (subs_entries set d image j at subs came) → DefaultsFit (sub_cells set subs) → AreBare n at (sub_cells set subs) (λ k. has_line (subs_entries set d image j at subs came) k)
+  pub subs_ready : (j at : ℕ) (subs : List Sub) (came : List (Option ℕ)) → length came ≡ length subs → AreAtVersions subs came
+      → AreFine (subs_entries set d image j at subs came)
+      → AreGood set (subs_entries set d image j at subs came) → DefaultsFit (sub_cells set subs)
+      → AreBare n at (sub_cells set subs) (λ k. has_line (subs_entries set d image j at subs came) k)
       → SubsReady j at subs came
   subs_ready j at [] [] long versions fine good defaults bare = record { right = right_none n at []; valid = tt; needed = refl }
   subs_ready j at (s ∷ subs) (o ∷ came) long versions fine good defaults bare =
@@ -157,13 +164,15 @@ module _ (set : Set) (d : Device) (image : Image) (short : AreShort image.number
       let back : AreBare n next (sub_cells set subs) (λ k. has_line others k) =
       bare_back n at own (sub_cells set subs) (λ k. has_line others k) (λ k. has_line (subs_entries set d image j at (s ∷ subs) (o ∷ came)) k)
       (λ k le e. none_in numbers others k (above_desc set n short s.desc at k le) e) bare in
-      by_line s j at subs came o versions.0 (desc_right set n short s.desc at f.0 (fit_front own (sub_cells set subs) defaults) front) (fit_front own (sub_cells set subs) defaults) good.0
+      by_line s j at subs came o versions.0 (desc_right set n short s.desc at f.0 (fit_front own (sub_cells set subs) defaults) front)
+      (fit_front own (sub_cells set subs) defaults) good.0
       (subs_ready (suc j) next subs came (omega (arith, long)) versions.1 f.1 g.1 (fit_back own (sub_cells set subs) defaults) back)
   subs_ready j at _ _ long versions fine good defaults bare = absurd (omega (arith, long))
 
   -- ---- the whole
 
-  versions_of : (subs : List Sub) (came : List (Option ℕ)) → length came ≡ length subs → AreAtVersions subs came → ((j : ℕ) (s : Sub) → slice_get subs j ≡ Some s → s.desc.minimum ≤ s.desc.version) → AreVersionsOf subs came
+  versions_of : (subs : List Sub) (came : List (Option ℕ)) → length came ≡ length subs → AreAtVersions subs came
+      → ((j : ℕ) (s : Sub) → slice_get subs j ≡ Some s → s.desc.minimum ≤ s.desc.version) → AreVersionsOf subs came
   versions_of [] [] long h low = tt
   versions_of (s ∷ subs) (None ∷ came) long h low = versions_of subs came (omega (arith, long)) h.1 (λ j t e. low (suc j) t e)
   versions_of (s ∷ subs) (Some v ∷ came) long h low =
@@ -172,7 +181,8 @@ module _ (set : Set) (d : Device) (image : Image) (short : AreShort image.number
       ((omega arith, omega arith), versions_of subs came (omega (arith, long)) h.1 (λ j t e. low (suc j) t e))
   versions_of _ _ long h low = absurd (omega (arith, long))
 
-  pub device_ready : IsShaped set d image → AreUnsaid set d image → AreFine (device_entries set d image) → AreGood set (device_entries set d image) → DefaultsFit (device_cells set d)
+  pub device_ready : IsShaped set d image → AreUnsaid set d image → AreFine (device_entries set d image) → AreGood set (device_entries set d image)
+      → DefaultsFit (device_cells set d)
       → d.desc.minimum ≤ d.desc.version → ((j : ℕ) (s : Sub) → slice_get d.subs j ≡ Some s → s.desc.minimum ≤ s.desc.version) → IsReady set d image
   device_ready shaped unsaid fine good defaults low lows =
       let own = desc_cells (struct_cells set) d.desc in
@@ -192,7 +202,8 @@ module _ (set : Set) (d : Device) (image : Image) (short : AreShort image.number
       (λ k le e. none_in numbers others k (above_desc set n short d.desc 0 k le) e) bare in
       let subs = subs_ready 0 (own_cells set d) d.subs image.came shaped.subs shaped.versions f.1 g.1 (fit_back own (sub_cells set d.subs) defaults)
       (rw next back) in
-      let mine : AreRight n 0 own (own_slots set d d.desc.version n) = desc_right set n short d.desc 0 f.0 (fit_front own (sub_cells set d.subs) defaults) front in
+      let mine : AreRight n 0 own (own_slots set d d.desc.version n) =
+      desc_right set n short d.desc 0 f.0 (fit_front own (sub_cells set d.subs) defaults) front in
       let theirs : AreRight n 0 own (own_slots set d image.version n) = rw (shaped.version) mine in
       let all : AreRight n 0 (device_cells set d) (image_slots set d image) =
       right_both n 0 own (sub_cells set d.subs) (own_slots set d image.version n) (came_slots set d n (own_cells set d) d.subs image.came) theirs
@@ -205,7 +216,9 @@ module _ (set : Set) (d : Device) (image : Image) (short : AreShort image.number
           absent = λ c lt e. (all.right c c (omega (arith, shaped.cells)) (omega arith)).absent e;
         };
         valid = rules_append (own_slots set d image.version n) (came_slots set d n (own_cells set d) d.subs image.came)
-            (rules_are (own_slots set d image.version n) (sym (desc_rules set d.desc image.version n 0) ∙ if_none (rules_hold (elements_in set d.desc image.version n 0)) reasons.Invalid good.0)) subs.valid;
+            (rules_are (own_slots set d image.version n)
+            (sym (desc_rules set d.desc image.version n 0) ∙ if_none
+            (rules_hold (elements_in set d.desc image.version n 0)) reasons.Invalid good.0)) subs.valid;
         version = shaped.version;
         needed = subs.needed;
       }

@@ -28,7 +28,8 @@ bare_bytes n (x ∷ xs) h k e =
     (λ (v : IsNoNumber x xs). v.bytes k ∙ bare_bytes n xs h.1 k (rw (v.lines) at e))
     (view x xs)
   where
-    by_both : (v : IsNumberOf x xs) → (has_line (of_numbers n (printed xs)) k ≡ false → has_cell (slots_of xs) k ≡ false) → (p c : Bool) → (p ≡ true → c ≡ true) → has_line (of_numbers n (if c then x ∷ printed xs else printed xs)) k ≡ false
+    by_both : (v : IsNumberOf x xs) → (has_line (of_numbers n (printed xs)) k ≡ false → has_cell (slots_of xs) k ≡ false) → (p c : Bool)
+        → (p ≡ true → c ≡ true) → has_line (of_numbers n (if c then x ∷ printed xs else printed xs)) k ≡ false
         → has_cell (if p then slots.Number x.cell v.cell.kind v.cell.capacities ∷ slots_of xs else slots_of xs) k ≡ false
     by_both v more true true c e = let q = or_parts (x.cell == k) _ e in or_from (x.cell == k) _ q.0 (more q.1)
     by_both v more true false c e = let f = c refl in cc
@@ -55,20 +56,26 @@ right_back n at xs ys ss ts h a = record {
 
 -- ---- lines of right numbers
 
-right_later : (n : List ℤ) (at : ℕ) (cell : Cell) (cells : List Cell) (all ss : List Slot) → ((k : ℕ) → at + 1 ≤ k → has_cell ss k ≡ false → has_cell all k ≡ false) → AreRight n at (cell ∷ cells) all → AreRight n (at + 1) cells ss
+right_later : (n : List ℤ) (at : ℕ) (cell : Cell) (cells : List Cell) (all ss : List Slot)
+    → ((k : ℕ) → at + 1 ≤ k → has_cell ss k ≡ false → has_cell all k ≡ false) → AreRight n at (cell ∷ cells) all → AreRight n (at + 1) cells ss
 right_later n at cell cells all ss h a =
-    record { right = λ c k lt e. let r = a.right (suc c) k (omega arith) (omega arith) in record { fits = r.fits; absent = λ bare. r.absent (h k (omega arith) bare) } }
+    record {
+      right = λ c k lt e. let r = a.right (suc c) k (omega arith)
+          (omega arith) in record { fits = r.fits; absent = λ bare. r.absent (h k (omega arith) bare) };
+    }
 
 module _ (n : List ℤ) (short : AreShort n) where
   right_line : (x : Element) (xs : List Element) (v : IsNumberOf x xs) (at : ℕ) → x.cell ≡ at → CountsUp (at + 1) (numbers_in xs)
-      → IsRight n (if x.present then slots.Number x.cell v.cell.kind v.cell.capacities ∷ slots_of xs else slots_of xs) at v.cell → line_reason (OfNumber x n) (number_line n x) ≡ None
+      → IsRight n (if x.present then slots.Number x.cell v.cell.kind v.cell.capacities ∷ slots_of xs else slots_of xs) at v.cell
+      → line_reason (OfNumber x n) (number_line n x) ≡ None
   right_line x xs v at is up r =
       line_number x n v.cell v.what (short x.cell)
       ∙ fits_reason v.cell x.present (get_or n x.cell (pos 0))
       (record {
         fits = rw is r.fits;
         absent = λ e. ap (λ (k : ℕ). get_or n k (pos 0)) is
-            ∙ r.absent (ap (λ (b : Bool). has_cell (if b then slots.Number x.cell v.cell.kind v.cell.capacities ∷ slots_of xs else slots_of xs) at) e ∙ (none_outside n (at + 1) xs up at (λ le. omega arith)).1);
+            ∙ r.absent (ap (λ (b : Bool). has_cell (if b then slots.Number x.cell v.cell.kind v.cell.capacities ∷ slots_of xs else slots_of xs) at) e ∙
+            (none_outside n (at + 1) xs up at (λ le. omega arith)).1);
       })
 
   pub right_said : (at : ℕ) (xs : List Element) → CountsUp at (numbers_in xs) → AreRight n at (cells_of xs) (slots_of xs) → AreFine (of_numbers n (printed xs))
@@ -87,7 +94,8 @@ module _ (n : List ℤ) (short : AreShort n) where
       (record { right = λ c k lt e. let s = r.right c k lt e in record { fits = s.fits; absent = λ bare. s.absent (v.bytes k ∙ bare) } })))
       (view x xs)
     where
-      either : (b : Bool) → line_reason (OfNumber x n) (number_line n x) ≡ None → AreFine (of_numbers n (printed xs)) → AreFine (of_numbers n (if b then x ∷ printed xs else printed xs))
+      either : (b : Bool) → line_reason (OfNumber x n) (number_line n x) ≡ None → AreFine (of_numbers n (printed xs))
+          → AreFine (of_numbers n (if b then x ∷ printed xs else printed xs))
       either true h later = (h, later)
       either false h later = later
 

@@ -29,7 +29,8 @@ pub record AreRight (n : List ℤ) (at : ℕ) (cells : List Cell) (ss : List Slo
 pub right_none : (n : List ℤ) (at : ℕ) (ss : List Slot) → AreRight n at [] ss
 right_none n at ss = record { right = λ c k lt e. absurd (omega arith) }
 
-pub right_both : (n : List ℤ) (at : ℕ) (xs ys : List Cell) (ss ts : List Slot) → AreRight n at xs ss → AreRight n (at + length xs) ys ts → AreRight n at (xs ++ ys) (ss ++ ts)
+pub right_both : (n : List ℤ) (at : ℕ) (xs ys : List Cell) (ss ts : List Slot) → AreRight n at xs ss → AreRight n (at + length xs) ys ts
+    → AreRight n at (xs ++ ys) (ss ++ ts)
 right_both n at xs ys ss ts a b = record { right = λ c k lt e. by_test c k lt e (nat_lt c (length xs)) refl }
   where
     bare : (k : ℕ) → has_cell (ss ++ ts) k ≡ false → (has_cell ss k ≡ false) × (has_cell ts k ≡ false)
@@ -45,7 +46,8 @@ right_both n at xs ys ss ts a b = record { right = λ c k lt e. by_test c k lt e
         let m : ℕ = c - length xs in
         let is : length xs + m ≡ c = omega arith in
         let r = b.right m k (omega (arith, length-append xs ys)) (omega arith) in
-        subst (λ (i : ℕ). IsRight n (ss ++ ts) k (get_or (xs ++ ys) i no_cell)) is (rw (get_or-append-add xs ys m no_cell) (record { fits = r.fits; absent = λ h. r.absent (bare k h).1 }))
+        subst (λ (i : ℕ). IsRight n (ss ++ ts) k (get_or (xs ++ ys) i no_cell)) is
+        (rw (get_or-append-add xs ys m no_cell) (record { fits = r.fits; absent = λ h. r.absent (bare k h).1 }))
 
 -- ---- defaults that fit
 
@@ -62,13 +64,16 @@ fit_back xs ys h c lt = subst (λ (x : Cell). FitsCell x x.default) (get_or-appe
 abbrev pub AreBare : List ℤ → ℕ → List Cell → (ℕ → Bool) → Type 0
 AreBare n at cells test = (c k : ℕ) → c < length cells → k ≡ at + c → test k ≡ false → get_or n k (pos 0) ≡ (get_or cells c no_cell).default
 
-pub bare_front : (n : List ℤ) (at : ℕ) (xs ys : List Cell) (s t : ℕ → Bool) → ((k : ℕ) → k < at + length xs → s k ≡ false → t k ≡ false) → AreBare n at (xs ++ ys) t → AreBare n at xs s
+pub bare_front : (n : List ℤ) (at : ℕ) (xs ys : List Cell) (s t : ℕ → Bool) → ((k : ℕ) → k < at + length xs → s k ≡ false → t k ≡ false)
+    → AreBare n at (xs ++ ys) t → AreBare n at xs s
 bare_front n at xs ys s t h b c k lt e f =
     b c k (omega (arith, length-append xs ys)) e (h k (omega arith) f) ∙ ap (λ (x : Cell). x.default) (get_or_append_left xs ys no_cell c lt)
 
-pub bare_back : (n : List ℤ) (at : ℕ) (xs ys : List Cell) (s t : ℕ → Bool) → ((k : ℕ) → at + length xs ≤ k → s k ≡ false → t k ≡ false) → AreBare n at (xs ++ ys) t → AreBare n (at + length xs) ys s
+pub bare_back : (n : List ℤ) (at : ℕ) (xs ys : List Cell) (s t : ℕ → Bool) → ((k : ℕ) → at + length xs ≤ k → s k ≡ false → t k ≡ false)
+    → AreBare n at (xs ++ ys) t → AreBare n (at + length xs) ys s
 bare_back n at xs ys s t h b c k lt e f =
-    b (length xs + c) k (omega (arith, length-append xs ys)) (omega arith) (h k (omega arith) f) ∙ ap (λ (x : Cell). x.default) (get_or-append-add xs ys c no_cell)
+    b (length xs + c) k (omega (arith, length-append xs ys)) (omega arith) (h k (omega arith) f) ∙ ap (λ (x : Cell). x.default)
+    (get_or-append-add xs ys c no_cell)
 
 -- ---- one element more
 
@@ -153,7 +158,8 @@ none_outside n at (x ∷ xs) up k h =
 
 -- ---- elements whose lines are fine
 
-pub fine_rest : (n : List ℤ) (x : Element) (xs : List Element) (b : Bool) → AreFine (of_numbers n (if b then x ∷ printed xs else printed xs)) → AreFine (of_numbers n (printed xs))
+pub fine_rest : (n : List ℤ) (x : Element) (xs : List Element) (b : Bool) → AreFine (of_numbers n (if b then x ∷ printed xs else printed xs))
+    → AreFine (of_numbers n (printed xs))
 fine_rest n x xs true f = f.1
 fine_rest n x xs false f = f
 
@@ -175,10 +181,12 @@ module _ (n : List ℤ) (short : AreShort n) where
         no e = e
       hidden false h = refl
 
-  behind_it : (b : Bool) (s : Slot) (ss : List Slot) (k : ℕ) (cell : Cell) → (has_cell (if b then s ∷ ss else ss) k ≡ false → has_cell ss k ≡ false) → IsRight n ss k cell → IsRight n (if b then s ∷ ss else ss) k cell
+  behind_it : (b : Bool) (s : Slot) (ss : List Slot) (k : ℕ) (cell : Cell) → (has_cell (if b then s ∷ ss else ss) k ≡ false → has_cell ss k ≡ false)
+      → IsRight n ss k cell → IsRight n (if b then s ∷ ss else ss) k cell
   behind_it b s ss k cell h r = record { fits = r.fits; absent = λ e. r.absent (h e) }
 
-  bare_later : (b : Bool) (at : ℕ) (kind : Rattle.vms_kinds.specs.declared.Kind.Kind) (caps : List ℕ) (ss : List Slot) (k : ℕ) → has_cell (if b then slots.Number at kind caps ∷ ss else ss) k ≡ false → has_cell ss k ≡ false
+  bare_later : (b : Bool) (at : ℕ) (kind : Rattle.vms_kinds.specs.declared.Kind.Kind) (caps : List ℕ) (ss : List Slot) (k : ℕ)
+      → has_cell (if b then slots.Number at kind caps ∷ ss else ss) k ≡ false → has_cell ss k ≡ false
   bare_later true at kind caps ss k h = (or_parts (at == k) (has_cell ss k) h).1
   bare_later false at kind caps ss k h = h
 
@@ -188,7 +196,8 @@ module _ (n : List ℤ) (short : AreShort n) where
   said_right at (x ∷ xs) up fine defaults bare = go (view x xs) (λ next h f d b. said_right next xs h f d b)
     where
       go : IsNumberOf x xs ⊎ IsNoNumber x xs
-          → ((next : ℕ) → CountsUp next (numbers_in xs) → AreFine (of_numbers n (printed xs)) → DefaultsFit (cells_of xs) → AreBare n next (cells_of xs) (λ k. has_line (of_numbers n (printed xs)) k)
+          → ((next : ℕ) → CountsUp next (numbers_in xs) → AreFine (of_numbers n (printed xs)) → DefaultsFit (cells_of xs) → AreBare n next (cells_of xs)
+          (λ k. has_line (of_numbers n (printed xs)) k)
           → AreRight n next (cells_of xs) (slots_of xs))
           → AreRight n at (cells_of (x ∷ xs)) (slots_of (x ∷ xs))
       go (inl v) more =
@@ -203,7 +212,8 @@ module _ (n : List ℤ) (short : AreShort n) where
           (λ c k lt e bare. b (suc c) k (omega arith) (omega arith) (no_line n x (printed xs) k x.counted (λ s. omega (arith, u.0)) bare)) in
           rw (v.cells, v.bytes) (record { right = λ c k lt e. place c k lt e (first x.counted f b u.0 u.1 (d 0 (omega arith))) later })
         where
-          first : (t : Bool) → AreFine (of_numbers n (if t then x ∷ printed xs else printed xs)) → AreBare n at (v.cell ∷ cells_of xs) (λ k. has_line (of_numbers n (if t then x ∷ printed xs else printed xs)) k)
+          first : (t : Bool) → AreFine (of_numbers n (if t then x ∷ printed xs else printed xs))
+              → AreBare n at (v.cell ∷ cells_of xs) (λ k. has_line (of_numbers n (if t then x ∷ printed xs else printed xs)) k)
               → x.cell ≡ at → CountsUp (at + 1) (numbers_in xs) → FitsCell v.cell v.cell.default
               → IsRight n (if x.present then slots.Number x.cell v.cell.kind v.cell.capacities ∷ slots_of xs else slots_of xs) at v.cell
           first true f b e up d = counted_right x v.cell (slots_of xs) at v.what e f.0
@@ -212,8 +222,10 @@ module _ (n : List ℤ) (short : AreShort n) where
               record { fits = rw is d; absent = λ h. is }
 
           place : (c k : ℕ) → c < suc (length (cells_of xs)) → k ≡ at + c
-              → IsRight n (if x.present then slots.Number x.cell v.cell.kind v.cell.capacities ∷ slots_of xs else slots_of xs) at v.cell → AreRight n (at + 1) (cells_of xs) (slots_of xs)
-              → IsRight n (if x.present then slots.Number x.cell v.cell.kind v.cell.capacities ∷ slots_of xs else slots_of xs) k (get_or (v.cell ∷ cells_of xs) c no_cell)
+              → IsRight n (if x.present then slots.Number x.cell v.cell.kind v.cell.capacities ∷ slots_of xs else slots_of xs) at v.cell
+              → AreRight n (at + 1) (cells_of xs) (slots_of xs)
+              → IsRight n (if x.present then slots.Number x.cell v.cell.kind v.cell.capacities ∷ slots_of xs else slots_of xs) k
+              (get_or (v.cell ∷ cells_of xs) c no_cell)
           place zero k lt e h later =
               let is : at ≡ k = omega arith in
               rw (is) at h
@@ -239,7 +251,8 @@ have_each n at (x ∷ xs) up h =
     (λ (v : IsNoNumber x xs). rw (v.cells) (have_each n at xs (rw (v.numbers) at up) (sym (v.defaults n) ∙ h)))
     (view x xs)
   where
-    place : (v : IsNumberOf x xs) (c k : ℕ) → c < suc (length (cells_of xs)) → k ≡ at + c → get_or n at (pos 0) ≡ v.cell.default → AreBare n (at + 1) (cells_of xs) (λ k. false)
+    place : (v : IsNumberOf x xs) (c k : ℕ) → c < suc (length (cells_of xs)) → k ≡ at + c → get_or n at (pos 0) ≡ v.cell.default
+        → AreBare n (at + 1) (cells_of xs) (λ k. false)
         → get_or n k (pos 0) ≡ (get_or (v.cell ∷ cells_of xs) c no_cell).default
     place v zero k lt e is later = let same : k ≡ at = omega arith in rw same is
     place v (suc c) k lt e is later = later c k (omega arith) (omega arith) refl

@@ -39,11 +39,13 @@ sub_numbers line [] = []
 sub_numbers line (OfSub d image j s at came ∷ es) = line ∷ sub_numbers (suc line) es
 sub_numbers line (_ ∷ es) = sub_numbers (suc line) es
 
-pub subs_past : (line : ℕ) (n : List ℤ) (xs : List Element) (es : List Entry) → sub_numbers line (map (λ x. OfNumber x n) xs ++ es) ≡ sub_numbers (line + length xs) es
+pub subs_past : (line : ℕ) (n : List ℤ) (xs : List Element) (es : List Entry)
+    → sub_numbers line (map (λ x. OfNumber x n) xs ++ es) ≡ sub_numbers (line + length xs) es
 subs_past line n [] es = ap (λ (l : ℕ). sub_numbers l es) (omega arith)
 subs_past line n (x ∷ xs) es = subs_past (suc line) n xs es ∙ ap (λ (l : ℕ). sub_numbers l es) (omega arith)
 
-parts_past : (set : Set) (line : ℕ) (n : List ℤ) (xs : List Element) (es : List Entry) → parts_from set line (map (λ x. OfNumber x n) xs ++ es) ≡ parts_from set (line + length xs) es
+parts_past : (set : Set) (line : ℕ) (n : List ℤ) (xs : List Element) (es : List Entry)
+    → parts_from set line (map (λ x. OfNumber x n) xs ++ es) ≡ parts_from set (line + length xs) es
 parts_past set line n [] es = ap (λ (l : ℕ). parts_from set l es) (omega arith)
 parts_past set line n (x ∷ xs) es = parts_past set (suc line) n xs es ∙ ap (λ (l : ℕ). parts_from set l es) (omega arith)
 
@@ -51,7 +53,8 @@ pub or_bad_assoc : (a b c : Option BadLine) → or_bad (or_bad a b) c ≡ or_bad
 or_bad_assoc (Some a) b c = refl
 or_bad_assoc None b c = refl
 
-pub parts_both : (set : Set) (line : ℕ) (es fs : List Entry) → parts_from set line (es ++ fs) ≡ or_bad (parts_from set line es) (parts_from set (line + length es) fs)
+pub parts_both : (set : Set) (line : ℕ) (es fs : List Entry)
+    → parts_from set line (es ++ fs) ≡ or_bad (parts_from set line es) (parts_from set (line + length es) fs)
 parts_both set line [] fs = ap (λ (l : ℕ). parts_from set l fs) (omega arith)
 parts_both set line (e ∷ es) fs =
     let further : line + suc (length es) ≡ suc line + length es = omega arith in
@@ -70,11 +73,13 @@ rules_same (x ∷ xs) = by_what x.what x.present (rules_same xs)
     by_what _ true h = h
     by_what _ false h = h
 
-pub defaults_same : (n : List ℤ) (at : ℕ) (xs : List Element) → CountsUp at (numbers_in xs) → at + length (cells_of xs) ≤ length n → have_defaults n xs ≡ are_defaults (cells_of xs) (drop at n)
+pub defaults_same : (n : List ℤ) (at : ℕ) (xs : List Element) → CountsUp at (numbers_in xs) → at + length (cells_of xs) ≤ length n
+    → have_defaults n xs ≡ are_defaults (cells_of xs) (drop at n)
 defaults_same n at [] up room = refl
 defaults_same n at (x ∷ xs) up room = by_what x.what (λ next. defaults_same n next xs) up room
   where
-    by_what : (w : What) → ((next : ℕ) → CountsUp next (numbers_in xs) → next + length (cells_of xs) ≤ length n → have_defaults n xs ≡ are_defaults (cells_of xs) (drop next n))
+    by_what : (w : What)
+        → ((next : ℕ) → CountsUp next (numbers_in xs) → next + length (cells_of xs) ≤ length n → have_defaults n xs ≡ are_defaults (cells_of xs) (drop next n))
         → CountsUp at (if is_number w then x ∷ numbers_in xs else numbers_in xs) → at + length (cells_with w (cells_of xs)) ≤ length n
         → (has_default n x.cell w && have_defaults n xs) ≡ are_defaults (cells_with w (cells_of xs)) (drop at n)
     by_what (Number cell) more up room =
@@ -84,7 +89,8 @@ defaults_same n at (x ∷ xs) up room = by_what x.what (λ next. defaults_same n
 
 module _ (set : Set) where
   pub desc_rules : (d : Desc) (v : ℕ) (n : List ℤ) (at : ℕ)
-      → rules_hold (elements_in set d v n at) ≡ rules_are_true (Rattle.vms_spec.specs.Layout.desc_slots (Rattle.vms_spec.specs.Layout.meanings set.structs (length set.structs)) d v n at)
+      → rules_hold (elements_in set d v n at) ≡ rules_are_true
+      (Rattle.vms_spec.specs.Layout.desc_slots (Rattle.vms_spec.specs.Layout.meanings set.structs (length set.structs)) d v n at)
   desc_rules d v n at = rules_same (elements_in set d v n at) ∙ ap rules_are_true (elements_slots set d v n at)
 
   pub desc_defaults : (d : Desc) (v : ℕ) (n : List ℤ) (at : ℕ) → at + length (desc_cells (struct_cells set) d) ≤ length n
@@ -106,7 +112,8 @@ module _ (set : Set) where
   well_same false o a b e = ap (λ (c : Bool). not c && a) (come_same o) ∙ ap (λ (c : Bool). not (has_come o) && c) e
 
   one_part : (a b : Bool) (line : ℕ) (o : Option BadLine)
-      → or_bad (if_bad (not a) line reasons.Invalid) (or_bad (if_bad (not b) line reasons.Needed) o) ≡ or_bad (as_bad line (or_else (if_not a reasons.Invalid) (if_not b reasons.Needed))) o
+      → or_bad (if_bad (not a) line reasons.Invalid) (or_bad (if_bad (not b) line reasons.Needed) o) ≡ or_bad
+      (as_bad line (or_else (if_not a reasons.Invalid) (if_not b reasons.Needed))) o
   one_part true true line o = refl
   one_part true false line o = refl
   one_part false b line o = refl
@@ -115,10 +122,12 @@ module _ (set : Set) where
   cells_long subs = length (flat_map (λ s. desc_cells (struct_cells set) s.desc) subs)
 
   pub subs_judged : (d : Device) (image : Image) (j at : ℕ) (subs : List Sub) (came : List (Option ℕ)) (line : ℕ) → at + cells_long subs ≤ length image.numbers
-      → judge_subs set d image j at subs came (sub_numbers line (subs_entries set d image j at subs came)) ≡ parts_from set line (subs_entries set d image j at subs came)
+      → judge_subs set d image j at subs came (sub_numbers line (subs_entries set d image j at subs came)) ≡ parts_from set line
+      (subs_entries set d image j at subs came)
   subs_judged d image j at (s ∷ subs) (o ∷ came) line room =
       let size = length (desc_cells (struct_cells set) s.desc) in
-      let long : cells_long (s ∷ subs) ≡ size + cells_long subs = length-append (desc_cells (struct_cells set) s.desc) (flat_map (λ s. desc_cells (struct_cells set) s.desc) subs) in
+      let long : cells_long (s ∷ subs) ≡ size + cells_long subs =
+      length-append (desc_cells (struct_cells set) s.desc) (flat_map (λ s. desc_cells (struct_cells set) s.desc) subs) in
       let others = subs_entries set d image (suc j) (at + size) subs came in
       let xs = printed (elements_in set s.desc s.desc.version image.numbers at) in
       let next = suc line + length xs in
@@ -126,7 +135,8 @@ module _ (set : Set) where
       let said = is_said_well set d image j s o at in
       let well = came_well (is_needed set d image s j) o (have_defaults image.numbers (elements_in set s.desc s.desc.version image.numbers at)) in
       let well_is : said ≡ well =
-      well_same (is_needed set d image s j) o (are_defaults (desc_cells (struct_cells set) s.desc) (drop at image.numbers)) (have_defaults image.numbers (elements_in set s.desc s.desc.version image.numbers at))
+      well_same (is_needed set d image s j) o (are_defaults (desc_cells (struct_cells set) s.desc) (drop at image.numbers))
+      (have_defaults image.numbers (elements_in set s.desc s.desc.version image.numbers at))
       (sym (desc_defaults s.desc s.desc.version image.numbers at (omega (arith, long)))) in
       rw (
         subs_past (suc line) image.numbers xs others,
@@ -148,7 +158,8 @@ module _ (set : Set) where
   AreLined line (d ∷ devices) (r ∷ read) = IsLined d line r × AreLined (line + length (device_entries set d r.image)) devices read
   AreLined line _ _ = Unit {0}
 
-  section_judged : (a : Bool) (line : ℕ) (o : Option BadLine) → or_bad (if_bad (not a) line reasons.Invalid) o ≡ or_bad (as_bad line (if_not a reasons.Invalid)) o
+  section_judged : (a : Bool) (line : ℕ) (o : Option BadLine)
+      → or_bad (if_bad (not a) line reasons.Invalid) o ≡ or_bad (as_bad line (if_not a reasons.Invalid)) o
   section_judged true line o = refl
   section_judged false line o = refl
 
@@ -159,7 +170,8 @@ module _ (set : Set) where
       let xs = printed (elements_in set d.desc d.desc.version image.numbers 0) in
       let subs = subs_entries set d image 0 (own_cells set d) d.subs image.came in
       let next = suc line + length xs in
-      let room : own_cells set d + cells_long d.subs ≤ length image.numbers = omega (arith, long, length-append (desc_cells (struct_cells set) d.desc) (flat_map (λ s. desc_cells (struct_cells set) s.desc) d.subs)) in
+      let room : own_cells set d + cells_long d.subs ≤ length image.numbers =
+      omega (arith, long, length-append (desc_cells (struct_cells set) d.desc) (flat_map (λ s. desc_cells (struct_cells set) s.desc) d.subs)) in
       let holds = rules_hold (elements_in set d.desc image.version image.numbers 0) in
       rw (
         lined.own,
@@ -169,7 +181,8 @@ module _ (set : Set) where
         parts_past set (suc line) image.numbers xs subs,
       ) (section_judged holds line (parts_from set next subs))
 
-  pub devices_judged : (line : ℕ) (devices : List Device) (read : List ReadDevice) → AreLined line devices read → AreShaped set devices (map (λ (r : ReadDevice). r.image) read)
+  pub devices_judged : (line : ℕ) (devices : List Device) (read : List ReadDevice) → AreLined line devices read
+      → AreShaped set devices (map (λ (r : ReadDevice). r.image) read)
       → judge_devices set devices read ≡ parts_from set line (devices_entries set devices (map (λ (r : ReadDevice). r.image) read))
   devices_judged line (d ∷ devices) (r ∷ read) lined shaped =
       let es = device_entries set d r.image in

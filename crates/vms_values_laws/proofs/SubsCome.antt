@@ -62,7 +62,8 @@ told_both {low = low} {high = high} {n = n} {m = m} {k = k} {said = said} {more 
 pub line_taken : (text line rest : List ℕ) → first_line text ≡ Some (line, rest) → text ≡ line ++ 10 ∷ rest_of (first_line text)
 line_taken text line rest e = line_splits text line rest e ∙ rw e refl
 
-either_way : (s : Sub) (line : List ℕ) (a b : Bool) → bytes_eq line (sub_line s (Some s.desc.version)) ≡ a → bytes_eq line (sub_line s None) ≡ b → (rest : List ℕ)
+either_way : (s : Sub) (line : List ℕ) (a b : Bool) → bytes_eq line (sub_line s (Some s.desc.version)) ≡ a → bytes_eq line (sub_line s None) ≡ b
+    → (rest : List ℕ)
     → (if a then Some (Some s.desc.version) else if b then Some None else None) ≡ None → reason_for (ForSub s) (Some (line, rest)) ≡ Some reasons.Form
 either_way s line false false e f rest h = rw (e, f) refl
 either_way s line _ _ e f rest h = cc
@@ -78,7 +79,8 @@ pub record SaidSub (s : Sub) (o : Option (List ℕ × List ℕ)) (came : Option 
   pub fine : reason_for (ForSub s) (Some (sub_line s came, [])) ≡ None
   pub version : IsAtVersion s came
 
-one_way : (s : Sub) (line rest : List ℕ) (came : Option ℕ) (a b : Bool) → bytes_eq line (sub_line s (Some s.desc.version)) ≡ a → bytes_eq line (sub_line s None) ≡ b
+one_way : (s : Sub) (line rest : List ℕ) (came : Option ℕ) (a b : Bool) → bytes_eq line (sub_line s (Some s.desc.version)) ≡ a
+    → bytes_eq line (sub_line s None) ≡ b
     → (if a then Some (Some s.desc.version) else if b then Some None else None) ≡ Some came → SaidSub s (Some (line, rest)) came
 one_way s line rest (Some v) true b e f h =
     let version : Some s.desc.version ≡ Some v = cc in
@@ -104,7 +106,8 @@ sub_taken s None came e = cc
 sub_taken s (Some (line, rest)) came e = one_way s line rest came _ _ refl refl e
 
 -- what was said and taken up to a bad line, if the entries follow it and have its lines
-pub record Stopped (subs : List Sub) (at : ℕ) (p : Standing) (e : BadLine) (Behind : Demand → List Taken → Type 0) (Lined : Demand → List Taken → List Said → List (Option ℕ) → List ℤ → Type 0) : Type 0 where
+pub record Stopped (subs : List Sub) (at : ℕ) (p : Standing) (e : BadLine) (Behind : Demand → List Taken → Type 0)
+(Lined : Demand → List Taken → List Said → List (Option ℕ) → List ℤ → Type 0) : Type 0 where
   pub said : List Said
   pub taken : List Taken
   pub demand : Demand
@@ -139,12 +142,14 @@ module _ (set : Set) (d : Device) where
     pub heard : (image : Image) → Agrees said image.numbers → (c : ℕ) → has_line (subs_entries set d image j at subs r.came) c ≡ has_said said c
     pub lines : (image : Image) → Agrees said image.numbers → r.lines ≡ sub_numbers p.line (subs_entries set d image j at subs r.came)
     pub follows : FollowSubs subs j at taken (λ more es. es ≡ more)
-    pub along : (image : Image) (more : List Entry) → Agrees said image.numbers → Along taken (λ es. es ≡ more) (subs_entries set d image j at subs r.came ++ more)
+    pub along : (image : Image) (more : List Entry) → Agrees said image.numbers
+        → Along taken (λ es. es ≡ more) (subs_entries set d image j at subs r.came ++ more)
     pub moved : Moved p.line p.rest taken r.place.line r.place.rest
 
   abbrev pub SubsStop : List Sub → ℕ → ℕ → Standing → BadLine → Type 0
   SubsStop subs j at p e = Stopped subs at p e (λ demand taken. FollowSubs subs j at taken (λ more es. Begins demand es))
-      (λ demand taken said came numbers. (image : Image) (more : List Entry) → Agrees said image.numbers → Along taken (λ es. Begins demand es) (subs_entries set d image j at subs came ++ more))
+      (λ demand taken said came numbers. (image : Image) (more : List Entry) → Agrees said image.numbers → Along taken (λ es. Begins demand es)
+      (subs_entries set d image j at subs came ++ more))
 
   abbrev pub SubsCome : List Sub → ℕ → ℕ → Standing → Result ReadSubs BadLine → Type 0
   SubsCome subs j at p (Ok r) = SubsRead subs j at p r
@@ -183,7 +188,8 @@ module _ (set : Set) (d : Device) where
           wrong = sub_refused s (first_line p.rest) e;
         }
       where
-        first_sub : (image : Image) (came : List (Option ℕ)) (more : List Entry) → length came ≡ suc (length subs) → Begins (ForSub s) (subs_entries set d image j at (s ∷ subs) came ++ more)
+        first_sub : (image : Image) (came : List (Option ℕ)) (more : List Entry) → length came ≡ suc (length subs)
+            → Begins (ForSub s) (subs_entries set d image j at (s ∷ subs) came ++ more)
         first_sub image [] more long = absurd (omega (arith, long))
         first_sub image (o ∷ came) more long = record { first = OfSub d image j s at o; others = _; is = refl; demands = refl }
 
@@ -202,14 +208,16 @@ module _ (set : Set) (d : Device) where
           → subs_entries set d image j at (s ∷ subs) (o ∷ others) ++ more ≡ OfSub d image j s at o ∷ behind_head image others more
       entries_are image o others more = ap (λ (l : List Entry). OfSub d image j s at o ∷ l) (append_assoc (number_entries set s.desc image.numbers at) _ more)
 
-      follows_head : (taken : List Taken) (P : List Entry → Type 0) (image : Image) (others : List (Option ℕ)) (more : List Entry) → length others ≡ suc (length subs)
+      follows_head : (taken : List Taken) (P : List Entry → Type 0) (image : Image) (others : List (Option ℕ)) (more : List Entry)
+          → length others ≡ suc (length subs)
           → ((others : List (Option ℕ)) → length others ≡ length subs → Follows taken P (behind_head image others more))
           → Follows (taken_head ∷ taken) P (subs_entries set d image j at (s ∷ subs) others ++ more)
       follows_head taken P image [] more long h = absurd (omega (arith, long))
       follows_head taken P image (o ∷ others) more long h =
           subst (λ (l : List Entry). Follows (taken_head ∷ taken) P l) (sym (entries_are image o others more)) (refl, λ e. h others (omega (arith, long)))
 
-      along_head : (taken : List Taken) (P : List Entry → Type 0) (image : Image) (others : List (Option ℕ)) (more : List Entry) → Along taken P (behind_head image others more)
+      along_head : (taken : List Taken) (P : List Entry → Type 0) (image : Image) (others : List (Option ℕ)) (more : List Entry)
+          → Along taken P (behind_head image others more)
           → Along (taken_head ∷ taken) P (subs_entries set d image j at (s ∷ subs) (came ∷ others) ++ more)
       along_head taken P image others more h = subst (λ (l : List Entry). Along (taken_head ∷ taken) P l) (sym (entries_are image came others more)) (refl, h)
 
@@ -231,7 +239,8 @@ module _ (set : Set) (d : Device) where
         wrong = n.wrong;
       }
 
-      stopped_behind : (q : Standing) (e : BadLine) → NumbersRead set s.desc at (next_line p) q → SubsStop subs (suc j) (at + size) q e → SubsStop (s ∷ subs) j at p e
+      stopped_behind : (q : Standing) (e : BadLine) → NumbersRead set s.desc at (next_line p) q → SubsStop subs (suc j) (at + size) q e
+          → SubsStop (s ∷ subs) j at p e
       stopped_behind q e n r = record {
         said = n.said ++ r.said;
         taken = taken_head ∷ (all_taken n.said ++ r.taken);
@@ -247,7 +256,8 @@ module _ (set : Set) (d : Device) where
             (λ others long. follows_on n r.taken (Begins r.demand) image.numbers _ short (r.follows image others more long short));
         along = λ image more agrees.
             along_head (all_taken n.said ++ r.taken) (Begins r.demand) image r.came more
-            (along_on n r.taken (Begins r.demand) image.numbers _ (agrees_front n.said r.said image.numbers agrees) (r.along image more (agrees_later n.said r.said image.numbers agrees)));
+            (along_on n r.taken (Begins r.demand) image.numbers _ (agrees_front n.said r.said image.numbers agrees)
+            (r.along image more (agrees_later n.said r.said image.numbers agrees)));
         moved = moved_then head_moved (moved_then n.moved r.moved);
         wrong = r.wrong;
       }
@@ -261,16 +271,19 @@ module _ (set : Set) (d : Device) where
         one_each = ap suc x.one_each;
         versions = (head.version, x.versions);
         heard = λ image agrees c.
-            heard_on n image.numbers _ x.said c (agrees_front n.said x.said image.numbers agrees) (x.heard image (agrees_later n.said x.said image.numbers agrees) c);
+            heard_on n image.numbers _ x.said c (agrees_front n.said x.said image.numbers agrees)
+            (x.heard image (agrees_later n.said x.said image.numbers agrees) c);
         lines = λ image agrees.
             ap (λ (l : List ℕ). p.line ∷ l)
-            (x.lines image (agrees_later n.said x.said image.numbers agrees) ∙ rw (line_on n image.numbers (agrees_front n.said x.said image.numbers agrees)) (sym (subs_past (suc p.line) image.numbers _ _)));
+            (x.lines image (agrees_later n.said x.said image.numbers agrees) ∙ rw (line_on n image.numbers (agrees_front n.said x.said image.numbers agrees))
+            (sym (subs_past (suc p.line) image.numbers _ _)));
         follows = λ image others more long short.
             follows_head (all_taken n.said ++ x.taken) (λ es. es ≡ more) image others more long
             (λ others long. follows_on n x.taken (λ es. es ≡ more) image.numbers _ short (x.follows image others more long short));
         along = λ image more agrees.
             along_head (all_taken n.said ++ x.taken) (λ es. es ≡ more) image r.came more
-            (along_on n x.taken (λ es. es ≡ more) image.numbers _ (agrees_front n.said x.said image.numbers agrees) (x.along image more (agrees_later n.said x.said image.numbers agrees)));
+            (along_on n x.taken (λ es. es ≡ more) image.numbers _ (agrees_front n.said x.said image.numbers agrees)
+            (x.along image more (agrees_later n.said x.said image.numbers agrees)));
         moved = moved_then head_moved (moved_then n.moved x.moved);
       }
 
@@ -289,7 +302,8 @@ module _ (set : Set) (d : Device) where
   AreSoundSubs [] = Unit {0}
   AreSoundSubs (s ∷ subs) = IsSound s.desc × AreSoundSubs subs
 
-  by_head : (s : Sub) (subs : List Sub) (j at : ℕ) (p : Standing) (o : Option (Option ℕ)) → AreSound set.structs → IsSound s.desc → sub_said s (first_line p.rest) ≡ o
+  by_head : (s : Sub) (subs : List Sub) (j at : ℕ) (p : Standing) (o : Option (Option ℕ)) → AreSound set.structs → IsSound s.desc
+      → sub_said s (first_line p.rest) ≡ o
       → at + size_of s ≤ length p.numbers
       → ((q : Standing) → length q.numbers ≡ length p.numbers → SubsCome subs (suc j) (at + size_of s) q (read_subs set (at + size_of s) subs q))
       → SubsCome (s ∷ subs) j at p (read_sub set s at p o (λ q. read_subs set (at + size_of s) subs q))
@@ -314,4 +328,5 @@ module _ (set : Set) (d : Device) where
   }
   subs_come structs (s ∷ subs) j at p sound room =
       let long : cells_long (s ∷ subs) ≡ size_of s + cells_long subs = length-append (desc_cells (struct_cells set) s.desc) _ in
-      by_head s subs j at p (sub_said s (first_line p.rest)) structs sound.0 refl (omega arith) (λ q same. subs_come structs subs (suc j) (at + size_of s) q sound.1 (omega arith))
+      by_head s subs j at p (sub_said s (first_line p.rest)) structs sound.0 refl (omega arith)
+      (λ q same. subs_come structs subs (suc j) (at + size_of s) q sound.1 (omega arith))

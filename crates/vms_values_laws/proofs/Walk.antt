@@ -93,20 +93,24 @@ module _ (total : List ℤ → List Element) (start : Standing) (low : ℕ) wher
   none_reads : ReadsShape no_reader no_shape
   none_reads = record { shape_comes = λ steps path present at end p said left e room a. stay total start low at end p said left (omega arith) a }
 
-  module _ (rs : List Reader) (ss : List Shape) (cells : cells_in ss ≡ cells_of rs) (reads : (j : ℕ) → ReadsShape (get_or rs j no_reader) (get_or ss j no_shape)) where
+  module _ (rs : List Reader) (ss : List Shape) (cells : cells_in ss ≡ cells_of rs)
+      (reads : (j : ℕ) → ReadsShape (get_or rs j no_reader) (get_or ss j no_shape)) where
     cells_get : (ts : List Reader) (j : ℕ) → (get_or ts j no_reader).cells ≡ get_or (cells_of ts) j []
     cells_get [] j = refl
     cells_get (t ∷ ts) zero = refl
     cells_get (t ∷ ts) (suc j) = cells_get ts j
 
-    item_comes : (f : Field) (item : Item) (caps : List ℕ) (steps : List (ℕ × ℕ)) (path : List ℕ) (present : Bool) (at end : ℕ) (p : Standing) (said : List Said)
+    item_comes : (f : Field) (item : Item) (caps : List ℕ) (steps : List (ℕ × ℕ)) (path : List ℕ) (present : Bool) (at end : ℕ) (p : Standing)
+    (said : List Said)
         → (left : List ℤ → List Element) → end ≡ at + item_size (cells_of rs) item → end ≤ length start.numbers
         → Here at p said (λ m. wrapped steps path present (item_elements ss item caps f.default m at) ++ left m)
         → Came end (single_cell item at) said left (read_item rs f caps path present at item p)
     item_comes f (Num kind) caps steps path present at end p said left e room a =
         let c : Cell = record { kind = kind; capacities = caps; default = f.default } in
-        let is : under steps path present (single at (Number c)) ≡ spot steps path present at c = rw (append-nil steps, append-nil path, and-true present) refl in
-        rw e (line_comes total start low steps path present at c p said left (omega arith) (at_left total start low (λ m g. ap (λ (x : Element). x ∷ left m) is) a))
+        let is : under steps path present (single at (Number c)) ≡ spot steps path present at c =
+        rw (append-nil steps, append-nil path, and-true present) refl in
+        rw e (line_comes total start low steps path present at c p said left (omega arith)
+        (at_left total start low (λ m g. ap (λ (x : Element). x ∷ left m) is) a))
     item_comes f (Struct j) caps steps path present at end p said left e room a =
         (reads j).shape_comes steps (path ++ codes ".") present at end p said left (omega (arith, ap length (cells_get rs j))) room
         (at_left total start low (λ m g. ap (λ (l : List Element). l ++ left m) (wrapped_dotted steps path present ((get_or ss j no_shape).elements m at))) a)
@@ -130,7 +134,8 @@ module _ (total : List ℤ → List Element) (start : Standing) (low : ℕ) wher
       unfolding brackets
       items_comes many e k zero at end p said left c le is room a =
           stay total start low at end p said left (omega arith)
-          (at_left total start low (λ n g. ap (λ (l : List Element). l ++ left n) (past_count steps path present f stand (part n) size e k at (omega (arith, c)))) a)
+          (at_left total start low (λ n g. ap (λ (l : List Element). l ++ left n)
+          (past_count steps path present f stand (part n) size e k at (omega (arith, c)))) a)
       items_comes many e zero (suc m) at end p said left c le is room a = absurd (omega arith)
       items_comes many e (suc k) (suc m) at end p said left c le is room a =
           let b = present && stand.there in
@@ -154,12 +159,15 @@ module _ (total : List ℤ → List Element) (start : Standing) (low : ℕ) wher
       one_comes one at end p said left c is room a =
           let b = present && stand.there in
           item_comes f f.item caps (steps ++ (stand.number, 0) ∷ []) (path ++ f.name) b at end p said left is room
-          (at_left total start low (λ n g. ap (λ (l : List Element). l ++ left n) (first_counted steps path present f stand (part n) size 0 0 0 at (omega (arith, c))
-          ∙ append-nil _ ∙ ap (λ (l : List ℕ). wrapped (steps ++ (stand.number, 0) ∷ []) (path ++ l) b (part n at)) (ap (λ l. f.name ++ l) (one 0) ∙ append-nil f.name))) a)
+          (at_left total start low (λ n g. ap (λ (l : List Element). l ++ left n)
+          (first_counted steps path present f stand (part n) size 0 0 0 at (omega (arith, c))
+          ∙ append-nil _ ∙ ap (λ (l : List ℕ). wrapped (steps ++ (stand.number, 0) ∷ []) (path ++ l) b (part n at))
+          (ap (λ l. f.name ++ l) (one 0) ∙ append-nil f.name))) a)
 
       -- all elements of such a field
       array_comes : (own : ℕ → ℕ) (count : Count) → f.count ≡ count → stand.count ≡ elements_of count own → (at end : ℕ) (p : Standing) (said : List Said)
-          → (left : List ℤ → List Element) → end ≡ at + capacity_of count * size → end ≤ length start.numbers → Here at p said (λ n. parts 0 (capacity_of count) at n ++ left n)
+          → (left : List ℤ → List Element) → end ≡ at + capacity_of count * size → end ≤ length start.numbers
+          → Here at p said (λ n. parts 0 (capacity_of count) at n ++ left n)
           → Came end (known_cell count f.item at) said left (read_array rs f caps (path ++ f.name) (present && stand.there) at count own p)
       unfolding brackets
       array_comes own One is c at end p said left e room a =
@@ -213,7 +221,8 @@ module _ (total : List ℤ → List Element) (start : Standing) (low : ℕ) wher
           let first : List ℤ → List Element = λ m. field_elements ss d.fields v (own m) m i at f in
           let rest : List ℤ → ℕ → List Element = λ m k. elements_from ss d.fields v (own m) m (suc i) (at + k) fs in
           let later : List ℤ → List Element = λ m. lines (elements_from ss d.fields v (own m) m (suc i) next fs) ++ left m in
-          let e' : end ≡ next + length (cells_from cs d.fields (suc i) fs) = omega (arith, length-append (field_cells cs d.fields i f) (cells_from cs d.fields (suc i) fs)) in
+          let e' : end ≡ next + length (cells_from cs d.fields (suc i) fs) =
+          omega (arith, length-append (field_cells cs d.fields i f) (cells_from cs d.fields (suc i) fs)) in
           let there : next ≡ place_of cs d.fields 0 base d.fields (suc i) =
           omega (arith, place_next cs d.fields 0 base d.fields i f fs is, ap (λ (k : ℕ). length (field_cells cs d.fields k f)) (zero_plus i)) in
           then_comes total start low (read_field rs d v path present base i at f p) _
@@ -227,11 +236,13 @@ module _ (total : List ℤ → List Element) (start : Standing) (low : ℕ) wher
 
       -- a description's lines are those of its elements
       pub desc_comes : (end : ℕ) (p : Standing) (said : List Said) (left : List ℤ → List Element) → IsSound d → end ≡ base + length (desc_cells (cells_of rs) d)
-          → end ≤ length start.numbers → Here base p said (λ m. lines (desc_elements ss d v m base) ++ left m) → Came end [] said left (read_desc rs d v path present base p)
+          → end ≤ length start.numbers → Here base p said (λ m. lines (desc_elements ss d v m base) ++ left m)
+          → Came end [] said left (read_desc rs d v path present base p)
       desc_comes end p said left sound e room a =
           let cs = cells_of rs in
           let fields : List ℤ → List Element = λ m. elements_from ss d.fields v (own m) m 0 base d.fields in
-          let last : List (List Cell) → List ℤ → List Element = λ cs m. single (base + length (desc_cells cs d)) (Rule (all_hold d.validate v (numbers_of cs d m base))) ∷ [] in
+          let last : List (List Cell) → List ℤ → List Element =
+          λ cs m. single (base + length (desc_cells cs d)) (Rule (all_hold d.validate v (numbers_of cs d m base))) ∷ [] in
           fields_comes 0 base end d.fields p said left sound.fields (sym (place_first cs d.fields 0 base d.fields)) refl
           (λ j x. let lt = x.earlier in absurd (omega arith)) e room
           (at_left total start low
@@ -243,7 +254,8 @@ module _ (total : List ℤ → List Element) (start : Standing) (low : ℕ) wher
   same_cells : (ds : List Desc) (k : ℕ) → cells_in (first shape ds k) ≡ cells_of (first reader ds k)
   same_cells ds k = shapes_cells ds k ∙ sym (readers_cells ds k)
 
-  all_read : (ds : List Desc) → AreSound ds → (k : ℕ) → k ≤ length ds → (j : ℕ) → ReadsShape (get_or (first reader ds k) j no_reader) (get_or (first shape ds k) j no_shape)
+  all_read : (ds : List Desc) → AreSound ds → (k : ℕ) → k ≤ length ds → (j : ℕ)
+      → ReadsShape (get_or (first reader ds k) j no_reader) (get_or (first shape ds k) j no_shape)
   unfolding first
   all_read ds sound zero le j = none_reads
   all_read ds sound (suc k) le j =
@@ -267,5 +279,6 @@ module _ (total : List ℤ → List Element) (start : Standing) (low : ℕ) wher
       let k = length set.structs in
       let same : length (desc_cells (struct_cells set) d) ≡ length (desc_cells (cells_of (readers set)) d) =
       ap (λ (cs : List (List Cell)). length (desc_cells cs d)) (sym (readers_cells set.structs k)) in
-      desc_comes (readers set) (shapes set) (same_cells set.structs k) (all_read set.structs structs k (omega arith)) d d.version [] [] true at _ p said left sound
+      desc_comes (readers set) (shapes set) (same_cells set.structs k)
+      (all_read set.structs structs k (omega arith)) d d.version [] [] true at _ p said left sound
       (omega (arith, same)) room a
