@@ -164,7 +164,7 @@ module _ (total : List ℤ → List Element) (start : Standing) (low : ℕ) wher
       record { comes = record { cell = cell; place = p; said = said; element = x; after = left; stood = a; line = not.line; wrong = not.bad } }
 
   pub line_comes : (steps : List (ℕ × ℕ)) (path : List ℕ) (present : Bool) (cell : ℕ) (c : Cell) (p : Standing) (said : List Said)
-  (left : List ℤ → List Element)
+      → (left : List ℤ → List Element)
       → cell < length start.numbers → At cell p said (λ m. spot steps path present cell c ∷ left m)
       → Comes (cell + 1) (cell ∷ []) said left (put_line path (cell_line present cell c) p (first_line p.rest))
   line_comes steps path present cell c p said left room a =

@@ -30,9 +30,11 @@ machine_line machines line name false e c f h = cc
 machine_first : (machines : List (List ℕ)) (o : Option (List ℕ × List ℕ)) (name : List ℕ) → machine_named machines o ≡ Some name
     → (rest : List ℕ) × (o ≡ Some (codes "machine " ++ name, rest))
 machine_first machines None name e = cc
-machine_first machines (Some (line, rest)) name e =
-    (rest, ap (λ (l : List ℕ). Some (l, rest))
-    (machine_line machines line name (begins_with (codes "machine ") line) refl (is_one_of machines (drop 8 line)) refl e))
+machine_first machines (Some (line, rest)) name e = (
+  rest,
+  ap (λ (l : List ℕ). Some (l, rest))
+      (machine_line machines line name (begins_with (codes "machine ") line) refl (is_one_of machines (drop 8 line)) refl e),
+)
 
 headed : (set : Set) (text name : List ℕ) → machine_named set.machines (first_line text) ≡ Some name → Headed set text (Some name) 2 (rest_of (first_line text))
 headed set text name e =
@@ -64,7 +66,7 @@ abbrev pub FirstPass : Set → List ℕ → ValuesRead → Type 0
 FirstPass set text v = OneBad set text v ⊎ NoneBad set text v
 
 by_rest : (set : Set) (text : List ℕ) (machine : Option (List ℕ)) (line : ℕ) (after : List ℕ) (head : Headed set text machine line after) (all : ReadAll)
-(rest : List ℕ) → all.rest ≡ rest
+    → (rest : List ℕ) → all.rest ≡ rest
     → AllRead set set.devices line after all → FirstPass set text (judged set machine all rest)
 by_rest set text machine line after head all [] e a =
     inr (record { machine = machine; all = all; first = fine_first set text machine line after head all a; ends = e; is = refl })
@@ -72,7 +74,7 @@ by_rest set text machine line after head all (b ∷ rest) e a =
     inl (record { line = all.line; reason = reasons.Form; first = more_first set text machine line after head all b rest e a; is = refl })
 
 by_end : (set : Set) (text : List ℕ) (machine : Option (List ℕ)) (line : ℕ) (after : List ℕ) (head : Headed set text machine line after)
-(o : Result ReadAll BadLine)
+    → (o : Result ReadAll BadLine)
     → AllCome set set.devices line after o → FirstPass set text (ended set machine o)
 by_end set text machine line after head (Ok all) a = by_rest set text machine line after head all all.rest refl a
 by_end set text machine line after head (Err e) a =

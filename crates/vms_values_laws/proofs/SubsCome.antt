@@ -107,7 +107,7 @@ sub_taken s (Some (line, rest)) came e = one_way s line rest came _ _ refl refl 
 
 -- what was said and taken up to a bad line, if the entries follow it and have its lines
 pub record Stopped (subs : List Sub) (at : ℕ) (p : Standing) (e : BadLine) (Behind : Demand → List Taken → Type 0)
-(Lined : Demand → List Taken → List Said → List (Option ℕ) → List ℤ → Type 0) : Type 0 where
+    (Lined : Demand → List Taken → List Said → List (Option ℕ) → List ℤ → Type 0) : Type 0 where
   pub said : List Said
   pub taken : List Taken
   pub demand : Demand

@@ -101,7 +101,7 @@ module _ (total : List ℤ → List Element) (start : Standing) (low : ℕ) wher
     cells_get (t ∷ ts) (suc j) = cells_get ts j
 
     item_comes : (f : Field) (item : Item) (caps : List ℕ) (steps : List (ℕ × ℕ)) (path : List ℕ) (present : Bool) (at end : ℕ) (p : Standing)
-    (said : List Said)
+        → (said : List Said)
         → (left : List ℤ → List Element) → end ≡ at + item_size (cells_of rs) item → end ≤ length start.numbers
         → Here at p said (λ m. wrapped steps path present (item_elements ss item caps f.default m at) ++ left m)
         → Came end (single_cell item at) said left (read_item rs f caps path present at item p)
