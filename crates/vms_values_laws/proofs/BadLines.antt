@@ -37,7 +37,11 @@ split (t ∷ taken) P Q (e ∷ es) fine f a =
       is = ap (λ (l : List Entry). e ∷ l) s.is;
       lines = ap (λ (l : List ℕ). l ∷ map entry_line s.before) a.0 ∙ ap (λ (l : List (List ℕ)). t.line ∷ l) s.lines;
       long = ap suc s.long;
-      fine = (reason_same e (Some (entry_line e, [])) ∙ ap (λ (x : Demand). reason_for x (Some (entry_line e, []))) f.0 ∙ ap (λ (l : List ℕ). reason_for t.demand (Some (l, []))) a.0 ∙ fine.0, s.fine);
+      fine = (
+        reason_same e (Some (entry_line e, [])) ∙ ap (λ (x : Demand). reason_for x (Some (entry_line e, []))) f.0 ∙ ap
+            (λ (l : List ℕ). reason_for t.demand (Some (l, []))) a.0 ∙ fine.0,
+        s.fine,
+      );
       rest = s.rest;
     }
 
@@ -49,7 +53,8 @@ pub record FirstBad (set : Set) (text : List ℕ) (line : ℕ) (reason : ValuesR
   pub taken : List Taken
   pub rest : List ℕ
   pub named : machine ≡ machine_named set.machines (first_line text)
-  pub follows : (images : List Image) → AreShaped set set.devices images → AllShort images → Follows taken (λ es. front_reason es rest ≡ Some reason) (entries set machine images)
+  pub follows : (images : List Image) → AreShaped set set.devices images → AllShort images
+      → Follows taken (λ es. front_reason es rest ≡ Some reason) (entries set machine images)
   pub moved : Moved 1 text taken line rest
   pub is_bad : IsBadLine set text line reason
 
@@ -74,17 +79,20 @@ fine_text set text machine all f e =
     let es = entries set machine (images_of all.devices) in
     let s = split f.taken P P es f.moved.fine (f.follows (images_of all.devices) f.shaped f.short) f.along in
     let whole : es ≡ s.before = s.is ∙ ap (λ (l : List Entry). s.before ++ l) s.rest ∙ append-nil s.before in (
-      subst (λ (l : List Entry). AreFine l) (sym whole) s.fine,
-      f.moved.texts ∙ ap (λ (l : List ℕ). text_of (lines_of f.taken) ++ l) e ∙ append-nil (text_of (lines_of f.taken)) ∙ ap text_of (sym s.lines) ∙ ap (λ (l : List Entry). text_of (map entry_line l)) (sym whole),
+      rw whole s.fine,
+      f.moved.texts ∙ ap (λ (l : List ℕ). text_of (lines_of f.taken) ++ l) e ∙ append-nil (text_of (lines_of f.taken)) ∙ ap text_of (sym s.lines) ∙ ap
+          (λ (l : List Entry). text_of (map entry_line l)) (sym whole),
     )
 
 -- ---- both, of a whole text
 
-front_of : (demand : Demand) (rest : List ℕ) (reason : ValuesReason) (es : List Entry) → reason_for demand (first_line rest) ≡ Some reason → Begins demand es → front_reason es rest ≡ Some reason
+front_of : (demand : Demand) (rest : List ℕ) (reason : ValuesReason) (es : List Entry) → reason_for demand (first_line rest) ≡ Some reason → Begins demand es
+    → front_reason es rest ≡ Some reason
 front_of demand rest reason es wrong b =
-    ap (λ (l : List Entry). front_reason l rest) b.is ∙ reason_same b.first (first_line rest) ∙ ap (λ (x : Demand). reason_for x (first_line rest)) b.demands ∙ wrong
+    rw (b.is) (reason_same b.first (first_line rest) ∙ rw (b.demands) wrong)
 
-pub follows_ends : (taken : List Taken) (P Q : List Entry → Type 0) (es : List Entry) → Follows taken P es → ((xs : List Entry) → P xs → Q xs) → Follows taken Q es
+pub follows_ends : (taken : List Taken) (P Q : List Entry → Type 0) (es : List Entry) → Follows taken P es → ((xs : List Entry) → P xs → Q xs)
+    → Follows taken Q es
 follows_ends [] P Q es f h = h es f
 follows_ends (t ∷ taken) P Q [] f h = absurd f
 follows_ends (t ∷ taken) P Q (e ∷ es) f h = (f.0, λ x. follows_ends taken P Q es (f.1 x) h)
@@ -104,12 +112,14 @@ pub record Headed (set : Set) (text : List ℕ) (machine : Option (List ℕ)) (l
   pub named : machine ≡ machine_named set.machines (first_line text)
   pub moved : Moved 1 text (machine_taken machine) line after
 
-follows_machine : (set : Set) (machine : Option (List ℕ)) (images : List Image) (taken : List Taken) (P : List Entry → Type 0) → Follows taken P (devices_entries set set.devices images)
+follows_machine : (set : Set) (machine : Option (List ℕ)) (images : List Image) (taken : List Taken) (P : List Entry → Type 0)
+    → Follows taken P (devices_entries set set.devices images)
     → Follows (machine_taken machine ++ taken) P (entries set machine images)
 follows_machine set None images taken P f = f
 follows_machine set (Some name) images taken P f = (refl, λ e. f)
 
-along_machine : (set : Set) (machine : Option (List ℕ)) (images : List Image) (taken : List Taken) (P : List Entry → Type 0) → Along taken P (devices_entries set set.devices images)
+along_machine : (set : Set) (machine : Option (List ℕ)) (images : List Image) (taken : List Taken) (P : List Entry → Type 0)
+    → Along taken P (devices_entries set set.devices images)
     → Along (machine_taken machine ++ taken) P (entries set machine images)
 along_machine set None images taken P f = f
 along_machine set (Some name) images taken P f = (refl, f)
@@ -117,21 +127,25 @@ along_machine set (Some name) images taken P f = (refl, f)
 -- the machine is no part
 parts_machine : (set : Set) (machine : Option (List ℕ)) (line : ℕ) (images : List Image) → line ≡ 1 + length (machine_taken machine)
     → parts_from set line (devices_entries set set.devices images) ≡ parts_from set 1 (entries set machine images)
-parts_machine set None line images e = ap (λ (l : ℕ). parts_from set l (devices_entries set set.devices images)) e
-parts_machine set (Some name) line images e = ap (λ (l : ℕ). parts_from set l (devices_entries set set.devices images)) e
+parts_machine set None line images e = rw e refl
+parts_machine set (Some name) line images e = rw e refl
 
 module _ (set : Set) (text : List ℕ) (machine : Option (List ℕ)) (line : ℕ) (after : List ℕ) (head : Headed set text machine line after) where
   -- a line that is bad after what was taken, if these entries are to come
-  first_bad : (images : List Image) (taken : List Taken) (at : ℕ) (rest : List ℕ) (reason : ValuesReason) (Q : List Entry → Type 0) → AreShaped set set.devices images → AllShort images
-      → ((images : List Image) → AreShaped set set.devices images → AllShort images → Follows taken Q (devices_entries set set.devices images)) → Along taken Q (devices_entries set set.devices images)
+  first_bad : (images : List Image) (taken : List Taken) (at : ℕ) (rest : List ℕ) (reason : ValuesReason) (Q : List Entry → Type 0)
+      → AreShaped set set.devices images → AllShort images
+      → ((images : List Image) → AreShaped set set.devices images → AllShort images → Follows taken Q (devices_entries set set.devices images))
+      → Along taken Q (devices_entries set set.devices images)
       → Moved line after taken at rest → ((es : List Entry) → Q es → front_reason es rest ≡ Some reason) → FirstBad set text at reason
   first_bad images taken at rest reason Q shaped short follows along moved bad =
       let P : List Entry → Type 0 = λ es. front_reason es rest ≡ Some reason in
       let all = machine_taken machine ++ taken in
-      let passed : Moved 1 text all at rest = moved_then 1 line at text after rest (machine_taken machine) taken head.moved moved in
+      let passed : Moved 1 text all at rest = moved_then head.moved moved in
       let its : (images : List Image) → AreShaped set set.devices images → AllShort images → Follows all P (entries set machine images) =
-      λ images shaped short. follows_machine set machine images taken P (follows_ends taken Q P (devices_entries set set.devices images) (follows images shaped short) bad) in
-      let s = split all P P (entries set machine images) passed.fine (its images shaped short) (along_machine set machine images taken P (along_ends taken Q P (devices_entries set set.devices images) along bad)) in
+      λ images shaped short. follows_machine set machine images taken P
+      (follows_ends taken Q P (devices_entries set set.devices images) (follows images shaped short) bad) in
+      let s = split all P P (entries set machine images) passed.fine (its images shaped short)
+      (along_machine set machine images taken P (along_ends taken Q P (devices_entries set set.devices images) along bad)) in
       record {
         machine = machine;
         taken = all;
@@ -157,13 +171,15 @@ module _ (set : Set) (text : List ℕ) (machine : Option (List ℕ)) (line : ℕ
 
   pub stopped_first : (e : BadLine) → AllStop set set.devices line after e → FirstBad set text e.line e.reason
   stopped_first e a =
-      first_bad a.images a.taken e.line a.rest e.reason (λ es. Begins a.demand es) a.shaped a.short a.follows a.along a.moved (λ es b. front_of a.demand a.rest e.reason es a.wrong b)
+      first_bad a.images a.taken e.line a.rest e.reason (Begins a.demand) a.shaped a.short a.follows a.along a.moved
+      (λ es b. front_of a.demand a.rest e.reason es a.wrong b)
 
   -- something comes after the last line
-  pub more_first : (all : ReadAll) (b : ℕ) (rest : List ℕ) → all.rest ≡ b ∷ rest → AllRead set set.devices line after all → FirstBad set text all.line reasons.Form
+  pub more_first : (all : ReadAll) (b : ℕ) (rest : List ℕ) → all.rest ≡ b ∷ rest → AllRead set set.devices line after all
+      → FirstBad set text all.line reasons.Form
   more_first all b rest e a =
       first_bad (images_of all.devices) a.taken all.line all.rest reasons.Form (λ es. es ≡ []) a.shaped a.short a.follows a.along a.moved
-      (λ es is. ap (λ (l : List Entry). front_reason l all.rest) is ∙ ap (λ (l : List ℕ). front_reason [] l) e)
+      (λ es is. rw (is, e) refl)
 
   pub fine_first : (all : ReadAll) → AllRead set set.devices line after all → FirstFine set text machine all
   fine_first all a =
@@ -177,5 +193,5 @@ module _ (set : Set) (text : List ℕ) (machine : Option (List ℕ)) (line : ℕ
         judged = devices_judged set line set.devices all.devices a.lined a.shaped ∙ parts_machine set machine line (images_of all.devices) head.moved.further;
         follows = λ images shaped short. follows_machine set machine images a.taken P (a.follows images shaped short);
         along = along_machine set machine (images_of all.devices) a.taken P a.along;
-        moved = moved_then 1 line all.line text after all.rest (machine_taken machine) a.taken head.moved a.moved;
+        moved = moved_then head.moved a.moved;
       }

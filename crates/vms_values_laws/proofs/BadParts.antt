@@ -16,14 +16,12 @@ pub record FirstPart (set : Set) (line : ℕ) (es : List Entry) (b : BadLine) : 
   pub number : b.line ≡ line + length before
   pub bad : part_reason set entry ≡ Some b.reason
 
-same_bad : (a b : BadLine) → Some a ≡ Some b → a ≡ b
-same_bad a b e = cc
-
 pub first_part : (set : Set) (line : ℕ) (es : List Entry) (b : BadLine) → parts_from set line es ≡ Some b → FirstPart set line es b
 first_part set line [] b h = absurd (cc)
 first_part set line (e ∷ es) b h = go (part_reason set e) refl h (λ g. first_part set (suc line) es b g)
   where
-    go : (o : Option ValuesReason) → part_reason set e ≡ o → or_bad (as_bad line o) (parts_from set (suc line) es) ≡ Some b → (parts_from set (suc line) es ≡ Some b → FirstPart set (suc line) es b) → FirstPart set line (e ∷ es) b
+    go : (o : Option ValuesReason) → part_reason set e ≡ o → or_bad (as_bad line o) (parts_from set (suc line) es) ≡ Some b
+        → (parts_from set (suc line) es ≡ Some b → FirstPart set (suc line) es b) → FirstPart set line (e ∷ es) b
     go None is h more =
         let p = more h in
         record {
@@ -31,46 +29,33 @@ first_part set line (e ∷ es) b h = go (part_reason set e) refl h (λ g. first_
           entry = p.entry;
           after = p.after;
           is = ap (λ (l : List Entry). e ∷ l) p.is;
-          good = ap (λ (o : Option ValuesReason). o ∷ map (part_reason set) p.before) is ∙ ap (λ (l : List (Option ValuesReason)). None ∷ l) p.good;
+          good = rw (is, p.good) refl;
           number = omega (arith, p.number);
           bad = p.bad;
         }
     go (Some reason) is h more =
-        let same = same_bad (record { line = line; reason = reason }) b h in
+        let same : record { line = line; reason = reason } ≡ b = cc in
         record {
           before = [];
           entry = e;
           after = es;
           is = refl;
           good = refl;
-          number = sym (ap (λ (b : BadLine). b.line) same) ∙ omega arith;
-          bad = is ∙ ap (λ (b : BadLine). Some b.reason) same;
+          number = rw (← same) (omega arith);
+          bad = rw (← same) is;
         }
 
-reason_of : List (Option ValuesReason) → Option ValuesReason
-reason_of [] = None
-reason_of (o ∷ os) = o
-
-others_of : List (Option ValuesReason) → List (Option ValuesReason)
-others_of [] = []
-others_of (o ∷ os) = os
-
-first_same : (a b : Option ValuesReason) (xs ys : List (Option ValuesReason)) → a ∷ xs ≡ b ∷ ys → (a ≡ b) × (xs ≡ ys)
-unfolding reason_of others_of
-first_same a b xs ys e = (ap reason_of e, ap others_of e)
-
-pub bad_part_found : (set : Set) (line : ℕ) (before : List Entry) (entry : Entry) (after : List Entry) (reason : ValuesReason) → map (part_reason set) before ≡ map (λ e. None) before
+pub bad_part_found : (set : Set) (line : ℕ) (before : List Entry) (entry : Entry) (after : List Entry) (reason : ValuesReason)
+    → map (part_reason set) before ≡ map (λ e. None) before
     → part_reason set entry ≡ Some reason → parts_from set line (before ++ entry ∷ after) ≡ Some (record { line = line + length before; reason = reason })
 bad_part_found set line [] entry after reason good bad =
     let same : line ≡ line + 0 = omega arith in
-    ap (λ (o : Option ValuesReason). or_bad (as_bad line o) (parts_from set (suc line) after)) bad ∙ ap (λ (n : ℕ). Some (record { line = n; reason = reason })) same
+    rw (bad, ← same) refl
 bad_part_found set line (e ∷ before) entry after reason good bad =
-    let p = first_same (part_reason set e) None (map (part_reason set) before) (map (λ e. None) before) good in
-    let same : suc line + length before ≡ line + suc (length before) = omega arith in
-    ap (λ (o : Option ValuesReason). or_bad (as_bad line o) (parts_from set (suc line) (before ++ entry ∷ after))) p.0
-    ∙ bad_part_found set (suc line) before entry after reason p.1 bad
-    ∙ ap (λ (n : ℕ). Some (record { line = n; reason = reason })) same
+    let here : part_reason set e ≡ None = cc in
+    let same : line + suc (length before) ≡ suc line + length before = omega arith in
+    rw (here, same) (bad_part_found set (suc line) before entry after reason (cc) bad)
 
 pub good_none : (set : Set) (line : ℕ) (es : List Entry) → AreGood set es → parts_from set line es ≡ None
 good_none set line [] g = refl
-good_none set line (e ∷ es) g = ap (λ (o : Option ValuesReason). or_bad (as_bad line o) (parts_from set (suc line) es)) g.0 ∙ good_none set (suc line) es g.1
+good_none set line (e ∷ es) g = rw (g.0) (good_none set (suc line) es g.1)

@@ -38,43 +38,41 @@ named_dotted (x ∷ xs) n = ((refl, n.0), named_dotted xs n.1)
 
 index_feed : (count : Count) (e : ℕ) → NoFeed (index_text count e)
 index_feed One e = tt
-index_feed (Fixed n) e = (refl, feed_append (decimal e) (codes "]") (decimal_feed e) (refl, tt))
-index_feed (Counted by most) e = (refl, feed_append (decimal e) (codes "]") (decimal_feed e) (refl, tt))
+index_feed _ e = (refl, feed_append (decimal e) (codes "]") (decimal_feed e) (refl, tt))
 
 pub record NamesShape (s : Shape) : Type 0 where
   pub named : (n : List ℤ) (at : ℕ) → AreNamed (s.elements n at)
 
 module _ (ss : List Shape) (good : (j : ℕ) → NamesShape (get_or ss j no_shape)) where
   item_named : (item : Item) (caps : List ℕ) (z : ℤ) (n : List ℤ) (at : ℕ) → AreNamed (item_elements ss item caps z n at)
-  item_named (Num kind) caps z n at = (tt, tt)
-  item_named (Equal kind y) caps z n at = (tt, tt)
-  item_named (Unused k) caps z n at = (tt, tt)
   item_named (Struct j) caps z n at = named_dotted ((get_or ss j no_shape).elements n at) ((good j).named n at)
+  item_named _ caps z n at = (tt, tt)
 
-  array_named : (f : Field) (stand : Stand) (part : ℕ → List Element) → NoFeed f.name → ((at : ℕ) → AreNamed (part at)) → (step e n at : ℕ) → AreNamed (array_elements f stand part step e n at)
+  array_named : (f : Field) (stand : Stand) (part : ℕ → List Element) → NoFeed f.name → ((at : ℕ) → AreNamed (part at)) → (step e n at : ℕ)
+      → AreNamed (array_elements f stand part step e n at)
   array_named f stand part h p step e zero at = tt
   array_named f stand part h p step e (suc n) at =
-      let text = f.name ++ index_text f.count e in
-      let below = nat_lt e stand.count in
-      named_append (map (behind (stand.number, e) text below (stand.there && below)) (part at)) (array_elements f stand part step (suc e) n (at + step))
-      (named_behind (stand.number, e) text below (stand.there && below) (part at) (feed_append f.name (index_text f.count e) h (index_feed f.count e)) (p at))
+      named_append (map (behind _ _ _ _) (part at)) _
+      (named_behind _ _ _ _ (part at) (feed_append f.name (index_text f.count e) h (index_feed f.count e)) (p at))
       (array_named f stand part h p step (suc e) n (at + step))
 
-  fields_named : (fields : List Field) (v : ℕ) (own : ℕ → ℕ) (n : List ℤ) (i at : ℕ) (fs : List Field) → AreCleanFields fs → AreNamed (elements_from ss fields v own n i at fs)
+  fields_named : (fields : List Field) (v : ℕ) (own : ℕ → ℕ) (n : List ℤ) (i at : ℕ) (fs : List Field) → AreCleanFields fs
+      → AreNamed (elements_from ss fields v own n i at fs)
   fields_named fields v own n i at [] h = tt
   fields_named fields v own n i at (f ∷ fs) h =
       let next = at + length (field_cells (cells_in ss) fields i f) in
       named_append (field_elements ss fields v own n i at f) (elements_from ss fields v own n (suc i) next fs)
-      (array_named f (stand_of i f v own) (item_elements ss f.item (counted i fields) f.default n) h.0 (λ at. item_named f.item (counted i fields) f.default n at) (item_size (cells_in ss) f.item) 0 (capacity_of f.count) at)
+      (array_named f (stand_of i f v own) (item_elements ss f.item (counted i fields) f.default n) h.0
+      (λ at. item_named f.item (counted i fields) f.default n at)
+      (item_size (cells_in ss) f.item) 0 (capacity_of f.count) at)
       (fields_named fields v own n (suc i) next fs h.1)
 
   pub desc_named : (d : Desc) (v : ℕ) (n : List ℤ) (at : ℕ) → AreCleanFields d.fields → AreNamed (desc_elements ss d v n at)
   desc_named d v n at h =
-      let own = numbers_of (cells_in ss) d n at in
-      named_append (elements_from ss d.fields v own n 0 at d.fields) (single (at + length (desc_cells (cells_in ss) d)) (Rule (all_hold d.validate v own)) ∷ [])
-      (fields_named d.fields v own n 0 at d.fields h) (tt, tt)
+      named_append (elements_from ss d.fields v (numbers_of (cells_in ss) d n at) n 0 at d.fields) _ (fields_named d.fields v _ n 0 at d.fields h) (tt, tt)
 
-shapes_named : (ds : List Desc) → ((j : ℕ) → AreCleanFields (get_or ds j no_desc).fields) → (k : ℕ) → (j : ℕ) → NamesShape (get_or (first shape ds k) j no_shape)
+shapes_named : (ds : List Desc) → ((j : ℕ) → AreCleanFields (get_or ds j no_desc).fields) → (k : ℕ) → (j : ℕ)
+    → NamesShape (get_or (first shape ds k) j no_shape)
 unfolding first
 shapes_named ds clean zero j = record { named = λ n at. tt }
 shapes_named ds clean (suc k) j =
@@ -105,18 +103,20 @@ AreCleanDevices (d ∷ devices) = NoFeed d.desc.name × AreCleanFields d.desc.fi
 
 module _ (set : Set) (structs : (j : ℕ) → AreCleanFields (get_or set.structs j no_desc).fields) where
   clean_part : (d : Desc) (n : List ℤ) (at : ℕ) → AreCleanFields d.fields → AreClean (number_entries set d n at)
-  clean_part d n at h = clean_numbers n (elements_in set d d.version n at) (desc_named (shapes set) (shapes_named set.structs structs (length set.structs)) d d.version n at h)
+  clean_part d n at h =
+      clean_numbers n (elements_in set d d.version n at) (desc_named (shapes set) (shapes_named set.structs structs (length set.structs)) d d.version n at h)
 
-  clean_subs : (d : Device) (image : Image) (j at : ℕ) (subs : List Sub) (came : List (Option ℕ)) → AreCleanSubs subs → AreClean (subs_entries set d image j at subs came)
-  clean_subs d image j at [] came h = tt
-  clean_subs d image j at (s ∷ subs) [] h = tt
+  clean_subs : (d : Device) (image : Image) (j at : ℕ) (subs : List Sub) (came : List (Option ℕ)) → AreCleanSubs subs
+      → AreClean (subs_entries set d image j at subs came)
   clean_subs d image j at (s ∷ subs) (o ∷ came) h =
-      let next = at + length (desc_cells (struct_cells set) s.desc) in
-      (h.0, clean_append (number_entries set s.desc image.numbers at) (subs_entries set d image (suc j) next subs came) (clean_part s.desc image.numbers at h.1) (clean_subs d image (suc j) next subs came h.2))
+      let next = at + length (desc_cells (struct_cells set) s.desc) in (
+        h.0,
+        clean_append (number_entries set s.desc image.numbers at) (subs_entries set d image (suc j) next subs came)
+            (clean_part s.desc image.numbers at h.1) (clean_subs d image (suc j) next subs came h.2),
+      )
+  clean_subs d image j at _ _ h = tt
 
   clean_devices : (devices : List Device) (images : List Image) → AreCleanDevices devices → AreClean (devices_entries set devices images)
-  clean_devices [] images h = tt
-  clean_devices (d ∷ devices) [] h = tt
   clean_devices (d ∷ devices) (image ∷ images) h =
       clean_append (device_entries set d image) (devices_entries set devices images) (
         h.0,
@@ -124,7 +124,9 @@ module _ (set : Set) (structs : (j : ℕ) → AreCleanFields (get_or set.structs
             (clean_part d.desc image.numbers 0 h.1) (clean_subs d image 0 (own_cells set d) d.subs image.came h.2),
       )
       (clean_devices devices images h.3)
+  clean_devices _ _ h = tt
 
-  pub clean_entries : (machine : Option (List ℕ)) (images : List Image) → AreCleanDevices set.devices → ((name : List ℕ) → machine ≡ Some name → NoFeed name) → AreClean (entries set machine images)
+  pub clean_entries : (machine : Option (List ℕ)) (images : List Image) → AreCleanDevices set.devices → ((name : List ℕ) → machine ≡ Some name → NoFeed name)
+      → AreClean (entries set machine images)
   clean_entries None images h m = clean_devices set.devices images h
   clean_entries (Some name) images h m = (m name refl, clean_devices set.devices images h)

@@ -16,6 +16,7 @@ use Rattle.vms_spec.specs.Streams.{is_one_of}
 use Rattle.vms_spec.specs.Spelling.{begins_with}
 use Rattle.vms_spec.specs.ValuesReading.{machine_named}
 use Rattle.vms_spec.specs.WellFormed.{WellFormed, first_fault, failing, here, set_rules, struct_fault, struct_rules, device_fault, device_rules, sub_rules, size_rules}
+use Rattle.vms_spec.proofs.ListLaws.{either_of}
 use Rattle.vms_spec.proofs.Faultless.{or_else_none}
 use Rattle.vms_spec.proofs.WellFormedLaws.{Clean, struct_clean, device_parts, sub_clean, get_none}
 use Rattle.vms_spec.proofs.NameBytes.{name_byte_high}
@@ -38,8 +39,8 @@ clean_sub_name : (device name : List ℕ) → NoFeed device → is_sub_name devi
 clean_sub_name device name h e =
     let n = length device + 1 in
     let p = and_parts (bytes_eq (take n name) (device ++ 47 ∷ [])) (is_name 64 (drop n name)) e in
-    let front : NoFeed (take n name) = subst (λ (l : List ℕ). NoFeed l) (sym ((bytes_eq-Decides (take n name) (device ++ 47 ∷ [])).0 p.0)) (feed_append device (47 ∷ []) h (refl, tt)) in
-    subst (λ (l : List ℕ). NoFeed l) (take-append-drop n name) (feed_append (take n name) (drop n name) front (clean_name 64 (drop n name) p.1))
+    let front : NoFeed (take n name) = rw ((bytes_eq-Decides (take n name) (device ++ 47 ∷ [])).0 p.0) (feed_append device (47 ∷ []) h (refl, tt)) in
+    rw (take-append-drop n name) at (feed_append (take n name) (drop n name) front (clean_name 64 (drop n name) p.1))
 
 -- ---- parts of a set
 
@@ -48,13 +49,16 @@ fields_from [] h = tt
 fields_from (f ∷ fs) h = (h 0 f refl, fields_from fs (λ i g e. h (suc i) g e))
 
 clean_fields : (k : ℕ) (d : Desc) (rules : List Bool) → Clean k d rules → AreCleanFields d.fields
-clean_fields k d rules c = fields_from d.fields (λ i f e. clean_name 32 f.name (and_parts (is_name 32 f.name) (list_all (is_name 32) f.former) (c.fields i f e).0).0)
+clean_fields k d rules c =
+    fields_from d.fields (λ i f e. clean_name 32 f.name (and_parts (is_name 32 f.name) (list_all (is_name 32) f.former) (c.fields i f e).0).0)
 
 subs_from : (subs : List Sub) → ((j : ℕ) (s : Sub) → slice_get subs j ≡ Some s → NoFeed s.desc.name × AreCleanFields s.desc.fields) → AreCleanSubs subs
 subs_from [] h = tt
 subs_from (s ∷ subs) h = let c = h 0 s refl in (c.0, c.1, subs_from subs (λ j t e. h (suc j) t e))
 
-devices_from : (devices : List Device) → ((k : ℕ) (d : Device) → slice_get devices k ≡ Some d → NoFeed d.desc.name × AreCleanFields d.desc.fields × AreCleanSubs d.subs) → AreCleanDevices devices
+devices_from : (devices : List Device)
+    → ((k : ℕ) (d : Device) → slice_get devices k ≡ Some d → NoFeed d.desc.name × AreCleanFields d.desc.fields × AreCleanSubs d.subs)
+    → AreCleanDevices devices
 devices_from [] h = tt
 devices_from (d ∷ devices) h = let c = h 0 d refl in (c.0, c.1, c.2, devices_from devices (λ k t e. h (suc k) t e))
 
@@ -66,16 +70,12 @@ named_one : (machines : List (List ℕ)) (name : List ℕ) → list_all (is_name
 named_one [] name e h = cc
 named_one (m ∷ machines) name e h =
     let p = and_parts (is_name 64 m) (list_all (is_name 64) machines) e in
-    go (bytes_eq m name) refl (clean_name 64 m p.0) (λ f. named_one machines name p.1 f) h
-  where
-    go : (b : Bool) → bytes_eq m name ≡ b → NoFeed m → (is_one_of machines name ≡ true → NoFeed name) → (b || is_one_of machines name) ≡ true → NoFeed name
-    go true f c later g = subst (λ (l : List ℕ). NoFeed l) ((bytes_eq-Decides m name).0 f) c
-    go false f c later g = later g
+    either_of (bytes_eq m name) _ h (λ f. rw (← ((bytes_eq-Decides m name).0 f)) (clean_name 64 m p.0)) (λ f. named_one machines name p.1 f)
 
-by_tests : (machines : List (List ℕ)) (line name : List ℕ) (b c : Bool) → is_one_of machines (drop 8 line) ≡ c → (if b && c then Some (drop 8 line) else None) ≡ Some name → is_one_of machines name ≡ true
-by_tests machines line name true true e h = ap (λ (l : List ℕ). is_one_of machines l) (sym (same_Some (drop 8 line) name h)) ∙ e
-by_tests machines line name true false e h = cc
-by_tests machines line name false c e h = cc
+by_tests : (machines : List (List ℕ)) (line name : List ℕ) (b c : Bool) → is_one_of machines (drop 8 line) ≡ c
+    → (if b && c then Some (drop 8 line) else None) ≡ Some name → is_one_of machines name ≡ true
+by_tests machines line name true true e h = rw (← (same_Some (drop 8 line) name h)) e
+by_tests machines line name _ _ e h = cc
 
 -- a machine that is named is one of the set
 pub named_is : (machines : List (List ℕ)) (o : Option (List ℕ × List ℕ)) (name : List ℕ) → machine_named machines o ≡ Some name → is_one_of machines name ≡ true
@@ -87,8 +87,8 @@ module _ (set : Set) (well : WellFormed set) where
   clean_structs j = go (slice_get set.structs j) refl
     where
       go : (o : Option Desc) → slice_get set.structs j ≡ o → AreCleanFields (get_or set.structs j no_desc).fields
-      go None e = subst (λ (d : Desc). AreCleanFields d.fields) (sym (get_none set.structs j no_desc e)) tt
-      go (Some d) e = subst (λ (d : Desc). AreCleanFields d.fields) (sym (get_or_from_slice_get set.structs j d no_desc e)) (clean_fields j d (struct_rules set.structs j d) (struct_clean set well j d e))
+      go None e = rw (get_none set.structs j no_desc e) tt
+      go (Some d) e = rw (get_or_from_slice_get set.structs j d no_desc e) (clean_fields j d (struct_rules set.structs j d) (struct_clean set well j d e))
 
   device_clean : (k : ℕ) (d : Device) → slice_get set.devices k ≡ Some d → NoFeed d.desc.name × AreCleanFields d.desc.fields × AreCleanSubs d.subs
   device_clean k d e =
@@ -109,7 +109,8 @@ module _ (set : Set) (well : WellFormed set) where
   machines_named =
       first_true (list_all (is_name 64) set.machines) _ (here parts.Set)
       (or_else_none (failing 1 (set_rules set) (here parts.Set))
-      (or_else (first_answer (struct_fault set.structs) 0 set.structs) (or_else (first_answer (device_fault set) 0 set.devices) (failing 1 (size_rules set) (here parts.Set)))) well).0
+      (or_else (first_answer (struct_fault set.structs) 0 set.structs)
+      (or_else (first_answer (device_fault set) 0 set.devices) (failing 1 (size_rules set) (here parts.Set)))) well).0
 
   pub clean_named : (name : List ℕ) → is_one_of set.machines name ≡ true → NoFeed name
   clean_named name h = named_one set.machines name machines_named h

@@ -1,5 +1,5 @@
 -- Reading line by line, beside the elements of a state by its numbers.
-use Rattle.std.proofs.Common.{◌≡◌, ℕ, ◌+◌, ◌<◌, ◌≤◌, List, [], ◌∷◌, ◌++◌, length, get_or, slice_set, Some, ℤ, pos, Ok, Err, Bool, refl, sym, ap, ◌∙◌, subst, arith, append_assoc}
+use Rattle.std.proofs.Common.{◌≡◌, ℕ, ◌+◌, ◌<◌, ◌≤◌, List, [], ◌∷◌, ◌++◌, length, get_or, slice_set, Some, ℤ, pos, Ok, Err, Bool, refl, sym, ◌∙◌, arith, append_assoc}
 use Rattle.std.proofs.lemmas.List.{get_or-set_same, length-set}
 use Rattle.vms_spec.specs.Layout.{Cell}
 use Rattle.vms_spec.specs.Spelling.{first_line}
@@ -35,7 +35,7 @@ ran_one : (p q : Standing) (x : Element) (put : Put x p q) → Ran p (record { e
 ran_one p q x put =
     record {
       line = omega (arith, put.line);
-      rest = put.rest ∙ sym (append_assoc (said_line (record { element = x; number = put.number })) (10 ∷ []) q.rest);
+      rest = put.rest ∙ sym (append_assoc _ (10 ∷ []) q.rest);
       numbers = put.numbers;
       fine = (put.fine, tt);
     }
@@ -78,38 +78,52 @@ module _ (total : List ℤ → List Element) (start : Standing) (low : ℕ) wher
   pub record Comes (cell : ℕ) (known : List ℕ) (before : List Said) (left : List ℤ → List Element) (r : Read) : Type 0 where
     pub comes : ComesTo cell known before left r
 
-  pub at_left : (cell : ℕ) (p : Standing) (said : List Said) (left left' : List ℤ → List Element) → ((m : List ℤ) → Agrees said m → left m ≡ left' m) → At cell p said left → At cell p said left'
-  at_left cell p said left left' e a =
-      record { meets = λ m. meets_left said (left m) (left' m) m (total m) (a.meets m) (e m); agrees = a.agrees; below = a.below; from = a.from; up = a.up; short = a.short; long = a.long; ran = a.ran }
+  pub at_left : {cell : ℕ} {p : Standing} {said : List Said} {left left' : List ℤ → List Element} → ((m : List ℤ) → Agrees said m → left m ≡ left' m)
+      → At cell p said left → At cell p said left'
+  at_left {said = said} {left = left} {left' = left'} e a = record {
+    meets = λ m. meets_left said (left m) (left' m) m (total m) (a.meets m) (e m);
+    agrees = a.agrees;
+    below = a.below;
+    from = a.from;
+    up = a.up;
+    short = a.short;
+    long = a.long;
+    ran = a.ran;
+  }
 
-  pub at_less : (cell further : ℕ) (p : Standing) (said : List Said) (left : List ℤ → List Element) → cell ≤ further → At cell p said left → At further p said left
-  at_less cell further p said left le a = record { meets = a.meets; agrees = a.agrees; below = below_less cell further said le a.below; from = a.from; up = let up = a.up in omega arith; short = a.short; long = a.long; ran = a.ran }
+  pub at_less : (cell further : ℕ) (p : Standing) (said : List Said) (left : List ℤ → List Element) → cell ≤ further → At cell p said left
+      → At further p said left
+  at_less cell further p said left le a = record {
+    meets = a.meets;
+    agrees = a.agrees;
+    below = below_less cell further said le a.below;
+    from = a.from;
+    up = omega arith;
+    short = a.short;
+    long = a.long;
+    ran = a.ran;
+  }
 
-  pub stay : (cell : ℕ) (p : Standing) (said : List Said) (left : List ℤ → List Element) → At cell p said left → Comes cell [] said left (Ok p)
-  stay cell p said left a = record { comes = record { said = said; stands = a; grows = λ m g. g; knows = tt } }
+  pub stay : (cell further : ℕ) (p : Standing) (said : List Said) (left : List ℤ → List Element) → cell ≤ further → At cell p said left
+      → Comes further [] said left (Ok p)
+  stay cell further p said left le a = record { comes = record { said = said; stands = at_less cell further p said left le a; grows = λ m g. g; knows = tt } }
 
-  pub forget : (cell : ℕ) (known : List ℕ) (before : List Said) (left : List ℤ → List Element) (r : Read) → Comes cell known before left r → Comes cell [] before left r
-  forget cell known before left (Ok q) c = let f = c.comes in record { comes = record { said = f.said; stands = f.stands; grows = f.grows; knows = tt } }
-  forget cell known before left (Err e) c = record { comes = c.comes }
+  pub forget : {cell : ℕ} {known : List ℕ} {before : List Said} {left : List ℤ → List Element} (r : Read) → Comes cell known before left r
+      → Comes cell [] before left r
+  forget (Ok q) c = let f = c.comes in record { comes = record { said = f.said; stands = f.stands; grows = f.grows; knows = tt } }
+  forget (Err e) c = record { comes = c.comes }
 
-  pub comes_less : (cell further : ℕ) (known : List ℕ) (before : List Said) (left : List ℤ → List Element) (r : Read) → cell ≤ further → Comes cell known before left r → Comes further known before left r
-  comes_less cell further known before left (Ok q) le c =
-      let f = c.comes in record { comes = record { said = f.said; stands = at_less cell further q f.said left le f.stands; grows = f.grows; knows = f.knows } }
-  comes_less cell further known before left (Err e) le c = record { comes = c.comes }
-
-  earlier : (cell : ℕ) (known : List ℕ) (before said : List Said) (left : List ℤ → List Element) (r : Read) → ((m : List ℤ) → Agrees said m → Agrees before m)
+  earlier : {cell : ℕ} {known : List ℕ} {before said : List Said} {left : List ℤ → List Element} (r : Read) → ((m : List ℤ) → Agrees said m → Agrees before m)
       → Comes cell known said left r → Comes cell known before left r
-  earlier cell known before said left (Ok q) g c =
-      let f = c.comes in record { comes = record { said = f.said; stands = f.stands; grows = λ m a. g m (f.grows m a); knows = f.knows } }
-  earlier cell known before said left (Err e) g c = record { comes = c.comes }
+  earlier (Ok q) g c = let f = c.comes in record { comes = record { said = f.said; stands = f.stands; grows = λ m a. g m (f.grows m a); knows = f.knows } }
+  earlier (Err e) g c = record { comes = c.comes }
 
-  pub then_comes : (cell further : ℕ) (known known' : List ℕ) (before : List Said) (left left' : List ℤ → List Element) (r : Read) (f : Standing → Read)
+  pub then_comes : {cell further : ℕ} {known known' : List ℕ} {before : List Said} {left left' : List ℤ → List Element} (r : Read) (f : Standing → Read)
       → Comes cell known before left r
       → ((q : Standing) (said : List Said) → At cell q said left → ((m : List ℤ) → Agrees said m → Agrees before m) → AllKnown known said → Comes further known' said left' (f q))
       → Comes further known' before left' (r >>= f)
-  then_comes cell further known known' before left left' (Ok q) f c h =
-      let x = c.comes in earlier further known' before x.said left' (f q) x.grows (h q x.said x.stands x.grows x.knows)
-  then_comes cell further known known' before left left' (Err e) f c h = record { comes = c.comes }
+  then_comes (Ok q) f c h = let x = c.comes in earlier (f q) x.grows (h q x.said x.stands x.grows x.knows)
+  then_comes (Err e) f c h = record { comes = c.comes }
 
   -- ---- one line
 
@@ -123,15 +137,14 @@ module _ (total : List ℤ → List Element) (start : Standing) (low : ℕ) wher
       let inside : x.cell < length p.numbers = omega (arith, a.long, is) in
       record {
         meets = λ m. meets_more said s (left m) m (total m) (a.meets m);
-        agrees = subst (λ (n : List ℤ). Agrees (said ++ s ∷ []) n) (sym put.numbers)
-            (agrees_more said s (slice_set p.numbers x.cell put.number)
-            (agrees_put said x.cell p.numbers put.number (subst (λ (k : ℕ). AreBelow k said) (sym is) a.below) a.agrees)
+        agrees = rw (put.numbers)
+            (agrees_more said s (slice_set p.numbers x.cell put.number) (agrees_put said x.cell p.numbers put.number (rw is a.below) a.agrees)
             (get_or-set_same p.numbers x.cell put.number (pos 0) inside));
         below = below_more (cell + 1) said s (below_less cell (cell + 1) said (omega arith) a.below) (omega (arith, is));
-        from = from_more low said s a.from (let up = a.up in omega (arith, is));
-        up = let up = a.up in omega arith;
+        from = from_more low said s a.from (omega (arith, is));
+        up = omega arith;
         short = short_more said s a.short put.short;
-        long = ap (λ (n : List ℤ). length n) put.numbers ∙ length-set p.numbers x.cell put.number ∙ a.long;
+        long = rw (put.numbers, length-set) a.long;
         ran = ran_more start p q said (s ∷ []) a.ran (ran_one p q x put);
       }
 
@@ -144,14 +157,16 @@ module _ (total : List ℤ → List Element) (start : Standing) (low : ℕ) wher
           said = said ++ s ∷ [];
           stands = after_line cell x p q said left is room a put;
           grows = λ m g. agrees_front said (s ∷ []) m g;
-          knows = (subst (λ (k : ℕ). Knows (said ++ s ∷ []) k) is (record { known = λ m n g h. agrees_last said s m g ∙ sym (agrees_last said s n h) }), tt);
+          knows = (rw (← is) (record { known = λ m n g h. agrees_last said s m g ∙ sym (agrees_last said s n h) }), tt);
         };
       }
   by_read cell x p said left (Err e) is room a not =
       record { comes = record { cell = cell; place = p; said = said; element = x; after = left; stood = a; line = not.line; wrong = not.bad } }
 
-  pub line_comes : (steps : List (ℕ × ℕ)) (path : List ℕ) (present : Bool) (cell : ℕ) (c : Cell) (p : Standing) (said : List Said) (left : List ℤ → List Element)
+  pub line_comes : (steps : List (ℕ × ℕ)) (path : List ℕ) (present : Bool) (cell : ℕ) (c : Cell) (p : Standing) (said : List Said)
+      → (left : List ℤ → List Element)
       → cell < length start.numbers → At cell p said (λ m. spot steps path present cell c ∷ left m)
       → Comes (cell + 1) (cell ∷ []) said left (put_line path (cell_line present cell c) p (first_line p.rest))
   line_comes steps path present cell c p said left room a =
-      by_read cell (spot steps path present cell c) p said left (put_line path (cell_line present cell c) p (first_line p.rest)) refl room a (one_line steps path present cell c p)
+      by_read cell (spot steps path present cell c) p said left (put_line path (cell_line present cell c) p (first_line p.rest)) refl room a
+      (one_line steps path present cell c p)

@@ -29,7 +29,8 @@ feed_append (x ∷ a) b p q = (p.0, feed_append a b p.1 q)
 pub line_first : (line rest : List ℕ) → NoFeed line → first_line (line ++ 10 ∷ rest) ≡ Some (line, rest)
 line_first [] rest h = refl
 line_first (b ∷ line) rest h =
-    ap (λ (t : Bool). if t then Some ([], line ++ 10 ∷ rest) else longer_line b (first_line (line ++ 10 ∷ rest))) h.0 ∙ ap (longer_line b) (line_first line rest h.1)
+    ap (λ (t : Bool). if t then Some ([], line ++ 10 ∷ rest) else longer_line b (first_line (line ++ 10 ∷ rest))) h.0 ∙ ap (longer_line b)
+    (line_first line rest h.1)
 
 glyph_feed : (d : ℕ) → (digit_glyph false d == 10) ≡ false
 glyph_feed d = go (nat_lt d 10)
@@ -65,12 +66,12 @@ IsClean (ForSub s) = NoFeed s.desc.name
 IsClean (ForNumber x) = NoFeed x.name
 
 by_bytes : (a b : List ℕ) (t : Bool) → bytes_eq a b ≡ t → if_not t reasons.Form ≡ None → NoFeed b → NoFeed a
-by_bytes a b true e f h = subst (λ (l : List ℕ). NoFeed l) (sym ((bytes_eq-Decides a b).0 e)) h
+by_bytes a b true e f h = rw ((bytes_eq-Decides a b).0 e) h
 by_bytes a b false e f h = cc
 
 by_either : (a b c : List ℕ) (t u : Bool) → bytes_eq a b ≡ t → bytes_eq a c ≡ u → if_not (t || u) reasons.Form ≡ None → NoFeed b → NoFeed c → NoFeed a
-by_either a b c true u e f g p q = subst (λ (l : List ℕ). NoFeed l) (sym ((bytes_eq-Decides a b).0 e)) p
-by_either a b c false true e f g p q = subst (λ (l : List ℕ). NoFeed l) (sym ((bytes_eq-Decides a c).0 f)) q
+by_either a b c true u e f g p q = rw ((bytes_eq-Decides a b).0 e) p
+by_either a b c false true e f g p q = rw ((bytes_eq-Decides a c).0 f) q
 by_either a b c false false e f g p q = cc
 
 by_spelled : (cell : Cell) (present : Bool) (text : List ℕ) (o : Option ℤ) → number_spelled text ≡ o → spelled_reason cell present o ≡ None → NoFeed text
@@ -79,25 +80,26 @@ by_spelled cell present text (Some z) e f = by_range (in_range cell.kind z) refl
   where
     by_range : (b : Bool) → in_range cell.kind z ≡ b
         → Rattle.vms_spec.specs.Lists.or_else (if_not b reasons.Number)
-        (Rattle.vms_spec.specs.Lists.or_else (if_not (Rattle.std.proofs.Common.not (exceeds cell.capacities z)) reasons.Count) (if_not (present || same_number z cell.default) reasons.Absent)) ≡ None
+        (Rattle.vms_spec.specs.Lists.or_else (if_not (Rattle.std.proofs.Common.not (exceeds cell.capacities z)) reasons.Count)
+        (if_not (present || same_number z cell.default) reasons.Absent)) ≡ None
         → NoFeed text
-    by_range true r f = subst (λ (l : List ℕ). NoFeed l) (sym (spelled_holds text z (short cell.kind z r) e)) (signed_feed z)
+    by_range true r f = rw (spelled_holds text z (short cell.kind z r) e) (signed_feed z)
     by_range false r f = cc
 
 by_what : (what : What) (present : Bool) (text : List ℕ) → element_reason what present text ≡ None → NoFeed text
 by_what (Number cell) present text e = by_spelled cell present text (number_spelled text) refl e
-by_what (Constant kind z) present text e = cc
-by_what (Filler n) present text e = cc
-by_what (Rule holds) present text e = cc
+by_what _ present text e = cc
 
 by_front : (x : Element) (a : List ℕ) (b : Bool) → begins_with (x.name ++ codes " = ") a ≡ b
     → (if b then element_reason x.what x.present (drop (length (x.name ++ codes " = ")) a) else Some reasons.Form) ≡ None → NoFeed x.name → NoFeed a
 by_front x a true e f h =
-    subst (λ (l : List ℕ). NoFeed l) (sym (begun (x.name ++ codes " = ") a e))
-    (feed_append (x.name ++ codes " = ") (drop (length (x.name ++ codes " = ")) a) (feed_append x.name (codes " = ") h (refl, (refl, (refl, tt)))) (by_what x.what x.present _ f))
+    rw (begun (x.name ++ codes " = ") a e)
+    (feed_append (x.name ++ codes " = ") (drop (length (x.name ++ codes " = ")) a) (feed_append x.name (codes " = ") h (refl, (refl, (refl, tt))))
+    (by_what x.what x.present _ f))
 by_front x a false e f h = cc
 
-pub section_feed : (name : List ℕ) (instance version : ℕ) → NoFeed name → NoFeed (codes "section " ++ (name ++ (codes " " ++ (decimal instance ++ (codes " v" ++ decimal version)))))
+pub section_feed : (name : List ℕ) (instance version : ℕ) → NoFeed name
+    → NoFeed (codes "section " ++ (name ++ (codes " " ++ (decimal instance ++ (codes " v" ++ decimal version)))))
 section_feed name instance version h =
     feed_append (codes "section ") _ (refl, (refl, (refl, (refl, (refl, (refl, (refl, (refl, tt))))))))
     (feed_append name _ h (refl, feed_append (decimal instance) _ (decimal_feed instance) (refl, (refl, decimal_feed version))))

@@ -1,5 +1,5 @@
 -- The number of lines that a text of a set may have.
-use Rattle.std.proofs.Common.{◌⊎◌, inl, inr, ℕ, suc, ◌+◌, ◌≤◌, Bool, true, false, List, [], ◌∷◌, length, sum_by, Option, Some, None, ℤ, ap, subst, arith, if◌then◌else◌}
+use Rattle.std.proofs.Common.{inl, inr, ℕ, suc, ◌+◌, ◌≤◌, Bool, true, false, List, [], ◌∷◌, length, sum_by, Option, Some, None, ℤ, ap, subst, arith, if◌then◌else◌, ⊎_elim}
 use Rattle.std.proofs.lemmas.List.{length-append, length-map}
 use Rattle.std.proofs.lemmas.List.Sums.{sum_by-cons}
 use Rattle.vms_spec.specs.declared.ValuesReason.{ValuesReason}
@@ -19,41 +19,60 @@ use Rattle.vms_values_laws.proofs.Stated.{read_holds}
 
 few_printed : (xs : List Element) → length (printed xs) ≤ length (cells_of xs)
 few_printed [] = omega arith
-few_printed (x ∷ xs) = go (view x xs) (few_printed xs)
+few_printed (x ∷ xs) =
+    ⊎_elim (λ (v : IsNumberOf x xs). omega (arith, ap length v.lines, ap length v.cells, either x.counted, few_printed xs))
+    (λ (v : IsNoNumber x xs). omega (arith, ap length v.lines, ap length v.cells, few_printed xs))
+    (view x xs)
   where
-    either : (b : Bool) → length (printed xs) ≤ length (cells_of xs) → length (if b then x ∷ printed xs else printed xs) ≤ suc (length (cells_of xs))
-    either true h = omega arith
-    either false h = omega arith
-
-    go : IsNumberOf x xs ⊎ IsNoNumber x xs → length (printed xs) ≤ length (cells_of xs) → length (printed (x ∷ xs)) ≤ length (cells_of (x ∷ xs))
-    go (inl v) h = omega (arith, ap (λ (l : List Element). length l) v.lines, ap (λ (l : List Cell). length l) v.cells, either x.counted h)
-    go (inr v) h = omega (arith, ap (λ (l : List Element). length l) v.lines, ap (λ (l : List Cell). length l) v.cells)
+    either : (b : Bool) → length (if b then x ∷ printed xs else printed xs) ≤ suc (length (printed xs))
+    either true = omega arith
+    either false = omega arith
 
 few_numbers : (set : Set) (d : Desc) (n : List ℤ) (at : ℕ) → length (number_entries set d n at) ≤ length (desc_cells (struct_cells set) d)
 few_numbers set d n at =
     let xs = elements_in set d d.version n at in
-    omega (arith, length-map (printed xs) (λ x. OfNumber x n), few_printed xs, ap (λ (l : List Cell). length l) (walks set d d.version d.version n n at at).cells_are)
+    omega (arith, length-map (printed xs) (λ x. OfNumber x n), few_printed xs, ap length (walks set d d.version d.version n n at at).cells_are)
 
-few_subs : (set : Set) (d : Device) (image : Image) (j at : ℕ) (subs : List Sub) (came : List (Option ℕ)) → length (subs_entries set d image j at subs came) ≤ length subs + length (sub_cells set subs)
-few_subs set d image j at [] came = omega arith
-few_subs set d image j at (s ∷ subs) [] = omega arith
+few_subs : (set : Set) (d : Device) (image : Image) (j at : ℕ) (subs : List Sub) (came : List (Option ℕ))
+    → length (subs_entries set d image j at subs came) ≤ length subs + length (sub_cells set subs)
 few_subs set d image j at (s ∷ subs) (o ∷ came) =
     let own = desc_cells (struct_cells set) s.desc in
     let numbers = number_entries set s.desc image.numbers at in
     let others = subs_entries set d image (suc j) (at + length own) subs came in
-    omega (arith, length-append numbers others, few_numbers set s.desc image.numbers at, few_subs set d image (suc j) (at + length own) subs came, length-append own (sub_cells set subs))
+    omega (
+      arith,
+      length-append numbers others,
+      few_numbers set s.desc image.numbers at,
+      few_subs set d image (suc j)
+          (at + length own) subs came,
+      length-append own (sub_cells set subs),
+    )
+few_subs set d image j at _ _ = omega arith
 
 few_device : (set : Set) (d : Device) (image : Image) → length (device_entries set d image) ≤ device_lines set d
 few_device set d image =
     let numbers = number_entries set d.desc image.numbers 0 in
     let others = subs_entries set d image 0 (own_cells set d) d.subs image.came in
-    omega (arith, length-append numbers others, few_numbers set d.desc image.numbers 0, few_subs set d image 0 (own_cells set d) d.subs image.came, length-append (desc_cells (struct_cells set) d.desc) (sub_cells set d.subs))
+    omega (
+      arith,
+      length-append numbers others,
+      few_numbers set d.desc image.numbers 0,
+      few_subs set d image 0
+          (own_cells set d) d.subs image.came,
+      length-append (desc_cells (struct_cells set) d.desc) (sub_cells set d.subs),
+    )
 
 few_devices : (set : Set) (devices : List Device) (images : List Image) → length (devices_entries set devices images) ≤ sum_by (device_lines set) devices
-few_devices set [] images = omega arith
-few_devices set (d ∷ devices) [] = omega arith
 few_devices set (d ∷ devices) (image ∷ images) =
-    omega (arith, length-append (device_entries set d image) (devices_entries set devices images), few_device set d image, few_devices set devices images, sum_by-cons (device_lines set) d devices)
+    omega (
+      arith,
+      length-append (device_entries set d image)
+          (devices_entries set devices images),
+      few_device set d image,
+      few_devices set devices images,
+      sum_by-cons (device_lines set) d devices,
+    )
+few_devices set _ _ = omega arith
 
 few_entries : (set : Set) (machine : Option (List ℕ)) (images : List Image) → length (entries set machine images) ≤ most_lines set
 few_entries set None images = omega (arith, few_devices set set.devices images)
@@ -61,10 +80,10 @@ few_entries set (Some name) images = omega (arith, few_devices set set.devices i
 
 by_refused : (set : Set) (text : List ℕ) (line : ℕ) (reason : ValuesReason) → Refused set text line reason → line ≤ suc (most_lines set)
 by_refused set text line reason (inl x) =
-    omega (arith, x.number, ap (λ (l : List Entry). length l) x.state, length-append x.before x.after, few_entries set x.machine x.images)
+    omega (arith, x.number, ap length x.state, length-append x.before x.after, few_entries set x.machine x.images)
 by_refused set text line reason (inr x) =
-    omega (arith, x.number, ap (λ (l : List Entry). length l) x.state, length-append x.before (x.entry ∷ x.after), few_entries set x.machine x.images)
+    omega (arith, x.number, ap length x.state, length-append x.before (x.entry ∷ x.after), few_entries set x.machine x.images)
 
 pub line_holds : LineLaw
 line_holds set text line reason fit e =
-    by_refused set text line reason (subst (λ (v : Rattle.vms_spec.specs.ValuesReading.ValuesRead). Reads set text v) e (read_holds set text fit))
+    by_refused set text line reason (rw e at (read_holds set text fit))

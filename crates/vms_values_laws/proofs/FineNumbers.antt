@@ -29,9 +29,7 @@ begins_itself (b ∷ front) text = let e = eq-eqb b b refl in let f = begins_its
 by_front : (front line text : List ℕ) (what : What) (present : Bool) → line ≡ front ++ text
     → (if begins_with front line then element_reason what present (drop (length front) line) else Some reasons.Form) ≡ element_reason what present text
 by_front front line text what present e =
-    ap (λ (l : List ℕ). if begins_with front l then element_reason what present (drop (length front) l) else Some reasons.Form) e
-    ∙ ap (λ (b : Bool). if b then element_reason what present (drop (length front) (front ++ text)) else Some reasons.Form) (begins_itself front text)
-    ∙ ap (λ (l : List ℕ). element_reason what present l) (drop-append_seam front text)
+    rw (e, begins_itself front text, drop-append_seam front text) refl
 
 -- the line of a number is judged by this number
 pub line_number : (x : Element) (n : List ℤ) (cell : Cell) → x.what ≡ Number cell → IsShort (get_or n x.cell (pos 0))
@@ -39,8 +37,7 @@ pub line_number : (x : Element) (n : List ℤ) (cell : Cell) → x.what ≡ Numb
 line_number x n cell e short =
     let z = get_or n x.cell (pos 0) in
     by_front (x.name ++ codes " = ") (number_line n x) (signed_decimal z) x.what x.present (sym (append_assoc x.name (codes " = ") (signed_decimal z)))
-    ∙ ap (λ (w : What). element_reason w x.present (signed_decimal z)) e
-    ∙ ap (λ (o : Option ℤ). spelled_reason cell x.present o) (number_holds z short)
+    ∙ rw (e, number_holds z short) refl
 
 -- ---- the three reasons
 
@@ -49,16 +46,20 @@ pub record IsFitting (cell : Cell) (present : Bool) (z : ℤ) : Type 0 where
   pub fits : FitsCell cell z
   pub absent : present ≡ false → z ≡ cell.default
 
-by_tests : (cell : Cell) (present : Bool) (z : ℤ) (a b c : Bool) → in_range cell.kind z ≡ a → exceeds cell.capacities z ≡ b → (present || same_number z cell.default) ≡ c
+by_tests : (cell : Cell) (present : Bool) (z : ℤ) (a b c : Bool) → in_range cell.kind z ≡ a → exceeds cell.capacities z ≡ b
+    → (present || same_number z cell.default) ≡ c
     → or_else (if_not a reasons.Number) (or_else (if_not (not b) reasons.Count) (if_not c reasons.Absent)) ≡ None → IsFitting cell present z
-by_tests cell present z false b c e f g h = cc
-by_tests cell present z true true c e f g h = cc
-by_tests cell present z true false false e f g h = cc
 by_tests cell present z true false true e f g h =
-    record { fits = (ranges cell.kind z e, within_all cell.capacities z f); absent = λ p. same_number_is z cell.default (or_second present (same_number z cell.default) g p) }
+    record {
+      fits = (ranges cell.kind z e, within_all cell.capacities z f);
+      absent = λ p. same_number_is z cell.default
+          (or_second present (same_number z cell.default) g p);
+    }
+by_tests cell present z _ _ _ e f g h = cc
 
 pub reason_fits : (cell : Cell) (present : Bool) (z : ℤ) → number_reason cell present z ≡ None → IsFitting cell present z
-reason_fits cell present z h = by_tests cell present z (in_range cell.kind z) (exceeds cell.capacities z) (present || same_number z cell.default) refl refl refl h
+reason_fits cell present z h =
+    by_tests cell present z (in_range cell.kind z) (exceeds cell.capacities z) (present || same_number z cell.default) refl refl refl h
 
 pub fits_reason : (cell : Cell) (present : Bool) (z : ℤ) → IsFitting cell present z → number_reason cell present z ≡ None
 fits_reason cell present z f =
@@ -68,4 +69,4 @@ fits_reason cell present z f =
   where
     here : (p : Bool) → (p ≡ false → z ≡ cell.default) → if_not (p || same_number z cell.default) reasons.Absent ≡ None
     here true h = refl
-    here false h = ap (λ (b : Bool). if_not b reasons.Absent) (is_same z cell.default (h refl))
+    here false h = rw (is_same z cell.default (h refl)) refl

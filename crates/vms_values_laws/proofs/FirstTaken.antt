@@ -21,10 +21,17 @@ pub record TakenOf (set : Set) (text : List ℕ) (machine : Option (List ℕ)) (
   pub texts : text ≡ text_of (lines_of taken) ++ rest
 
 -- up to a bad line
-pub taken_before : (set : Set) (text : List ℕ) (v : ValuesRead) (b : OneBad set text v) → TakenOf set text b.first.machine b.first.taken b.first.rest (Some b.reason)
+pub taken_before : (set : Set) (text : List ℕ) (v : ValuesRead) (b : OneBad set text v)
+    → TakenOf set text b.first.machine b.first.taken b.first.rest (Some b.reason)
 taken_before set text v b =
     let f = b.first in
-    record { named = f.named; follows = λ images shaped. f.follows images shaped (all_short set set.devices images shaped); fine = f.moved.fine; texts = f.moved.texts }
+    record {
+      named = f.named;
+      follows = λ images shaped. f.follows images shaped
+          (all_short set set.devices images shaped);
+      fine = f.moved.fine;
+      texts = f.moved.texts;
+    }
 
 -- or all
 pub taken_all : (set : Set) (text : List ℕ) (v : ValuesRead) (n : NoneBad set text v) → TakenOf set text n.machine n.first.taken n.all.rest None

@@ -24,10 +24,10 @@ short_defaults cells fit c = go (nat_lt c (length cells)) refl
         let l : c < length cells = ltb-true c (length cells) lt in
         let f = fit c l in
         let cell = get_or cells c no_cell in
-        subst (λ (z : ℤ). IsShort z) (sym (get_or-map (λ c. c.default) cells c no_cell (pos 0) l)) (short cell.kind cell.default (ranged cell.kind cell.default f.0))
+        rw (get_or-map (λ c. c.default) cells c no_cell (pos 0) l) (short cell.kind cell.default (ranged cell.kind cell.default f.0))
     go false ge =
         let l : length cells ≤ c = ltb-false c (length cells) ge in
-        subst (λ (z : ℤ). IsShort z) (sym (get_or-eq_default (map (λ c. c.default) cells) (pos 0) (omega (arith, length-map cells (λ c. c.default))))) (omega arith)
+        rw (get_or-eq_default (map (λ c. c.default) cells) (pos 0) {n = c} (omega (arith, length-map cells (λ c. c.default)))) (omega arith)
 
 subs_from : (set : Set) (d : Device) (subs : List Sub) → ((j : ℕ) (s : Sub) → slice_get subs j ≡ Some s → IsSound s.desc) → AreSoundSubs set d subs
 subs_from set d [] h = tt

@@ -1,5 +1,5 @@
 -- Two states with the same lines, and with defaults where there is no line, are the same.
-use Rattle.std.proofs.Common.{◌≡◌, ℕ, suc, ◌+◌, ◌<◌, Bool, true, false, ◌||◌, ◌==◌, List, [], ◌∷◌, ◌++◌, length, get_or, map, Option, Some, None, ℤ, pos, refl, sym, ap, ◌∙◌, subst, arith, codes}
+use Rattle.std.proofs.Common.{◌≡◌, ℕ, suc, ◌+◌, ◌<◌, Bool, true, false, ◌||◌, ◌==◌, List, [], ◌∷◌, ◌++◌, length, get_or, map, Option, Some, None, ℤ, pos, refl, sym, ap, ◌∙◌, arith, codes}
 use Rattle.std.specs.List.{AllByRecursion}
 use Rattle.std.proofs.lemmas.Bool.{eqb-true}
 use Rattle.vms_spec.specs.Sets.{Sub, Device, Set}
@@ -13,46 +13,32 @@ use Rattle.vms_elements.specs.Entries.{Entry, OfMachine, OfSection, OfSub, OfNum
 use Rattle.vms_elements.specs.Reading.{is_of_cell, has_line, IsShaped, AreShaped, AreUnsaid, AllUnsaid, IsAtVersion, AreAtVersions}
 use Rattle.vms_values_laws.specs.Taken.{Demand, ForMachine, ForSection, ForSub, ForNumber, demand_of, Taken, lines_of, Follows, Along}
 use Rattle.vms_values_laws.proofs.Numbers.{AreShort, of_numbers, cancel, number_same}
+use Rattle.vms_spec.proofs.ListLaws.{either_of}
 use Rattle.vms_values_laws.proofs.DevicesCome.{AllShort}
 use Rattle.std.proofs.lemmas.List.{ext_get_or}
 
 -- the same is required, with the same line, one after the other
 abbrev pub Match : List Entry → List Entry → Type 0
 Match [] [] = Unit {0}
-Match [] (f ∷ fs) = ⊥
-Match (e ∷ es) [] = ⊥
 Match (e ∷ es) (f ∷ fs) = (demand_of e ≡ demand_of f) × (entry_line e ≡ entry_line f) × Match es fs
-
-first_of : List ℕ → List (List ℕ) → List ℕ
-first_of none [] = none
-first_of none (x ∷ xs) = x
-
-rest_of : List (List ℕ) → List (List ℕ)
-rest_of [] = []
-rest_of (x ∷ xs) = xs
-
-same_lines : (a b : List ℕ) (xs ys : List (List ℕ)) → a ∷ xs ≡ b ∷ ys → (a ≡ b) × (xs ≡ ys)
-unfolding first_of rest_of
-same_lines a b xs ys e = (ap (first_of []) e, ap rest_of e)
+Match _ _ = ⊥
 
 -- what was taken along one state, and was demanded of the other, which has its lines
-pub matched : (taken : List Taken) (es fs : List Entry) → Follows taken (λ l. l ≡ []) es → Along taken (λ l. l ≡ []) es → Follows taken (λ l. l ≡ []) fs → lines_of taken ≡ map entry_line fs → Match es fs
-matched [] [] [] f a g l = tt
-matched [] (e ∷ es) fs f a g l = absurd (cc)
-matched [] [] (x ∷ fs) f a g l = absurd (cc)
+pub matched : (taken : List Taken) (es fs : List Entry) → Follows taken (λ l. l ≡ []) es → Along taken (λ l. l ≡ []) es → Follows taken (λ l. l ≡ []) fs
+    → lines_of taken ≡ map entry_line fs → Match es fs
+matched [] es fs f a g l = rw (f, g) tt
 matched (t ∷ taken) [] fs f a g l = absurd f
 matched (t ∷ taken) (e ∷ es) [] f a g l = absurd g
 matched (t ∷ taken) (e ∷ es) (x ∷ fs) f a g l =
-    let p = same_lines t.line (entry_line x) (lines_of taken) (map entry_line fs) l in
-    (f.0 ∙ sym g.0, a.0 ∙ p.0, matched taken es fs (f.1 a.0) a.1 (g.1 (sym p.0)) p.1)
+    let line : t.line ≡ entry_line x = cc in
+    let lines : lines_of taken ≡ map entry_line fs = cc in
+    (f.0 ∙ sym g.0, a.0 ∙ line, matched taken es fs (f.1 a.0) a.1 (g.1 (sym line)) lines)
 
 -- ---- sections
 
 abbrev for_section : Demand → Bool
-for_section (ForMachine name) = false
 for_section (ForSection d) = true
-for_section (ForSub s) = false
-for_section (ForNumber x) = false
+for_section _ = false
 
 -- none of them is a section
 abbrev IsInside : Entry → Type 0
@@ -67,9 +53,7 @@ BeginsNew [] = Unit {0}
 BeginsNew (e ∷ es) = for_section (demand_of e) ≡ true
 
 other : (e f : Entry) → for_section (demand_of e) ≡ false → for_section (demand_of f) ≡ true → demand_of e ≡ demand_of f → ⊥
-other e f a b c = no (sym a ∙ ap for_section c ∙ b) where
-  no : false ≡ true → ⊥
-  no e = cc
+other e f a b c = let g = sym a ∙ ap for_section c ∙ b in cc
 
 record Parted (es fs es' fs' : List Entry) : Type 0 where
   inside : Match es es'
@@ -77,11 +61,10 @@ record Parted (es fs es' fs' : List Entry) : Type 0 where
 
 parted : (es fs es' fs' : List Entry) → AreInside es → AreInside es' → BeginsNew fs → BeginsNew fs' → Match (es ++ fs) (es' ++ fs') → Parted es fs es' fs'
 parted [] fs [] fs' i i' n n' m = record { inside = tt; rest = m }
-parted [] [] (e' ∷ es') fs' i i' n n' m = absurd m
 parted [] (f ∷ fs) (e' ∷ es') fs' i i' n n' m = absurd (other e' f i'.0 n (sym m.0))
-parted (e ∷ es) fs [] [] i i' n n' m = absurd m
 parted (e ∷ es) fs [] (f' ∷ fs') i i' n n' m = absurd (other e f' i.0 n' m.0)
 parted (e ∷ es) fs (e' ∷ es') fs' i i' n n' m = let p = parted es fs es' fs' i.1 i'.1 n n' m.2 in record { inside = (m.0, m.1, p.inside); rest = p.rest }
+parted _ _ _ _ i i' n n' m = absurd m
 
 -- the entries of a device after its section's
 abbrev pub inside_of : Set → Device → Image → List Entry
@@ -93,97 +76,79 @@ module _ (P : Entry → Type 0) where
   all_both [] fs a b = b
   all_both (e ∷ es) fs a b = (a.0, all_both es fs a.1 b)
 
-  module _ (set : Set) (d : Device) (image : Image) (number : (x : Element) → P (OfNumber x image.numbers)) (sub : (j at : ℕ) (s : Sub) (o : Option ℕ) → IsAtVersion s o → P (OfSub d image j s at o)) where
+  module _ (set : Set) (d : Device) (image : Image) (number : (x : Element) → P (OfNumber x image.numbers))
+      (sub : (j at : ℕ) (s : Sub) (o : Option ℕ) → IsAtVersion s o → P (OfSub d image j s at o)) where
     numbers_all : (xs : List Element) → AllByRecursion P (of_numbers image.numbers xs)
     numbers_all [] = tt
     numbers_all (x ∷ xs) = (number x, numbers_all xs)
 
     subs_all : (j at : ℕ) (subs : List Sub) (came : List (Option ℕ)) → AreAtVersions subs came → AllByRecursion P (subs_entries set d image j at subs came)
-    subs_all j at [] came h = tt
-    subs_all j at (s ∷ subs) [] h = tt
     subs_all j at (s ∷ subs) (o ∷ came) h =
-        let next = at + length (desc_cells (struct_cells set) s.desc) in
-        (sub j at s o h.0, all_both (number_entries set s.desc image.numbers at) (subs_entries set d image (suc j) next subs came) (numbers_all (printed (elements_in set s.desc s.desc.version image.numbers at))) (subs_all (suc j) next subs came h.1))
+        let next = at + length (desc_cells (struct_cells set) s.desc) in (
+          sub j at s o h.0,
+          all_both (number_entries set s.desc image.numbers at) _
+              (numbers_all (printed (elements_in set s.desc s.desc.version image.numbers at))) (subs_all (suc j) next subs came h.1),
+        )
+    subs_all j at _ _ h = tt
 
     device_all : AreAtVersions d.subs image.came → AllByRecursion P (inside_of set d image)
     device_all h =
-        all_both (number_entries set d.desc image.numbers 0) (subs_entries set d image 0 (own_cells set d) d.subs image.came) (numbers_all (printed (elements_in set d.desc d.desc.version image.numbers 0)))
+        all_both (number_entries set d.desc image.numbers 0) _ (numbers_all (printed (elements_in set d.desc d.desc.version image.numbers 0)))
         (subs_all 0 (own_cells set d) d.subs image.came h)
 
 -- ---- numbers
 
 abbrev of_demand : ℕ → Demand → Bool
-of_demand c (ForMachine name) = false
-of_demand c (ForSection d) = false
-of_demand c (ForSub s) = false
 of_demand c (ForNumber x) = x.cell == c
+of_demand c _ = false
 
 by_demand : (c : ℕ) (e : Entry) → is_of_cell c e ≡ of_demand c (demand_of e)
 by_demand c (OfMachine name) = refl
-by_demand c (OfSection d image) = refl
-by_demand c (OfSub d image j s at o) = refl
-by_demand c (OfNumber x n) = refl
+by_demand c _ = refl
 
 line_same : (es fs : List Entry) → Match es fs → (c : ℕ) → has_line es c ≡ has_line fs c
 line_same [] [] m c = refl
-line_same [] (f ∷ fs) m c = absurd m
-line_same (e ∷ es) [] m c = absurd m
 line_same (e ∷ es) (f ∷ fs) m c =
-    ap (λ (b : Bool). b || has_line es c) (by_demand c e ∙ ap (of_demand c) m.0 ∙ sym (by_demand c f)) ∙ ap (λ (b : Bool). is_of_cell c f || b) (line_same es fs m.2 c)
+    rw (by_demand c e ∙ ap (of_demand c) m.0 ∙ sym (by_demand c f), line_same es fs m.2 c) refl
+line_same _ _ m c = absurd m
 
 -- the numbers of entries are those of this state
 abbrev IsOf : List ℤ → Entry → Type 0
-IsOf n (OfMachine name) = Unit {0}
-IsOf n (OfSection d image) = Unit {0}
-IsOf n (OfSub d image j s at o) = Unit {0}
 IsOf n (OfNumber x m) = m ≡ n
+IsOf n _ = Unit {0}
 
 abbrev AreOf : List ℤ → List Entry → Type 0
 AreOf n = AllByRecursion (IsOf n)
 
-element_same : (x y : Element) → ForNumber x ≡ ForNumber y → x ≡ y
-element_same x y e = cc
-
 module _ (n m : List ℤ) (short : AreShort n) (short' : AreShort m) where
-  one_number : (x : Element) (k : List ℤ) (f : Entry) (c : ℕ) → k ≡ n → IsOf m f → ForNumber x ≡ demand_of f → entry_line (OfNumber x k) ≡ entry_line f → x.cell ≡ c → get_or n c (pos 0) ≡ get_or m c (pos 0)
-  one_number x k (OfMachine name) c is of demand line at = absurd (cc)
-  one_number x k (OfSection d image) c is of demand line at = absurd (cc)
-  one_number x k (OfSub d image j s place o) c is of demand line at = absurd (cc)
+  one_number : (x : Element) (k : List ℤ) (f : Entry) (c : ℕ) → k ≡ n → IsOf m f → ForNumber x ≡ demand_of f → entry_line (OfNumber x k) ≡ entry_line f
+      → x.cell ≡ c
+      → get_or n c (pos 0) ≡ get_or m c (pos 0)
   one_number x k (OfNumber y l) c is of demand line at =
-      let same : x ≡ y = element_same x y demand in
-      let both : entry_line (OfNumber x n) ≡ entry_line (OfNumber x m) =
-      ap (λ (l : List ℤ). entry_line (OfNumber x l)) (sym is) ∙ line ∙ ap (λ (z : Element). entry_line (OfNumber z l)) (sym same) ∙ ap (λ (l : List ℤ). entry_line (OfNumber x l)) of in
-      subst (λ (i : ℕ). get_or n i (pos 0) ≡ get_or m i (pos 0)) at (number_same x.name (get_or n x.cell (pos 0)) (get_or m x.cell (pos 0)) (short x.cell) (short' x.cell) both)
+      let same : y ≡ x = cc in
+      rw (← at) (number_same x.name _ _ (short x.cell) (short' x.cell) (rw (is, of, same) at line))
+  one_number x k _ c is of demand line at = absurd (cc)
 
   agree : (es fs : List Entry) → AreOf n es → AreOf m fs → Match es fs → (c : ℕ) → has_line es c ≡ true → get_or n c (pos 0) ≡ get_or m c (pos 0)
   agree [] fs a b h c e = cc
   agree (x ∷ es) [] a b h c e = absurd h
-  agree (OfMachine name ∷ es) (f ∷ fs) a b h c e = agree es fs a.1 b.1 h.2 c e
-  agree (OfSection d image ∷ es) (f ∷ fs) a b h c e = agree es fs a.1 b.1 h.2 c e
-  agree (OfSub d image j s at o ∷ es) (f ∷ fs) a b h c e = agree es fs a.1 b.1 h.2 c e
-  agree (OfNumber x k ∷ es) (f ∷ fs) a b h c e = by_cell (x.cell == c) refl e (λ g. agree es fs a.1 b.1 h.2 c g)
-    where
-      by_cell : (t : Bool) → (x.cell == c) ≡ t → (t || has_line es c) ≡ true → (has_line es c ≡ true → get_or n c (pos 0) ≡ get_or m c (pos 0)) → get_or n c (pos 0) ≡ get_or m c (pos 0)
-      by_cell true t g more = one_number x k f c a.0 b.0 h.0 h.1 (eqb-true x.cell c t)
-      by_cell false t g more = more g
+  agree (OfNumber x k ∷ es) (f ∷ fs) a b h c e =
+      either_of (x.cell == c) _ e (λ t. one_number x k f c a.0 b.0 h.0 h.1 (eqb-true x.cell c t)) (λ g. agree es fs a.1 b.1 h.2 c g)
+  agree (_ ∷ es) (f ∷ fs) a b h c e = agree es fs a.1 b.1 h.2 c e
 
 -- ---- subsections
 
 abbrev came_with : Entry → List (Option ℕ) → List (Option ℕ)
-came_with (OfMachine name) came = came
-came_with (OfSection d image) came = came
 came_with (OfSub d image j s at o) came = o ∷ came
-came_with (OfNumber x n) came = came
+came_with _ came = came
 
 abbrev came_of : List Entry → List (Option ℕ)
 came_of [] = []
 came_of (e ∷ es) = came_with e (came_of es)
 
 abbrev IsAt : Entry → Type 0
-IsAt (OfMachine name) = Unit {0}
-IsAt (OfSection d image) = Unit {0}
 IsAt (OfSub d image j s at o) = IsAtVersion s o
-IsAt (OfNumber x n) = Unit {0}
+IsAt _ = Unit {0}
 
 abbrev AreAt : List Entry → Type 0
 AreAt = AllByRecursion IsAt
@@ -192,59 +157,40 @@ numbers_came : (n : List ℤ) (xs : List Element) (es : List Entry) → came_of 
 numbers_came n [] es = refl
 numbers_came n (x ∷ xs) es = numbers_came n xs es
 
-sub_same : (s t : Sub) → ForSub s ≡ ForSub t → s ≡ t
-sub_same s t e = cc
-
 not_both : (s : Sub) (v : ℕ) → sub_line s None ≡ sub_line s (Some v) → ⊥
-not_both s v e = no (cancel (codes " ") (version_text None) (version_text (Some v)) (cancel s.desc.name (codes " " ++ version_text None) (codes " " ++ version_text (Some v)) (cancel (codes "sub ") _ _ e)))
-  where
-    no : version_text None ≡ version_text (Some v) → ⊥
-    no e = cc
+not_both s v e =
+    let f = cancel (codes " ") (version_text None) (version_text (Some v))
+    (cancel s.desc.name (codes " " ++ version_text None) (codes " " ++ version_text (Some v)) (cancel (codes "sub ") _ _ e)) in
+    cc
 
 one_came : (s t : Sub) (o p : Option ℕ) → s ≡ t → IsAtVersion s o → IsAtVersion t p → sub_line s o ≡ sub_line t p → o ≡ p
 one_came s t None None same a b e = refl
-one_came s t (Some v) (Some w) same a b e = ap (λ (v : ℕ). Some v) (a ∙ ap (λ (s : Sub). s.desc.version) same ∙ sym b)
-one_came s t None (Some w) same a b e = absurd (not_both s w (e ∙ ap (λ (t : Sub). sub_line t (Some w)) (sym same)))
-one_came s t (Some v) None same a b e = absurd (not_both t v (sym e ∙ ap (λ (s : Sub). sub_line s (Some v)) same))
+one_came s t (Some v) (Some w) same a b e = rw (a, b, same) refl
+one_came s t None (Some w) same a b e = absurd (not_both t w (rw same at e))
+one_came s t (Some v) None same a b e = absurd (not_both t v (sym (rw same at e)))
 
-came_one : (e f : Entry) (came : List (Option ℕ)) → IsAt e → IsAt f → demand_of e ≡ demand_of f → entry_line e ≡ entry_line f → came_with e came ≡ came_with f came
-came_one (OfMachine name) (OfSub d image j s at o) came a b h l = absurd (cc)
-came_one (OfMachine name) (OfMachine name') came a b h l = refl
-came_one (OfMachine name) (OfSection d image) came a b h l = refl
-came_one (OfMachine name) (OfNumber x n) came a b h l = refl
-came_one (OfSection d image) (OfSub d' image' j s at o) came a b h l = absurd (cc)
-came_one (OfSection d image) (OfMachine name') came a b h l = refl
-came_one (OfSection d image) (OfSection d' image') came a b h l = refl
-came_one (OfSection d image) (OfNumber x n) came a b h l = refl
-came_one (OfNumber x n) (OfSub d image j s at o) came a b h l = absurd (cc)
-came_one (OfNumber x n) (OfMachine name') came a b h l = refl
-came_one (OfNumber x n) (OfSection d image) came a b h l = refl
-came_one (OfNumber x n) (OfNumber y m) came a b h l = refl
-came_one (OfSub d image j s at o) (OfMachine name) came a b h l = absurd (cc)
-came_one (OfSub d image j s at o) (OfSection d' image') came a b h l = absurd (cc)
-came_one (OfSub d image j s at o) (OfNumber x n) came a b h l = absurd (cc)
-came_one (OfSub d image j s at o) (OfSub d' image' j' t at' p) came a b h l = ap (λ (o : Option ℕ). o ∷ came) (one_came s t o p (sub_same s t h) a b l)
+came_one : (e f : Entry) (came : List (Option ℕ)) → IsAt e → IsAt f → demand_of e ≡ demand_of f → entry_line e ≡ entry_line f
+    → came_with e came ≡ came_with f came
+came_one (OfSub d image j s at o) (OfSub d' image' j' t at' p) came a b h l = let same : s ≡ t = cc in rw (one_came s t o p same a b l) refl
+came_one (OfSub d image j s at o) _ came a b h l = absurd (cc)
+came_one _ (OfSub d image j s at o) came a b h l = absurd (cc)
+came_one _ _ came a b h l = refl
 
 came_same : (es fs : List Entry) → AreAt es → AreAt fs → Match es fs → came_of es ≡ came_of fs
 came_same [] [] a b m = refl
-came_same [] (f ∷ fs) a b m = absurd m
-came_same (e ∷ es) [] a b m = absurd m
 came_same (e ∷ es) (f ∷ fs) a b m = ap (came_with e) (came_same es fs a.1 b.1 m.2) ∙ came_one e f (came_of fs) a.0 b.0 m.0 m.1
+came_same _ _ a b m = absurd m
 
 -- ---- a device
 
 module _ (set : Set) (d : Device) (image : Image) where
   subs_came : (j at : ℕ) (subs : List Sub) (came : List (Option ℕ)) → length came ≡ length subs → came_of (subs_entries set d image j at subs came) ≡ came
   subs_came j at [] [] long = refl
-  subs_came j at [] (o ∷ came) long = absurd (omega (arith, long))
-  subs_came j at (s ∷ subs) [] long = absurd (omega (arith, long))
   subs_came j at (s ∷ subs) (o ∷ came) long =
       let next = at + length (desc_cells (struct_cells set) s.desc) in
       ap (λ (l : List (Option ℕ)). o ∷ l)
-      (numbers_came image.numbers (printed (elements_in set s.desc s.desc.version image.numbers at)) (subs_entries set d image (suc j) next subs came) ∙ subs_came (suc j) next subs came (omega (arith, long)))
-
-  abbrev own_elements : List Element
-  own_elements = printed (elements_in set d.desc d.desc.version image.numbers 0)
+      (numbers_came image.numbers (printed (elements_in set s.desc s.desc.version image.numbers at)) _ ∙ subs_came (suc j) next subs came (omega (arith, long)))
+  subs_came j at _ _ long = absurd (omega (arith, long))
 
   whole_inside : AreAtVersions d.subs image.came → AreInside (inside_of set d image)
   whole_inside = device_all IsInside set d image (λ x. refl) (λ j at s o h. refl)
@@ -256,45 +202,46 @@ module _ (set : Set) (d : Device) (image : Image) where
   whole_at = device_all IsAt set d image (λ x. tt) (λ j at s o h. h)
 
   whole_came : length image.came ≡ length d.subs → came_of (inside_of set d image) ≡ image.came
-  whole_came long = numbers_came image.numbers own_elements (subs_entries set d image 0 (own_cells set d) d.subs image.came) ∙ subs_came 0 (own_cells set d) d.subs image.came long
-
-three_same : (v w : ℕ) (a b : List (Option ℕ)) (n m : List ℤ) → v ≡ w → a ≡ b → n ≡ m
-    → (let i : Image = record { version = v; came = a; numbers = n } in let j : Image = record { version = w; came = b; numbers = m } in i ≡ j)
-three_same v w a b n m e f g = rw (e, f, g) refl
+  whole_came long =
+      numbers_came image.numbers (printed (elements_in set d.desc d.desc.version image.numbers 0)) _ ∙ subs_came 0 (own_cells set d) d.subs image.came long
 
 same_image : (i j : Image) → i.version ≡ j.version → i.came ≡ j.came → i.numbers ≡ j.numbers → i ≡ j
-same_image i j e f g = three_same i.version j.version i.came j.came i.numbers j.numbers e f g
+same_image i j e f g = let same : i ≡ record { version = j.version; came = j.came; numbers = j.numbers } = rw (← e, ← f, ← g) refl in same
 
-device_same : (set : Set) (d : Device) (image image' : Image) → IsShaped set d image → IsShaped set d image' → AreShort image.numbers → AreShort image'.numbers → AreUnsaid set d image → AreUnsaid set d image'
-    → Match (inside_of set d image) (inside_of set d image') → image ≡ image'
+device_same : (set : Set) (d : Device) (image image' : Image) → IsShaped set d image → IsShaped set d image' → AreShort image.numbers → AreShort image'.numbers
+    → AreUnsaid set d image → AreUnsaid set d image' → Match (inside_of set d image) (inside_of set d image') → image ≡ image'
 device_same set d image image' a b short short' u u' m =
-    let came : image.came ≡ image'.came =
-    sym (whole_came set d image a.subs) ∙ came_same (inside_of set d image) (inside_of set d image') (whole_at set d image a.versions) (whole_at set d image' b.versions) m ∙ whole_came set d image' b.subs in
+    let es = inside_of set d image in
+    let fs = inside_of set d image' in
     let long : length image.numbers ≡ length image'.numbers = a.cells ∙ sym b.cells in
-    same_image image image' (a.version ∙ sym b.version) came
-    (ext_get_or (pos 0) image.numbers image'.numbers long (λ c lt. by_line c lt (omega (arith, long)) (has_line (inside_of set d image) c) refl))
+    same_image image image' (a.version ∙ sym b.version)
+    (sym (whole_came set d image a.subs) ∙ came_same es fs (whole_at set d image a.versions) (whole_at set d image' b.versions) m
+    ∙ whole_came set d image' b.subs)
+    (ext_get_or (pos 0) image.numbers image'.numbers long (λ c lt. by_line c lt (omega (arith, long)) (has_line es c) refl))
   where
-    by_line : (c : ℕ) → c < length image.numbers → c < length image'.numbers → (t : Bool) → has_line (inside_of set d image) c ≡ t → get_or image.numbers c (pos 0) ≡ get_or image'.numbers c (pos 0)
-    by_line c lt lt' true t = agree image.numbers image'.numbers short short' (inside_of set d image) (inside_of set d image') (whole_of set d image a.versions) (whole_of set d image' b.versions) m c t
+    by_line : (c : ℕ) → c < length image.numbers → c < length image'.numbers → (t : Bool) → has_line (inside_of set d image) c ≡ t
+        → get_or image.numbers c (pos 0) ≡ get_or image'.numbers c (pos 0)
+    by_line c lt lt' true t = agree image.numbers image'.numbers short short' _ _ (whole_of set d image a.versions) (whole_of set d image' b.versions) m c t
     by_line c lt lt' false t = u c lt t ∙ sym (u' c lt' (sym (line_same (inside_of set d image) (inside_of set d image') m c) ∙ t))
 
 -- ---- all of them
 
 begins_new : (set : Set) (devices : List Device) (images : List Image) → BeginsNew (devices_entries set devices images)
-begins_new set [] images = tt
-begins_new set (d ∷ devices) [] = tt
 begins_new set (d ∷ devices) (image ∷ images) = refl
+begins_new set _ _ = tt
 
-pub devices_same : (set : Set) (devices : List Device) (images images' : List Image) → AreShaped set devices images → AreShaped set devices images' → AllShort images → AllShort images'
-    → AllUnsaid set devices images → AllUnsaid set devices images' → Match (devices_entries set devices images) (devices_entries set devices images') → images ≡ images'
+pub devices_same : (set : Set) (devices : List Device) (images images' : List Image) → AreShaped set devices images → AreShaped set devices images'
+    → AllShort images
+    → AllShort images' → AllUnsaid set devices images → AllUnsaid set devices images'
+    → Match (devices_entries set devices images) (devices_entries set devices images')
+    → images ≡ images'
 devices_same set [] [] [] a b s s' u u' m = refl
 devices_same set [] (i ∷ images) images' a b s s' u u' m = absurd a
 devices_same set [] [] (i ∷ images') a b s s' u u' m = absurd b
 devices_same set (d ∷ devices) [] images' a b s s' u u' m = absurd a
 devices_same set (d ∷ devices) (i ∷ images) [] a b s s' u u' m = absurd b
 devices_same set (d ∷ devices) (i ∷ images) (j ∷ images') a b s s' u u' m =
-    let p = parted (inside_of set d i) (devices_entries set devices images) (inside_of set d j) (devices_entries set devices images') (whole_inside set d i a.0.versions) (whole_inside set d j b.0.versions)
-    (begins_new set devices images) (begins_new set devices images') m.2 in
-    let first : i ≡ j = device_same set d i j a.0 b.0 s.0 s'.0 u.0 u'.0 p.inside in
-    let rest : images ≡ images' = devices_same set devices images images' a.1 b.1 s.1 s'.1 u.1 u'.1 p.rest in
-    rw (first, rest) refl
+    let p = parted (inside_of set d i) (devices_entries set devices images) (inside_of set d j) (devices_entries set devices images')
+    (whole_inside set d i a.0.versions)
+    (whole_inside set d j b.0.versions) (begins_new set devices images) (begins_new set devices images') m.2 in
+    rw (device_same set d i j a.0 b.0 s.0 s'.0 u.0 u'.0 p.inside, devices_same set devices images images' a.1 b.1 s.1 s'.1 u.1 u'.1 p.rest) refl

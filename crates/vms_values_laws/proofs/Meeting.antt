@@ -27,23 +27,17 @@ pub record Same (taken : List Taken) (before : List Entry) (o o' : Option Values
 
 both_end : (o o' : Option ValuesReason) (rest : List ℕ) (es : List Entry) → Ends o rest es → Ends o' rest es → o ≡ o'
 both_end None None rest es f g = refl
-both_end None (Some r) rest es f g = no (sym (ap (λ (l : List Entry). front_reason l rest) f.0 ∙ ap (λ (l : List ℕ). front_reason [] l) f.1) ∙ g) where
-  no : None ≡ Some r → None ≡ Some r
-  no e = cc
-both_end (Some r) None rest es f g = no (sym (ap (λ (l : List Entry). front_reason l rest) g.0 ∙ ap (λ (l : List ℕ). front_reason [] l) g.1) ∙ f) where
-  no : None ≡ Some r → Some r ≡ None
-  no e = cc
+both_end None (Some r) rest es f g = rw (f.0, f.1) at g
+both_end (Some r) None rest es f g = sym (rw (g.0, g.1) at f)
 both_end (Some r) (Some r') rest es f g = sym f ∙ g
 
 -- a fine line doesn't end them
-not_ended : (o : Option ValuesReason) (e : Entry) (es : List Entry) (line rest : List ℕ) → NoFeed line → reason_for (demand_of e) (Some (line, [])) ≡ None → Ends o (line ++ 10 ∷ rest) (e ∷ es) → ⊥
-not_ended None e es line rest feed fine h = no h.0 where
-  no : e ∷ es ≡ [] → ⊥
-  no f = cc
+not_ended : (o : Option ValuesReason) (e : Entry) (es : List Entry) (line rest : List ℕ) → NoFeed line → reason_for (demand_of e) (Some (line, [])) ≡ None
+    → Ends o (line ++ 10 ∷ rest) (e ∷ es) → ⊥
+not_ended None e es line rest feed fine h = let f = h.0 in cc
 not_ended (Some r) e es line rest feed fine h =
-    no (sym fine ∙ sym (reason_same e (Some (line, rest))) ∙ ap (λ (o : Option (List ℕ × List ℕ)). wanted_reason e o) (sym (line_first line rest feed)) ∙ h) where
-      no : None ≡ Some r → ⊥
-      no f = cc
+    let f : None ≡ Some r = sym fine ∙ sym (reason_same e (Some (line, rest))) ∙ rw (line_first line rest feed) at h in
+    cc
 
 two_lines : (a b r r' : List ℕ) → NoFeed a → NoFeed b → a ++ 10 ∷ r ≡ b ++ 10 ∷ r' → (a ≡ b) × (r ≡ r')
 two_lines a b r r' p q e = some_pair_parts a b r r' (sym (line_first a r p) ∙ ap first_line e ∙ line_first b r' q)
@@ -51,25 +45,28 @@ two_lines a b r r' p q e = some_pair_parts a b r r' (sym (line_first a r p) ∙ 
 fine_entry : (e : Entry) → line_reason e (entry_line e) ≡ None → reason_for (demand_of e) (Some (entry_line e, [])) ≡ None
 fine_entry e h = sym (reason_same e (Some (entry_line e, []))) ∙ h
 
-pub meet : (taken : List Taken) (before after : List Entry) (rest rest' : List ℕ) (o o' : Option ValuesReason) → Follows taken (λ es. Ends o rest es) (before ++ after) → AreClean (before ++ after)
-    → AreFineTaken taken → AreFine before → text_of (lines_of taken) ++ rest ≡ text_of (map entry_line before) ++ rest' → Ends o' rest' after → Same taken before o o'
+pub meet : (taken : List Taken) (before after : List Entry) (rest rest' : List ℕ) (o o' : Option ValuesReason)
+    → Follows taken (λ es. Ends o rest es) (before ++ after) → AreClean (before ++ after)
+    → AreFineTaken taken → AreFine before → text_of (lines_of taken) ++ rest ≡ text_of (map entry_line before) ++ rest' → Ends o' rest' after
+    → Same taken before o o'
 meet [] [] after rest rest' o o' f clean fine fine' e ends =
-    record { long = refl; lines = refl; reason = both_end o o' rest after f (subst (λ (l : List ℕ). Ends o' l after) (sym e) ends) }
+    record { long = refl; lines = refl; reason = both_end o o' rest after f (rw e ends) }
 meet [] (x ∷ before) after rest rest' o o' f clean fine fine' e ends =
     let feed = fine_feed (demand_of x) (entry_line x) clean.0 (fine_entry x fine'.0) in
-    let is : rest ≡ entry_line x ++ 10 ∷ (text_of (map entry_line before) ++ rest') = e ∙ append_assoc (entry_line x) (10 ∷ text_of (map entry_line before)) rest' in
-    absurd (not_ended o x (before ++ after) (entry_line x) (text_of (map entry_line before) ++ rest') feed (fine_entry x fine'.0) (subst (λ (l : List ℕ). Ends o l (x ∷ before ++ after)) is f))
+    let is : rest ≡ entry_line x ++ 10 ∷ (text_of (map entry_line before) ++ rest') =
+    e ∙ append_assoc (entry_line x) (10 ∷ text_of (map entry_line before)) rest' in
+    absurd (not_ended o x (before ++ after) (entry_line x) (text_of (map entry_line before) ++ rest') feed (fine_entry x fine'.0) (rw (is) at f))
 meet (t ∷ taken) [] [] rest rest' o o' f clean fine fine' e ends = absurd f
 meet (t ∷ taken) [] (x ∷ after) rest rest' o o' f clean fine fine' e ends =
-    let same : reason_for (demand_of x) (Some (t.line, [])) ≡ None = ap (λ (d : Demand). reason_for d (Some (t.line, []))) f.0 ∙ fine.0 in
+    let same : reason_for (demand_of x) (Some (t.line, [])) ≡ None = rw (f.0) fine.0 in
     let feed = fine_feed (demand_of x) t.line clean.0 same in
     let is : rest' ≡ t.line ++ 10 ∷ (text_of (lines_of taken) ++ rest) = sym e ∙ append_assoc t.line (10 ∷ text_of (lines_of taken)) rest in
-    absurd (not_ended o' x after t.line (text_of (lines_of taken) ++ rest) feed same (subst (λ (l : List ℕ). Ends o' l (x ∷ after)) is ends))
+    absurd (not_ended o' x after t.line (text_of (lines_of taken) ++ rest) feed same (rw (is) at ends))
 meet (t ∷ taken) (x ∷ before) after rest rest' o o' f clean fine fine' e ends =
-    let same : reason_for (demand_of x) (Some (t.line, [])) ≡ None = ap (λ (d : Demand). reason_for d (Some (t.line, []))) f.0 ∙ fine.0 in
+    let same : reason_for (demand_of x) (Some (t.line, [])) ≡ None = rw (f.0) fine.0 in
     let feed = fine_feed (demand_of x) t.line clean.0 same in
     let feed' = fine_feed (demand_of x) (entry_line x) clean.0 (fine_entry x fine'.0) in
-    let both = two_lines t.line (entry_line x) (text_of (lines_of taken) ++ rest) (text_of (map entry_line before) ++ rest') feed feed'
+    let both = two_lines t.line (entry_line x) _ _ feed feed'
     (sym (append_assoc t.line (10 ∷ text_of (lines_of taken)) rest) ∙ e ∙ append_assoc (entry_line x) (10 ∷ text_of (map entry_line before)) rest') in
     let more = meet taken before after rest rest' o o' (f.1 (sym both.0)) clean.1 fine.1 fine'.1 both.1 ends in
-    record { long = ap suc more.long; lines = ap (λ (l : List ℕ). l ∷ lines_of taken) both.0 ∙ ap (λ (l : List (List ℕ)). entry_line x ∷ l) more.lines; reason = more.reason }
+    record { long = ap suc more.long; lines = rw (both.0, more.lines) refl; reason = more.reason }

@@ -15,6 +15,9 @@ use Rattle.vms_elements.specs.Lines.{text_of, printed}
 use Rattle.vms_elements.specs.Entries.{Entry, OfNumber, number_entries}
 use Rattle.vms_values_laws.specs.Said.{Said, said_line, AreFineLines, Agrees, Meets, AreBelow, AreFrom, put_all, Ran}
 use Rattle.vms_values_laws.specs.Taken.{ForNumber, reason_for, Taken, lines_of, AreFineTaken, Follows, Along, Begins, Moved}
+use Rattle.vms_elements.specs.Reading.{has_line}
+use Rattle.vms_values_laws.proofs.Following.{follows_then, along_then}
+use Rattle.vms_values_laws.proofs.Unsaid.{has_said, said_both, lines_both, lines_said}
 use Rattle.vms_values_laws.proofs.SaidLaws.{ran_none, meets_all}
 use Rattle.vms_values_laws.proofs.Coming.{AreShortSaid, ComesTo, At}
 use Rattle.vms_values_laws.proofs.Wrapped.{under, wrapped}
@@ -47,28 +50,29 @@ cancel (x ∷ front) a b e = cancel front a b (tail (x ∷ front ++ a) (x ∷ fr
   tail : (xs ys : List ℕ) → xs ≡ ys → rest_of xs ≡ rest_of ys
   tail xs ys e = ap rest_of e
 
-pub number_same : (name : List ℕ) (y z : ℤ) → IsShort y → IsShort z → name ++ (codes " = " ++ signed_decimal y) ≡ name ++ (codes " = " ++ signed_decimal z) → y ≡ z
+pub number_same : (name : List ℕ) (y z : ℤ) → IsShort y → IsShort z → name ++ (codes " = " ++ signed_decimal y) ≡ name ++ (codes " = " ++ signed_decimal z)
+    → y ≡ z
 number_same name y z p q e =
     let same = cancel (codes " = ") (signed_decimal y) (signed_decimal z) (cancel name (codes " = " ++ signed_decimal y) (codes " = " ++ signed_decimal z) e) in
     some_same y z (sym (number_holds y p) ∙ ap number_spelled same ∙ number_holds z q)
 
-pub follows_meets : (said : List Said) (left : List Element) (n : List ℤ) (xs : List Element) (more : List Entry) (P : List Entry → Type 0) → AreShort n → AreShortSaid said
+pub follows_meets : (said : List Said) (left : List Element) (n : List ℤ) (xs : List Element) (more : List Entry) (P : List Entry → Type 0) → AreShort n
+    → AreShortSaid said
     → Meets said left n xs → P (of_numbers n left ++ more) → Follows (all_taken said) P (of_numbers n xs ++ more)
-follows_meets [] left n xs more P short said-short h p = subst (λ (l : List Element). P (of_numbers n l ++ more)) (sym h) p
+follows_meets [] left n xs more P short said-short h p = rw h p
 follows_meets (s ∷ said) left n [] more P short said-short h p = absurd h
 follows_meets (s ∷ said) left n (x ∷ xs) more P short said-short h p = (
   ap ForNumber h.0,
   λ e. follows_meets said left n xs more P short said-short.1
-      (h.1 (number_same s.element.name (get_or n s.element.cell (pos 0)) s.number (short s.element.cell) said-short.0
-      (subst (λ (y : Element). y.name ++ (codes " = " ++ signed_decimal (get_or n y.cell (pos 0))) ≡ said_line s) h.0 e))) p,
+      (h.1 (number_same s.element.name _ s.number (short s.element.cell) said-short.0 (rw (h.0) at e))) p,
 )
 
 pub along_meets : (said : List Said) (left : List Element) (n : List ℤ) (xs : List Element) (more : List Entry) (P : List Entry → Type 0) → Agrees said n
     → Meets said left n xs → P (of_numbers n left ++ more) → Along (all_taken said) P (of_numbers n xs ++ more)
-along_meets [] left n xs more P a h p = subst (λ (l : List Element). P (of_numbers n l ++ more)) (sym h) p
+along_meets [] left n xs more P a h p = rw h p
 along_meets (s ∷ said) left n [] more P a h p = absurd h
 along_meets (s ∷ said) left n (x ∷ xs) more P a h p = (
-  ap (λ (y : Element). y.name ++ (codes " = " ++ signed_decimal (get_or n y.cell (pos 0)))) h.0 ∙ ap (λ (z : ℤ). s.element.name ++ (codes " = " ++ signed_decimal z)) a.0,
+  rw (h.0, a.0) refl,
   along_meets said left n xs more P a.1 (h.1 a.0) p,
 )
 
@@ -84,7 +88,7 @@ ran_moved : (p q : Standing) (said : List Said) → Ran p said q → Moved p.lin
 ran_moved p q said r =
     record {
       further = omega (arith, r.line, length-map said (λ (s : Said). taken_of s));
-      texts = r.rest ∙ ap (λ (l : List (List ℕ)). text_of l ++ q.rest) (sym (lines_taken said));
+      texts = rw (lines_taken said) r.rest;
       fine = fine_taken said r.fine;
     }
 
@@ -113,10 +117,38 @@ pub record NumbersStop (set : Set) (d : Desc) (at : ℕ) (p : Standing) (e : Bad
   pub place : Standing
   pub element : Element
   pub told : Told at p.numbers said place.numbers
-  pub follows : (n : List ℤ) (more : List Entry) → AreShort n → Follows (all_taken said) (λ es. Begins (ForNumber element) es) (number_entries set d n at ++ more)
-  pub along : (n : List ℤ) (more : List Entry) → Agrees said n → Along (all_taken said) (λ es. Begins (ForNumber element) es) (number_entries set d n at ++ more)
+  pub follows : (n : List ℤ) (more : List Entry) → AreShort n
+      → Follows (all_taken said) (λ es. Begins (ForNumber element) es) (number_entries set d n at ++ more)
+  pub along : (n : List ℤ) (more : List Entry) → Agrees said n
+      → Along (all_taken said) (λ es. Begins (ForNumber element) es) (number_entries set d n at ++ more)
   pub moved : Moved p.line p.rest (all_taken said) e.line place.rest
   pub wrong : reason_for (ForNumber element) (first_line place.rest) ≡ Some e.reason
+
+-- what comes after the numbers
+module _ {set : Set} {d : Desc} {at : ℕ} {p q : Standing} (n : NumbersRead set d at p q) where
+  pub follows_on : (taken : List Taken) (P : List Entry → Type 0) (numbers : List ℤ) (es : List Entry) → AreShort numbers → Follows taken P es
+      → Follows (all_taken n.said ++ taken) P (number_entries set d numbers at ++ es)
+  follows_on taken P numbers es short h = follows_then (all_taken n.said) taken (λ l. l ≡ es) P _ (n.follows numbers es short) (λ l is. rw is h)
+
+  pub along_on : (taken : List Taken) (P : List Entry → Type 0) (numbers : List ℤ) (es : List Entry) → Agrees n.said numbers → Along taken P es
+      → Along (all_taken n.said ++ taken) P (number_entries set d numbers at ++ es)
+  along_on taken P numbers es agrees h = along_then (all_taken n.said) taken (λ l. l ≡ es) P _ (n.along numbers es agrees) (λ l is. rw is h)
+
+  pub heard_on : (numbers : List ℤ) (es : List Entry) (said : List Said) (c : ℕ) → Agrees n.said numbers → has_line es c ≡ has_said said c
+      → has_line (number_entries set d numbers at ++ es) c ≡ has_said (n.said ++ said) c
+  heard_on numbers es said c agrees h =
+      rw (lines_both (number_entries set d numbers at), n.heard numbers agrees, lines_said numbers n.said c, said_both n.said said c, h) refl
+
+  pub line_on : (numbers : List ℤ) → Agrees n.said numbers → q.line ≡ p.line + length (printed (elements_in set d d.version numbers at))
+  line_on numbers agrees =
+      omega (
+        arith,
+        n.moved.further,
+        length-map n.said (λ (s : Said). taken_of s),
+        ap length (n.heard numbers agrees),
+        length-map n.said
+            (λ (s : Said). s.element),
+      )
 
 abbrev pub NumbersCome : Set → Desc → ℕ → Standing → Read → Type 0
 NumbersCome set d at p (Ok q) = NumbersRead set d at p q
@@ -143,33 +175,27 @@ module _ (set : Set) (d : Desc) (at : ℕ) (p : Standing) where
         said = f.said;
         told = told_of end q f.said (λ m. []) f.stands;
         below = f.stands.below;
-        heard = λ n agrees.
-            sym (under_none (printed (desc_elements (shapes set) d d.version n at))) ∙ meets_all f.said [] n (total n) agrees (f.stands.meets n) ∙ append-nil (map (λ (s : Said). s.element) f.said);
-        follows = λ n more short.
-            subst (λ (l : List Entry). Follows (all_taken f.said) (λ es. es ≡ more) (l ++ more)) (entries_are n)
+        heard = λ n agrees. sym (under_none _) ∙ meets_all f.said [] n (total n) agrees (f.stands.meets n) ∙ append-nil (map (λ (s : Said). s.element) f.said);
+        follows = λ n more short. rw (← (entries_are n))
             (follows_meets f.said [] n (total n) more (λ es. es ≡ more) short f.stands.short (f.stands.meets n) refl);
-        along = λ n more agrees.
-            subst (λ (l : List Entry). Along (all_taken f.said) (λ es. es ≡ more) (l ++ more)) (entries_are n)
-            (along_meets f.said [] n (total n) more (λ es. es ≡ more) agrees (f.stands.meets n) refl);
+        along = λ n more agrees. rw (← (entries_are n)) (along_meets f.said [] n (total n) more (λ es. es ≡ more) agrees (f.stands.meets n) refl);
         moved = ran_moved p q f.said f.stands.ran;
       }
   from_comes (Err e) s =
       let a = s.stood in
       let left : List ℤ → List Element = λ m. s.element ∷ s.after m in
+      let next : (n : List ℤ) (more : List Entry) → Begins (ForNumber s.element) (of_numbers n (left n) ++ more) = λ n more.
+      record { first = OfNumber s.element n; others = _; is = refl; demands = refl } in
       record {
         said = s.said;
         place = s.place;
         element = s.element;
         told = told_of s.cell s.place s.said left a;
-        follows = λ n more short.
-            subst (λ (l : List Entry). Follows (all_taken s.said) (λ es. Begins (ForNumber s.element) es) (l ++ more)) (entries_are n)
-            (follows_meets s.said (left n) n (total n) more (λ es. Begins (ForNumber s.element) es) short a.short (a.meets n)
-            (record { first = OfNumber s.element n; others = of_numbers n (s.after n) ++ more; is = refl; demands = refl }));
-        along = λ n more agrees.
-            subst (λ (l : List Entry). Along (all_taken s.said) (λ es. Begins (ForNumber s.element) es) (l ++ more)) (entries_are n)
-            (along_meets s.said (left n) n (total n) more (λ es. Begins (ForNumber s.element) es) agrees (a.meets n)
-            (record { first = OfNumber s.element n; others = of_numbers n (s.after n) ++ more; is = refl; demands = refl }));
-        moved = subst (λ (line : ℕ). Moved p.line p.rest (all_taken s.said) line s.place.rest) (sym s.line) (ran_moved p s.place s.said a.ran);
+        follows = λ n more short. rw (← (entries_are n))
+            (follows_meets s.said (left n) n (total n) more (Begins (ForNumber s.element)) short a.short (a.meets n) (next n more));
+        along = λ n more agrees. rw (← (entries_are n))
+            (along_meets s.said (left n) n (total n) more (Begins (ForNumber s.element)) agrees (a.meets n) (next n more));
+        moved = rw (s.line) (ran_moved p s.place s.said a.ran);
         wrong = s.wrong;
       }
 

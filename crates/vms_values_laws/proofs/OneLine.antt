@@ -54,16 +54,11 @@ short I32 (pos n) e = omega (arith, leb-true n 0x7fff_ffff e)
 short I64 (pos n) e = omega (arith, leb-true n 0x7fff_ffff_ffff_ffff e)
 short Truth (pos n) e = omega (arith, leb-true n 1 (and_parts (nat_le 0 n) (nat_le n 1) e).1)
 short Timer (pos n) e = omega (arith, leb-true n 0xffff_ffff_ffff_ffff (and_parts (nat_le 0 n) (nat_le n 0xffff_ffff_ffff_ffff) e).1)
-short U8 (negsuc n) e = cc
-short U16 (negsuc n) e = cc
-short U32 (negsuc n) e = cc
-short U64 (negsuc n) e = cc
 short I8 (negsuc n) e = omega (arith, leb-true n 0x7f (and_parts (nat_le n 0x7f) true e).0)
 short I16 (negsuc n) e = omega (arith, leb-true n 0x7fff (and_parts (nat_le n 0x7fff) true e).0)
 short I32 (negsuc n) e = omega (arith, leb-true n 0x7fff_ffff (and_parts (nat_le n 0x7fff_ffff) true e).0)
 short I64 (negsuc n) e = omega (arith, leb-true n 0x7fff_ffff_ffff_ffff (and_parts (nat_le n 0x7fff_ffff_ffff_ffff) true e).0)
-short Truth (negsuc n) e = cc
-short Timer (negsuc n) e = cc
+short _ (negsuc n) e = cc
 
 module _ (steps : List (ℕ × ℕ)) (path : List ℕ) (present : Bool) (at : ℕ) (c : Cell) (p : Standing) where
   abbrev here : Element
@@ -82,7 +77,8 @@ module _ (steps : List (ℕ × ℕ)) (path : List ℕ) (present : Bool) (at : �
     wanted : (o : Option ℤ) → number_spelled text ≡ o → wanted_reason (OfNumber here []) (Some (line, rest)) ≡ spelled_reason c present o
     wanted o e = rw (begins, e) refl
 
-    refused : (z : ℤ) (reason : Rattle.vms_spec.specs.declared.ValuesReason.ValuesReason) → number_spelled text ≡ Some z → number_reason c present z ≡ Some reason
+    refused : (z : ℤ) (reason : Rattle.vms_spec.specs.declared.ValuesReason.ValuesReason) → number_spelled text ≡ Some z
+        → number_reason c present z ≡ Some reason
         → NotPut here p (Some (line, rest)) (record { line = p.line; reason = reason })
     refused z reason e f = record { line = refl; bad = wanted (Some z) e ∙ f }
 
@@ -91,7 +87,7 @@ module _ (steps : List (ℕ × ℕ)) (path : List ℕ) (present : Bool) (at : �
     taken z e range f =
         let is : text ≡ signed_decimal z = spelled_holds text z (short c.kind z range) e in
         let whole : line ≡ path ++ (codes " = " ++ signed_decimal z) =
-        begun front line begins ∙ ap (λ (l : List ℕ). front ++ l) is ∙ append_assoc path (codes " = ") (signed_decimal z) in
+        begun front line begins ∙ ap (λ (l : List ℕ). front ++ l) is ∙ append_assoc path (codes " = ") _ in
         record {
           number = z;
           rest = splits ∙ ap (λ (l : List ℕ). l ++ 10 ∷ rest) whole;
@@ -102,7 +98,8 @@ module _ (steps : List (ℕ × ℕ)) (path : List ℕ) (present : Bool) (at : �
         }
 
     -- by the three tests on a number
-    judged : (z : ℤ) → number_spelled text ≡ Some z → (a b d : Bool) → in_range c.kind z ≡ a → exceeds c.capacities z ≡ b → (present || same_number z c.default) ≡ d
+    judged : (z : ℤ) → number_spelled text ≡ Some z → (a b d : Bool) → in_range c.kind z ≡ a → exceeds c.capacities z ≡ b
+        → (present || same_number z c.default) ≡ d
         → Stepped here p (Some (line, rest)) (put_number its p rest (Some z))
     judged z e false b d ra eb pd = rw ra (refused z reasons.Number e (rw ra refl))
     judged z e true true d ra eb pd = rw (ra, eb) (refused z reasons.Count e (rw (ra, eb) refl))
@@ -113,7 +110,8 @@ module _ (steps : List (ℕ × ℕ)) (path : List ℕ) (present : Bool) (at : �
     spelled None e = record { line = refl; bad = wanted None e }
     spelled (Some z) e = judged z e (in_range c.kind z) (exceeds c.capacities z) (present || same_number z c.default) refl refl refl
 
-  by_front : (line rest : List ℕ) → p.rest ≡ line ++ 10 ∷ rest → (b : Bool) → begins_with front line ≡ b → Stepped here p (Some (line, rest)) (put_line path its p (Some (line, rest)))
+  by_front : (line rest : List ℕ) → p.rest ≡ line ++ 10 ∷ rest → (b : Bool) → begins_with front line ≡ b
+      → Stepped here p (Some (line, rest)) (put_line path its p (Some (line, rest)))
   by_front line rest splits true e =
       let stepped = spelled line rest splits e (number_spelled (drop (length front) line)) refl in
       rw e stepped

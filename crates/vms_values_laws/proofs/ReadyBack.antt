@@ -1,5 +1,5 @@
 -- Ready images are what their text says, and no part of them is bad.
-use Rattle.std.proofs.Common.{◌≡◌, ℕ, suc, ◌+◌, ◌<◌, ◌≤◌, Bool, true, false, nat_lt, List, ◌∷◌, ◌++◌, length, get_or, Option, Some, None, ℤ, pos, refl, sym, ap, ◌∙◌, subst, arith, codes, []}
+use Rattle.std.proofs.Common.{◌≡◌, ℕ, suc, ◌+◌, ◌<◌, ◌≤◌, Bool, true, false, ◌||◌, nat_lt, List, ◌∷◌, ◌++◌, length, get_or, Option, Some, None, ℤ, pos, refl, sym, ap, ◌∙◌, subst, arith, codes, []}
 use Rattle.std.proofs.lemmas.Bool.{ltb-true, ltb-false, or_from, or_parts, or_left, or_right}
 use Rattle.std.proofs.Math.ListN.{get_or-eq_default}
 use Rattle.std.specs.List.{slice_get}
@@ -12,7 +12,7 @@ use Rattle.vms_spec.specs.Layout.{Cell, no_cell, Slot, desc_cells, struct_cells,
 use Rattle.vms_spec.specs.Layout as slots
 use Rattle.vms_spec.specs.Images.{Image, own_cells, own_slots, sub_slots, came_slots, has_cell, RulesHold}
 use Rattle.vms_spec.specs.Streams.{is_needed, ComeAsNeeded, IsReady}
-use Rattle.vms_bodies.proofs.Names.{names_append}
+use Rattle.vms_bodies.proofs.Names.{none_joined}
 use Rattle.vms_bodies.proofs.ReadyLaws.{ranged, are_rules}
 use Rattle.vms_bodies.proofs.SubsOnly.{rules_split}
 use Rattle.vms_words.specs.Texts.{IsShort}
@@ -29,9 +29,9 @@ use Rattle.vms_values_laws.proofs.Unsaid.{lines_both}
 use Rattle.vms_values_laws.proofs.SecondPass.{desc_rules}
 use Rattle.vms_values_laws.proofs.Numbers.{AreShort}
 use Rattle.vms_values_laws.proofs.AllCome.{are_short}
-use Rattle.vms_values_laws.proofs.Rights.{AreRight, AreBare}
+use Rattle.vms_values_laws.proofs.Rights.{AreRight, AreBare, none_outside}
 use Rattle.vms_values_laws.proofs.ReadyParts.{AreGood, sub_cells}
-use Rattle.vms_values_laws.proofs.ReadySays.{bare_bytes, below_bytes, above_bytes, right_front, right_back, right_said, bare_have}
+use Rattle.vms_values_laws.proofs.ReadySays.{bare_bytes, right_front, right_back, right_said, bare_have}
 
 -- ---- parts
 
@@ -43,7 +43,8 @@ good_then : (set : Set) (es fs : List Entry) → AreGood set es → AreGood set 
 good_then set [] fs a b = b
 good_then set (e ∷ es) fs a b = (a.0, good_then set es fs a.1 b)
 
-numbers_good : (set : Set) (n : List ℤ) (xs : List Rattle.vms_elements.specs.Elements.Element) → AreGood set (Rattle.vms_values_laws.proofs.Numbers.of_numbers n xs)
+numbers_good : (set : Set) (n : List ℤ) (xs : List Rattle.vms_elements.specs.Elements.Element)
+    → AreGood set (Rattle.vms_values_laws.proofs.Numbers.of_numbers n xs)
 numbers_good set n [] = tt
 numbers_good set n (x ∷ xs) = (refl, numbers_good set n xs)
 
@@ -56,30 +57,33 @@ module _ (set : Set) (n : List ℤ) (short_all : AreShort n) where
 
   desc_fine : (d : Desc) (at : ℕ) → AreRight n at (cells d) (bytes d d.version at) → AreFine (number_entries set d n at)
   desc_fine d at right =
-      let xs = elements_in set d d.version n at in
-      right_said n short_all at xs (walks set d d.version d.version n n at at).up
-      (subst (λ (l : List Cell). AreRight n at l (slots_of xs)) (sym (walks set d d.version d.version n n at at).cells_are) (subst (λ (ss : List Slot). AreRight n at (cells d) ss) (sym (elements_slots set d d.version n at)) right))
+      let w = walks set d d.version d.version n n at at in
+      right_said n short_all at (elements_in set d d.version n at) w.up (rw (w.cells_are, elements_slots set d d.version n at) right)
 
   desc_have : (d : Desc) (at : ℕ) → AreBare n at (cells d) (λ k. false) → have_defaults n (elements_in set d d.version n at) ≡ true
   desc_have d at bare =
-      bare_have n at (elements_in set d d.version n at) (walks set d d.version d.version n n at at).up (subst (λ (l : List Cell). AreBare n at l (λ k. false)) (sym (walks set d d.version d.version n n at at).cells_are) bare)
+      let w = walks set d d.version d.version n n at at in bare_have n at (elements_in set d d.version n at) w.up (rw (w.cells_are) bare)
 
   desc_below : (d : Desc) (v at k : ℕ) → k < at → has_cell (bytes d v at) k ≡ false
-  desc_below d v at k lt = subst (λ (ss : List Slot). has_cell ss k ≡ false) (elements_slots set d v n at) (below_bytes at (elements_in set d v n at) (walks set d v v n n at at).up k lt)
+  desc_below d v at k lt =
+      rw (elements_slots set d v n at) at (none_outside n at (elements_in set d v n at) (walks set d v v n n at at).up k (λ le. omega arith)).1
 
   desc_above : (d : Desc) (v at k : ℕ) → at + length (cells d) ≤ k → has_cell (bytes d v at) k ≡ false
   desc_above d v at k le =
-      subst (λ (ss : List Slot). has_cell ss k ≡ false) (elements_slots set d v n at)
-      (above_bytes at (elements_in set d v n at) (walks set d v v n n at at).up k (omega (arith, ap (λ (l : List Cell). length l) (walks set d v v n n at at).cells_are)))
+      let w = walks set d v v n n at at in
+      rw (elements_slots set d v n at) at (none_outside n at (elements_in set d v n at) w.up k (λ low. omega (arith, ap length w.cells_are))).1
 
   desc_unsaid : (d : Desc) (at k : ℕ) → has_line (number_entries set d n at) k ≡ false → has_cell (bytes d d.version at) k ≡ false
   desc_unsaid d at k e =
-      subst (λ (ss : List Slot). has_cell ss k ≡ false) (elements_slots set d d.version n at) (bare_bytes n (elements_in set d d.version n at) (walks set d d.version d.version n n at at).counted k e)
+      rw (elements_slots set d d.version n at) at (bare_bytes n (elements_in set d d.version n at) (walks set d d.version d.version n n at at).counted k e)
 
 -- ---- lines of sections and subsections
 
+or_none : (a b : Bool) → b ≡ true → if_not (a || b) reasons.Form ≡ None
+or_none a b e = rw (or_right a b e) refl
+
 bytes_same : (a b : List ℕ) → a ≡ b → if_not (bytes_eq a b) reasons.Form ≡ None
-bytes_same a b e = ap (λ (l : List ℕ). if_not (bytes_eq a l) reasons.Form) (sym e) ∙ ap (λ (t : Bool). if_not t reasons.Form) ((bytes_eq-Decides a a).1 refl)
+bytes_same a b e = rw ((bytes_eq-Decides a b).1 e) refl
 
 -- ---- a device
 
@@ -88,13 +92,11 @@ module _ (set : Set) (d : Device) (image : Image) (short_all : AreShort image.nu
   n = image.numbers
 
   came_below : (at : ℕ) (subs : List Sub) (came : List (Option ℕ)) (k : ℕ) → k < at → has_cell (came_slots set d n at subs came) k ≡ false
-  came_below at [] came k lt = refl
-  came_below at (s ∷ subs) [] k lt = refl
   came_below at (s ∷ subs) (None ∷ came) k lt = came_below (at + length (desc_cells (struct_cells set) s.desc)) subs came k (omega arith)
   came_below at (s ∷ subs) (Some v ∷ came) k lt =
       let next = at + length (desc_cells (struct_cells set) s.desc) in
-      names_append (sub_slots set s v n at) (came_slots set d n next subs came) k
-      ∙ or_from (has_cell (sub_slots set s v n at) k) (has_cell (came_slots set d n next subs came) k) (desc_below set n short_all s.desc v at k lt) (came_below next subs came k (omega arith))
+      none_joined k (sub_slots set s v n at) _ (desc_below set n short_all s.desc v at k lt) (came_below next subs came k (omega arith))
+  came_below at _ _ k lt = refl
 
   -- what the lines of subsections are
   record SubsSay (j at : ℕ) (subs : List Sub) (came : List (Option ℕ)) : Type 0 where
@@ -117,30 +119,25 @@ module _ (set : Set) (d : Device) (image : Image) (short_all : AreShort image.nu
     abbrev others : List Entry
     others = subs_entries set d image (suc j) next subs came
 
-    it_came : (v : ℕ) → v ≡ s.desc.version → is_needed set d image s j ≡ true → AreRight n at own (sub_slots set s v n at) → RulesHold (sub_slots set s v n at) → SubsSay (suc j) next subs came
+    it_came : (v : ℕ) → v ≡ s.desc.version → is_needed set d image s j ≡ true → AreRight n at own (sub_slots set s v n at)
+        → RulesHold (sub_slots set s v n at) → SubsSay (suc j) next subs came
         → SubsSay j at (s ∷ subs) (Some v ∷ came)
     it_came v same needed right rules later =
-        let mine : AreRight n at own (sub_slots set s s.desc.version n at) = subst (λ (w : ℕ). AreRight n at own (sub_slots set s w n at)) same right in
+        let mine : AreRight n at own (sub_slots set s s.desc.version n at) = rw (same) at right in
         let holds : sub_holds set s (Some v) n at ≡ true = desc_rules set s.desc v n at ∙ are_rules (sub_slots set s v n at) rules in
-        let defaults = have_defaults n (elements_in set s.desc s.desc.version n at) in
-        let well : came_well (is_needed set d image s j) (Some v) defaults ≡ true = ap (λ (b : Bool). came_well b (Some v) defaults) needed in
         record {
           long = ap suc later.long;
           versions = (same, later.versions);
           fine = (
-            ap (λ (b : Bool). if_not b reasons.Form)
-                (or_left (bytes_eq (sub_line s (Some v)) (sub_line s (Some s.desc.version))) (bytes_eq (sub_line s (Some v)) (sub_line s None))
-                (ap (λ (w : ℕ). bytes_eq (sub_line s (Some v)) (sub_line s (Some w))) (sym same) ∙ (bytes_eq-Decides (sub_line s (Some v)) (sub_line s (Some v))).1 refl)),
+            rw (same, (bytes_eq-Decides (sub_line s (Some s.desc.version)) (sub_line s (Some s.desc.version))).1 refl) refl,
             fine_then numbers others (desc_fine set n short_all s.desc at mine) later.fine,
           );
           good = (
-            ap (λ (a : Bool). or_else (if_not a reasons.Invalid) (if_not (came_well (is_needed set d image s j) (Some v) defaults) reasons.Needed)) holds ∙ ap (λ (b : Bool). if_not b reasons.Needed) well,
+            rw (holds, needed) refl,
             good_then set numbers others (numbers_good set n _) later.good,
           );
           unsaid = λ k e. let p = or_parts (has_line numbers k) (has_line others k) (sym (lines_both numbers others k) ∙ e) in
-              names_append (sub_slots set s v n at) (came_slots set d n next subs came) k
-              ∙ or_from (has_cell (sub_slots set s v n at) k) (has_cell (came_slots set d n next subs came) k)
-              (subst (λ (w : ℕ). has_cell (sub_slots set s w n at) k ≡ false) (sym same) (desc_unsaid set n short_all s.desc at k p.0)) (later.unsaid k p.1);
+              none_joined k (sub_slots set s v n at) _ (rw same (desc_unsaid set n short_all s.desc at k p.0)) (later.unsaid k p.1);
         }
 
     it_did_not : is_needed set d image s j ≡ false → AreRight n at own [] → SubsSay (suc j) next subs came → SubsSay j at (s ∷ subs) (None ∷ came)
@@ -153,17 +150,18 @@ module _ (set : Set) (d : Device) (image : Image) (short_all : AreShort image.nu
           long = ap suc later.long;
           versions = (tt, later.versions);
           fine = (
-            ap (λ (b : Bool). if_not b reasons.Form) (or_right (bytes_eq (sub_line s None) (sub_line s (Some s.desc.version))) (bytes_eq (sub_line s None) (sub_line s None)) ((bytes_eq-Decides (sub_line s None) (sub_line s None)).1 refl)),
+            or_none _ _ ((bytes_eq-Decides (sub_line s None) (sub_line s None)).1 refl),
             fine_then numbers others (desc_fine set n short_all s.desc at mine) later.fine,
           );
           good = (
-            ap (λ (b : Bool). or_else (if_not true reasons.Invalid) (if_not (came_well b None defaults) reasons.Needed)) needed ∙ ap (λ (b : Bool). if_not b reasons.Needed) have,
+            rw (needed, have) refl,
             good_then set numbers others (numbers_good set n _) later.good,
           );
           unsaid = λ k e. later.unsaid k (or_parts (has_line numbers k) (has_line others k) (sym (lines_both numbers others k) ∙ e)).1;
         }
 
-  subs_say : (j at : ℕ) (subs : List Sub) (came : List (Option ℕ)) → ComeAsNeeded set d image j subs came → AreRight n at (sub_cells set subs) (came_slots set d n at subs came) → RulesHold (came_slots set d n at subs came)
+  subs_say : (j at : ℕ) (subs : List Sub) (came : List (Option ℕ)) → ComeAsNeeded set d image j subs came
+      → AreRight n at (sub_cells set subs) (came_slots set d n at subs came) → RulesHold (came_slots set d n at subs came)
       → SubsSay j at subs came
   subs_say j at [] [] needed right rules = record { long = refl; versions = tt; fine = tt; good = tt; unsaid = λ k e. refl }
   subs_say j at [] (o ∷ came) needed right rules = absurd (cc)
@@ -181,7 +179,8 @@ module _ (set : Set) (d : Device) (image : Image) (short_all : AreShort image.nu
       let later = came_slots set d n next subs came in
       let p = rules_split mine later rules in
       it_came s j at subs came v needed.1 needed.0 (right_front n at own (sub_cells set subs) mine later (λ k lt. came_below next subs came k lt) right) p.0
-      (subs_say (suc j) next subs came needed.2 (right_back n at own (sub_cells set subs) mine later (λ k le. desc_above set n short_all s.desc v at k le) right) p.1)
+      (subs_say (suc j) next subs came needed.2
+      (right_back n at own (sub_cells set subs) mine later (λ k le. desc_above set n short_all s.desc v at k le) right) p.1)
 
   -- what the lines of a device are
   pub record DeviceSays : Type 0 where
@@ -202,28 +201,30 @@ module _ (set : Set) (d : Device) (image : Image) (short_all : AreShort image.nu
       record {
         right = λ c k lt e. let same : k ≡ c = omega arith in
             record {
-              fits = subst (λ (i : ℕ). Rattle.vms_spec.specs.Images.FitsCell (get_or (device_cells set d) c no_cell) (get_or n i (pos 0))) (sym same) (ready.normal.cells.fits c lt);
-              absent = λ h. ready.normal.absent k (omega (arith, ready.normal.cells.long)) h ∙ ap (λ (i : ℕ). (get_or (device_cells set d) i no_cell).default) same;
+              fits = rw same (ready.normal.cells.fits c lt);
+              absent = λ h. ready.normal.absent k (omega (arith, ready.normal.cells.long)) h ∙ ap
+                  (λ (i : ℕ). (get_or (device_cells set d) i no_cell).default) same;
             };
       } in
       let rules = rules_split mine later ready.valid in
       let subs : SubsSay 0 (own_cells set d) d.subs image.came =
       subs_say 0 (own_cells set d) d.subs image.came ready.needed
-      (subst (λ (i : ℕ). AreRight n i (sub_cells set d.subs) later) start (right_back n 0 own (sub_cells set d.subs) mine later (λ k le. desc_above set n short_all d.desc image.version 0 k le) all)) rules.1 in
-      let front : AreRight n 0 own mine = right_front n 0 own (sub_cells set d.subs) mine later (λ k lt. came_below (own_cells set d) d.subs image.came k (omega arith)) all in
-      let at_version : AreRight n 0 own (own_slots set d d.desc.version n) = subst (λ (v : ℕ). AreRight n 0 own (own_slots set d v n)) ready.version front in
+      (subst (λ (i : ℕ). AreRight n i (sub_cells set d.subs) later) start
+      (right_back n 0 own (sub_cells set d.subs) mine later (λ k le. desc_above set n short_all d.desc image.version 0 k le) all)) rules.1 in
+      let front : AreRight n 0 own mine =
+      right_front n 0 own (sub_cells set d.subs) mine later (λ k lt. came_below (own_cells set d) d.subs image.came k (omega arith)) all in
+      let at_version : AreRight n 0 own (own_slots set d d.desc.version n) = rw (ready.version) at front in
       record {
         shaped = record { version = ready.version; subs = subs.long; versions = subs.versions; cells = ready.normal.cells.long; short = are_short n short_all };
         unsaid = λ c lt e. ready.normal.absent c lt
             (let p = or_parts (has_line numbers c) (has_line others c) (sym (lines_both numbers others c) ∙ e) in
-            names_append mine later c
-            ∙ or_from (has_cell mine c) (has_cell later c) (subst (λ (v : ℕ). has_cell (own_slots set d v n) c ≡ false) (sym ready.version) (desc_unsaid set n short_all d.desc 0 c p.0)) (subs.unsaid c p.1));
+            none_joined c mine later (rw (ready.version) (desc_unsaid set n short_all d.desc 0 c p.0)) (subs.unsaid c p.1));
         fine = (
           bytes_same (section_line d image.version) (section_line d d.desc.version) (ap (λ (v : ℕ). section_line d v) ready.version),
           fine_then numbers others (desc_fine set n short_all d.desc 0 at_version) subs.fine,
         );
         good = (
-          ap (λ (b : Bool). if_not b reasons.Invalid) (desc_rules set d.desc image.version n 0 ∙ are_rules mine rules.0),
+          rw (desc_rules set d.desc image.version n 0 ∙ are_rules mine rules.0) refl,
           good_then set numbers others (numbers_good set n _) subs.good,
         );
       }
@@ -242,7 +243,7 @@ ready_short set d image ready c = go (nat_lt c (length image.numbers)) refl
         short cell.kind (get_or image.numbers c (pos 0)) (ranged cell.kind (get_or image.numbers c (pos 0)) f.0)
     go false ge =
         let l : length image.numbers ≤ c = ltb-false c (length image.numbers) ge in
-        subst (λ (z : ℤ). IsShort z) (sym (get_or-eq_default image.numbers (pos 0) l)) (omega arith)
+        rw (get_or-eq_default image.numbers (pos 0) l) (omega arith)
 
 record AllSay (set : Set) (devices : List Device) (images : List Image) : Type 0 where
   shaped : AreShaped set devices images
@@ -253,8 +254,6 @@ record AllSay (set : Set) (devices : List Device) (images : List Image) : Type 0
 all_say : (set : Set) (devices : List Device) (images : List Image) → length images ≡ length devices
     → ((k : ℕ) (d : Device) (image : Image) → slice_get devices k ≡ Some d → slice_get images k ≡ Some image → IsReady set d image) → AllSay set devices images
 all_say set [] [] long ready = record { shaped = tt; unsaid = tt; fine = tt; good = tt }
-all_say set [] (image ∷ images) long ready = absurd (omega (arith, long))
-all_say set (d ∷ devices) [] long ready = absurd (omega (arith, long))
 all_say set (d ∷ devices) (image ∷ images) long ready =
     let here = ready 0 d image refl refl in
     let mine = device_says set d image (ready_short set d image here) here in
@@ -265,17 +264,20 @@ all_say set (d ∷ devices) (image ∷ images) long ready =
       fine = fine_then (device_entries set d image) (devices_entries set devices images) mine.fine others.fine;
       good = good_then set (device_entries set d image) (devices_entries set devices images) mine.good others.good;
     }
+all_say set _ _ long ready = absurd (omega (arith, long))
 
 -- what a text says, and no part of it is bad
 pub record SaysWell (set : Set) (text : List ℕ) (machine : Option (List ℕ)) (images : List Image) : Type 0 where
   pub says : Says set text machine images
   pub good : AreGood set (entries set machine images)
 
-with_machine : (set : Set) (machine : Option (List ℕ)) (images : List Image) → AllSay set set.devices images → AreFine (entries set machine images) × AreGood set (entries set machine images)
+with_machine : (set : Set) (machine : Option (List ℕ)) (images : List Image) → AllSay set set.devices images
+    → AreFine (entries set machine images) × AreGood set (entries set machine images)
 with_machine set None images a = (a.fine, a.good)
 with_machine set (Some name) images a = ((bytes_same (codes "machine " ++ name) (codes "machine " ++ name) refl, a.fine), (refl, a.good))
 
-pub text_says : (set : Set) (text : List ℕ) (machine : Option (List ℕ)) (images : List Image) → IsText set text machine images → SaysWell set text machine images
+pub text_says : (set : Set) (text : List ℕ) (machine : Option (List ℕ)) (images : List Image) → IsText set text machine images
+    → SaysWell set text machine images
 text_says set text machine images t =
     let a = all_say set set.devices images t.ready.one_each t.ready.ready in
     let p = with_machine set machine images a in

@@ -23,7 +23,8 @@ trailed None h = refl
 trailed (Some text) h = (h, refl)
 
 -- all of it is taken
-pub takes : (set : Set) → WellFormed set → (machine described : Option (List ℕ)) (images : List Image) → IsMachineOf set machine → FitsText described → AreReady set images
+pub takes : (set : Set) → WellFormed set → (machine described : Option (List ℕ)) (images : List Image) → IsMachineOf set machine → FitsText described
+    → AreReady set images
     → Takes set set.machines (written set machine images described) (length (written set machine images described)) machine images
 takes set well machine described images named fits ready =
     let few = few_devices set well in
@@ -38,7 +39,8 @@ written_only set machine described images fit named fits ready =
     record {
       whole = whole;
       only = λ taken other others t.
-          let same = one_stream_holds set set.machines fit.well fit.heads stream (length stream) taken machine other images others whole t in (sym same.lengths, sym same.machines, sym same.states);
+          let same = one_stream_holds set set.machines fit.well fit.heads stream
+          (length stream) taken machine other images others whole t in (sym same.lengths, sym same.machines, sym same.states);
     }
 
 pub packed_holds : PackedLaw
@@ -50,5 +52,6 @@ pub shown_holds : ShownLaw
 shown_holds set machine described images fit named fits ready text s =
     let stream = written set machine images described in
     let same = (written_only set machine described images fit named fits ready).only (length stream) s.machine s.images s.whole in
-    let text_is : values_text set machine images ≡ text = ap (λ (o : Option (List ℕ)). values_text set o images) (sym same.1) ∙ ap (values_text set s.machine) (sym same.2) ∙ s.printed in
+    let text_is : values_text set machine images ≡ text =
+    ap (λ (o : Option (List ℕ)). values_text set o images) (sym same.1) ∙ ap (values_text set s.machine) (sym same.2) ∙ s.printed in
     sym (ap (values_read set) text_is) ∙ printed_holds set machine images fit named ready

@@ -9,23 +9,26 @@ use Rattle.vms_values_laws.specs.Said.{Said, said_line, AreFineLines, Agrees, Me
 
 -- ---- meeting
 
-pub meets_left : (said : List Said) (left left' : List Element) (n : List ℤ) (xs : List Element) → Meets said left n xs → (Agrees said n → left ≡ left') → Meets said left' n xs
+pub meets_left : (said : List Said) (left left' : List Element) (n : List ℤ) (xs : List Element) → Meets said left n xs → (Agrees said n → left ≡ left')
+    → Meets said left' n xs
 meets_left [] left left' n xs h e = h ∙ e tt
 meets_left (s ∷ said) left left' n [] h e = h
 meets_left (s ∷ said) left left' n (x ∷ xs) h e = (h.0, λ a. meets_left said left left' n xs (h.1 a) (λ b. e (a, b)))
 
-pub meets_more : (said : List Said) (s : Said) (left : List Element) (n : List ℤ) (xs : List Element) → Meets said (s.element ∷ left) n xs → Meets (said ++ s ∷ []) left n xs
+pub meets_more : (said : List Said) (s : Said) (left : List Element) (n : List ℤ) (xs : List Element) → Meets said (s.element ∷ left) n xs
+    → Meets (said ++ s ∷ []) left n xs
 meets_more [] s left n [] h = cc
 meets_more [] s left n (x ∷ xs) h = let e : x ≡ s.element = cc in let f : xs ≡ left = cc in (e, λ a. f)
 meets_more (t ∷ said) s left n [] h = h
 meets_more (t ∷ said) s left n (x ∷ xs) h = (h.0, λ a. meets_more said s left n xs (h.1 a))
 
 -- if all agrees, that is the list
-pub meets_all : (said : List Said) (left : List Element) (n : List ℤ) (xs : List Element) → Agrees said n → Meets said left n xs → xs ≡ map (λ (s : Said). s.element) said ++ left
+pub meets_all : (said : List Said) (left : List Element) (n : List ℤ) (xs : List Element) → Agrees said n → Meets said left n xs
+    → xs ≡ map (λ (s : Said). s.element) said ++ left
 meets_all [] left n xs a h = h
 meets_all (s ∷ said) left n [] a h = absurd h
 meets_all (s ∷ said) left n (x ∷ xs) a h =
-    ap (λ (y : Element). y ∷ xs) h.0 ∙ ap (λ (l : List Element). s.element ∷ l) (meets_all said left n xs a.1 (h.1 a.0))
+    rw (h.0, meets_all said left n xs a.1 (h.1 a.0)) refl
 
 -- ---- agreeing
 
@@ -71,7 +74,8 @@ pub agrees_kept : (said more : List Said) (cell : ℕ) (n : List ℤ) → AreBel
 agrees_kept said [] cell n b f a = a
 agrees_kept said (s ∷ more) cell n b f a =
     let le = f.0 in
-    agrees_kept said more cell (slice_set n s.element.cell s.number) b f.1 (agrees_put said s.element.cell n s.number (below_less cell s.element.cell said le b) a)
+    agrees_kept said more cell (slice_set n s.element.cell s.number) b f.1
+    (agrees_put said s.element.cell n s.number (below_less cell s.element.cell said le b) a)
 
 -- ---- lines
 
@@ -90,9 +94,8 @@ pub ran_more : (p q r : Standing) (said more : List Said) → Ran p said q → R
 ran_more p q r said more f g =
     record {
       line = omega (arith, f.line, g.line, length-append said more);
-      rest = f.rest ∙ ap (λ (l : List ℕ). text_of (map said_line said) ++ l) g.rest
-          ∙ sym (append_assoc (text_of (map said_line said)) (text_of (map said_line more)) r.rest)
-          ∙ ap (λ (l : List ℕ). l ++ r.rest) (sym (text_append (map said_line said) (map said_line more)) ∙ ap text_of (sym (map-append said_line said more)));
-      numbers = g.numbers ∙ ap (λ (n : List ℤ). put_all n more) f.numbers ∙ sym (put_more p.numbers said more);
+      rest = f.rest ∙ rw (g.rest, map-append said_line said more, text_append (map said_line said) (map said_line more))
+          (sym (append_assoc (text_of (map said_line said)) _ r.rest));
+      numbers = rw (g.numbers, f.numbers) (sym (put_more p.numbers said more));
       fine = fine_more said more f.fine g.fine;
     }

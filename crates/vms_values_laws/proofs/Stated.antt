@@ -32,7 +32,8 @@ its_first_pass set text fit = let good = well_good set fit.well fit.heads in fir
 
 -- ---- what is read
 
-text_of_ready : (set : Set) (text : List ℕ) (machine : Option (List ℕ)) (images : List Image) → IsFit set → Says set text machine images → AreGood set (entries set machine images) → IsText set text machine images
+text_of_ready : (set : Set) (text : List ℕ) (machine : Option (List ℕ)) (images : List Image) → IsFit set → Says set text machine images
+    → AreGood set (entries set machine images) → IsText set text machine images
 text_of_ready set text machine images fit says good =
     record {
       named = says.named;
@@ -40,7 +41,8 @@ text_of_ready set text machine images fit says good =
       printed = says.printed ∙ ap text_of (entry_law set machine images) ∙ text_is set machine images;
     }
 
-bad_part : (set : Set) (text : List ℕ) (machine : Option (List ℕ)) (images : List Image) (b : BadLine) → Says set text machine images → FirstPart set 1 (entries set machine images) b → IsBadPart set text b.line b.reason
+bad_part : (set : Set) (text : List ℕ) (machine : Option (List ℕ)) (images : List Image) (b : BadLine) → Says set text machine images
+    → FirstPart set 1 (entries set machine images) b → IsBadPart set text b.line b.reason
 bad_part set text machine images b says p =
     record {
       machine = machine;
@@ -55,47 +57,47 @@ bad_part set text machine images b says p =
       bad = p.bad;
     }
 
-by_parts : (set : Set) (text : List ℕ) (machine : Option (List ℕ)) (images : List Image) (o : Option BadLine) → IsFit set → Says set text machine images → parts_from set 1 (entries set machine images) ≡ o
+by_parts : (set : Set) (text : List ℕ) (machine : Option (List ℕ)) (images : List Image) (o : Option BadLine) → IsFit set → Says set text machine images
+    → parts_from set 1 (entries set machine images) ≡ o
     → Reads set text (answer_by machine images o)
 by_parts set text machine images (Some b) fit says e = inr (bad_part set text machine images b says (first_part set 1 (entries set machine images) b e))
 by_parts set text machine images None fit says e = text_of_ready set text machine images fit says (none_good set 1 (entries set machine images) e)
 
 by_pass : (set : Set) (text : List ℕ) (v : ValuesRead) → IsFit set → FirstPass set text v → Reads set text v
-by_pass set text v fit (inl b) = subst (λ (v : ValuesRead). Reads set text v) (sym b.is) (inl b.first.is_bad)
+by_pass set text v fit (inl b) = rw (b.is) (inl b.first.is_bad)
 by_pass set text v fit (inr n) =
-    let images = images_of n.all.devices in
-    subst (λ (v : ValuesRead). Reads set text v) (sym (none_answers set text v n))
-    (by_parts set text n.machine images (parts_from set 1 (entries set n.machine images)) fit (none_says set text v n) refl)
+    rw (none_answers set text v n) (by_parts set text n.machine (images_of n.all.devices) _ fit (none_says set text v n) refl)
 
 pub read_holds : ReadLaw
 read_holds set text fit = by_pass set text (values_read set text) fit (its_first_pass set text fit)
 
 pub accepted_holds : AcceptedLaw
-accepted_holds set text machine images fit e = subst (λ (v : ValuesRead). Reads set text v) e (read_holds set text fit)
+accepted_holds set text machine images fit e = rw e at (read_holds set text fit)
 
 -- ---- and nothing else
 
 line_back : (set : Set) (text : List ℕ) (line : ℕ) (reason : ValuesReason) → IsFit set → IsBadLine set text line reason → values_read set text ≡ Bad line reason
 line_back set text line reason fit x =
     bad_back set text line reason x
-    (clean_entries set (clean_structs set fit.well) x.machine x.images (clean_devices set fit.well) (λ name e. clean_machine set fit.well (first_line text) name (sym x.named ∙ e)))
+    (clean_entries set (clean_structs set fit.well) x.machine x.images (clean_devices set fit.well)
+    (λ name e. clean_machine set fit.well (first_line text) name (sym x.named ∙ e)))
     (values_read set text) (its_first_pass set text fit)
 
 part_back : (set : Set) (text : List ℕ) (line : ℕ) (reason : ValuesReason) → IsFit set → IsBadPart set text line reason → values_read set text ≡ Bad line reason
 part_back set text line reason fit x =
-    let es = entries set x.machine x.images in
     let here : 1 + length x.before ≡ line = omega (arith, x.number) in
     says_answers set fit.well text x.machine x.images x.says (values_read set text) (its_first_pass set text fit)
-    ∙ ap (λ (o : Option BadLine). answer_by x.machine x.images o) (ap (parts_from set 1) x.state ∙ bad_part_found set 1 x.before x.entry x.after reason x.good x.bad)
-    ∙ ap (λ (n : ℕ). Bad n reason) here
+    ∙ rw (x.state, bad_part_found set 1 x.before x.entry x.after reason x.good x.bad, here) refl
 
-text_back : (set : Set) (text : List ℕ) (machine : Option (List ℕ)) (images : List Image) → IsFit set → IsText set text machine images → values_read set text ≡ Values machine images
+text_back : (set : Set) (text : List ℕ) (machine : Option (List ℕ)) (images : List Image) → IsFit set → IsText set text machine images
+    → values_read set text ≡ Values machine images
 text_back set text machine images fit t =
     let s = text_says set text machine images t in
     says_answers set fit.well text machine images s.says (values_read set text) (its_first_pass set text fit)
-    ∙ ap (λ (o : Option BadLine). answer_by machine images o) (good_none set 1 (entries set machine images) s.good)
+    ∙ rw (good_none set 1 (entries set machine images) s.good) refl
 
-refused_back : (set : Set) (text : List ℕ) (line : ℕ) (reason : ValuesReason) → IsFit set → Refused set text line reason → values_read set text ≡ Bad line reason
+refused_back : (set : Set) (text : List ℕ) (line : ℕ) (reason : ValuesReason) → IsFit set → Refused set text line reason
+    → values_read set text ≡ Bad line reason
 refused_back set text line reason fit (inl x) = line_back set text line reason fit x
 refused_back set text line reason fit (inr x) = part_back set text line reason fit x
 

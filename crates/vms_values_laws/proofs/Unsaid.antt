@@ -13,7 +13,8 @@ has_said (s ∷ said) c = (s.element.cell == c) || has_said said c
 
 pub said_both : (said more : List Said) (c : ℕ) → has_said (said ++ more) c ≡ (has_said said c || has_said more c)
 said_both [] more c = refl
-said_both (s ∷ said) more c = ap (λ (b : Bool). (s.element.cell == c) || b) (said_both said more c) ∙ sym (or_assoc (s.element.cell == c) (has_said said c) (has_said more c))
+said_both (s ∷ said) more c =
+    ap (λ (b : Bool). (s.element.cell == c) || b) (said_both said more c) ∙ sym (or_assoc (s.element.cell == c) (has_said said c) (has_said more c))
 
 pub lines_both : (es fs : List Entry) (c : ℕ) → has_line (es ++ fs) c ≡ (has_line es c || has_line fs c)
 lines_both [] fs c = refl

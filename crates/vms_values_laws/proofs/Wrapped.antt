@@ -25,7 +25,8 @@ map_if f false x xs = refl
 
 module _ (steps : List (ℕ × ℕ)) (text : List ℕ) (present : Bool) where
   pub wrapped_append : (xs ys : List Element) → wrapped steps text present (xs ++ ys) ≡ wrapped steps text present xs ++ wrapped steps text present ys
-  wrapped_append xs ys = ap (λ (l : List Element). map (under steps text present) l) (printed_append xs ys) ∙ map-append (under steps text present) (printed xs) (printed ys)
+  wrapped_append xs ys =
+      ap (λ (l : List Element). map (under steps text present) l) (printed_append xs ys) ∙ map-append (under steps text present) (printed xs) (printed ys)
 
   pub wrapped_behind : (step : ℕ × ℕ) (name : List ℕ) (p : Bool) (xs : List Element)
       → wrapped steps text present (map (behind step name true p) xs) ≡ wrapped (steps ++ step ∷ []) (text ++ name) (present && p) xs
@@ -35,7 +36,8 @@ module _ (steps : List (ℕ × ℕ)) (text : List ℕ) (present : Bool) where
       let one : under steps text present (behind step name true p x) ≡ under (steps ++ step ∷ []) (text ++ name) (present && p) x =
       same_element x _ _ _ _ _ _ (sym (append_assoc steps (step ∷ []) x.path)) (sym (append_assoc text name x.name)) (sym (and_assoc present p x.present)) in
       map_if (under steps text present) b (behind step name true p x) (printed (map (behind step name true p) xs))
-      ∙ ap (λ (y : Element). if b then y ∷ wrapped steps text present (map (behind step name true p) xs) else wrapped steps text present (map (behind step name true p) xs)) one
+      ∙ ap (λ (y : Element). if b then y ∷ wrapped steps text present (map (behind step name true p) xs) else wrapped steps text present
+      (map (behind step name true p) xs)) one
       ∙ ap (λ (l : List Element). if b then under (steps ++ step ∷ []) (text ++ name) (present && p) x ∷ l else l) (wrapped_behind step name p xs)
       ∙ sym (map_if (under (steps ++ step ∷ []) (text ++ name) (present && p)) b x (printed xs))
 
