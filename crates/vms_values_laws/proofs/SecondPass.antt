@@ -1,23 +1,22 @@
 -- The second pass over a text judges the entries of sections and subsections, in order.
-use Rattle.std.proofs.Common.{◌≡◌, ℕ, suc, ◌+◌, ◌≤◌, Bool, true, false, not, ◌&&◌, List, ◌∷◌, ◌++◌, length, get_or, map, drop, Option, Some, None, ℤ, pos, refl, sym, ap, ◌∙◌, subst, arith, if◌then◌else◌, ◌||◌, []}
+use Rattle.std.proofs.Common.{◌≡◌, ℕ, suc, ◌+◌, ◌≤◌, Bool, true, false, not, ◌&&◌, List, ◌∷◌, ◌++◌, length, map, drop, Option, Some, None, ℤ, pos, refl, sym, ap, ◌∙◌, arith, if◌then◌else◌, ◌||◌, []}
 use Rattle.std.proofs.Math.Seq.{drop-cons}
 use Rattle.std.proofs.lemmas.List.{length-append}
 use Rattle.std.specs.List.{flat_map}
 use Rattle.vms_spec.specs.declared.ValuesReason.{ValuesReason}
 use Rattle.vms_spec.specs.declared.ValuesReason.TheVariants as reasons
 use Rattle.vms_spec.specs.Lists.{or_else}
-use Rattle.vms_spec.specs.Numbers.{same_number}
 use Rattle.vms_spec.specs.Sets.{Desc, Sub, Device, Set}
-use Rattle.vms_spec.specs.Layout.{desc_cells, struct_cells, device_cells}
-use Rattle.vms_spec.specs.Images.{Image, own_slots, own_cells}
+use Rattle.vms_spec.specs.Layout.{desc_cells, struct_cells, device_cells, desc_slots, meanings}
+use Rattle.vms_spec.specs.Images.{Image, own_cells}
 use Rattle.vms_spec.specs.Readiness.{rules_are_true}
 use Rattle.vms_spec.specs.Streams.{is_needed}
 use Rattle.vms_spec.specs.ValuesReading.{BadLine, ReadDevice, or_bad, if_bad, are_defaults, sub_fails, is_said_well, judge_subs, judge_device, judge_devices}
 use Rattle.vms_spec.specs.ValuesReading as reading
-use Rattle.vms_elements.specs.Elements.{Number, Constant, Filler, Rule, Element, What}
-use Rattle.vms_elements.specs.Parts.{is_number, cells_with, cells_of, slots_of, numbers_in, CountsUp, elements_in}
+use Rattle.vms_elements.specs.Elements.{Number, Rule, Element, What}
+use Rattle.vms_elements.specs.Parts.{is_number, cells_with, cells_of, slots_of, numbers_in, CountsUp, elements_in, slot_of}
 use Rattle.vms_elements.specs.Lines.{printed}
-use Rattle.vms_elements.specs.Entries.{Entry, OfMachine, OfSection, OfSub, OfNumber, subs_entries, device_entries, devices_entries, if_not, rules_hold, has_default, have_defaults, sub_holds, has_come, came_well, part_reason}
+use Rattle.vms_elements.specs.Entries.{Entry, OfSub, OfNumber, subs_entries, device_entries, devices_entries, if_not, rules_hold, has_default, have_defaults, sub_holds, has_come, came_well, part_reason, rule_holds}
 use Rattle.vms_elements.specs.Reading.{AreShaped}
 use Rattle.vms_elements.proofs.Walk.{walks}
 use Rattle.vms_elements.proofs.SlotsOf.{elements_slots}
@@ -67,8 +66,8 @@ rules_same [] = refl
 rules_same (x ∷ xs) = by_what x.what x.present (rules_same xs)
   where
     by_what : (w : What) (present : Bool) → rules_hold xs ≡ rules_are_true (slots_of xs)
-        → ((not present || Rattle.vms_elements.specs.Entries.rule_holds w) && rules_hold xs)
-        ≡ rules_are_true (if present then Rattle.vms_elements.specs.Parts.slot_of x.cell w ∷ slots_of xs else slots_of xs)
+        → ((not present || rule_holds w) && rules_hold xs)
+        ≡ rules_are_true (if present then slot_of x.cell w ∷ slots_of xs else slots_of xs)
     by_what (Rule false) true h = refl
     by_what _ true h = h
     by_what _ false h = h
@@ -90,7 +89,7 @@ defaults_same n at (x ∷ xs) up room = by_what x.what (λ next. defaults_same n
 module _ (set : Set) where
   pub desc_rules : (d : Desc) (v : ℕ) (n : List ℤ) (at : ℕ)
       → rules_hold (elements_in set d v n at) ≡ rules_are_true
-      (Rattle.vms_spec.specs.Layout.desc_slots (Rattle.vms_spec.specs.Layout.meanings set.structs (length set.structs)) d v n at)
+      (desc_slots (meanings set.structs (length set.structs)) d v n at)
   desc_rules d v n at = rules_same (elements_in set d v n at) ∙ ap rules_are_true (elements_slots set d v n at)
 
   pub desc_defaults : (d : Desc) (v : ℕ) (n : List ℤ) (at : ℕ) → at + length (desc_cells (struct_cells set) d) ≤ length n

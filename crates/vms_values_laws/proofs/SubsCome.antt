@@ -1,5 +1,5 @@
 -- The subsections of a device, read as entries.
-use Rattle.std.proofs.Common.{◌≡◌, ℕ, suc, ◌+◌, ◌≤◌, List, ◌∷◌, ◌++◌, length, map, Bool, true, false, if◌then◌else◌, Option, Some, None, ℤ, Ok, Err, Result, refl, sym, ap, ◌∙◌, subst, arith, append_assoc, [], ◌||◌}
+use Rattle.std.proofs.Common.{◌≡◌, ℕ, suc, ◌+◌, ◌≤◌, List, ◌∷◌, ◌++◌, length, map, Bool, true, false, if◌then◌else◌, Option, Some, None, ℤ, Ok, Err, Result, refl, sym, ap, ◌∙◌, subst, arith, append_assoc, []}
 use Rattle.std.proofs.lemmas.List.{length-append, length-map}
 use Rattle.std.specs.List.{flat_map}
 use Rattle.std.specs.Str.{bytes_eq}
@@ -12,50 +12,14 @@ use Rattle.vms_spec.specs.Spelling.{first_line}
 use Rattle.vms_spec.specs.ValuesReading.{Standing, Read, BadLine, ReadSubs, readers, read_desc, read_subs, read_sub, sub_said, also, then_subs, next_line, rest_of}
 use Rattle.vms_spec.specs.Sound.{IsSound, AreSound}
 use Rattle.vms_words.proofs.Lines.{line_splits}
-use Rattle.vms_elements.specs.Elements.{Element}
-use Rattle.vms_elements.specs.Parts.{elements_in}
-use Rattle.vms_elements.specs.Lines.{sub_line, printed}
-use Rattle.vms_elements.specs.Entries.{Entry, OfSub, OfNumber, number_entries, subs_entries}
+use Rattle.vms_elements.specs.Lines.{sub_line}
+use Rattle.vms_elements.specs.Entries.{Entry, OfSub, number_entries, subs_entries}
 use Rattle.vms_elements.specs.Reading.{has_line, IsAtVersion, AreAtVersions}
-use Rattle.vms_values_laws.specs.Said.{Said, Agrees, AreBelow, AreFrom, put_all}
+use Rattle.vms_values_laws.specs.Said.{Said, Agrees}
 use Rattle.vms_values_laws.specs.Taken.{Demand, ForSub, ForNumber, reason_for, Taken, Follows, Along, Begins, Moved}
-use Rattle.vms_values_laws.proofs.SaidLaws.{agrees_kept, agrees_front, from_less, put_more}
-use Rattle.vms_values_laws.proofs.Coming.{AreShortSaid}
-use Rattle.vms_values_laws.proofs.Following.{moved_none, moved_one, moved_then}
-use Rattle.vms_values_laws.proofs.Unsaid.{has_said}
-use Rattle.vms_values_laws.proofs.SecondPass.{sub_numbers, subs_past}
-use Rattle.vms_values_laws.proofs.Numbers.{AreShort, all_taken, Told, NumbersRead, NumbersStop, NumbersCome, numbers_come, follows_on, along_on, heard_on, line_on}
-
--- ---- what was said in two parts
-
-agrees_both : (said more : List Said) (n : List ℤ) → Agrees said n → Agrees more n → Agrees (said ++ more) n
-agrees_both [] more n a b = b
-agrees_both (s ∷ said) more n a b = (a.0, agrees_both said more n a.1 b)
-
-pub agrees_later : (said more : List Said) (n : List ℤ) → Agrees (said ++ more) n → Agrees more n
-agrees_later [] more n a = a
-agrees_later (s ∷ said) more n a = agrees_later said more n a.1
-
-from_both : (low : ℕ) (said more : List Said) → AreFrom low said → AreFrom low more → AreFrom low (said ++ more)
-from_both low [] more a b = b
-from_both low (s ∷ said) more a b = (a.0, from_both low said more a.1 b)
-
-short_both : (said more : List Said) → AreShortSaid said → AreShortSaid more → AreShortSaid (said ++ more)
-short_both [] more a b = b
-short_both (s ∷ said) more a b = (a.0, short_both said more a.1 b)
-
-pub told_none : (low : ℕ) (n : List ℤ) → Told low n [] n
-told_none low n = record { agrees = tt; from = tt; numbers = refl; long = refl; short = tt }
-
-pub told_both : {low high : ℕ} {n m k : List ℤ} {said more : List Said} → Told low n said m → Told high m more k → low ≤ high → AreBelow high said
-    → Told low n (said ++ more) k
-told_both {low = low} {high = high} {n = n} {m = m} {k = k} {said = said} {more = more} f g le below = record {
-  agrees = agrees_both said more k (rw (g.numbers) (agrees_kept said more high m below g.from f.agrees)) g.agrees;
-  from = from_both low said more f.from (from_less low high more le g.from);
-  numbers = rw (g.numbers, f.numbers) (sym (put_more n said more));
-  long = g.long ∙ f.long;
-  short = short_both said more f.short g.short;
-}
+use Rattle.vms_values_laws.proofs.Coming.{agrees_front, has_said, agrees_later, Told, told_none, told_both}
+use Rattle.vms_values_laws.proofs.Numbers.{moved_none, moved_one, moved_then, AreShort, all_taken, NumbersRead, NumbersStop, NumbersCome, numbers_come, follows_on, along_on, heard_on, lines_on}
+use Rattle.vms_values_laws.proofs.SecondPass.{sub_numbers}
 
 -- ---- the line of a subsection
 
@@ -99,28 +63,24 @@ one_way s line rest None false true e f h =
       fine = ap (λ (l : List ℕ). reason_for (ForSub s) (Some (l, []))) (sym whole) ∙ rw (e, f) refl;
       version = tt;
     }
-one_way s line rest _ _ _ e f h = cc
+one_way s line rest (Some v) false true e f h = absurd (cc)
+one_way s line rest _ _ _ e f h = absurd (cc)
 
 sub_taken : (s : Sub) (o : Option (List ℕ × List ℕ)) (came : Option ℕ) → sub_said s o ≡ Some came → SaidSub s o came
 sub_taken s None came e = cc
 sub_taken s (Some (line, rest)) came e = one_way s line rest came _ _ refl refl e
 
--- what was said and taken up to a bad line, if the entries follow it and have its lines
-pub record Stopped (subs : List Sub) (at : ℕ) (p : Standing) (e : BadLine) (Behind : Demand → List Taken → Type 0)
-    (Lined : Demand → List Taken → List Said → List (Option ℕ) → List ℤ → Type 0) : Type 0 where
+-- what was said and taken up to a place, if the entries follow it and have its lines
+pub record Went (subs : List Sub) (at : ℕ) (p : Standing) (came : List (Option ℕ)) (numbers : List ℤ) (line : ℕ) (rest : List ℕ) (Behind : List Taken → Type 0)
+    (Lined : List Taken → List Said → Type 0) : Type 0 where
   pub said : List Said
   pub taken : List Taken
-  pub demand : Demand
-  pub came : List (Option ℕ)
-  pub numbers : List ℤ
-  pub rest : List ℕ
   pub told : Told at p.numbers said numbers
   pub one_each : length came ≡ length subs
   pub versions : AreAtVersions subs came
-  pub follows : Behind demand taken
-  pub along : Lined demand taken said came numbers
-  pub moved : Moved p.line p.rest taken e.line rest
-  pub wrong : reason_for demand (first_line rest) ≡ Some e.reason
+  pub follows : Behind taken
+  pub along : Lined taken said
+  pub moved : Moved p.line p.rest taken line rest
 
 -- ---- all of them
 
@@ -128,28 +88,28 @@ module _ (set : Set) (d : Device) where
   abbrev pub cells_long : List Sub → ℕ
   cells_long subs = length (flat_map (λ s. desc_cells (struct_cells set) s.desc) subs)
 
-  -- the entries of subsections follow on what was taken, whichever of them have come and whatever comes after them
-  abbrev pub FollowSubs : List Sub → ℕ → ℕ → List Taken → (List Entry → List Entry → Type 0) → Type 0
-  FollowSubs subs j at taken Then = (image : Image) (came : List (Option ℕ)) (more : List Entry) → length came ≡ length subs → AreShort image.numbers
-      → Follows taken (Then more) (subs_entries set d image j at subs came ++ more)
+  -- The entries of subsections follow on what was taken, whichever of them have come and whatever comes after them. Those that have come have its lines.
+  abbrev pub SubsWent : List Sub → ℕ → ℕ → Standing → List (Option ℕ) → List ℤ → ℕ → List ℕ → (List Entry → List Entry → Type 0) → Type 0
+  SubsWent subs j at p came numbers line rest Then = Went subs at p came numbers line rest
+      (λ taken. (image : Image) (came : List (Option ℕ)) (more : List Entry) → length came ≡ length subs → AreShort image.numbers
+      → Follows taken (Then more) (subs_entries set d image j at subs came ++ more))
+      (λ taken said. (image : Image) (more : List Entry) → Agrees said image.numbers → Along taken (Then more)
+      (subs_entries set d image j at subs came ++ more))
 
   pub record SubsRead (subs : List Sub) (j at : ℕ) (p : Standing) (r : ReadSubs) : Type 0 where
-    pub said : List Said
-    pub taken : List Taken
-    pub told : Told at p.numbers said r.place.numbers
-    pub one_each : length r.came ≡ length subs
-    pub versions : AreAtVersions subs r.came
+    pub whole : SubsWent subs j at p r.came r.place.numbers r.place.line r.place.rest (λ more es. es ≡ more)
+    pub open whole use *
     pub heard : (image : Image) → Agrees said image.numbers → (c : ℕ) → has_line (subs_entries set d image j at subs r.came) c ≡ has_said said c
     pub lines : (image : Image) → Agrees said image.numbers → r.lines ≡ sub_numbers p.line (subs_entries set d image j at subs r.came)
-    pub follows : FollowSubs subs j at taken (λ more es. es ≡ more)
-    pub along : (image : Image) (more : List Entry) → Agrees said image.numbers
-        → Along taken (λ es. es ≡ more) (subs_entries set d image j at subs r.came ++ more)
-    pub moved : Moved p.line p.rest taken r.place.line r.place.rest
 
-  abbrev pub SubsStop : List Sub → ℕ → ℕ → Standing → BadLine → Type 0
-  SubsStop subs j at p e = Stopped subs at p e (λ demand taken. FollowSubs subs j at taken (λ more es. Begins demand es))
-      (λ demand taken said came numbers. (image : Image) (more : List Entry) → Agrees said image.numbers → Along taken (λ es. Begins demand es)
-      (subs_entries set d image j at subs came ++ more))
+  pub record SubsStop (subs : List Sub) (j at : ℕ) (p : Standing) (e : BadLine) : Type 0 where
+    pub demand : Demand
+    pub came : List (Option ℕ)
+    pub numbers : List ℤ
+    pub rest : List ℕ
+    pub before : SubsWent subs j at p came numbers e.line rest (λ more es. Begins demand es)
+    pub open before use *
+    pub wrong : reason_for demand (first_line rest) ≡ Some e.reason
 
   abbrev pub SubsCome : List Sub → ℕ → ℕ → Standing → Result ReadSubs BadLine → Type 0
   SubsCome subs j at p (Ok r) = SubsRead subs j at p r
@@ -173,18 +133,20 @@ module _ (set : Set) (d : Device) where
     refused : sub_said s (first_line p.rest) ≡ None → SubsStop (s ∷ subs) j at p (record { line = p.line; reason = reasons.Form })
     refused e =
         record {
-          said = [];
-          taken = [];
           demand = ForSub s;
           came = None ∷ none_of subs;
           numbers = p.numbers;
           rest = p.rest;
-          told = told_none at p.numbers;
-          one_each = ap suc (length-map subs (λ s. None));
-          versions = (tt, none_at subs);
-          follows = λ image came more long short. first_sub image came more long;
-          along = λ image more agrees. first_sub image (None ∷ none_of subs) more (ap suc (length-map subs (λ s. None)));
-          moved = moved_none p.line p.rest;
+          before = record {
+            said = [];
+            taken = [];
+            told = told_none at p.numbers;
+            one_each = ap suc (length-map subs (λ s. None));
+            versions = (tt, none_at subs);
+            follows = λ image came more long short. first_sub image came more long;
+            along = λ image more agrees. first_sub image (None ∷ none_of subs) more (ap suc (length-map subs (λ s. None)));
+            moved = moved_none p.line p.rest;
+          };
           wrong = sub_refused s (first_line p.rest) e;
         }
       where
@@ -223,74 +185,62 @@ module _ (set : Set) (d : Device) where
 
       stopped_inside : (e : BadLine) → NumbersStop set s.desc at (next_line p) e → SubsStop (s ∷ subs) j at p e
       stopped_inside e n = record {
-        said = n.said;
-        taken = taken_head ∷ all_taken n.said;
         demand = ForNumber n.element;
         came = came ∷ none_of subs;
         numbers = n.place.numbers;
         rest = n.place.rest;
-        told = n.told;
-        one_each = ap suc (length-map subs (λ s. None));
-        versions = (head.version, none_at subs);
-        follows = λ image others more long short.
-            follows_head (all_taken n.said) (Begins (ForNumber n.element)) image others more long (λ others long. n.follows image.numbers _ short);
-        along = λ image more agrees. along_head (all_taken n.said) (Begins (ForNumber n.element)) image (none_of subs) more (n.along image.numbers _ agrees);
-        moved = moved_then head_moved n.moved;
+        before = record {
+          said = n.said;
+          taken = taken_head ∷ all_taken n.said;
+          told = n.told;
+          one_each = ap suc (length-map subs (λ s. None));
+          versions = (head.version, none_at subs);
+          follows = λ image others more long short. follows_head (all_taken n.said) (Begins (ForNumber n.element)) image others more long (λ others long. n.follows image.numbers _ short);
+          along = λ image more agrees. along_head (all_taken n.said) (Begins (ForNumber n.element)) image (none_of subs) more (n.along image.numbers _ agrees);
+          moved = moved_then head_moved n.moved;
+        };
         wrong = n.wrong;
       }
 
-      stopped_behind : (q : Standing) (e : BadLine) → NumbersRead set s.desc at (next_line p) q → SubsStop subs (suc j) (at + size) q e
-          → SubsStop (s ∷ subs) j at p e
-      stopped_behind q e n r = record {
+      abbrev went_behind : {q : Standing} {others : List (Option ℕ)} {numbers : List ℤ} {line : ℕ} {rest : List ℕ} (Then : List Entry → List Entry → Type 0)
+          → NumbersRead set s.desc at (next_line p) q → SubsWent subs (suc j) (at + size) q others numbers line rest Then
+          → SubsWent (s ∷ subs) j at p (came ∷ others) numbers line rest Then
+      went_behind {others = others} Then n r = record {
         said = n.said ++ r.said;
         taken = taken_head ∷ (all_taken n.said ++ r.taken);
-        demand = r.demand;
-        came = came ∷ r.came;
-        numbers = r.numbers;
-        rest = r.rest;
         told = told_both n.told r.told (omega arith) n.below;
         one_each = ap suc r.one_each;
         versions = (head.version, r.versions);
         follows = λ image others more long short.
-            follows_head (all_taken n.said ++ r.taken) (Begins r.demand) image others more long
-            (λ others long. follows_on n r.taken (Begins r.demand) image.numbers _ short (r.follows image others more long short));
+            follows_head (all_taken n.said ++ r.taken) (Then more) image others more long
+            (λ others long. follows_on n r.taken (Then more) image.numbers _ short (r.follows image others more long short));
         along = λ image more agrees.
-            along_head (all_taken n.said ++ r.taken) (Begins r.demand) image r.came more
-            (along_on n r.taken (Begins r.demand) image.numbers _ (agrees_front n.said r.said image.numbers agrees)
+            along_head (all_taken n.said ++ r.taken) (Then more) image others more
+            (along_on n r.taken (Then more) image.numbers _ (agrees_front n.said r.said image.numbers agrees)
             (r.along image more (agrees_later n.said r.said image.numbers agrees)));
         moved = moved_then head_moved (moved_then n.moved r.moved);
-        wrong = r.wrong;
       }
 
-      read_behind : (q : Standing) (r : ReadSubs) → NumbersRead set s.desc at (next_line p) q → SubsRead subs (suc j) (at + size) q r
-          → SubsRead (s ∷ subs) j at p (record { place = r.place; came = came ∷ r.came; lines = p.line ∷ r.lines })
-      read_behind q r n x = record {
-        said = n.said ++ x.said;
-        taken = taken_head ∷ (all_taken n.said ++ x.taken);
-        told = told_both n.told x.told (omega arith) n.below;
-        one_each = ap suc x.one_each;
-        versions = (head.version, x.versions);
+      others_come : (q : Standing) (o : Result ReadSubs BadLine) → NumbersRead set s.desc at (next_line p) q → SubsCome subs (suc j) (at + size) q o
+          → SubsCome (s ∷ subs) j at p (also came p.line o)
+      others_come q (Ok r) n x = record {
+        whole = went_behind (λ more es. es ≡ more) n x.whole;
         heard = λ image agrees c.
             heard_on n image.numbers _ x.said c (agrees_front n.said x.said image.numbers agrees)
             (x.heard image (agrees_later n.said x.said image.numbers agrees) c);
         lines = λ image agrees.
             ap (λ (l : List ℕ). p.line ∷ l)
-            (x.lines image (agrees_later n.said x.said image.numbers agrees) ∙ rw (line_on n image.numbers (agrees_front n.said x.said image.numbers agrees))
-            (sym (subs_past (suc p.line) image.numbers _ _)));
-        follows = λ image others more long short.
-            follows_head (all_taken n.said ++ x.taken) (λ es. es ≡ more) image others more long
-            (λ others long. follows_on n x.taken (λ es. es ≡ more) image.numbers _ short (x.follows image others more long short));
-        along = λ image more agrees.
-            along_head (all_taken n.said ++ x.taken) (λ es. es ≡ more) image r.came more
-            (along_on n x.taken (λ es. es ≡ more) image.numbers _ (agrees_front n.said x.said image.numbers agrees)
-            (x.along image more (agrees_later n.said x.said image.numbers agrees)));
-        moved = moved_then head_moved (moved_then n.moved x.moved);
+            (x.lines image (agrees_later n.said x.said image.numbers agrees)
+            ∙ sym (lines_on n image.numbers (subs_entries set d image (suc j) (at + size) subs r.came) (agrees_front n.said x.said image.numbers agrees)));
       }
-
-      others_come : (q : Standing) (o : Result ReadSubs BadLine) → NumbersRead set s.desc at (next_line p) q → SubsCome subs (suc j) (at + size) q o
-          → SubsCome (s ∷ subs) j at p (also came p.line o)
-      others_come q (Ok r) n x = read_behind q r n x
-      others_come q (Err e) n x = stopped_behind q e n x
+      others_come q (Err e) n x = record {
+        demand = x.demand;
+        came = came ∷ x.came;
+        numbers = x.numbers;
+        rest = x.rest;
+        before = went_behind (λ more es. Begins x.demand es) n x.before;
+        wrong = x.wrong;
+      }
 
       sub_comes : (r : Read) (go : Standing → Result ReadSubs BadLine) → NumbersCome set s.desc at (next_line p) r
           → ((q : Standing) → r ≡ Ok q → NumbersRead set s.desc at (next_line p) q → SubsCome subs (suc j) (at + size) q (go q))
@@ -315,16 +265,18 @@ module _ (set : Set) (d : Device) where
   pub subs_come : AreSound set.structs → (subs : List Sub) (j at : ℕ) (p : Standing) → AreSoundSubs subs → at + cells_long subs ≤ length p.numbers
       → SubsCome subs j at p (read_subs set at subs p)
   subs_come structs [] j at p sound room = record {
-    said = [];
-    taken = [];
-    told = told_none at p.numbers;
-    one_each = refl;
-    versions = tt;
+    whole = record {
+      said = [];
+      taken = [];
+      told = told_none at p.numbers;
+      one_each = refl;
+      versions = tt;
+      follows = λ image came more long short. refl;
+      along = λ image more agrees. refl;
+      moved = moved_none p.line p.rest;
+    };
     heard = λ image agrees c. refl;
     lines = λ image agrees. refl;
-    follows = λ image came more long short. refl;
-    along = λ image more agrees. refl;
-    moved = moved_none p.line p.rest;
   }
   subs_come structs (s ∷ subs) j at p sound room =
       let long : cells_long (s ∷ subs) ≡ size_of s + cells_long subs = length-append (desc_cells (struct_cells set) s.desc) _ in
