@@ -14,8 +14,7 @@ use Rattle.vms_elements.specs.Lines.{printed, number_line}
 use Rattle.vms_elements.specs.Entries.{OfNumber, has_default, have_defaults, line_reason}
 use Rattle.vms_elements.specs.Reading.{AreFine}
 use Rattle.vms_elements.proofs.Members.{Each}
-use Rattle.vms_values_laws.proofs.FineNumbers.{line_number, reason_fits}
-use Rattle.vms_values_laws.proofs.Rights.{fine_rest}
+use Rattle.vms_values_laws.proofs.Rights.{line_number, reason_fits, fine_rest}
 use Rattle.vms_values_laws.proofs.Numbers.{AreShort, of_numbers}
 use Rattle.vms_elements.proofs.Walk.{IsCounted, AreCounted}
 use Rattle.vms_analyze.specs.Told.{Told}
@@ -143,7 +142,7 @@ said_as n short x (Number cell) e counted fine = (
   λ c p. (fits c).absent p,
 )
   where
-    fits : x.counted ≡ true → Rattle.vms_values_laws.proofs.FineNumbers.IsFitting cell x.present (get_or n x.cell (pos 0))
+    fits : x.counted ≡ true → Rattle.vms_values_laws.proofs.Rights.IsFitting cell x.present (get_or n x.cell (pos 0))
     fits c = reason_fits cell x.present (get_or n x.cell (pos 0)) (sym (line_number x n cell e (short x.cell)) ∙ fine c refl)
 said_as n short x (Constant kind y) e counted fine = tt
 said_as n short x _ e counted fine = tt

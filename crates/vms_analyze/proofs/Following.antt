@@ -9,7 +9,7 @@ use Rattle.vms_spec.specs.Streams.{be32, section_head, foot}
 use Rattle.vms_spec.proofs.KindLaws.{length-code, value_code, be32_read}
 use Rattle.vms_bodies.proofs.BodyOnly.{front_take, front_drop}
 use Rattle.vms_bodies.proofs.ReadyLaws.{ranged}
-use Rattle.vms_values_laws.proofs.FineNumbers.{begins_itself}
+use Rattle.vms_values_laws.proofs.Rights.{begins_itself}
 use Rattle.vms_analyze.specs.Wanted.{Want, Bytes, Any, Number, Head, Foot, Line, number_line, Took, took, only_if, take_number, take_head, taken, Found, Lines, Differs, behind, found_after, found}
 
 -- ---- one

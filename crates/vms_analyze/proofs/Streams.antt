@@ -18,7 +18,7 @@ use Rattle.vms_bodies.proofs.BodyOnly.{front_take}
 use Rattle.vms_elements.specs.Lines.{machine_lines, devices_lines, values_lines}
 use Rattle.vms_elements.specs.Entries.{devices_entries, entries}
 use Rattle.vms_elements.specs.Reading.{IsMachineOf, AreFine}
-use Rattle.vms_values_laws.proofs.FineNumbers.{begins_itself}
+use Rattle.vms_values_laws.proofs.Rights.{begins_itself}
 use Rattle.vms_values_laws.proofs.ReadyBack.{text_says}
 use Rattle.vms_values_laws.proofs.ReadyParts.{AreGood}
 use Rattle.vms_analyze.specs.Wanted.{Want, Bytes, Machine, device_wants, wants, took, take_machine, is_machine, taken, Found, Lines, behind, found_after, found}
