@@ -1,4 +1,4 @@
--- Names whose last bytes differ are distinct.
+-- Names whose keys differ are distinct.
 use Rattle.std.proofs.Common.{◌≡◌, ℕ, ◌+◌, ◌<◌, List, [], ◌∷◌, ◌++◌, append_assoc, append-nil, length, get_or, take, drop, map, Bool, true, false, refl, sym, ap, ◌∙◌, subst}
 use Rattle.std.specs.Prelude.{◌&&◌, not, ◌||◌}
 use Rattle.std.specs.List.{IsDistinct, AllByRecursion}
@@ -18,7 +18,7 @@ use Rattle.vms_spec.proofs.ListLaws.{all_right, either_of}
 use Rattle.vms_parts.specs.declared.types.Field.{Field}
 use Rattle.vms_parts.specs.Views.{field_of}
 use Rattle.vms_parts.proofs.Items.{drop_is}
-use Rattle.vms_rules.specs.NameSets.{ending, are_new_to, with_name}
+use Rattle.vms_rules.specs.NameSets.{key, are_new_to, with_name}
 use Rattle.vms_rules.proofs.FieldLaws.{names_of_both, new_is, names_new}
 
 abbrev pub same : ℕ → ℕ → Bool
@@ -41,12 +41,12 @@ module _ (fields : List Field) (i : ℕ) (f : Field) (lt : i < length fields) (i
       ap all_names more ∙ names_of_both (map field_of (take i fields)) (field_of f ∷ [])
       ∙ ap (λ (l : List (List ℕ)). all_names (map field_of (take i fields)) ++ f.name ∷ l) (append-nil f.former)
 
-  pub endings_with : map ending (all_names (map field_of (take (i + 1) fields))) ≡ (map ending (all_names (map field_of (take i fields))) ++ ending f.name ∷ []) ++ map ending f.former
-  endings_with =
+  pub keys_with : map key (all_names (map field_of (take (i + 1) fields))) ≡ (map key (all_names (map field_of (take i fields))) ++ key f.name ∷ []) ++ map key f.former
+  keys_with =
       let before = all_names (map field_of (take i fields)) in
-      ap (map ending) names_with ∙ map-append ending before (f.name ∷ f.former) ∙ sym (append_assoc (map ending before) (ending f.name ∷ []) (map ending f.former))
+      ap (map key) names_with ∙ map-append key before (f.name ∷ f.former) ∙ sym (append_assoc (map key before) (key f.name ∷ []) (map key f.former))
 
--- ---- names with distinct endings
+-- ---- names with distinct keys
 
 all_left : (P : ℕ → Type 0) (xs ys : List ℕ) → AllByRecursion P (xs ++ ys) → AllByRecursion P xs
 all_left P [] ys h = tt
@@ -62,21 +62,21 @@ unfolding IsDistinct
 distinct_right [] ys h = h
 distinct_right (x ∷ xs) ys h = distinct_right xs ys h.1
 
--- no name of the list has the ending of this one
-abbrev pub EndsApart : List ℕ → List (List ℕ) → Type 0
-EndsApart n names = AllByRecursion (λ e. same (ending n) e ≡ false) (map ending names)
+-- no name of the list has the key of this one
+abbrev pub KeysApart : List ℕ → List (List ℕ) → Type 0
+KeysApart n names = AllByRecursion (λ e. same (key n) e ≡ false) (map key names)
 
 is_same : (x n : List ℕ) → bytes_eq x n ≡ true → x ≡ n
 is_same x n e = (bytes_eq-Decides x n).0 e
 
 -- the earlier names and the others
-apart_from : (earlier names : List (List ℕ)) → IsDistinct same (map ending (earlier ++ names)) → (n : List ℕ) → is_one_of earlier n ≡ true → EndsApart n names
+apart_from : (earlier names : List (List ℕ)) → IsDistinct same (map key (earlier ++ names)) → (n : List ℕ) → is_one_of earlier n ≡ true → KeysApart n names
 unfolding IsDistinct
 apart_from [] names h n e = cc
 apart_from (x ∷ earlier) names h n e =
     either_of (bytes_eq x n) (is_one_of earlier n) e
-    (λ y. subst (λ m. EndsApart m names) (is_same x n y)
-    (all_right (λ e. same (ending x) e ≡ false) (map ending earlier) (map ending names) (subst (AllByRecursion (λ e. same (ending x) e ≡ false)) (map-append ending earlier names) h.0)))
+    (λ y. subst (λ m. KeysApart m names) (is_same x n y)
+    (all_right (λ e. same (key x) e ≡ false) (map key earlier) (map key names) (subst (AllByRecursion (λ e. same (key x) e ≡ false)) (map-append key earlier names) h.0)))
     (λ y. apart_from earlier names h.1 n y)
 
 is_itself : (n : ℕ) → same n n ≡ false → ⊥
@@ -86,18 +86,18 @@ false_of : (b : Bool) → (b ≡ true → ⊥) → not b ≡ true
 false_of true h = absurd (h refl)
 false_of false h = refl
 
-new_to : (had : List ℕ → Bool) (names : List (List ℕ)) → ((n : List ℕ) → had n ≡ true → EndsApart n names) → IsDistinct same (map ending names) → are_new_to had names ≡ true
+new_to : (had : List ℕ → Bool) (names : List (List ℕ)) → ((n : List ℕ) → had n ≡ true → KeysApart n names) → IsDistinct same (map key names) → are_new_to had names ≡ true
 unfolding IsDistinct
 new_to had [] h d = refl
 new_to had (y ∷ names) h d =
-    ap (λ (b : Bool). b && are_new_to (with_name had y) names) (false_of (had y) (λ e. is_itself (ending y) (h y e).0))
+    ap (λ (b : Bool). b && are_new_to (with_name had y) names) (false_of (had y) (λ e. is_itself (key y) (h y e).0))
     ∙ new_to (with_name had y) names
-    (λ n e. either_of (bytes_eq y n) (had n) e (λ z. subst (λ m. EndsApart m names) (is_same y n z) d.0) (λ z. (h n z).1))
+    (λ n e. either_of (bytes_eq y n) (had n) e (λ z. subst (λ m. KeysApart m names) (is_same y n z) d.0) (λ z. (h n z).1))
     d.1
 
--- the names of a field are new if the endings of all fields' names are distinct
+-- the names of a field are new if the keys of all fields' names are distinct
 pub new_names : (fields : List Field) (i : ℕ) (f : Field) → i < length fields → f ≡ get_or fields i f
-    → IsDistinct same (map ending (all_names (map field_of fields))) → are_new (all_names (take i (map field_of fields))) (f.name ∷ f.former) ≡ true
+    → IsDistinct same (map key (all_names (map field_of fields))) → are_new (all_names (take i (map field_of fields))) (f.name ∷ f.former) ≡ true
 new_names fields i f lt is d =
     let before = all_names (map field_of (take i fields)) in
     let names : List (List ℕ) = f.name ∷ f.former in
@@ -107,16 +107,16 @@ new_names fields i f lt is d =
     ∙ ap (λ (l : List Field). all_names (map field_of (take i fields ++ l))) (drop_is fields i f lt is)
     ∙ ap all_names (map-append field_of (take i fields) (f ∷ drop (i + 1) fields))
     ∙ names_of_both (map field_of (take i fields)) (map field_of (f ∷ drop (i + 1) fields)) in
-    let split : map ending (all_names (map field_of fields)) ≡ map ending (before ++ names) ++ map ending rest =
-    ap (map ending) (whole ∙ sym (append_assoc before names rest)) ∙ map-append ending (before ++ names) rest in
-    let both : IsDistinct same (map ending (before ++ names)) = distinct_left (map ending (before ++ names)) (map ending rest) (subst (IsDistinct same) split d) in
-    let own : IsDistinct same (map ending names) = distinct_right (map ending before) (map ending names) (subst (IsDistinct same) (map-append ending before names) both) in
+    let split : map key (all_names (map field_of fields)) ≡ map key (before ++ names) ++ map key rest =
+    ap (map key) (whole ∙ sym (append_assoc before names rest)) ∙ map-append key (before ++ names) rest in
+    let both : IsDistinct same (map key (before ++ names)) = distinct_left (map key (before ++ names)) (map key rest) (subst (IsDistinct same) split d) in
+    let own : IsDistinct same (map key names) = distinct_right (map key before) (map key names) (subst (IsDistinct same) (map-append key before names) both) in
     ap (λ (l : List sets.Field). are_new (all_names l) names) (take-map field_of i fields) ∙ new_is before names
     ∙ new_to (is_one_of before) names (apart_from before names both) own
 
--- whether they are new: the endings of all differ, or they are looked up
+-- whether they are new: the keys of all differ, or they are looked up
 pub names_known : (fields : List Field) (i : ℕ) (f : Field) (had : List ℕ → Bool) (differ is_new : Bool) → i < length fields → f ≡ get_or fields i f
-    → (differ ≡ true → IsDistinct same (map ending (all_names (map field_of fields))))
+    → (differ ≡ true → IsDistinct same (map key (all_names (map field_of fields))))
     → (differ ≡ false → (n : List ℕ) → had n ≡ is_one_of (all_names (map field_of (take i fields))) n) → is_new ≡ (differ || are_new_to had (f.name ∷ f.former))
     → is_new ≡ are_new (all_names (take i (map field_of fields))) (f.name ∷ f.former)
 names_known fields i f had true is_new lt is distinct before e = e ∙ sym (new_names fields i f lt is (distinct refl))
