@@ -53,14 +53,14 @@ absent_tail kind = codes "\",\"size\":0,\"type\":\"" ++ (kind_word kind ++ codes
 
 -- ---- what a call appends
 
--- Nothing has been written, and there is room for at least this many bytes.
+-- Nothing has been written or is missing, and there is room for at least this many bytes.
 pub record IsEmpty (t : Text) (capacity : ℕ) : Type 0 where
   pub whole : t.whole ≡ true
   pub bytes : string_bytes t.written ≡ []
   pub room : capacity ≤ string_capacity t.written
 
--- These bytes have been appended, if memory was enough. Otherwise the new text isn't whole. The capacity that the
--- text had is enough if they fit in it.
+-- These bytes have been appended. If memory wasn't enough, the new text isn't whole. It was enough if the bytes fit in
+-- the capacity that the text had, which never shrinks.
 pub record Extends (old new : Text) (bytes : List ℕ) : Type 0 where
   pub whole : new.whole ≡ true → (old.whole ≡ true) × (string_bytes new.written ≡ string_bytes old.written ++ bytes)
   pub fits : old.whole ≡ true → length (string_bytes old.written) + length bytes ≤ string_capacity old.written → new.whole ≡ true
@@ -91,7 +91,7 @@ pub record PutsName (old new : Text) (instance : ℕ) (name : List ℕ) : Type 0
   pub text : Extends old new (member_text (codes "instance_id") (natural instance) ++ member_text (codes "name") (string name))
   pub sound : IsSound (natural instance)
 
--- Nothing has been written, and there is room for at least this many bytes.
+-- The draft is empty, and its text has room for at least this many bytes.
 pub record IsNew (d : Draft) (capacity : ℕ) : Type 0 where
   pub text : IsEmpty d.text capacity
   pub path : string_bytes d.path.text ≡ []

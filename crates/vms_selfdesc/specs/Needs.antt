@@ -32,16 +32,16 @@ pub record HasElements (set : Set) (f : Field) (cell n : ℕ) (numbers : List �
 
 -- ---- the length of a path
 
--- The structures below an item are nested at most so deep, because structure j uses only those before it.
+-- The most structures that can be nested below an item, because structure j uses only those before it.
 abbrev pub item_levels : Item → ℕ
 item_levels (Struct j) = suc j
 item_levels item = 0
 
--- So deep are those below the fields of a part.
+-- The most that can be nested below the fields of a part.
 abbrev pub part_levels : Set → Part → ℕ
 part_levels set (parts.Struct j) = j
 part_levels set part = length set.structs
 
--- The path may grow by these bytes, and then by 45 at each level: a dot, a name of 32 bytes and an index of 12.
+-- There is room in the path for these bytes and then for 45 at each level: a dot, a name of 32 bytes and an index of 12.
 abbrev pub CanGrow : Path → ℕ → ℕ → Type 0
 CanGrow path more levels = length (string_bytes path.text) + more + 45 * levels ≤ 2924

@@ -1,9 +1,9 @@
 // What is written of a description, as JSON without spaces.
-ghost use Rattle.std.specs.Prelude.{◌≡◌, ◌++◌, [], true, false, pos, codes, int_lt, IfOk, string_bytes, string_capacity};
+ghost use Rattle.std.specs.Prelude.{◌≡◌, ◌++◌, true, pos, codes, int_lt, IfOk, string_capacity};
 ghost use Rattle.serde_json.specs.Data.{string, boolean, number};
 ghost use Rattle.serde_json.specs.Find.{of_integer};
 ghost use Rattle.serde_json.specs.Written.{compact_text};
-ghost use Rattle.vms_selfdesc.specs.Drafts.{Begins, Extends, IsEmpty, IsNew, IsPlain, Puts, Spells};
+ghost use Rattle.vms_selfdesc.specs.Drafts.{Begins, Extends, IsNew, IsPlain, Puts, Spells};
 ghost use Rattle.vms_selfdesc.specs.Needs.{IsWide};
 ghost use Rattle.vms_selfdesc.specs.Tree.{natural};
 

@@ -1,10 +1,11 @@
 // The path of an element.
-ghost use Rattle.std.specs.Prelude.{◌≡◌, ℕ, ◌+◌, ◌≤◌, [], ◌++◌, length, take, IfOk, IsUtf8, string_bytes, string_capacity};
+ghost use Rattle.std.specs.Prelude.{◌≡◌, ◌+◌, ◌≤◌, [], ◌++◌, length, take, IfOk, IsUtf8, string_bytes, string_capacity};
 
 use itoa::Buffer;
 use std::alloc::{AllocError, Global};
 
-// The room of a path, enough for any of a well-formed set.
+// The room of a path: 44 bytes for the name and the index of a field, and a dot and the same for each
+// of at most 64 structures below it.
 const LONGEST_PATH: usize = 2924;
 
 // The path of the next element, with room for the longest.
@@ -42,7 +43,7 @@ impl Path {
         requires { length (string_bytes self.old.text) + length name.now ≤ 2924 }
         ensures { string_bytes self.new.text ≡ string_bytes self.old.text ++ name.now }
     {
-        // There is room.
+        // The room is enough.
         let _ = self.text.push_str(name);
     }
 

@@ -1,4 +1,4 @@
-// A description whose memory is taken beforehand.
+// Descriptions for which the memory is taken beforehand.
 ghost use Rattle.std.specs.Prelude.{◌≡◌, ◌≤◌, ◌<◌, Some, map, length, string_capacity};
 ghost use Rattle.serde_json.specs.Read.{read};
 ghost use Rattle.vms_spec.specs.Streams.{AreReady, longest_text};
@@ -13,14 +13,14 @@ use vms_desc::DescSet;
 use vms_image::Image;
 use vms_io::NoMemory;
 
-// The most bytes that a text may have: one less than a description section can't have.
+// The most bytes that a description section may have.
 const LONGEST_TEXT: usize = 16_777_215;
 
-/// The memory for a self-description of any images of any set, so that one can be written without
+/// The memory for the self-description of any images of any set, so that it can be written without
 /// allocating.
 ///
-/// It takes 16 MiB of addresses. The system provides memory only for the pages that a text has
-/// been written to.
+/// It has 16,777,215 bytes. On systems that provide memory when a page is first written, it takes
+/// as much as the texts that are written.
 #[derive(Drop)]
 pub struct DescriptionRoom {
     draft: Draft,
@@ -39,10 +39,9 @@ impl DescriptionRoom {
     }
 
     /// Returns the self-description of the stream of `images`, one for each device of `set` in its
-    /// order: the text that [`describe`](crate::describe) returns. It doesn't allocate and can't
-    /// fail.
+    /// order: the text that [`describe`](crate::describe) returns.
     ///
-    /// A text from an earlier call is overwritten.
+    /// It allocates nothing and can't fail. The text of an earlier call is overwritten.
     ///
     /// # Requires
     ///

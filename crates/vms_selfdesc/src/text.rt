@@ -5,8 +5,8 @@ ghost use Rattle.vms_selfdesc.specs.Drafts.{Extends, IsEmpty};
 use std::alloc::{AllocError, Global};
 use vms_io::NoMemory;
 
-// What has been written, and whether memory was enough for all of it. A piece that can't be written
-// is left out, so a caller asks once, at the end.
+// What has been written, and whether memory was enough for all of it. A piece that finds none is left
+// out, so that a caller asks once, at the end.
 #[derive(Drop)]
 pub(crate) struct Text {
     pub(crate) written: String,

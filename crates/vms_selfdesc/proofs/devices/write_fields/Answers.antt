@@ -1,4 +1,4 @@
-use Rattle.std.proofs.Common.{ℕ, List, [], false, length, map, ap, refl, sym, subst, arith}
+use Rattle.std.proofs.Common.{ℕ, List, false, length, map, ap, refl, sym, subst, arith}
 use Rattle.vms_selfdesc.specs.Drafts.{Adds, IsPlain}
 use Rattle.vms_selfdesc.specs.Listing.{set_in, numbers_in, part_list}
 use Rattle.vms_selfdesc.specs.Tree.{entry_tree}

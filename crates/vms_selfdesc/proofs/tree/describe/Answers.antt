@@ -1,9 +1,7 @@
-use Rattle.std.proofs.Common.{◌≡◌, true, ◌∙◌, length, map, String, string_bytes, ap, arith}
+use Rattle.std.proofs.Common.{◌∙◌, length, map, string_bytes, ap, arith}
 use Rattle.std.proofs.lemmas.Result.{IfOk-weaker}
-use Rattle.std.specs.declared.alloc.Global.{Global}
 use Rattle.vms_desc.specs.Described.{described}
 use Rattle.vms_image.specs.Typed.{state_of}
-use Rattle.vms_selfdesc.specs.Tree.{described_text}
 use Rattle.vms_selfdesc.proofs.Descriptions.{text_reads, text_short}
 use Rattle.vms_selfdesc.proofs.Following.{wrote}
 use Rattle.vms_selfdesc.proofs.tree.describe.Goals as goal

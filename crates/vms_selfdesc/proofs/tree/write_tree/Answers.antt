@@ -1,8 +1,8 @@
 use Rattle.std.proofs.Common.{Bool, refl, map, subst}
 use Rattle.vms_desc.specs.Described.{described}
 use Rattle.vms_image.specs.Typed.{state_of}
-use Rattle.vms_selfdesc.specs.Drafts.{Adds, Lays}
-use Rattle.vms_selfdesc.specs.Tree.{device_trees, described_tree}
+use Rattle.vms_selfdesc.specs.Drafts.{Adds}
+use Rattle.vms_selfdesc.specs.Tree.{device_trees}
 use Rattle.vms_selfdesc.specs.declared.draft.Draft.{Draft}
 use Rattle.vms_selfdesc.proofs.Trees.{whole_lays}
 use Rattle.vms_selfdesc.proofs.tree.write_tree.Goals as goal

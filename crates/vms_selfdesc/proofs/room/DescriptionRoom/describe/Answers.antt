@@ -1,4 +1,4 @@
-use Rattle.std.proofs.Common.{◌≡◌, string_bytes, map, ◌∙◌, length, ap, arith}
+use Rattle.std.proofs.Common.{◌≡◌, map, ◌∙◌, length, ap, arith}
 use Rattle.vms_desc.specs.Described.{described}
 use Rattle.vms_image.specs.Typed.{state_of}
 use Rattle.vms_selfdesc.specs.Tree.{described_text}
