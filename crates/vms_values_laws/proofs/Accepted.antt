@@ -1,34 +1,20 @@
 -- A text that was accepted is the one of its machine and images.
-use Rattle.std.proofs.Common.{◌≡◌, ℕ, suc, ◌+◌, ◌<◌, Bool, true, false, ◌==◌, List, [], ◌∷◌, ◌++◌, length, get_or, map, Option, Some, None, ℤ, pos, refl, sym, ap, ◌∙◌, arith, codes, zero, ◌≤◌}
-use Rattle.std.specs.List.{AllByRecursion, slice_get}
-use Rattle.std.proofs.lemmas.Bool.{eqb-true, leb-true}
-use Rattle.vms_spec.specs.Sets.{Sub, Device, Set}
-use Rattle.vms_spec.specs.Layout.{desc_cells, struct_cells}
-use Rattle.vms_spec.specs.Images.{Image, own_cells}
-use Rattle.vms_spec.specs.Values.{version_text}
-use Rattle.vms_elements.specs.Elements.{Element}
-use Rattle.vms_elements.specs.Parts.{elements_in}
-use Rattle.vms_elements.specs.Lines.{printed, sub_line}
-use Rattle.vms_elements.specs.Entries.{Entry, OfMachine, OfSub, OfNumber, number_entries, subs_entries, devices_entries, entry_line, device_entries, entries, part_reason}
-use Rattle.vms_elements.specs.Reading.{is_of_cell, has_line, IsShaped, AreShaped, AreUnsaid, AllUnsaid, IsAtVersion, AreAtVersions, IsMachineOf, AreFine, Says}
-use Rattle.vms_values_laws.specs.Taken.{Demand, ForSection, ForNumber, demand_of, Taken, lines_of, Follows, Along}
+use Rattle.vms_values_laws.proofs.Facade.{◌≡◌, ℕ, suc, ◌+◌, ◌<◌, Bool, true, false, ◌==◌, List, [], ◌∷◌, ◌++◌, length, get_or, map, Option, Some, None, ℤ, pos}
+use Rattle.vms_values_laws.proofs.Facade.{refl, sym, ap, ◌∙◌, arith, codes, zero, ◌≤◌, AllByRecursion, slice_get, eqb-true, leb-true, ext_get_or, Sub, Device}
+use Rattle.vms_values_laws.proofs.Facade.{Set, desc_cells, struct_cells, Image, own_cells, version_text, Element, elements_in, printed, sub_line, Entry}
+use Rattle.vms_values_laws.proofs.Facade.{OfMachine, OfSub, OfNumber, number_entries, subs_entries, devices_entries, entry_line, device_entries, entries}
+use Rattle.vms_values_laws.proofs.Facade.{part_reason, is_of_cell, has_line, IsShaped, AreShaped, AreUnsaid, AllUnsaid, IsAtVersion, AreAtVersions, IsMachineOf}
+use Rattle.vms_values_laws.proofs.Facade.{AreFine, Says, Demand, ForSection, ForNumber, demand_of, Taken, lines_of, Follows, Along, either_of, ValuesReason}
+use Rattle.vms_values_laws.proofs.Facade.{first_line, IsReady, AreReady, BadLine, ReadDevice, ValuesRead, Values, Bad, machine_named, answer_of, or_bad}
+use Rattle.vms_values_laws.proofs.Facade.{WellFormed, IsGood, device_parts, sub_clean}
 use Rattle.vms_values_laws.proofs.Numbers.{AreShort, of_numbers, cancel, number_same}
-use Rattle.vms_spec.proofs.ListLaws.{either_of}
 use Rattle.vms_values_laws.proofs.DevicesCome.{AllShort}
-use Rattle.std.proofs.lemmas.List.{ext_get_or}
-use Rattle.vms_spec.specs.declared.ValuesReason.{ValuesReason}
-use Rattle.vms_spec.specs.Spelling.{first_line}
-use Rattle.vms_spec.specs.Streams.{IsReady, AreReady}
-use Rattle.vms_spec.specs.ValuesReading.{BadLine, ReadDevice, ValuesRead, Values, Bad, machine_named, answer_of, or_bad}
-use Rattle.vms_spec.specs.WellFormed.{WellFormed}
-use Rattle.vms_spec.specs.Good.{IsGood}
-use Rattle.vms_spec.proofs.WellFormedLaws.{device_parts, sub_clean}
 use Rattle.vms_values_laws.proofs.SecondPass.{as_bad, parts_from}
 use Rattle.vms_values_laws.proofs.AllCome.{images_of, short_are}
 use Rattle.vms_values_laws.proofs.BadLines.{fine_text, NoneBad}
-use Rattle.vms_values_laws.proofs.Clean.{named_is}
+use Rattle.vms_values_laws.proofs.Meeting.{named_is}
 use Rattle.vms_values_laws.proofs.ReadyParts.{AreGood, fine_both, good_both, device_ready}
-use Rattle.vms_values_laws.proofs.Coming.{all_both}
+use Rattle.vms_values_laws.proofs.SaidLaws.{all_both}
 
 -- ---- Two states with the same lines, and with defaults where there is no line, are the same.
 

@@ -1,28 +1,19 @@
 -- All devices, read as entries, and which devices reading requires.
-use Rattle.std.proofs.Common.{◌≡◌, ℕ, zero, suc, ◌+◌, ◌<◌, ◌≤◌, List, [], ◌∷◌, ◌++◌, length, get_or, map, slice_set, Bool, true, false, nat_lt, nat_le, ◌||◌, ◌&&◌, ◌==◌, if◌then◌else◌, Some, None, ℤ, pos, negsuc, Ok, Err, Result, refl, sym, ap, ◌∙◌, arith, get_or-set_other, append-nil, Option}
-use Rattle.std.specs.List.{list_all, slice_get}
-use Rattle.std.proofs.lemmas.Bool.{ltb-true, ltb-false, eqb-true, eq-eqb, and_parts, leb-true, le-leb}
-use Rattle.std.proofs.lemmas.List.{length-map, length-set, get_or-set_same, get_or-map}
-use Rattle.std.proofs.Math.ListN.{get_or-eq_default}
-use Rattle.vms_spec.specs.Sets.{Device, Set, Sub}
-use Rattle.vms_spec.specs.Layout.{no_cell, device_cells, Cell}
-use Rattle.vms_spec.specs.Images.{Image, default_image, own_cells}
-use Rattle.vms_spec.specs.Spelling.{first_line}
-use Rattle.vms_spec.specs.ValuesReading.{BadLine, ReadSubs, ReadDevice, ReadAll, readers, read_desc, read_subs, read_devices, device_read, with_device, then_subs, next_line, is_line}
-use Rattle.vms_spec.specs.Sound.{IsSound, AreSound}
-use Rattle.vms_words.specs.Texts.{IsShort}
-use Rattle.vms_elements.specs.Lines.{section_line}
-use Rattle.vms_elements.specs.Entries.{Entry, device_entries, devices_entries}
-use Rattle.vms_elements.specs.Reading.{is_short, IsShaped, AreShaped, AreUnsaid, AllUnsaid}
-use Rattle.vms_values_laws.specs.Said.{Said, put_all}
-use Rattle.vms_values_laws.specs.Taken.{Demand, reason_for, Taken, Follows, Along, Begins, Moved}
-use Rattle.vms_values_laws.proofs.Coming.{AreShortSaid, unsaid_kept, short}
+use Rattle.vms_values_laws.proofs.Facade.{◌≡◌, ℕ, zero, suc, ◌+◌, ◌<◌, ◌≤◌, List, [], ◌∷◌, ◌++◌, length, get_or, map, slice_set, Bool, true, false, nat_lt}
+use Rattle.vms_values_laws.proofs.Facade.{nat_le, ◌||◌, ◌&&◌, ◌==◌, if◌then◌else◌, Some, None, ℤ, pos, negsuc, Ok, Err, Result, refl, sym, ap, ◌∙◌, arith}
+use Rattle.vms_values_laws.proofs.Facade.{get_or-set_other, append-nil, Option, list_all, slice_get, ltb-true, ltb-false, eqb-true, eq-eqb, and_parts, leb-true}
+use Rattle.vms_values_laws.proofs.Facade.{le-leb, length-map, length-set, get_or-set_same, get_or-map, get_or-eq_default, Device, Set, Sub, no_cell}
+use Rattle.vms_values_laws.proofs.Facade.{device_cells, Cell, Image, default_image, own_cells, first_line, BadLine, ReadSubs, ReadDevice, ReadAll, readers}
+use Rattle.vms_values_laws.proofs.Facade.{read_desc, read_subs, read_devices, device_read, with_device, then_subs, next_line, is_line, IsSound, AreSound}
+use Rattle.vms_values_laws.proofs.Facade.{IsShort, section_line, Entry, device_entries, devices_entries, is_short, IsShaped, AreShaped, AreUnsaid, AllUnsaid}
+use Rattle.vms_values_laws.proofs.Facade.{Said, put_all, Demand, reason_for, Taken, Follows, Along, Begins, Moved, IsGood, DefaultsFit, ranged}
+use Rattle.vms_values_laws.proofs.Coming.{short}
 use Rattle.vms_values_laws.proofs.Numbers.{follows_then, along_then, moved_none, moved_then, AreShort}
 use Rattle.vms_values_laws.proofs.SecondPass.{IsLined, AreLined}
 use Rattle.vms_values_laws.proofs.SubsCome.{AreSoundSubs, none_at}
-use Rattle.vms_values_laws.proofs.DevicesCome.{AllShort, default_numbers, image_of, DeviceRead, DeviceStop, DeviceComes, section_refused, inside_comes, section_read, section_not, DeviceWent, state_of}
-use Rattle.vms_spec.specs.Good.{IsGood, DefaultsFit}
-use Rattle.vms_bodies.proofs.ReadyLaws.{ranged}
+use Rattle.vms_values_laws.proofs.DevicesCome.{AllShort, default_numbers, image_of, DeviceRead, DeviceStop, DeviceComes, section_refused, inside_comes}
+use Rattle.vms_values_laws.proofs.DevicesCome.{section_read, section_not, DeviceWent, state_of}
+use Rattle.vms_values_laws.proofs.SaidLaws.{unsaid_kept, AreShortSaid}
 use Rattle.vms_spec.specs.declared.ValuesReason.TheVariants as reasons
 
 -- ---- The devices of a set one after the other, read as entries.

@@ -1,23 +1,14 @@
 -- The first bad line of a text.
-use Rattle.std.proofs.Common.{◌≡◌, ℕ, suc, ◌+◌, List, [], ◌∷◌, ◌++◌, length, map, Option, Some, None, refl, sym, ap, ◌∙◌, arith, append-nil, codes, ◌⊎◌, inl, inr, Bool, true, false, ◌&&◌, drop, Ok, Err, Result, if◌then◌else◌}
-use Rattle.vms_spec.specs.declared.ValuesReason.{ValuesReason}
-use Rattle.vms_spec.specs.Sets.{Set}
-use Rattle.vms_spec.specs.Images.{Image}
-use Rattle.vms_spec.specs.Spelling.{first_line, begins_with}
-use Rattle.vms_spec.specs.ValuesReading.{BadLine, ReadAll, machine_named, judge_devices, read_devices, rest_of, after_machine, ended, judged, answer_of, ValuesRead, Bad, values_read}
-use Rattle.vms_elements.specs.Lines.{text_of}
-use Rattle.vms_elements.specs.Entries.{Entry, entries, devices_entries, entry_line, front_reason}
-use Rattle.vms_elements.specs.Reading.{AreShaped, AllUnsaid, AreFine, IsBadLine}
-use Rattle.vms_values_laws.specs.Taken.{Demand, ForMachine, reason_for, Taken, lines_of, AreFineTaken, Follows, Along, Begins, Moved}
+use Rattle.vms_values_laws.proofs.Facade.{◌≡◌, ℕ, suc, ◌+◌, List, [], ◌∷◌, ◌++◌, length, map, Option, Some, None, refl, sym, ap, ◌∙◌, arith, append-nil, codes}
+use Rattle.vms_values_laws.proofs.Facade.{◌⊎◌, inl, inr, Bool, true, false, ◌&&◌, drop, Ok, Err, Result, if◌then◌else◌, same_Some, bytes_eq-Decides}
+use Rattle.vms_values_laws.proofs.Facade.{ValuesReason, Set, Image, first_line, begins_with, BadLine, ReadAll, machine_named, judge_devices, read_devices}
+use Rattle.vms_values_laws.proofs.Facade.{rest_of, after_machine, ended, judged, answer_of, ValuesRead, Bad, values_read, text_of, Entry, entries}
+use Rattle.vms_values_laws.proofs.Facade.{devices_entries, entry_line, front_reason, AreShaped, AllUnsaid, AreFine, IsBadLine, Demand, ForMachine, reason_for}
+use Rattle.vms_values_laws.proofs.Facade.{Taken, lines_of, AreFineTaken, Follows, Along, Begins, Moved, is_one_of, AreSound, begun}
 use Rattle.vms_values_laws.proofs.Numbers.{reason_same, moved_then, moved_none, moved_one}
 use Rattle.vms_values_laws.proofs.SecondPass.{parts_from, devices_judged}
 use Rattle.vms_values_laws.proofs.DevicesCome.{AllShort}
 use Rattle.vms_values_laws.proofs.AllCome.{images_of, AllRead, AllStop, AreGoodDevices, AllCome, devices_come, all_short, AllWent}
-use Rattle.std.proofs.lemmas.Option.{same_Some}
-use Rattle.std.proofs.lemmas.Slice.Eq.{bytes_eq-Decides}
-use Rattle.vms_spec.specs.Streams.{is_one_of}
-use Rattle.vms_spec.specs.Sound.{AreSound}
-use Rattle.vms_words.proofs.Lines.{begun}
 use Rattle.vms_values_laws.proofs.SubsCome.{line_taken}
 use Rattle.vms_values_laws.proofs.Meeting.{Ends}
 use Rattle.vms_spec.specs.declared.ValuesReason.TheVariants as reasons

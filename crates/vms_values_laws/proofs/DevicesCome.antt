@@ -1,23 +1,16 @@
 -- All devices, read as entries.
-use Rattle.std.proofs.Common.{◌≡◌, ℕ, suc, ◌+◌, List, ◌∷◌, ◌++◌, length, map, true, false, Option, Some, None, ℤ, Ok, Err, Result, refl, sym, ap, ◌∙◌, subst, arith, append_assoc, []}
-use Rattle.std.proofs.lemmas.List.{length-append, length-map}
-use Rattle.std.proofs.lemmas.Slice.Eq.{bytes_eq-Decides}
+use Rattle.vms_values_laws.proofs.Facade.{◌≡◌, ℕ, suc, ◌+◌, List, ◌∷◌, ◌++◌, length, map, true, false, Option, Some, None, ℤ, Ok, Err, Result, refl, sym, ap}
+use Rattle.vms_values_laws.proofs.Facade.{◌∙◌, subst, arith, append_assoc, [], length-append, length-map, bytes_eq-Decides, Device, Set, desc_cells}
+use Rattle.vms_values_laws.proofs.Facade.{struct_cells, device_cells, Image, default_image, own_cells, first_line, Standing, Read, BadLine, ReadSubs, readers}
+use Rattle.vms_values_laws.proofs.Facade.{read_desc, read_subs, then_subs, next_line, rest_of, is_line, IsSound, AreSound, section_line, Entry, OfSection}
+use Rattle.vms_values_laws.proofs.Facade.{number_entries, subs_entries, device_entries, has_line, Said, ForSection, ForNumber, reason_for, Taken, Follows}
+use Rattle.vms_values_laws.proofs.Facade.{Along, Begins, Moved, Demand}
 use Rattle.vms_spec.specs.declared.ValuesReason.TheVariants as reasons
-use Rattle.vms_spec.specs.Sets.{Device, Set}
-use Rattle.vms_spec.specs.Layout.{desc_cells, struct_cells, device_cells}
-use Rattle.vms_spec.specs.Images.{Image, default_image, own_cells}
-use Rattle.vms_spec.specs.Spelling.{first_line}
-use Rattle.vms_spec.specs.ValuesReading.{Standing, Read, BadLine, ReadSubs, readers, read_desc, read_subs, then_subs, next_line, rest_of, is_line}
-use Rattle.vms_spec.specs.Sound.{IsSound, AreSound}
-use Rattle.vms_elements.specs.Lines.{section_line}
-use Rattle.vms_elements.specs.Entries.{Entry, OfSection, number_entries, subs_entries, device_entries}
-use Rattle.vms_elements.specs.Reading.{has_line}
-use Rattle.vms_values_laws.specs.Said.{Said}
-use Rattle.vms_values_laws.specs.Taken.{ForSection, ForNumber, reason_for, Taken, Follows, Along, Begins, Moved, Demand}
-use Rattle.vms_values_laws.proofs.Coming.{agrees_front, has_said, agrees_later, Told, told_none, told_both}
-use Rattle.vms_values_laws.proofs.Numbers.{moved_none, moved_one, moved_then, AreShort, all_taken, NumbersRead, NumbersStop, NumbersCome, numbers_come, follows_on, along_on, heard_on, lines_on}
+use Rattle.vms_values_laws.proofs.Numbers.{moved_none, moved_one, moved_then, AreShort, all_taken, NumbersRead, NumbersStop, NumbersCome, numbers_come}
+use Rattle.vms_values_laws.proofs.Numbers.{follows_on, along_on, heard_on, lines_on}
 use Rattle.vms_values_laws.proofs.SecondPass.{sub_numbers}
 use Rattle.vms_values_laws.proofs.SubsCome.{line_taken, SubsCome, AreSoundSubs, cells_long, none_at, subs_come, SubsWent, Went}
+use Rattle.vms_values_laws.proofs.SaidLaws.{agrees_front, agrees_later, Told, told_none, told_both, has_said}
 
 abbrev pub AllShort : List Image → Type 0
 AllShort [] = Unit {0}
@@ -135,7 +128,8 @@ module _ (set : Set) (d : Device) (line : ℕ) (text : List ℕ) where
     }
 
     abbrev went_behind : {q : Standing} {came : List (Option ℕ)} {numbers : List ℤ} {line' : ℕ} {rest : List ℕ} (Then : List Entry → List Entry → Type 0)
-        → NumbersRead set d.desc 0 start q → SubsWent set d d.subs 0 own q came numbers line' rest Then → DeviceWent set d line text came numbers line' rest Then
+        → NumbersRead set d.desc 0 start q → SubsWent set d d.subs 0 own q came numbers line' rest Then
+        → DeviceWent set d line text came numbers line' rest Then
     went_behind {numbers = numbers} Then n r =
         let all = (told_own n r.told).agrees in
         record {
@@ -145,7 +139,8 @@ module _ (set : Set) (d : Device) (line : ℕ) (text : List ℕ) where
           one_each = r.one_each;
           versions = r.versions;
           follows = λ image more long short.
-              follows_head (all_taken n.said ++ r.taken) (Then more) image more (follows_on n r.taken (Then more) image.numbers _ short (r.follows image image.came more long short));
+              follows_head (all_taken n.said ++ r.taken) (Then more) image more
+              (follows_on n r.taken (Then more) image.numbers _ short (r.follows image image.came more long short));
           along = λ more.
               along_head (all_taken n.said ++ r.taken) (Then more) _ more refl
               (along_on n r.taken (Then more) numbers _ (agrees_front n.said r.said numbers all) (r.along _ more (agrees_later n.said r.said numbers all)));

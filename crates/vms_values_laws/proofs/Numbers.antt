@@ -1,25 +1,14 @@
 -- The numbers of one description, read as entries; following what was taken.
-use Rattle.std.proofs.Common.{◌≡◌, ℕ, suc, List, [], ◌∷◌, ◌++◌, Option, Some, None, refl, sym, ap, ◌∙◌, arith, append_assoc, ◌+◌, ◌≤◌, length, get_or, map, true, ℤ, pos, Ok, Err, append-nil, codes}
-use Rattle.std.proofs.lemmas.List.{map-append, length-append, length-map}
-use Rattle.vms_elements.specs.Lines.{text_of, printed}
-use Rattle.vms_elements.specs.Entries.{Entry, OfMachine, wanted_reason, OfNumber, number_entries}
-use Rattle.vms_elements.proofs.LinesOf.{text_append}
-use Rattle.vms_values_laws.specs.Taken.{demand_of, reason_for, Taken, lines_of, AreFineTaken, Follows, Along, Moved, ForNumber, Begins}
-use Rattle.std.specs.Fmt.{signed_decimal}
-use Rattle.vms_spec.specs.Sets.{Desc, Set}
-use Rattle.vms_spec.specs.Layout.{desc_cells, struct_cells}
-use Rattle.vms_spec.specs.Spelling.{first_line, number_spelled}
-use Rattle.vms_spec.specs.ValuesReading.{Standing, Read, BadLine, readers, read_desc}
-use Rattle.vms_spec.specs.Sound.{IsSound, AreSound}
-use Rattle.vms_words.specs.Texts.{IsShort}
-use Rattle.vms_words.proofs.Spells.{number_holds}
-use Rattle.vms_elements.specs.Elements.{Element, shapes, desc_elements}
-use Rattle.vms_elements.specs.Parts.{elements_in}
-use Rattle.vms_values_laws.specs.Said.{Said, said_line, AreFineLines, Agrees, Meets, AreBelow, Ran}
-use Rattle.vms_elements.specs.Reading.{has_line}
-use Rattle.vms_values_laws.proofs.Coming.{has_said, said_both, lines_both, lines_said, ran_none, meets_all, AreShortSaid, ComesTo, At, Told, told_none}
+use Rattle.vms_values_laws.proofs.Facade.{◌≡◌, ℕ, suc, List, [], ◌∷◌, ◌++◌, Option, Some, None, refl, sym, ap, ◌∙◌, arith, append_assoc, ◌+◌, ◌≤◌, length}
+use Rattle.vms_values_laws.proofs.Facade.{get_or, map, true, ℤ, pos, Ok, Err, append-nil, codes, map-append, length-append, length-map, signed_decimal, text_of}
+use Rattle.vms_values_laws.proofs.Facade.{printed, Entry, OfMachine, wanted_reason, OfNumber, number_entries, text_append, demand_of, reason_for, Taken}
+use Rattle.vms_values_laws.proofs.Facade.{lines_of, AreFineTaken, Follows, Along, Moved, ForNumber, Begins, Desc, Set, desc_cells, struct_cells, first_line}
+use Rattle.vms_values_laws.proofs.Facade.{number_spelled, Standing, Read, BadLine, readers, read_desc, IsSound, AreSound, IsShort, number_holds, Element}
+use Rattle.vms_values_laws.proofs.Facade.{shapes, desc_elements, elements_in, Said, said_line, AreFineLines, Agrees, Meets, AreBelow, Ran, has_line}
+use Rattle.vms_values_laws.proofs.Coming.{ComesTo, At}
 use Rattle.vms_values_laws.proofs.Walk.{under, wrapped, part_comes}
 use Rattle.vms_values_laws.proofs.SecondPass.{subs_past, sub_numbers}
+use Rattle.vms_values_laws.proofs.SaidLaws.{meets_all, ran_none, Told, told_none, has_said, said_both, lines_both, lines_said, AreShortSaid}
 
 -- ---- Following what was taken, part after part.
 
@@ -135,7 +124,8 @@ ran_moved p q said r =
 -- ---- a description that was read, or not
 
 -- what lines up to a place said, if entries that have these lines go on like this
-pub record NumbersSaid (set : Set) (d : Desc) (at : ℕ) (p : Standing) (numbers : List ℤ) (line : ℕ) (rest : List ℕ) (Then : List Entry → List Entry → Type 0) : Type 0 where
+pub record NumbersSaid (set : Set) (d : Desc) (at : ℕ) (p : Standing) (numbers : List ℤ) (line : ℕ) (rest : List ℕ)
+    (Then : List Entry → List Entry → Type 0) : Type 0 where
   pub said : List Said
   pub told : Told at p.numbers said numbers
   pub follows : (n : List ℤ) (more : List Entry) → AreShort n → Follows (all_taken said) (Then more) (number_entries set d n at ++ more)
@@ -183,7 +173,8 @@ module _ {set : Set} {d : Desc} {at : ℕ} {p q : Standing} (n : NumbersRead set
       )
 
   -- the lines of subsections after them
-  pub lines_on : (numbers : List ℤ) (es : List Entry) → Agrees n.said numbers → sub_numbers p.line (number_entries set d numbers at ++ es) ≡ sub_numbers q.line es
+  pub lines_on : (numbers : List ℤ) (es : List Entry) → Agrees n.said numbers
+      → sub_numbers p.line (number_entries set d numbers at ++ es) ≡ sub_numbers q.line es
   lines_on numbers es agrees =
       subs_past p.line numbers (printed (elements_in set d d.version numbers at)) es ∙ ap (λ (l : ℕ). sub_numbers l es) (sym (line_on numbers agrees))
 

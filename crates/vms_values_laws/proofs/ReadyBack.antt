@@ -1,34 +1,21 @@
 -- Numbers and images that may be written are read back.
-use Rattle.std.proofs.Common.{◌≡◌, ℕ, suc, ◌+◌, ◌<◌, ◌≤◌, Bool, true, false, ◌==◌, List, ◌∷◌, ◌++◌, length, get_or, None, ℤ, pos, refl, sym, ap, ◌∙◌, arith, ⊎_elim, if◌then◌else◌, [], ◌||◌, nat_lt, Option, Some, codes}
-use Rattle.std.proofs.lemmas.Bool.{or_from, or_parts, and_from, ltb-true, ltb-false, or_right}
-use Rattle.std.proofs.lemmas.List.{get_or_append_left, get_or-append-add, length-append}
-use Rattle.vms_spec.specs.Layout.{Cell, no_cell, Slot, desc_cells, struct_cells, device_cells}
-use Rattle.vms_spec.specs.Images.{has_cell, Image, own_cells, own_slots, sub_slots, came_slots, RulesHold}
-use Rattle.vms_bodies.proofs.Names.{none_joined}
-use Rattle.vms_bodies.proofs.ReadyLaws.{is_same, ranged, are_rules}
-use Rattle.vms_elements.specs.Elements.{Element}
-use Rattle.vms_elements.specs.Parts.{cells_of, slots_of, numbers_in, CountsUp, elements_in}
-use Rattle.vms_elements.specs.Lines.{printed, number_line, text_of, sub_line, section_line}
-use Rattle.vms_elements.specs.Entries.{OfNumber, have_defaults, line_reason, Entry, number_entries, subs_entries, device_entries, devices_entries, entries, if_not, sub_holds}
-use Rattle.vms_elements.specs.Reading.{AreFine, has_line, IsShaped, AreShaped, AreUnsaid, AllUnsaid, AreAtVersions, IsText, Says}
-use Rattle.vms_elements.proofs.Walk.{AreCounted, walks}
-use Rattle.vms_values_laws.proofs.Rights.{line_number, fits_reason, IsRight, AreRight, AreBare, IsNumberOf, IsNoNumber, view, no_bytes, none_outside, right_by, with_slot}
+use Rattle.vms_values_laws.proofs.Facade.{◌≡◌, ℕ, suc, ◌+◌, ◌<◌, ◌≤◌, Bool, true, false, ◌==◌, List, ◌∷◌, ◌++◌, length, get_or, None, ℤ, pos, refl, sym, ap}
+use Rattle.vms_values_laws.proofs.Facade.{◌∙◌, arith, ⊎_elim, if◌then◌else◌, [], ◌||◌, nat_lt, Option, Some, codes, or_from, or_parts, and_from, ltb-true}
+use Rattle.vms_values_laws.proofs.Facade.{ltb-false, or_right, get_or_append_left, get_or-append-add, length-append, get_or-eq_default, slice_get, bytes_eq}
+use Rattle.vms_values_laws.proofs.Facade.{bytes_eq-Decides, Cell, no_cell, Slot, desc_cells, struct_cells, device_cells, has_cell, Image, own_cells, own_slots}
+use Rattle.vms_values_laws.proofs.Facade.{sub_slots, came_slots, RulesHold, none_joined, is_same, ranged, are_rules, Element, cells_of, slots_of, numbers_in}
+use Rattle.vms_values_laws.proofs.Facade.{CountsUp, elements_in, printed, number_line, text_of, sub_line, section_line, OfNumber, have_defaults, line_reason}
+use Rattle.vms_values_laws.proofs.Facade.{Entry, number_entries, subs_entries, device_entries, devices_entries, entries, if_not, sub_holds, AreFine, has_line}
+use Rattle.vms_values_laws.proofs.Facade.{IsShaped, AreShaped, AreUnsaid, AllUnsaid, AreAtVersions, IsText, Says, AreCounted, walks, Desc, Sub, Device, Set}
+use Rattle.vms_values_laws.proofs.Facade.{is_needed, ComeAsNeeded, IsReady, rules_split, IsShort, elements_slots, entry_law, text_is}
+use Rattle.vms_values_laws.proofs.Rights.{line_number, fits_reason, IsRight, AreRight, AreBare, IsNumberOf, IsNoNumber, view, no_bytes, none_outside, right_by}
+use Rattle.vms_values_laws.proofs.Rights.{with_slot}
 use Rattle.vms_values_laws.proofs.Numbers.{AreShort, of_numbers}
-use Rattle.std.proofs.Math.ListN.{get_or-eq_default}
-use Rattle.std.specs.List.{slice_get}
-use Rattle.std.specs.Str.{bytes_eq}
-use Rattle.std.proofs.lemmas.Slice.Eq.{bytes_eq-Decides}
-use Rattle.vms_spec.specs.Sets.{Desc, Sub, Device, Set}
-use Rattle.vms_spec.specs.Streams.{is_needed, ComeAsNeeded, IsReady}
-use Rattle.vms_bodies.proofs.SubsOnly.{rules_split}
-use Rattle.vms_words.specs.Texts.{IsShort}
-use Rattle.vms_elements.proofs.SlotsOf.{elements_slots}
-use Rattle.vms_elements.proofs.EntryLines.{entry_law}
-use Rattle.vms_elements.proofs.LinesOf.{text_is}
-use Rattle.vms_values_laws.proofs.Coming.{short, lines_both, all_both}
+use Rattle.vms_values_laws.proofs.Coming.{short}
 use Rattle.vms_values_laws.proofs.SecondPass.{desc_rules}
 use Rattle.vms_values_laws.proofs.AllCome.{are_short}
 use Rattle.vms_values_laws.proofs.ReadyParts.{AreGood, sub_cells}
+use Rattle.vms_values_laws.proofs.SaidLaws.{all_both, lines_both}
 use Rattle.vms_spec.specs.Layout as slots
 use Rattle.vms_spec.specs.declared.ValuesReason.TheVariants as reasons
 

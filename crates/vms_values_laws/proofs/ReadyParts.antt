@@ -1,27 +1,15 @@
 -- Images that may be written, part by part, and the first bad part.
-use Rattle.std.proofs.Common.{◌≡◌, ℕ, suc, ◌+◌, ◌<◌, ◌≤◌, Bool, true, false, List, ◌∷◌, ◌++◌, length, get_or, Option, Some, None, ℤ, refl, sym, ap, ◌∙◌, arith, [], map}
-use Rattle.std.specs.List.{flat_map, slice_get, AllByRecursion}
-use Rattle.std.proofs.lemmas.Bool.{or_from}
-use Rattle.vms_spec.specs.declared.ValuesReason.{ValuesReason}
-use Rattle.vms_spec.specs.Lists.{or_else}
-use Rattle.vms_spec.specs.Sets.{Desc, Sub, Device, Set}
-use Rattle.vms_spec.specs.Layout.{Cell, no_cell, Slot, desc_cells, struct_cells, device_cells}
-use Rattle.vms_spec.specs.Images.{Image, own_cells, own_slots, sub_slots, came_slots, image_slots, RulesHold, AreVersionsOf}
-use Rattle.vms_spec.specs.Streams.{is_needed, ComeAsNeeded, IsReady}
-use Rattle.vms_spec.specs.Good.{DefaultsFit}
-use Rattle.vms_bodies.proofs.SpellLaws.{rules_append}
-use Rattle.vms_bodies.proofs.ReadyLaws.{rules_are}
-use Rattle.vms_elements.specs.Parts.{elements_in}
-use Rattle.vms_elements.specs.Entries.{Entry, OfSub, number_entries, subs_entries, device_entries, if_not, rules_hold, have_defaults, sub_holds, came_well, part_reason}
-use Rattle.vms_elements.specs.Reading.{AreFine, has_line, IsShaped, AreUnsaid, IsAtVersion, AreAtVersions}
-use Rattle.vms_elements.proofs.Walk.{walks}
-use Rattle.vms_elements.proofs.SlotsOf.{elements_slots}
-use Rattle.vms_values_laws.proofs.Coming.{lines_both}
+use Rattle.vms_values_laws.proofs.Facade.{◌≡◌, ℕ, suc, ◌+◌, ◌<◌, ◌≤◌, Bool, true, false, List, ◌∷◌, ◌++◌, length, get_or, Option, Some, None, ℤ, refl, sym, ap}
+use Rattle.vms_values_laws.proofs.Facade.{◌∙◌, arith, [], map, flat_map, slice_get, AllByRecursion, or_from, get_or_append_left, get_or-append-add}
+use Rattle.vms_values_laws.proofs.Facade.{length-append, ValuesReason, or_else, Desc, Sub, Device, Set, Cell, no_cell, Slot, desc_cells, struct_cells}
+use Rattle.vms_values_laws.proofs.Facade.{device_cells, Image, own_cells, own_slots, sub_slots, came_slots, image_slots, RulesHold, AreVersionsOf, is_needed}
+use Rattle.vms_values_laws.proofs.Facade.{ComeAsNeeded, IsReady, DefaultsFit, rules_append, rules_are, elements_in, Entry, OfSub, number_entries, subs_entries}
+use Rattle.vms_values_laws.proofs.Facade.{device_entries, if_not, rules_hold, have_defaults, sub_holds, came_well, part_reason, AreFine, has_line, IsShaped}
+use Rattle.vms_values_laws.proofs.Facade.{AreUnsaid, IsAtVersion, AreAtVersions, walks, elements_slots, BadLine, or_bad}
 use Rattle.vms_values_laws.proofs.SecondPass.{desc_rules, as_bad, parts_from}
 use Rattle.vms_values_laws.proofs.Numbers.{AreShort}
 use Rattle.vms_values_laws.proofs.Rights.{AreRight, right_none, right_both, AreBare, none_outside, said_right, have_each, fit_parts}
-use Rattle.vms_spec.specs.ValuesReading.{BadLine, or_bad}
-use Rattle.std.proofs.lemmas.List.{get_or_append_left, get_or-append-add, length-append}
+use Rattle.vms_values_laws.proofs.SaidLaws.{lines_both}
 use Rattle.vms_spec.specs.declared.ValuesReason.TheVariants as reasons
 use Rattle.vms_spec.specs.Layout as slots
 
@@ -87,7 +75,8 @@ module _ (set : Set) (n : List ℤ) (short : AreShort n) where
       (none_outside n at (elements_in set d d.version n at) w.up k (λ low. omega (arith, ap length w.cells_are))).0
 
   -- a part, and what comes after it
-  pub bare_parts : (d : Desc) (at next : ℕ) (cs : List Cell) (others : List Entry) → next ≡ at + length (cells d) → ((k : ℕ) → k < next → has_line others k ≡ false)
+  pub bare_parts : (d : Desc) (at next : ℕ) (cs : List Cell) (others : List Entry) → next ≡ at + length (cells d)
+      → ((k : ℕ) → k < next → has_line others k ≡ false)
       → AreBare n at (cells d ++ cs) (λ k. has_line (number_entries set d n at ++ others) k)
       → AreBare n at (cells d) (λ k. has_line (number_entries set d n at) k) × AreBare n next cs (λ k. has_line others k)
   bare_parts d at next cs others is below b = (
@@ -131,7 +120,8 @@ module _ (set : Set) (d : Device) (image : Image) (short : AreShort image.number
         → SubsReady (suc j) next subs came → SubsReady j at (s ∷ subs) (Some v ∷ came)
     it_came v same right true needed holds well later =
         record {
-          right = right_both n at next (desc_cells (struct_cells set) s.desc) (sub_cells set subs) (sub_slots set s v n at) (came_slots set d n next subs came) refl
+          right =
+              right_both n at next (desc_cells (struct_cells set) s.desc) (sub_cells set subs) (sub_slots set s v n at) (came_slots set d n next subs came) refl
               (rw same right) later.right;
           valid = rules_append (sub_slots set s v n at) (came_slots set d n next subs came)
               (rules_are (sub_slots set s v n at) (sym (desc_rules set s.desc v n at) ∙ holds)) later.valid;
@@ -206,7 +196,8 @@ module _ (set : Set) (d : Device) (image : Image) (short : AreShort image.number
       let bare : AreBare n 0 (own ++ sub_cells set d.subs) (λ k. has_line (device_entries set d image) k) =
       λ c k lt e h. let same : k ≡ c = omega arith in
       unsaid k (omega (arith, shaped.cells)) h ∙ ap (λ (i : ℕ). (get_or (device_cells set d) i no_cell).default) same in
-      let b = bare_parts set n short d.desc 0 (own_cells set d) (sub_cells set d.subs) others next (λ k lt. below_subs 0 (own_cells set d) d.subs image.came k lt) bare in
+      let b = bare_parts set n short d.desc 0 (own_cells set d) (sub_cells set d.subs) others next
+      (λ k lt. below_subs 0 (own_cells set d) d.subs image.came k lt) bare in
       let p = fit_parts own (sub_cells set d.subs) defaults in
       let subs = subs_ready 0 (own_cells set d) d.subs image.came shaped.subs shaped.versions f.1 g.1 p.1 b.1 in
       let mine : AreRight n 0 own (own_slots set d d.desc.version n) = desc_right set n short d.desc 0 f.0 p.0 b.0 in

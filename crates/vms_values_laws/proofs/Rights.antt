@@ -1,28 +1,11 @@
 -- Which numbers have fine lines, and which entries.
-use Rattle.std.proofs.Common.{◌≡◌, ℕ, Bool, true, false, not, List, ◌∷◌, ◌++◌, length, get_or, drop, Some, None, ℤ, pos, refl, sym, ap, ◌∙◌, codes, append_assoc, if◌then◌else◌, ◌||◌, [], ◌⊎◌, inl, inr, zero, suc, ◌+◌, ◌-◌, ◌<◌, ◌≤◌, ◌&&◌, ◌==◌, nat_lt, subst, arith, ⊎_elim}
-use Rattle.std.specs.Fmt.{signed_decimal}
-use Rattle.std.proofs.lemmas.Bool.{eq-eqb, ltb-true, ltb-false, ne_eqb, and_parts, or_parts}
-use Rattle.std.proofs.Math.Seq.{drop-append_seam}
-use Rattle.vms_spec.specs.Lists.{or_else}
-use Rattle.vms_spec.specs.Numbers.{exceeds, same_number}
-use Rattle.vms_spec.specs.Layout.{Cell, no_cell, Slot}
-use Rattle.vms_spec.specs.Images.{FitsCell, has_cell}
-use Rattle.vms_spec.specs.Rules.{in_range}
-use Rattle.vms_spec.specs.Spelling.{begins_with}
-use Rattle.vms_bodies.proofs.ReadyLaws.{is_same, ranged}
-use Rattle.vms_spec.proofs.WellFormedLaws.{ranges}
-use Rattle.vms_spec.proofs.ListLaws.{or_second}
-use Rattle.vms_spec.proofs.NumberLaws.{same_number_is, within_all, not_exceeds}
-use Rattle.vms_words.specs.Texts.{IsShort}
-use Rattle.vms_words.proofs.Spells.{number_holds}
-use Rattle.vms_elements.specs.Elements.{Number, Element, What}
-use Rattle.vms_elements.specs.Lines.{number_line, printed}
-use Rattle.vms_elements.specs.Entries.{OfNumber, if_not, number_reason, element_reason, line_reason, have_defaults}
-use Rattle.std.proofs.lemmas.List.{get_or_append_left, get_or-append-add, length-append}
-use Rattle.vms_spec.specs.Good.{DefaultsFit}
-use Rattle.vms_bodies.proofs.Names.{names_append}
-use Rattle.vms_elements.specs.Parts.{cells_of, slots_of, numbers_in, CountsUp}
-use Rattle.vms_elements.specs.Reading.{AreFine, has_line}
+use Rattle.vms_values_laws.proofs.Facade.{◌≡◌, ℕ, Bool, true, false, not, List, ◌∷◌, ◌++◌, length, get_or, drop, Some, None, ℤ, pos, refl, sym, ap, ◌∙◌, codes}
+use Rattle.vms_values_laws.proofs.Facade.{append_assoc, if◌then◌else◌, ◌||◌, [], ◌⊎◌, inl, inr, zero, suc, ◌+◌, ◌-◌, ◌<◌, ◌≤◌, ◌&&◌, ◌==◌, nat_lt, subst, arith}
+use Rattle.vms_values_laws.proofs.Facade.{⊎_elim, signed_decimal, eq-eqb, ltb-true, ltb-false, ne_eqb, and_parts, or_parts, drop-append_seam}
+use Rattle.vms_values_laws.proofs.Facade.{get_or_append_left, get_or-append-add, length-append, or_else, exceeds, same_number, Cell, no_cell, Slot, FitsCell}
+use Rattle.vms_values_laws.proofs.Facade.{has_cell, in_range, begins_with, is_same, ranged, ranges, or_second, same_number_is, within_all, not_exceeds, IsShort}
+use Rattle.vms_values_laws.proofs.Facade.{number_holds, Number, Element, What, number_line, printed, OfNumber, if_not, number_reason, element_reason}
+use Rattle.vms_values_laws.proofs.Facade.{line_reason, have_defaults, DefaultsFit, names_append, cells_of, slots_of, numbers_in, CountsUp, AreFine, has_line}
 use Rattle.vms_values_laws.proofs.Numbers.{AreShort, of_numbers}
 use Rattle.vms_spec.specs.declared.ValuesReason.TheVariants as reasons
 use Rattle.vms_spec.specs.Layout as slots

@@ -1,25 +1,14 @@
 -- The second pass over a text judges the entries of sections and subsections, in order.
-use Rattle.std.proofs.Common.{◌≡◌, ℕ, suc, ◌+◌, ◌≤◌, Bool, true, false, not, ◌&&◌, List, ◌∷◌, ◌++◌, length, map, drop, Option, Some, None, ℤ, pos, refl, sym, ap, ◌∙◌, arith, if◌then◌else◌, ◌||◌, []}
-use Rattle.std.proofs.Math.Seq.{drop-cons}
-use Rattle.std.proofs.lemmas.List.{length-append}
-use Rattle.std.specs.List.{flat_map}
-use Rattle.vms_spec.specs.declared.ValuesReason.{ValuesReason}
+use Rattle.vms_values_laws.proofs.Facade.{◌≡◌, ℕ, suc, ◌+◌, ◌≤◌, Bool, true, false, not, ◌&&◌, List, ◌∷◌, ◌++◌, length, map, drop, Option, Some, None, ℤ, pos}
+use Rattle.vms_values_laws.proofs.Facade.{refl, sym, ap, ◌∙◌, arith, if◌then◌else◌, ◌||◌, [], drop-cons, length-append, flat_map, ValuesReason, or_else, Desc}
+use Rattle.vms_values_laws.proofs.Facade.{Sub, Device, Set, desc_cells, struct_cells, device_cells, desc_slots, meanings, Image, own_cells, rules_are_true}
+use Rattle.vms_values_laws.proofs.Facade.{is_needed, BadLine, ReadDevice, or_bad, if_bad, are_defaults, sub_fails, is_said_well, judge_subs, judge_device}
+use Rattle.vms_values_laws.proofs.Facade.{judge_devices, Number, Rule, Element, What, is_number, cells_with, cells_of, slots_of, numbers_in, CountsUp}
+use Rattle.vms_values_laws.proofs.Facade.{elements_in, slot_of, printed, Entry, OfSub, OfNumber, subs_entries, device_entries, devices_entries, if_not}
+use Rattle.vms_values_laws.proofs.Facade.{rules_hold, has_default, have_defaults, sub_holds, has_come, came_well, part_reason, rule_holds, AreShaped, walks}
+use Rattle.vms_values_laws.proofs.Facade.{elements_slots}
 use Rattle.vms_spec.specs.declared.ValuesReason.TheVariants as reasons
-use Rattle.vms_spec.specs.Lists.{or_else}
-use Rattle.vms_spec.specs.Sets.{Desc, Sub, Device, Set}
-use Rattle.vms_spec.specs.Layout.{desc_cells, struct_cells, device_cells, desc_slots, meanings}
-use Rattle.vms_spec.specs.Images.{Image, own_cells}
-use Rattle.vms_spec.specs.Readiness.{rules_are_true}
-use Rattle.vms_spec.specs.Streams.{is_needed}
-use Rattle.vms_spec.specs.ValuesReading.{BadLine, ReadDevice, or_bad, if_bad, are_defaults, sub_fails, is_said_well, judge_subs, judge_device, judge_devices}
 use Rattle.vms_spec.specs.ValuesReading as reading
-use Rattle.vms_elements.specs.Elements.{Number, Rule, Element, What}
-use Rattle.vms_elements.specs.Parts.{is_number, cells_with, cells_of, slots_of, numbers_in, CountsUp, elements_in, slot_of}
-use Rattle.vms_elements.specs.Lines.{printed}
-use Rattle.vms_elements.specs.Entries.{Entry, OfSub, OfNumber, subs_entries, device_entries, devices_entries, if_not, rules_hold, has_default, have_defaults, sub_holds, has_come, came_well, part_reason, rule_holds}
-use Rattle.vms_elements.specs.Reading.{AreShaped}
-use Rattle.vms_elements.proofs.Walk.{walks}
-use Rattle.vms_elements.proofs.SlotsOf.{elements_slots}
 
 -- ---- the first bad one of entries
 

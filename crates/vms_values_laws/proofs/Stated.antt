@@ -1,41 +1,21 @@
 -- The laws of values texts, as they are stated.
-use Rattle.std.proofs.Common.{◌≡◌, inl, inr, ℕ, List, ◌++◌, Option, Some, None, sym, ap, ◌∙◌, subst, arith, ◌∷◌, map, true, refl, codes, append-nil, [], ◌+◌, length, suc, ◌≤◌, Bool, false, sum_by, ℤ, if◌then◌else◌, ⊎_elim}
-use Rattle.vms_spec.specs.declared.ValuesReason.{ValuesReason}
-use Rattle.vms_spec.specs.Sets.{Set, Device, Desc, Sub}
-use Rattle.vms_spec.specs.ValuesReading.{ValuesRead, Bad, machine_named, BadLine, Values, values_read}
-use Rattle.vms_elements.specs.Entries.{Entry, entries, devices_entries, entry_line, OfNumber, number_entries, subs_entries, device_entries}
-use Rattle.vms_elements.specs.Reading.{IsBadLine, IsMachineOf, Says, IsText, IsBadPart, Refused, Reads}
-use Rattle.vms_values_laws.specs.Taken.{Taken, Follows}
+use Rattle.vms_values_laws.proofs.Facade.{◌≡◌, inl, inr, ℕ, List, ◌++◌, Option, Some, None, sym, ap, ◌∙◌, subst, arith, ◌∷◌, map, true, refl, codes, append-nil}
+use Rattle.vms_values_laws.proofs.Facade.{[], ◌+◌, length, suc, ◌≤◌, Bool, false, sum_by, ℤ, if◌then◌else◌, ⊎_elim, same_Some, length-append, length-map}
+use Rattle.vms_values_laws.proofs.Facade.{sum_by-cons, ValuesReason, Set, Device, Desc, Sub, ValuesRead, Bad, machine_named, BadLine, Values, values_read}
+use Rattle.vms_values_laws.proofs.Facade.{Entry, entries, devices_entries, entry_line, OfNumber, number_entries, subs_entries, device_entries, IsBadLine}
+use Rattle.vms_values_laws.proofs.Facade.{IsMachineOf, Says, IsText, IsBadPart, Refused, Reads, Taken, Follows, Image, own_cells, first_line, is_one_of}
+use Rattle.vms_values_laws.proofs.Facade.{IsConfiguration, IsTrailer, optional, configuration, trailer, written, AreReady, WellFormed, text_of, section_line}
+use Rattle.vms_values_laws.proofs.Facade.{printed, values_text, IsFit, well_good, entry_law, text_is, ReadLaw, OnlyLaw, AcceptedLaw, PrintedLaw, device_lines}
+use Rattle.vms_values_laws.proofs.Facade.{most_lines, LineLaw, machine_short, few_devices, Takes, one_stream_holds, written_holds, FitsText, WrittenLaw}
+use Rattle.vms_values_laws.proofs.Facade.{PackedLaw, ShownLaw, desc_cells, struct_cells, Element, cells_of, elements_in, walks}
 use Rattle.vms_values_laws.proofs.BadLines.{FirstPass, NoneBad, first_pass, TakenOf, taken_all, taken_before}
-use Rattle.vms_values_laws.proofs.Meeting.{AreClean, Ends, Same, meet, NoFeed, line_first, section_feed}
-use Rattle.std.proofs.lemmas.Option.{same_Some}
-use Rattle.vms_spec.specs.Images.{Image, own_cells}
-use Rattle.vms_spec.specs.Spelling.{first_line}
-use Rattle.vms_spec.specs.Streams.{is_one_of, IsConfiguration, IsTrailer, optional, configuration, trailer, written, AreReady}
-use Rattle.vms_spec.specs.WellFormed.{WellFormed}
-use Rattle.vms_elements.specs.Lines.{text_of, section_line, printed}
+use Rattle.vms_values_laws.proofs.Meeting.{AreClean, Ends, Same, meet, NoFeed, line_first, section_feed, AreCleanDevices, clean_entries, clean_structs}
+use Rattle.vms_values_laws.proofs.Meeting.{clean_devices, clean_named, clean_machine}
 use Rattle.vms_values_laws.proofs.SecondPass.{parts_from}
 use Rattle.vms_values_laws.proofs.AllCome.{all_short, images_of, good_devices}
-use Rattle.vms_values_laws.proofs.Clean.{AreCleanDevices, clean_entries, clean_structs, clean_devices, clean_named, clean_machine}
 use Rattle.vms_values_laws.proofs.Accepted.{Match, inside_of, matched, devices_same, answer_by, none_answers, none_says, none_good, says_ready}
-use Rattle.vms_spec.specs.Values.{values_text}
-use Rattle.vms_spec.specs.Good.{IsFit}
-use Rattle.vms_spec.proofs.WellFormedLaws.{well_good}
-use Rattle.vms_elements.proofs.EntryLines.{entry_law}
-use Rattle.vms_elements.proofs.LinesOf.{text_is}
-use Rattle.vms_values_laws.specs.Laws.{ReadLaw, OnlyLaw, AcceptedLaw, PrintedLaw, device_lines, most_lines, LineLaw}
 use Rattle.vms_values_laws.proofs.ReadyParts.{AreGood, sub_cells, FirstPart, first_part, bad_part_found, good_none}
 use Rattle.vms_values_laws.proofs.ReadyBack.{text_says}
-use Rattle.vms_spec.proofs.Faultless.{machine_short, few_devices}
-use Rattle.vms_stream.specs.Streams.{Takes}
-use Rattle.vms_stream.proofs.Stated.{one_stream_holds, written_holds}
-use Rattle.vms_values_laws.specs.Rounds.{FitsText, WrittenLaw, PackedLaw, ShownLaw}
-use Rattle.std.proofs.lemmas.List.{length-append, length-map}
-use Rattle.std.proofs.lemmas.List.Sums.{sum_by-cons}
-use Rattle.vms_spec.specs.Layout.{desc_cells, struct_cells}
-use Rattle.vms_elements.specs.Elements.{Element}
-use Rattle.vms_elements.specs.Parts.{cells_of, elements_in}
-use Rattle.vms_elements.proofs.Walk.{walks}
 use Rattle.vms_values_laws.proofs.Rights.{IsNumberOf, IsNoNumber, view}
 
 -- ---- A bad line by the relation is the one that is found.

@@ -1,25 +1,15 @@
 -- The subsections of a device, read as entries.
-use Rattle.std.proofs.Common.{◌≡◌, ℕ, suc, ◌+◌, ◌≤◌, List, ◌∷◌, ◌++◌, length, map, Bool, true, false, if◌then◌else◌, Option, Some, None, ℤ, Ok, Err, Result, refl, sym, ap, ◌∙◌, subst, arith, append_assoc, []}
-use Rattle.std.proofs.lemmas.List.{length-append, length-map}
-use Rattle.std.specs.List.{flat_map}
-use Rattle.std.specs.Str.{bytes_eq}
-use Rattle.std.proofs.lemmas.Slice.Eq.{bytes_eq-Decides}
+use Rattle.vms_values_laws.proofs.Facade.{◌≡◌, ℕ, suc, ◌+◌, ◌≤◌, List, ◌∷◌, ◌++◌, length, map, Bool, true, false, if◌then◌else◌, Option, Some, None, ℤ, Ok, Err}
+use Rattle.vms_values_laws.proofs.Facade.{Result, refl, sym, ap, ◌∙◌, subst, arith, append_assoc, [], length-append, length-map, flat_map, bytes_eq}
+use Rattle.vms_values_laws.proofs.Facade.{bytes_eq-Decides, Sub, Device, Set, desc_cells, struct_cells, Image, first_line, Standing, Read, BadLine, ReadSubs}
+use Rattle.vms_values_laws.proofs.Facade.{readers, read_desc, read_subs, read_sub, sub_said, also, then_subs, next_line, rest_of, IsSound, AreSound}
+use Rattle.vms_values_laws.proofs.Facade.{line_splits, sub_line, Entry, OfSub, number_entries, subs_entries, has_line, IsAtVersion, AreAtVersions, Said, Agrees}
+use Rattle.vms_values_laws.proofs.Facade.{Demand, ForSub, ForNumber, reason_for, Taken, Follows, Along, Begins, Moved}
 use Rattle.vms_spec.specs.declared.ValuesReason.TheVariants as reasons
-use Rattle.vms_spec.specs.Sets.{Sub, Device, Set}
-use Rattle.vms_spec.specs.Layout.{desc_cells, struct_cells}
-use Rattle.vms_spec.specs.Images.{Image}
-use Rattle.vms_spec.specs.Spelling.{first_line}
-use Rattle.vms_spec.specs.ValuesReading.{Standing, Read, BadLine, ReadSubs, readers, read_desc, read_subs, read_sub, sub_said, also, then_subs, next_line, rest_of}
-use Rattle.vms_spec.specs.Sound.{IsSound, AreSound}
-use Rattle.vms_words.proofs.Lines.{line_splits}
-use Rattle.vms_elements.specs.Lines.{sub_line}
-use Rattle.vms_elements.specs.Entries.{Entry, OfSub, number_entries, subs_entries}
-use Rattle.vms_elements.specs.Reading.{has_line, IsAtVersion, AreAtVersions}
-use Rattle.vms_values_laws.specs.Said.{Said, Agrees}
-use Rattle.vms_values_laws.specs.Taken.{Demand, ForSub, ForNumber, reason_for, Taken, Follows, Along, Begins, Moved}
-use Rattle.vms_values_laws.proofs.Coming.{agrees_front, has_said, agrees_later, Told, told_none, told_both}
-use Rattle.vms_values_laws.proofs.Numbers.{moved_none, moved_one, moved_then, AreShort, all_taken, NumbersRead, NumbersStop, NumbersCome, numbers_come, follows_on, along_on, heard_on, lines_on}
+use Rattle.vms_values_laws.proofs.Numbers.{moved_none, moved_one, moved_then, AreShort, all_taken, NumbersRead, NumbersStop, NumbersCome, numbers_come}
+use Rattle.vms_values_laws.proofs.Numbers.{follows_on, along_on, heard_on, lines_on}
 use Rattle.vms_values_laws.proofs.SecondPass.{sub_numbers}
+use Rattle.vms_values_laws.proofs.SaidLaws.{agrees_front, agrees_later, Told, told_none, told_both, has_said}
 
 -- ---- the line of a subsection
 
@@ -195,7 +185,8 @@ module _ (set : Set) (d : Device) where
           told = n.told;
           one_each = ap suc (length-map subs (λ s. None));
           versions = (head.version, none_at subs);
-          follows = λ image others more long short. follows_head (all_taken n.said) (Begins (ForNumber n.element)) image others more long (λ others long. n.follows image.numbers _ short);
+          follows = λ image others more long short. follows_head (all_taken n.said) (Begins (ForNumber n.element)) image others more long
+              (λ others long. n.follows image.numbers _ short);
           along = λ image more agrees. along_head (all_taken n.said) (Begins (ForNumber n.element)) image (none_of subs) more (n.along image.numbers _ agrees);
           moved = moved_then head_moved n.moved;
         };

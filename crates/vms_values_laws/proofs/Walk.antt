@@ -1,29 +1,15 @@
 -- Reading the fields of a description, beside its elements.
-use Rattle.std.proofs.Common.{◌≡◌, ℕ, List, ◌∷◌, ◌++◌, map, refl, sym, ap, ◌∙◌, Bool, true, false, ◌&&◌, if◌then◌else◌, append_assoc, codes, [], zero, suc, ◌+◌, ◌*◌, ◌≤◌, length, get_or, drop, ℤ, nat_lt, arith, append-nil}
-use Rattle.std.proofs.lemmas.List.{map-append, length-append}
-use Rattle.std.proofs.Math.Bool.{and_assoc, and-true}
-use Rattle.vms_elements.specs.Elements.{Element, dotted, behind, Number, Shape, no_shape, shape, shapes, cells_in, single, Rule, item_elements, Stand, stand_of, array_elements, field_elements, elements_from, desc_elements, index_text}
-use Rattle.vms_elements.specs.Parts.{is_number}
-use Rattle.vms_elements.specs.Lines.{printed}
-use Rattle.vms_elements.proofs.LinesOf.{printed_append}
-use Rattle.std.specs.Fmt.{decimal}
-use Rattle.std.proofs.lemmas.Bool.{ltb-true, ltb-false, le-ltb, lt-ltb}
-use Rattle.vms_kinds.specs.declared.Item.{Item}
-use Rattle.vms_kinds.specs.declared.Item.TheVariants.{Num, Struct}
-use Rattle.vms_kinds.specs.Codes.{width, residue}
-use Rattle.vms_spec.specs.declared.Count.{Count}
-use Rattle.vms_spec.specs.declared.Count.TheVariants.{One, Fixed, Counted}
-use Rattle.vms_spec.specs.Sets.{Field, Desc, Set}
-use Rattle.vms_spec.specs.Layout.{Cell, no_desc, no_field, first, counted, capacity_of, elements_of, item_size, field_cells, cells_from, desc_cells, struct_cells, numbers_of, place_of, kind_of, all_hold}
-use Rattle.vms_spec.specs.ValuesReading.{Standing, Read, Reader, no_reader, reader, readers, cells_of, read_item, read_elements, read_array, read_field, read_fields, read_desc}
-use Rattle.vms_spec.proofs.Sizes.{elements_fit, field_size}
-use Rattle.vms_spec.specs.Sound.{IsNumber, IsOne, IsEarlier, IsSoundField, AreSoundFields, IsSound, AreSound}
-use Rattle.vms_bodies.proofs.Places.{there_same, elements_same, place_next}
-use Rattle.vms_bodies.proofs.WalkLaws.{drop_next, zero_plus, place_first}
-use Rattle.vms_spec.proofs.Tables.{first_long}
-use Rattle.vms_spec.proofs.Prefixes.{readers_cells}
-use Rattle.vms_elements.proofs.Tables.{two_more, shapes_cells}
-use Rattle.vms_values_laws.specs.Said.{Said, Agrees}
+use Rattle.vms_values_laws.proofs.Facade.{◌≡◌, ℕ, List, ◌∷◌, ◌++◌, map, refl, sym, ap, ◌∙◌, Bool, true, false, ◌&&◌, if◌then◌else◌, append_assoc, codes, []}
+use Rattle.vms_values_laws.proofs.Facade.{zero, suc, ◌+◌, ◌*◌, ◌≤◌, length, get_or, drop, ℤ, nat_lt, arith, append-nil, map-append, length-append, and_assoc}
+use Rattle.vms_values_laws.proofs.Facade.{and-true, decimal, ltb-true, ltb-false, le-ltb, lt-ltb, Element, dotted, behind, Number, Shape, no_shape, shape}
+use Rattle.vms_values_laws.proofs.Facade.{shapes, cells_in, single, Rule, item_elements, Stand, stand_of, array_elements, field_elements, elements_from}
+use Rattle.vms_values_laws.proofs.Facade.{desc_elements, index_text, is_number, printed, printed_append, Item, Num, Struct, width, residue, Count, One, Fixed}
+use Rattle.vms_values_laws.proofs.Facade.{Counted, Field, Desc, Set, Cell, no_desc, no_field, first, counted, capacity_of, elements_of, item_size, field_cells}
+use Rattle.vms_values_laws.proofs.Facade.{cells_from, desc_cells, struct_cells, numbers_of, place_of, kind_of, all_hold, Standing, Read, Reader, no_reader}
+use Rattle.vms_values_laws.proofs.Facade.{reader, readers, read_item, read_elements, read_array, read_field, read_fields, read_desc, elements_fit, field_size}
+use Rattle.vms_values_laws.proofs.Facade.{IsNumber, IsOne, IsEarlier, IsSoundField, AreSoundFields, IsSound, AreSound, there_same, elements_same, place_next}
+use Rattle.vms_values_laws.proofs.Facade.{drop_next, zero_plus, place_first, first_long, readers_cells, two_more, shapes_cells, Said, Agrees}
+use Rattle.vms_spec.specs.ValuesReading.{cells_of}
 use Rattle.vms_values_laws.proofs.Coming.{spot, Knows, AllKnown, knows_grows, At, Comes, at_left, stay, forget, then_comes, line_comes}
 
 -- ---- The printed elements under a path.
@@ -35,14 +21,17 @@ under steps text present x = record x { path = steps ++ x.path; name = text ++ x
 abbrev pub wrapped : List (ℕ × ℕ) → List ℕ → Bool → List Element → List Element
 wrapped steps text present xs = map (under steps text present) (printed xs)
 
--- an element is what it is of
-same_element : (x : Element) (steps steps' : List (ℕ × ℕ)) (name name' : List ℕ) (present present' : Bool) → steps ≡ steps' → name ≡ name' → present ≡ present'
-    → (let a : Element = record x { path = steps; name = name; present = present } in let b : Element = record x { path = steps'; name = name'; present = present' } in a ≡ b)
-same_element x steps steps' name name' present present' e f g = rw (e, f, g) refl
-
-map_if : (f : Element → Element) (b : Bool) (x : Element) (xs : List Element) → map f (if b then x ∷ xs else xs) ≡ (if b then f x ∷ map f xs else map f xs)
-map_if f true x xs = refl
-map_if f false x xs = refl
+-- what is printed of elements that a function made, which keeps which are printed
+module _ (f u v : Element → Element) (same : (x : Element) → u (f x) ≡ v x)
+    (kept : (x : Element) → ((f x).counted && is_number (f x).what) ≡ (x.counted && is_number x.what)) where
+  printed_map : (xs : List Element) → map u (printed (map f xs)) ≡ map v (printed xs)
+  printed_map [] = refl
+  printed_map (x ∷ xs) = rw (kept x) (go (x.counted && is_number x.what) (printed_map xs))
+    where
+      go : (b : Bool) → map u (printed (map f xs)) ≡ map v (printed xs)
+          → map u (if b then f x ∷ printed (map f xs) else printed (map f xs)) ≡ map v (if b then x ∷ printed xs else printed xs)
+      go true more = rw (same x, more) refl
+      go false more = more
 
 module _ (steps : List (ℕ × ℕ)) (text : List ℕ) (present : Bool) where
   pub wrapped_append : (xs ys : List Element) → wrapped steps text present (xs ++ ys) ≡ wrapped steps text present xs ++ wrapped steps text present ys
@@ -51,31 +40,17 @@ module _ (steps : List (ℕ × ℕ)) (text : List ℕ) (present : Bool) where
 
   pub wrapped_behind : (step : ℕ × ℕ) (name : List ℕ) (p : Bool) (xs : List Element)
       → wrapped steps text present (map (behind step name true p) xs) ≡ wrapped (steps ++ step ∷ []) (text ++ name) (present && p) xs
-  wrapped_behind step name p [] = refl
-  wrapped_behind step name p (x ∷ xs) =
-      let b = x.counted && is_number x.what in
-      let one : under steps text present (behind step name true p x) ≡ under (steps ++ step ∷ []) (text ++ name) (present && p) x =
-      same_element x _ _ _ _ _ _ (sym (append_assoc steps (step ∷ []) x.path)) (sym (append_assoc text name x.name)) (sym (and_assoc present p x.present)) in
-      map_if (under steps text present) b (behind step name true p x) (printed (map (behind step name true p) xs))
-      ∙ ap (λ (y : Element). if b then y ∷ wrapped steps text present (map (behind step name true p) xs) else wrapped steps text present
-      (map (behind step name true p) xs)) one
-      ∙ ap (λ (l : List Element). if b then under (steps ++ step ∷ []) (text ++ name) (present && p) x ∷ l else l) (wrapped_behind step name p xs)
-      ∙ sym (map_if (under (steps ++ step ∷ []) (text ++ name) (present && p)) b x (printed xs))
+  wrapped_behind step name p xs =
+      printed_map (behind step name true p) (under steps text present) (under (steps ++ step ∷ []) (text ++ name) (present && p))
+      (λ x. rw (append_assoc steps (step ∷ []) x.path, append_assoc text name x.name, and_assoc present p x.present) refl) (λ x. refl) xs
 
   pub wrapped_none : (step : ℕ × ℕ) (name : List ℕ) (p : Bool) (xs : List Element) → wrapped steps text present (map (behind step name false p) xs) ≡ []
   wrapped_none step name p [] = refl
   wrapped_none step name p (x ∷ xs) = wrapped_none step name p xs
 
   pub wrapped_dotted : (xs : List Element) → wrapped steps text present (map dotted xs) ≡ wrapped steps (text ++ codes ".") present xs
-  wrapped_dotted [] = refl
-  wrapped_dotted (x ∷ xs) =
-      let b = x.counted && is_number x.what in
-      let one : under steps text present (dotted x) ≡ under steps (text ++ codes ".") present x =
-      same_element x _ _ _ _ _ _ refl (sym (append_assoc text (codes ".") x.name)) refl in
-      map_if (under steps text present) b (dotted x) (printed (map dotted xs))
-      ∙ ap (λ (y : Element). if b then y ∷ wrapped steps text present (map dotted xs) else wrapped steps text present (map dotted xs)) one
-      ∙ ap (λ (l : List Element). if b then under steps (text ++ codes ".") present x ∷ l else l) (wrapped_dotted xs)
-      ∙ sym (map_if (under steps (text ++ codes ".") present) b x (printed xs))
+  wrapped_dotted xs =
+      printed_map dotted (under steps text present) (under steps (text ++ codes ".") present) (λ x. rw (append_assoc text (codes ".") x.name) refl) (λ x. refl) xs
 
 -- ---- Reading the fields of a description, beside its elements.
 
