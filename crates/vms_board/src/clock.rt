@@ -11,6 +11,7 @@ use crate::cells::clock_cells_in;
 use crate::machine::Machine;
 use dev_board::{Answer, Event, Misfit};
 use dev_clock::{ClockCells, ClockDevices};
+use dev_due::clock_due;
 use std::alloc::Global;
 use vms_desc::DescSet;
 use vms_image::Image;
@@ -77,6 +78,10 @@ impl Machine for ClockDevices {
 
     fn character(&self) -> u64 {
         self.character()
+    }
+
+    fn due(&self) -> Option<u64> {
+        clock_due(self)
     }
 
     fn cells(&self, set: u8) -> ClockCells {

@@ -8,6 +8,7 @@ use crate::cells::cells_in;
 use crate::machine::Machine;
 use dev_base::NEWEST;
 use dev_board::{Answer, BoardCells, Devices, Event, Misfit};
+use dev_due::due;
 use std::alloc::Global;
 use vms_desc::DescSet;
 use vms_image::Image;
@@ -74,6 +75,10 @@ impl Machine for Devices {
 
     fn character(&self) -> u64 {
         self.character()
+    }
+
+    fn due(&self) -> Option<u64> {
+        due(self)
     }
 
     fn cells(&self, set: u8) -> BoardCells {

@@ -25,7 +25,7 @@ pub use border::{
 };
 pub use handle::Handle;
 pub use question::{
-    vmstate_board_character, vmstate_board_has_port, vmstate_board_int, vmstate_board_level,
-    vmstate_board_now, vmstate_board_output, vmstate_board_room,
+    vmstate_board_character, vmstate_board_due, vmstate_board_has_port, vmstate_board_int,
+    vmstate_board_level, vmstate_board_now, vmstate_board_output, vmstate_board_room,
 };
 pub use stream::{CRestored, vmstate_board_restore, vmstate_board_save};
