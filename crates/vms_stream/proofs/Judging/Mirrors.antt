@@ -46,8 +46,14 @@ module _ (set : Set) where
     long : length (images set u) ≡ length set.devices
     here : (k : ℕ) → opened set u ≡ Some k → slice_get (images set u) k ≡ Some (image set u)
 
-  put_on : (u : List Piece) (y : Image) → Images u → (length (put_image (images set u) (opened set u) y) ≡ length set.devices) × ((k : ℕ) → opened set u ≡ Some k → slice_get (put_image (images set u) (opened set u) y) k ≡ Some y)
-  put_on u y r = (long_put (images set u) (opened set u) y ∙ r.long, λ k e. put_here (images set u) (opened set u) y k e (slice_get_within (images set u) k (image set u) (r.here k e)))
+  put_on : (u : List Piece) (y : Image) → Images u
+      → (length (put_image (images set u) (opened set u) y) ≡ length set.devices) × ((k : ℕ) → opened set u ≡ Some k → slice_get
+      (put_image (images set u) (opened set u) y) k ≡ Some y)
+  put_on u y r = (
+    long_put (images set u) (opened set u) y ∙ r.long,
+    λ k e. put_here (images set u) (opened set u) y k e
+        (slice_get_within (images set u) k (image set u) (r.here k e)),
+  )
 
   images_of : (u : List Piece) → Images u
   images_of [] = record { long = length-map set.devices (default_image set); here = λ k e. cc }
@@ -84,9 +90,12 @@ module _ (set : Set) where
     known_is : IsInside (due set u) → known_at set (mirror u) ≡ known set u
     to_part : (j : Option ℕ) → onward (spot_of u) (λ p n. j) (λ n. 0) ≡ inside (opened set u) (id_of u) j 0
     next : next_spot set (mirror u) ≡ inside (opened set u) (id_of u) (part set u) (beyond (passed set u) (slots set u))
-    put : (step : Image → Image) → put_image (images set u) (opened set u) (step (or_none (at_option (images set u) (opened set u)))) ≡ put_image (images set u) (opened set u) (step (image set u))
+    put : (step : Image → Image)
+        → put_image (images set u) (opened set u) (step (or_none (at_option (images set u) (opened set u)))) ≡ put_image (images set u) (opened set u)
+        (step (image set u))
 
-  reads_part : (u : List Piece) (o : Option ℕ) → opened set u ≡ o → spot_of u ≡ inside o (id_of u) (part set u) (passed set u) → due set u ≡ due_field (tail set u) o (drop (passed set u) (slots set u)) → Reads u
+  reads_part : (u : List Piece) (o : Option ℕ) → opened set u ≡ o → spot_of u ≡ inside o (id_of u) (part set u) (passed set u)
+      → due set u ≡ due_field (tail set u) o (drop (passed set u) (slots set u)) → Reads u
   reads_part u None e s d = record {
     section = rw (s, e);
     due_is = rw (s, d);
@@ -110,9 +119,11 @@ module _ (set : Set) where
 
   reads : (u : List Piece) → Reads u
   reads [] = record { section = refl; due_is = refl; held = refl; known_is = λ i. absurd i; to_part = λ j. refl; next = refl; put = λ step. refl }
-  reads (Magic bytes ∷ u) = record { section = refl; due_is = refl; held = refl; known_is = λ i. absurd i; to_part = λ j. refl; next = refl; put = λ step. refl }
+  reads (Magic bytes ∷ u) =
+      record { section = refl; due_is = refl; held = refl; known_is = λ i. absurd i; to_part = λ j. refl; next = refl; put = λ step. refl }
   reads (Version v ∷ u) = record { section = refl; due_is = refl; held = refl; known_is = λ i. absurd i; to_part = λ j. refl; next = refl; put = λ step. refl }
-  reads (Configuration name ∷ u) = record { section = refl; due_is = refl; held = refl; known_is = λ i. absurd i; to_part = λ j. refl; next = refl; put = λ step. refl }
+  reads (Configuration name ∷ u) =
+      record { section = refl; due_is = refl; held = refl; known_is = λ i. absurd i; to_part = λ j. refl; next = refl; put = λ step. refl }
   reads (Foot id ∷ u) = record { section = refl; due_is = refl; held = refl; known_is = λ i. absurd i; to_part = λ j. refl; next = refl; put = λ step. refl }
   reads (End ∷ u) = record { section = refl; due_is = refl; held = refl; known_is = λ i. absurd i; to_part = λ j. refl; next = refl; put = λ step. refl }
   reads (x ∷ u) = reads_part (x ∷ u) (opened set (x ∷ u)) refl refl refl
@@ -120,7 +131,8 @@ module _ (set : Set) where
   -- ---- the rows
 
   -- the rows for a unit between sections need only which devices came
-  rows_so : (names : List (List ℕ)) (d : Due) (x : Piece) → May d x → (k l : Known) → k.came ≡ l.came → (IsInside d → k ≡ l) → first_of set names d k x ≡ first_of set names d l x
+  rows_so : (names : List (List ℕ)) (d : Due) (x : Piece) → May d x → (k l : Known) → k.came ≡ l.came → (IsInside d → k ≡ l)
+      → first_of set names d k x ≡ first_of set names d l x
   rows_so names _ _ (AtHead first directly id name instance v p q r) k l c f = rw c
   rows_so names _ _ (AtEnd first directly) k l c f = rw c
   rows_so names _ _ (AtNumber j cell kind capacities z r) k l c f = rw (f tt)

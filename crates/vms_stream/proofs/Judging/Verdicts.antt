@@ -44,7 +44,8 @@ module _ {S : Type 0} (judge : S → List ℕ → Verdict S) (a : Advances judge
   pub told_from : (m : ℕ) (state : S) (at : ℕ) (rest : List ℕ) → length rest < m → (x : Reading S) × (reading_from judge m state at rest ≡ Some x)
   told_from zero state at rest h = absurd (omega arith)
   told_from (suc m) state at rest h =
-      by (judge state rest) (λ n next e. let b : (0 < n) × (n ≤ length rest) = a.goes state rest n next e in told_from m next (at + n) (drop n rest) (omega (arith, b.0, b.1, length-drop n rest)))
+      by (judge state rest) (λ n next e. let b : (0 < n) × (n ≤ length rest) = a.goes state rest n next e in told_from m next (at + n) (drop n rest)
+      (omega (arith, b.0, b.1, length-drop n rest)))
     where
       by : (v : Verdict S) → ((n : ℕ) (next : S) → v ≡ Goes n next → (x : Reading S) × (reading_from judge m next (at + n) (drop n rest) ≡ Some x))
           → (x : Reading S) × (reading_after (reading_from judge m) at rest v ≡ Some x)
@@ -52,7 +53,8 @@ module _ {S : Type 0} (judge : S → List ℕ → Verdict S) (a : Advances judge
       by (Faulty section reason long) h = (Refused at section reason long, refl)
       by (Over end) h = (Accepted at end, refl)
 
-module _ {S : Type 0} (set : Set) (names : List (List ℕ)) (g : Grammar S) (solid : (s : S) → IsSolid (g.due s)) (Mirrors : List Piece → S → Type 0) (m : Mirrored set names g Mirrors) where
+module _ {S : Type 0} (set : Set) (names : List (List ℕ)) (g : Grammar S) (solid : (s : S) → IsSolid (g.due s)) (Mirrors : List Piece → S → Type 0)
+    (m : Mirrored set names g Mirrors) where
   -- a unit that the verdict goes on by
   record Passes (u : List Piece) (rest : List ℕ) (n : ℕ) (next : S) : Type 0 where
     unit : Piece
@@ -69,7 +71,8 @@ module _ {S : Type 0} (set : Set) (names : List (List ℕ)) (g : Grammar S) (sol
   module _ (u : List Piece) (s : S) (rest : List ℕ) (r : Mirrors u s) where
     -- ---- what a verdict says
 
-    on_row : (x : Piece) (n : ℕ) → holds set u ≡ true → IsThere (due set u) rest x n → (o : Option (Option ℕ × Reason)) → reason_of set names u x ≡ o → Judged u rest (by_row g o n (g.after s x))
+    on_row : (x : Piece) (n : ℕ) → holds set u ≡ true → IsThere (due set u) rest x n → (o : Option (Option ℕ × Reason)) → reason_of set names u x ≡ o
+        → Judged u rest (by_row g o n (g.after s x))
     on_row x n held w None e = record { unit = x; is = w; held = held; none = e; mirrors = m.after_is u s x r held w.may e }
     on_row x n held w (Some (section, reason)) e = rw (← w.long) (Wrong x section reason held (record { may = w.may; more = drop n rest; there = w.there }) e)
 
@@ -77,14 +80,17 @@ module _ {S : Type 0} (set : Set) (names : List (List ℕ)) (g : Grammar S) (sol
     on_found held (Whole x n) e w = on_row x n held w (g.reason s x) (sym (m.reason_is u s x r w.may))
     on_found held Cut e w = rw (m.due_is u s r, m.section_is u s r) (by_owes (owes (due set u) rest) refl)
       where
-        by_owes : (b : Bool) → owes (due set u) rest ≡ b → Judged u rest (if b then Faulty (cut_in (due set u) rest (opened set u)) reasons.Truncated (length rest) else Over s)
-        by_owes true o = IsCut held (owes_so (due set u) rest o) (λ x w. let k = sym e ∙ ap (unit_at (due set u)) w.there ∙ only (due set u) x w.more w.may in cc)
+        by_owes : (b : Bool) → owes (due set u) rest ≡ b
+            → Judged u rest (if b then Faulty (cut_in (due set u) rest (opened set u)) reasons.Truncated (length rest) else Over s)
+        by_owes true o =
+            IsCut held (owes_so (due set u) rest o) (λ x w. let k = sym e ∙ ap (unit_at (due set u)) w.there ∙ only (due set u) x w.more w.may in cc)
         by_owes false o = (held, o, r)
 
     said : IsBytes rest → Judged u rest (judge g s rest)
     said ok = rw (m.holds_is u s r, m.due_is u s r, m.section_is u s r) (by_holds (holds set u) refl)
       where
-        by_holds : (b : Bool) → holds set u ≡ b → Judged u rest (if b then judge_found g s rest (unit_at (due set u) rest) else Faulty (opened set u) reasons.Invalid 0)
+        by_holds : (b : Bool) → holds set u ≡ b
+            → Judged u rest (if b then judge_found g s rest (unit_at (due set u) rest) else Faulty (opened set u) reasons.Invalid 0)
         by_holds true h = on_found h (unit_at (due set u) rest) refl (shows (due set u) rest ok)
         by_holds false h = Fails h
 
@@ -93,16 +99,19 @@ module _ {S : Type 0} (set : Set) (names : List (List ℕ)) (g : Grammar S) (sol
     verdict : (f : Found) → holds set u ≡ true → unit_at (due set u) rest ≡ f → judge g s rest ≡ judge_found g s rest f
     verdict f held e = rw (m.holds_is u s r, held, m.due_is u s r, e)
 
-    by_reason : (x : Piece) (more : List ℕ) (o : Option (Option ℕ × Reason)) → holds set u ≡ true → May (due set u) x → rest ≡ spell x ++ more → reason_of set names u x ≡ o
+    by_reason : (x : Piece) (more : List ℕ) (o : Option (Option ℕ × Reason)) → holds set u ≡ true → May (due set u) x → rest ≡ spell x ++ more
+        → reason_of set names u x ≡ o
         → judge g s rest ≡ by_row g o (length (spell x)) (g.after s x)
     by_reason x more o held may there e =
         verdict (Whole x (length (spell x))) held (ap (unit_at (due set u)) there ∙ only (due set u) x more may)
         ∙ ap (λ (o : Option (Option ℕ × Reason)). by_row g o (length (spell x)) (g.after s x)) (m.reason_is u s x r may ∙ e)
 
-    told : (section : Option ℕ) (reason : Reason) (size : ℕ) → IsBytes rest → Why set names u rest section reason size → judge g s rest ≡ Faulty section reason size
+    told : (section : Option ℕ) (reason : Reason) (size : ℕ) → IsBytes rest → Why set names u rest section reason size
+        → judge g s rest ≡ Faulty section reason size
     told _ _ _ ok (Fails f) = rw (m.holds_is u s r, f, m.section_is u s r)
     told _ _ _ ok (IsCut held o never) =
-        verdict Cut held (cut_is (due set u) rest (unit_at (due set u) rest) (shows (due set u) rest ok) (λ x more may e. never x (record { may = may; more = more; there = e })))
+        verdict Cut held (cut_is (due set u) rest (unit_at (due set u) rest) (shows (due set u) rest ok)
+        (λ x more may e. never x (record { may = may; more = more; there = e })))
         ∙ rw (m.due_is u s r, m.section_is u s r, owes_true (due set u) rest o)
     told section reason _ ok (Wrong x _ _ held w taken) = by_reason x w.more (Some (section, reason)) held w.may w.there taken
 
@@ -129,24 +138,30 @@ module _ {S : Type 0} (set : Set) (names : List (List ℕ)) (g : Grammar S) (sol
   Says u input (Refused place section reason size) = Fault set names input place section reason size
 
   abbrev SaysFrom : ℕ → Type 0
-  SaysFrom k = (u : List Piece) (s : S) (at : ℕ) (input rest : List ℕ) (x : Reading S) → input ≡ spelled u ++ rest → IsBytes rest → Front set names u → Mirrors u s → length (spelled u) ≡ at
+  SaysFrom k =
+      (u : List Piece) (s : S) (at : ℕ) (input rest : List ℕ)
+      (x : Reading S) → input ≡ spelled u ++ rest → IsBytes rest → Front set names u → Mirrors u s → length (spelled u) ≡ at
       → reading_from (judge g) k s at rest ≡ Some x → Says u input x
 
-  by_verdict : (k : ℕ) → SaysFrom k → (u : List Piece) (at : ℕ) (input rest : List ℕ) (x : Reading S) → input ≡ spelled u ++ rest → IsBytes rest → Front set names u → length (spelled u) ≡ at
+  by_verdict : (k : ℕ) → SaysFrom k → (u : List Piece) (at : ℕ) (input rest : List ℕ) (x : Reading S) → input ≡ spelled u ++ rest → IsBytes rest
+      → Front set names u → length (spelled u) ≡ at
       → (v : Verdict S) → Judged u rest v → reading_after (reading_from (judge g) k) at rest v ≡ Some x → Says u input x
   by_verdict k later u at input rest x e ok front long (Goes n next) j h =
-      one_more x (later (j.unit ∷ u) next (at + n) input (drop n rest) x (rw (append_assoc, ← j.is.there) e) (is_bytes_drop n rest ok) (front, j.held, j.is.may, j.none) j.mirrors
+      one_more x (later (j.unit ∷ u) next (at + n) input (drop n rest) x (rw (append_assoc, ← j.is.there) e) (is_bytes_drop n rest ok)
+      (front, j.held, j.is.may, j.none) j.mirrors
       (let b = j.is.long in omega (arith, length-append (spelled u) (spell j.unit))) h)
     where
       one_more : (x : Reading S) → Says (j.unit ∷ u) input x → Says u input x
-      one_more (Accepted n end) w = record { units = w.units; more = w.more ++ j.unit ∷ []; is = w.is ∙ sym (append_assoc w.more (j.unit ∷ []) u); ends = w.ends; mirrors = w.mirrors }
+      one_more (Accepted n end) w =
+          record { units = w.units; more = w.more ++ j.unit ∷ []; is = w.is ∙ sym (append_assoc w.more (j.unit ∷ []) u); ends = w.ends; mirrors = w.mirrors }
       one_more (Refused place section reason size) f = f
   by_verdict k later u at input rest x e ok front long (Faulty section reason size) j h =
       let is : Refused at section reason size ≡ x = cc in
       subst (Says u input) is (record { units = u; rest = rest; front = front; whole = e; long = long; why = j })
   by_verdict k later u at input rest x e ok front long (Over end) j h =
       let is : Accepted at end ≡ x = cc in
-      subst (Says u input) is (record { units = u; more = []; is = refl; ends = record { rest = rest; front = front; held = j.0; over = j.1; whole = e; long = long }; mirrors = j.2 })
+      let ends : Ends set names input at u = record { rest = rest; front = front; held = j.0; over = j.1; whole = e; long = long } in
+      subst (Says u input) is (record { units = u; more = []; is = refl; ends = ends; mirrors = j.2 })
 
   pub says : (k : ℕ) → SaysFrom k
   says zero u s at input rest x e ok front r long h = cc
@@ -165,7 +180,8 @@ module _ {S : Type 0} (set : Set) (names : List (List ℕ)) (g : Grammar S) (sol
         state = g.after t.state x;
         mirrors = m.after_is u t.state x t.mirrors front.1 front.2 front.3;
         reads = ap (reading_on (judge g) start 0) (append_assoc (spelled u) (spell x) rest) ∙ t.reads
-            ∙ unit_read (judge g) (advances g solid) t.state (g.after t.state x) (length (spelled u)) (spell x) rest (by_reason u t.state (spell x ++ rest) t.mirrors x rest None front.1 front.2 refl front.3)
+            ∙ unit_read (judge g) (advances g solid) t.state (g.after t.state x) (length (spelled u)) (spell x) rest
+            (by_reason u t.state (spell x ++ rest) t.mirrors x rest None front.1 front.2 refl front.3)
             ∙ ap (λ (k : ℕ). reading_on (judge g) (g.after t.state x) k rest) (sym (length-append (spelled u) (spell x)));
       }
 
@@ -173,7 +189,8 @@ module _ {S : Type 0} (set : Set) (names : List (List ℕ)) (g : Grammar S) (sol
     pub accepts : Accepts set names g Mirrors start
     unfolding reading
     accepts = record {
-      accepted = λ input n end ok h. let w = says (suc (length input)) [] start 0 input input (Accepted n end) refl ok tt r refl h in (w.units, w.ends, w.mirrors);
+      accepted = λ input n end ok h. let w = says (suc (length input)) [] start 0 input input
+          (Accepted n end) refl ok tt r refl h in (w.units, w.ends, w.mirrors);
       ends = λ input n u ok f.
           let t = reaches start u f.rest r f.front in
           let ok2 = bytes_rest (spelled u) f.rest (subst IsBytes f.whole ok) in (
@@ -188,12 +205,14 @@ module _ {S : Type 0} (set : Set) (names : List (List ℕ)) (g : Grammar S) (sol
     pub refuses : Refuses set names g start
     unfolding reading
     refuses = record {
-      refused = λ input place section reason size ok h. says (suc (length input)) [] start 0 input input (Refused place section reason size) refl ok tt r refl h;
+      refused = λ input place section reason size ok h. says (suc (length input)) [] start 0 input input
+          (Refused place section reason size) refl ok tt r refl h;
       faulty = λ input place section reason size ok f.
           let t = reaches start f.units f.rest r f.front in
           let ok2 = bytes_rest (spelled f.units) f.rest (subst IsBytes f.whole ok) in
           ap (reading_on (judge g) start 0) f.whole ∙ t.reads
-          ∙ ap (reading_after (reading_from (judge g) (length f.rest)) (length (spelled f.units)) f.rest) (told f.units t.state f.rest t.mirrors section reason size ok2 f.why)
+          ∙ ap (reading_after (reading_from (judge g) (length f.rest)) (length (spelled f.units)) f.rest)
+          (told f.units t.state f.rest t.mirrors section reason size ok2 f.why)
           ∙ ap (λ (k : ℕ). Some (Refused k section reason size)) f.long;
     }
 

@@ -23,8 +23,10 @@ abbrev Refused : Set → List ℕ → ℕ → Option ℕ → Reason → ℕ → 
 Refused set input place section reason size = Fault set set.machines input place section reason size
 
 -- a fault of a unit that is whole
-wrong : {set : Set} {names : List (List ℕ)} {input : List ℕ} {place : ℕ} {section : Option ℕ} {reason : Reason} {size : ℕ} (u : List Piece) (x : Piece) (more : List ℕ) → Front set names u → May (due set u) x
-    → holds set u ≡ true → reason_of set names u x ≡ Some (section, reason) → input ≡ spelled u ++ (spell x ++ more) → length (spelled u) ≡ place → length (spell x) ≡ size → Fault set names input place section reason size
+wrong : {set : Set} {names : List (List ℕ)} {input : List ℕ} {place : ℕ} {section : Option ℕ} {reason : Reason} {size : ℕ}
+    → (u : List Piece) (x : Piece) (more : List ℕ) → Front set names u → May (due set u) x
+    → holds set u ≡ true → reason_of set names u x ≡ Some (section, reason) → input ≡ spelled u ++ (spell x ++ more) → length (spelled u) ≡ place
+    → length (spell x) ≡ size → Fault set names input place section reason size
 wrong {section = section} {reason = reason} u x more front may held taken whole long size = record {
   units = u;
   rest = spell x ++ more;
@@ -125,19 +127,38 @@ byte n lt = (omega (arith, ints), omega (arith, ints))
 
 refuses_too_large_a_count : Refused counted_set (box_head ++ hex (codes "03")) 25 (Some 0) reasons.CountTooLarge 1
 unfolding code first
-refuses_too_large_a_count = wrong boxed (Number 0 U8 (pos 3)) [] (in_boxed counted_set refl) (AtNumber 0 0 U8 (2 ∷ []) (pos 3) (byte 3 (omega arith))) refl refl refl refl refl
+refuses_too_large_a_count =
+    wrong boxed (Number 0 U8 (pos 3)) [] (in_boxed counted_set refl) (AtNumber 0 0 U8 (2 ∷ []) (pos 3) (byte 3 (omega arith))) refl refl refl refl refl
 
 refuses_a_bool_of_2 : Refused constant_set (box_head ++ hex (codes "02")) 25 (Some 0) reasons.BadBool 1
 unfolding code first
-refuses_a_bool_of_2 = wrong boxed (Number 0 Truth (pos 2)) [] (in_boxed constant_set refl) (AtNumber 0 0 Truth [] (pos 2) (byte 2 (omega arith))) refl refl refl refl refl
+refuses_a_bool_of_2 =
+    wrong boxed (Number 0 Truth (pos 2)) [] (in_boxed constant_set refl) (AtNumber 0 0 Truth [] (pos 2) (byte 2 (omega arith))) refl refl refl refl refl
 
 refuses_another_constant : Refused constant_set (box_head ++ hex (codes "0108")) 26 (Some 0) reasons.NotEqual 1
 unfolding code first
-refuses_another_constant = wrong (Number 0 Truth (pos 1) ∷ boxed) (Constant U8 (pos 8)) [] (in_boxed constant_set refl, refl, AtNumber 0 0 Truth [] (pos 1) (byte 1 (omega arith)), refl) (AtConstant 0 U8 (pos 7) (pos 8) (byte 8 (omega arith))) refl refl refl refl refl
+refuses_another_constant =
+    wrong (Number 0 Truth (pos 1) ∷ boxed) (Constant U8 (pos 8)) []
+    (in_boxed constant_set refl, refl, AtNumber 0 0 Truth [] (pos 1) (byte 1 (omega arith)), refl)
+    (AtConstant 0 U8 (pos 7) (pos 8) (byte 8 (omega arith))) refl refl refl refl refl
 
 refuses_a_failing_validation : Refused tested_set (box_head ++ hex (codes "0a")) 26 (Some 0) reasons.Invalid 0
 unfolding code first
-refuses_a_failing_validation = record { units = Number 0 U8 (pos 10) ∷ boxed; rest = []; front = (in_boxed tested_set refl, refl, AtNumber 0 0 U8 [] (pos 10) (byte 10 (omega arith)), refl); whole = refl; long = refl; why = Fails refl }
+refuses_a_failing_validation =
+    record {
+      units = Number 0 U8 (pos 10) ∷ boxed;
+      rest = [];
+      front = (
+        in_boxed tested_set refl,
+        refl,
+        AtNumber 0 0 U8 [] (pos 10)
+            (byte 10 (omega arith)),
+        refl,
+      );
+      whole = refl;
+      long = refl;
+      why = Fails refl;
+    }
 
 abbrev with_q : List Piece
 with_q = Number 2 U8 (pos 7) ∷ SubHead (codes "box/q") 1 ∷ Number 0 U8 (pos 9) ∷ boxed
@@ -153,17 +174,23 @@ in_q : Front subsection_set subsection_set.machines with_q
 unfolding first
 in_q = ((in_nine, refl, sub_may 0 1 (codes "box/q") (omega arith), refl), refl, AtNumber 0 2 U8 [] (pos 7) (byte 7 (omega arith)), refl)
 
-refuses_a_subsection_that_came : Refused subsection_set (box_head ++ hex (codes "090505626f782f7100000001070505626f782f7100000001077e0000000000")) 38 (Some 0) reasons.RepeatedSubsection 11
+refuses_a_subsection_that_came : Refused subsection_set (box_head ++ hex (codes "090505626f782f7100000001070505626f782f7100000001077e0000000000"))
+    38 (Some 0) reasons.RepeatedSubsection 11
 unfolding code first
-refuses_a_subsection_that_came = wrong with_q (SubHead (codes "box/q") 1) (7 ∷ 0x7e ∷ 0 ∷ 0 ∷ 0 ∷ 0 ∷ 0 ∷ []) in_q (sub_may 0 1 (codes "box/q") (omega arith)) refl refl refl refl refl
+refuses_a_subsection_that_came =
+    wrong with_q (SubHead (codes "box/q") 1) (7 ∷ 0x7e ∷ 0 ∷ 0 ∷ 0 ∷ 0 ∷ 0 ∷ []) in_q (sub_may 0 1 (codes "box/q") (omega arith)) refl refl refl refl refl
 
 refuses_an_unknown_subsection : Refused subsection_set (box_head ++ hex (codes "090505626f782f7200000001")) 26 (Some 0) reasons.UnknownSubsection 11
 unfolding code first
-refuses_an_unknown_subsection = wrong (Number 0 U8 (pos 9) ∷ boxed) (SubHead (codes "box/r") 1) [] in_nine (sub_may 0 1 (codes "box/r") (omega arith)) refl refl refl refl refl
+refuses_an_unknown_subsection =
+    wrong (Number 0 U8 (pos 9) ∷ boxed) (SubHead (codes "box/r") 1) [] in_nine (sub_may 0 1 (codes "box/r") (omega arith)) refl refl refl refl refl
 
-refuses_a_section_that_came : Refused set_0 (take 40 smallest ++ hex (codes "04000000000574696d6572000000000000000100000000000000007e00000000")) 40 (Some 0) reasons.RepeatedSection 19
+refuses_a_section_that_came : Refused set_0 (take 40 smallest ++ hex (codes "04000000000574696d6572000000000000000100000000000000007e00000000"))
+    40 (Some 0) reasons.RepeatedSection 19
 unfolding code first
-refuses_a_section_that_came = wrong (Foot 0 ∷ fielded) (Head 0 (codes "timer") 0 1) (0 ∷ 0 ∷ 0 ∷ 0 ∷ 0 ∷ 0 ∷ 0 ∷ 0 ∷ 0x7e ∷ 0 ∷ 0 ∷ 0 ∷ 0 ∷ []) (in_fielded, refl, foot_may, refl) (head_may false false (codes "timer")) refl refl refl refl refl
+refuses_a_section_that_came =
+    wrong (Foot 0 ∷ fielded) (Head 0 (codes "timer") 0 1) (0 ∷ 0 ∷ 0 ∷ 0 ∷ 0 ∷ 0 ∷ 0 ∷ 0 ∷ 0x7e ∷ 0 ∷ 0 ∷ 0 ∷ 0 ∷ []) (in_fielded, refl, foot_may, refl)
+    (head_may false false (codes "timer")) refl refl refl refl refl
 
 -- ---- further reasons
 
@@ -192,7 +219,9 @@ refuses_too_old_a_section : Refused set_0 (take 23 smallest ++ hex (codes "00000
 refuses_too_old_a_section = wrong start (Head 0 (codes "timer") 0 0) (drop 27 smallest) (in_start set_0) (timer_may 0 (omega arith)) refl refl refl refl refl
 
 refuses_another_instance : Refused set_0 (take 19 smallest ++ hex (codes "00000001") ++ drop 23 smallest) 8 None reasons.UnknownSection 19
-refuses_another_instance = wrong start (Head 0 (codes "timer") 1 1) (drop 27 smallest) (in_start set_0) (AtHead true false 0 (codes "timer") 1 1 (omega arith) (omega arith) (omega arith)) refl refl refl refl refl
+refuses_another_instance =
+    wrong start (Head 0 (codes "timer") 1 1) (drop 27 smallest) (in_start set_0)
+    (AtHead true false 0 (codes "timer") 1 1 (omega arith) (omega arith) (omega arith)) refl refl refl refl refl
 
 refuses_too_long_a_description : Refused set_0 (smallest ++ hex (codes "0601000001")) 41 None reasons.DescriptionTooLong 5
 unfolding code first

@@ -95,7 +95,8 @@ tails : Tails
 unfolding read first between_at behind_at trailer_at
 tails = search
 
-takes_a_bare_stream : units_of set_0 (bare ++ 0x00 ∷ []) ≡ Some (Accepted 36 (End ∷ Number 0 U64 (pos 0) ∷ Head 0 (codes "timer") 0 1 ∷ Version 3 ∷ Magic magic ∷ []))
+takes_a_bare_stream : units_of set_0 (bare ++ 0x00 ∷ [])
+    ≡ Some (Accepted 36 (End ∷ Number 0 U64 (pos 0) ∷ Head 0 (codes "timer") 0 1 ∷ Version 3 ∷ Magic magic ∷ []))
 unfolding units_of first between_at behind_at trailer_at
 takes_a_bare_stream = refl
 
@@ -138,11 +139,13 @@ record Read : Type 0 where
   subsections_of_a_bare_section : read subsection_set (head ++ hex (codes "040000000003626f78000000000000000109") ++ sub_q ++ hex (codes "00"))
       ≡ taken 39 (record { version = 1; came = None ∷ Some 1 ∷ []; numbers = pos 9 ∷ pos 5 ∷ pos 7 ∷ [] } ∷ [])
   structures_at_their_own_version : read mixed_set mixed_bytes ≡ taken 57 (mixed ∷ [])
-  an_older_version : read mixed_set (head ++ hex (codes "040000000903626f780000000000000001") ++ hex (codes "0001") ++ hex (codes "7e0000000900")) ≡ taken 33 (older ∷ [])
+  an_older_version : read mixed_set (head ++ hex (codes "040000000903626f780000000000000001") ++ hex (codes "0001") ++ hex (codes "7e0000000900"))
+      ≡ taken 33 (older ∷ [])
   -- a description without fields is judged directly after its head
   no_failing_validation_without_fields : read bare_set box_head ≡ refused 25 (Some 0) reasons.Invalid 0
   -- each element of an array of structures is judged at its own end
-  no_structure_whose_validation_fails : read mixed_set (mixed_head ++ hex (codes "02") ++ hex (codes "010203") ++ hex (codes "c80005")) ≡ refused 32 (Some 0) reasons.Invalid 0
+  no_structure_whose_validation_fails : read mixed_set (mixed_head ++ hex (codes "02") ++ hex (codes "010203") ++ hex (codes "c80005"))
+      ≡ refused 32 (Some 0) reasons.Invalid 0
 
 reads : Read
 unfolding read first between_at behind_at trailer_at
