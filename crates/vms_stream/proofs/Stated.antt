@@ -1,5 +1,6 @@
 -- The laws as they are stated.
-use Rattle.std.proofs.Common.{get_or, ◌+◌, take, length, Option, Some, None, IfSome, arith, suc, ◌≡◌, ◌≤◌, true, ℕ, List, ◌++◌, refl, sym, ap, ◌∙◌, subst, drop, false}
+use Rattle.std.proofs.Common.{get_or, ◌+◌, take, length, Option, Some, None, IfSome, arith, suc, ◌≡◌, ◌≤◌, true, ℕ, List, ◌++◌, refl, sym, ap, ◌∙◌, subst, drop}
+use Rattle.std.proofs.Common.{false}
 use Rattle.vms_spec.specs.declared.TheConstants.{LONGEST_NAME}
 use Rattle.vms_spec.specs.Units.{Piece, spell, spelled}
 use Rattle.vms_stream.specs.Dues.{Due}
@@ -15,7 +16,9 @@ use Rattle.vms_stream.specs.SoFar.{Tail, Unknown, Footed, Bare, images, machine}
 use Rattle.vms_stream.specs.Judge.{judge, reading, by_units}
 use Rattle.vms_stream.specs.State.{State, between, by_state, at_start}
 use Rattle.vms_stream.specs.Streams.{Takes}
-use Rattle.vms_stream.specs.StreamLaws.{SectionReadLaw, BeginsSection, SectionFoundLaw, ToldLaw, AcceptedLaw, TakenLaw, LocalLaw, UnitsLaw, StreamLaw, GoesOn, FrontLaw, OneStreamLaw, Answer, Taken, Faulty, EitherLaw, NeverBothLaw, OneFaultLaw, SectionLaw, WrittenLaw, WholeLaw, AreOneFault}
+use Rattle.vms_stream.specs.StreamLaws.{SectionReadLaw, BeginsSection, SectionFoundLaw, ToldLaw, AcceptedLaw, TakenLaw, LocalLaw, UnitsLaw, StreamLaw, GoesOn}
+use Rattle.vms_stream.specs.StreamLaws.{FrontLaw, OneStreamLaw, Answer, Taken, Faulty, EitherLaw, NeverBothLaw, OneFaultLaw, SectionLaw, WrittenLaw, WholeLaw}
+use Rattle.vms_stream.specs.StreamLaws.{AreOneFault}
 use Rattle.vms_stream.proofs.Finding.Advancing.{advances, due_solid}
 use Rattle.vms_stream.proofs.Judging.Mirrors.{solid, state_accepts, state_refuses}
 use Rattle.vms_stream.proofs.Streams.StreamFound.{found, section_found}

@@ -1,5 +1,6 @@
 -- What a well-formed set writes is bytes. What holds of each part of a set: of the description of each device and subsection.
-use Rattle.std.proofs.Common.{◌≡◌, ℕ, suc, List, [], ◌∷◌, Some, refl, zero, ◌+◌, ◌<◌, ◌≤◌, ◌&&◌, nat_le, ◌++◌, length, length-append, get_or, take, drop, ℤ, pos, Bool, true, Option, None, IfSome, nat_lt, subst, arith}
+use Rattle.std.proofs.Common.{◌≡◌, ℕ, suc, List, [], ◌∷◌, Some, refl, zero, ◌+◌, ◌<◌, ◌≤◌, ◌&&◌, nat_le, ◌++◌, length, length-append, get_or, take, drop, ℤ}
+use Rattle.std.proofs.Common.{pos, Bool, true, Option, None, IfSome, nat_lt, subst, arith}
 use Rattle.std.specs.List.{slice_get, list_all}
 use Rattle.vms_spec.specs.Sets.{Desc, Sub, Device, Set}
 use Rattle.std.specs.Int.{byte_at, bytes_high_first}
@@ -14,7 +15,8 @@ use Rattle.vms_kinds.specs.Bytes.{IsBytes}
 use Rattle.vms_spec.specs.Names.{is_name, is_name_byte, is_sub_name}
 use Rattle.vms_spec.specs.Images.{Image, zeroed, own_cells, own_slots, sub_slots}
 use Rattle.vms_spec.specs.Layout.{Slot, Number, Constant, Filler, Rule, desc_cells, struct_cells}
-use Rattle.vms_spec.specs.Streams.{be32, optional, configuration, section_head, sub_head, foot, trailer, end_mark, stream_head, is_one_of, written, written_section, written_sections, written_subs}
+use Rattle.vms_spec.specs.Streams.{be32, optional, configuration, section_head, sub_head, foot, trailer, end_mark, stream_head, is_one_of, written}
+use Rattle.vms_spec.specs.Streams.{written_section, written_sections, written_subs}
 use Rattle.vms_spec.specs.WellFormed.{WellFormed, failing, first_fault, here, set_rules}
 use Rattle.vms_spec.proofs.Faultless.{AllTrue, all_true, every_one, or_else_none}
 use Rattle.vms_spec.proofs.NameBytes.{name_byte_low}

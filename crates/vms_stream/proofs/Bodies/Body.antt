@@ -1,11 +1,13 @@
 -- In the fields of a part the judge reads slot by slot, as the structural reader does: taking a slot is what is seen of its unit.
-use Rattle.std.proofs.Common.{◌≡◌, ℕ, length, take, Option, Some, None, ℤ, refl, ap, ◌∙◌, Bool, true, false, not, nat_lt, ◌&&◌, if◌then◌else◌, zero, suc, ◌+◌, ◌<◌, List, [], ◌∷◌, get_or, drop, slice_set, Ok, Err, sym, arith, ◌==◌}
+use Rattle.std.proofs.Common.{◌≡◌, ℕ, length, take, Option, Some, None, ℤ, refl, ap, ◌∙◌, Bool, true, false, not, nat_lt, ◌&&◌, if◌then◌else◌, zero, suc, ◌+◌}
+use Rattle.std.proofs.Common.{◌<◌, List, [], ◌∷◌, get_or, drop, slice_set, Ok, Err, sym, arith, ◌==◌}
 use Rattle.vms_kinds.specs.declared.Kind.{Kind}
 use Rattle.vms_kinds.specs.Codes.{width, value_of}
 use Rattle.vms_spec.specs.declared.Reason.{Reason}
 use Rattle.vms_spec.specs.Numbers.{is_truth, is_above, exceeds, same_number}
 use Rattle.vms_spec.specs.Lookup.{is_bad_bool, number_at}
-use Rattle.vms_spec.specs.Layout.{Slot, Number as NumberSlot, Constant as ConstantSlot, Filler as FillerSlot, Rule as RuleSlot, desc_slots, meanings, desc_cells}
+use Rattle.vms_spec.specs.Layout.{Slot, Number as NumberSlot, Constant as ConstantSlot, Filler as FillerSlot, Rule as RuleSlot, desc_slots, meanings}
+use Rattle.vms_spec.specs.Layout.{desc_cells}
 use Rattle.vms_spec.specs.Taking.{Progress, Taken, refuse, on, if_whole, take_value, take_slot, Refusal, take_desc, takers, cells_of}
 use Rattle.vms_spec.specs.Units.{Piece, Number, Constant, Filler, Configuration, Long, Head, SubHead, Foot, End, Start, Mark}
 use Rattle.vms_bodies.proofs.FaultFields.{raw_same, bad_same}

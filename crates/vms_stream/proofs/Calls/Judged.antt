@@ -1,5 +1,6 @@
 -- What a cursor's call sees, and what the judge says; a unit between sections after the fields.
-use Rattle.std.proofs.Common.{◌≡◌, ℕ, ◌+◌, List, ◌∷◌, length, get_or, Option, Some, None, refl, ap, ◌∙◌, Bool, true, false, not, nat_lt, ◌==◌, ◌&&◌, if◌then◌else◌, [], ◌||◌, zero, suc, ◌++◌, take, sym, subst}
+use Rattle.std.proofs.Common.{◌≡◌, ℕ, ◌+◌, List, ◌∷◌, length, get_or, Option, Some, None, refl, ap, ◌∙◌, Bool, true, false, not, nat_lt, ◌==◌, ◌&&◌}
+use Rattle.std.proofs.Common.{if◌then◌else◌, [], ◌||◌, zero, suc, ◌++◌, take, sym, subst}
 use Rattle.std.proofs.lemmas.Bool.{both_ways, not-true}
 use Rattle.std.proofs.Math.Bool.{or-not_self}
 use Rattle.vms_spec.specs.declared.TheConstants.{LONGEST_NAME}

@@ -1,5 +1,6 @@
 -- A unit that is found has at least one byte, and all its bytes are there. So a reading advances.
-use Rattle.std.proofs.Common.{◌≡◌, ℕ, zero, suc, ◌+◌, ◌<◌, ◌≤◌, List, [], ◌∷◌, length, get_or, take, drop, Option, Some, None, refl, subst, arith, Bool, true, false, nat_lt, ◌==◌, ◌&&◌, if◌then◌else◌}
+use Rattle.std.proofs.Common.{◌≡◌, ℕ, zero, suc, ◌+◌, ◌<◌, ◌≤◌, List, [], ◌∷◌, length, get_or, take, drop, Option, Some, None, refl, subst, arith, Bool, true}
+use Rattle.std.proofs.Common.{false, nat_lt, ◌==◌, ◌&&◌, if◌then◌else◌}
 use Rattle.std.proofs.lemmas.Bool.{ltb-false}
 use Rattle.vms_kinds.specs.Codes.{width}
 use Rattle.vms_spec.specs.declared.TheConstants.{LONGEST_NAME}

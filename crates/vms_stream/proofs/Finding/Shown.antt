@@ -1,5 +1,6 @@
 -- What is found may come, and is spelled at the front.
-use Rattle.std.proofs.Common.{◌≡◌, ℕ, ◌+◌, ◌<◌, ◌≤◌, List, ◌∷◌, ◌++◌, length, get_or, take, drop, refl, sym, ap, ◌∙◌, arith, append_assoc, length-append, length-drop, get_or-drop, Bool, true, false, not, nat_lt, ◌==◌, ◌&&◌, if◌then◌else◌, [], ◌||◌}
+use Rattle.std.proofs.Common.{◌≡◌, ℕ, ◌+◌, ◌<◌, ◌≤◌, List, ◌∷◌, ◌++◌, length, get_or, take, drop, refl, sym, ap, ◌∙◌, arith, append_assoc, length-append}
+use Rattle.std.proofs.Common.{length-drop, get_or-drop, Bool, true, false, not, nat_lt, ◌==◌, ◌&&◌, if◌then◌else◌, [], ◌||◌}
 use Rattle.std.proofs.lemmas.Bool.{ltb-true, ltb-false, eqb-true, or_from, and_parts}
 use Rattle.std.proofs.lemmas.List.{length-take-le, drop-drop, take-append-drop}
 use Rattle.vms_kinds.specs.Codes.{width, code, value_of, InRange}
@@ -10,8 +11,11 @@ use Rattle.vms_spec.specs.Layout.{Number as NumberSlot, Constant as ConstantSlot
 use Rattle.vms_kinds.specs.Bytes.{IsBytes}
 use Rattle.vms_spec.specs.Streams.{be32, longest_text}
 use Rattle.vms_spec.specs.Lookup.{number_at, bytes_at}
-use Rattle.vms_spec.specs.Units.{Piece, Magic, Version, Configuration, Long, Head, Number, Constant, Filler, SubHead, Foot, End, Description, Start, Mark, spell}
-use Rattle.vms_stream.specs.Dues.{Due, AMagic, AVersion, Between, Field, AfterFields, AfterEnd, Nothing, May, AtMagic, AtVersion, AtConfiguration, AtLongName, AtStart, AtHead, AtEnd, AtMark, AtNumber, AtConstant, AtFiller, AtSubHead, AtFoot, AtOther, AtNext, is_foot, is_next, first_byte, AtDescription, AtLongText, AtTrailing, raw, fits_four}
+use Rattle.vms_spec.specs.Units.{Piece, Magic, Version, Configuration, Long, Head, Number, Constant, Filler, SubHead, Foot, End, Description, Start, Mark}
+use Rattle.vms_spec.specs.Units.{spell}
+use Rattle.vms_stream.specs.Dues.{Due, AMagic, AVersion, Between, Field, AfterFields, AfterEnd, Nothing, May, AtMagic, AtVersion, AtConfiguration, AtLongName}
+use Rattle.vms_stream.specs.Dues.{AtStart, AtHead, AtEnd, AtMark, AtNumber, AtConstant, AtFiller, AtSubHead, AtFoot, AtOther, AtNext, is_foot, is_next}
+use Rattle.vms_stream.specs.Dues.{first_byte, AtDescription, AtLongText, AtTrailing, raw, fits_four}
 use Rattle.vms_spec.proofs.KindLaws.{length-code}
 use Rattle.vms_bodies.proofs.HeadFound.{is_bytes_drop, four_low, split_one, split_four, head_bytes}
 use Rattle.vms_bodies.proofs.SubHeads.{sub_bytes}

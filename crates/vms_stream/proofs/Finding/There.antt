@@ -1,5 +1,6 @@
 -- A unit that may come and is spelled at the front is the one that is found.
-use Rattle.std.proofs.Common.{◌≡◌, ℕ, ◌+◌, ◌<◌, ◌≤◌, List, ◌∷◌, ◌++◌, length, get_or, take, drop, ℤ, refl, sym, ap, ◌∙◌, arith, append_assoc, length-append, true, false, ◌==◌, ◌&&◌, if◌then◌else◌, ◌||◌}
+use Rattle.std.proofs.Common.{◌≡◌, ℕ, ◌+◌, ◌<◌, ◌≤◌, List, ◌∷◌, ◌++◌, length, get_or, take, drop, ℤ, refl, sym, ap, ◌∙◌, arith, append_assoc, length-append}
+use Rattle.std.proofs.Common.{true, false, ◌==◌, ◌&&◌, if◌then◌else◌, ◌||◌}
 use Rattle.std.proofs.lemmas.List.{drop-drop}
 use Rattle.std.proofs.lemmas.Bool.{lt-ltb, le-ltb, eqb-true, or_parts, not-true}
 use Rattle.byteorder.specs.Endian.{big_number}
@@ -9,8 +10,10 @@ use Rattle.vms_kinds.specs.Codes.{width, code, value_of, InRange}
 use Rattle.vms_spec.specs.declared.TheConstants.{LONGEST_NAME}
 use Rattle.vms_spec.specs.Streams.{be32, longest_text}
 use Rattle.vms_spec.specs.Lookup.{number_at, bytes_at}
-use Rattle.vms_spec.specs.Units.{Piece, Magic, Version, Configuration, Long, Head, Number, Constant, Filler, SubHead, Foot, End, Description, Start, Mark, spell}
-use Rattle.vms_stream.specs.Dues.{Due, Between, May, AtMagic, AtVersion, AtConfiguration, AtLongName, AtStart, AtHead, AtEnd, AtMark, AtNumber, AtConstant, AtFiller, AtSubHead, AtFoot, AtOther, AtNext, is_foot, is_next, first_byte, AtDescription, AtLongText, AtTrailing, raw}
+use Rattle.vms_spec.specs.Units.{Piece, Magic, Version, Configuration, Long, Head, Number, Constant, Filler, SubHead, Foot, End, Description, Start, Mark}
+use Rattle.vms_spec.specs.Units.{spell}
+use Rattle.vms_stream.specs.Dues.{Due, Between, May, AtMagic, AtVersion, AtConfiguration, AtLongName, AtStart, AtHead, AtEnd, AtMark, AtNumber, AtConstant}
+use Rattle.vms_stream.specs.Dues.{AtFiller, AtSubHead, AtFoot, AtOther, AtNext, is_foot, is_next, first_byte, AtDescription, AtLongText, AtTrailing, raw}
 use Rattle.vms_spec.proofs.KindLaws.{length-code, value_code, be32_read}
 use Rattle.vms_bodies.proofs.BodyOnly.{front_take, front_drop}
 use Rattle.vms_stream.specs.Finding.{Whole, needs, text_at, between_at, behind_at, trailer_at, unit_at}

@@ -11,10 +11,12 @@ use Rattle.vms_spec.specs.Units.{Piece, Magic, Version, Configuration, Head, Num
 use Rattle.vms_spec.specs.SoFar.{put_version, id_of, device_named, come, opened, part, image, fresh, slots, sub_named}
 use Rattle.vms_bodies.proofs.BodyLaws.{at_set}
 use Rattle.vms_bodies.proofs.HeadFound.{found_is}
-use Rattle.vms_stream.specs.Dues.{Due, Field, AfterFields, May, AtHead, AtEnd, AtNumber, AtConstant, AtSubHead, AtFoot, AtOther, AtNext, due, due_field, rules_hold, holds}
+use Rattle.vms_stream.specs.Dues.{Due, Field, AfterFields, May, AtHead, AtEnd, AtNumber, AtConstant, AtSubHead, AtFoot, AtOther, AtNext, due, due_field}
+use Rattle.vms_stream.specs.Dues.{rules_hold, holds}
 use Rattle.vms_stream.specs.Table.{first_of}
 use Rattle.vms_stream.specs.Laws.{Mirrored, Refuses, Accepts}
-use Rattle.vms_stream.specs.State.{Spot, Before, Headed, Free, Inside, Ended, State, at_start, or_none, open_at, onward, inside, slots_at, next_spot, due_by, known_at, after, by_state}
+use Rattle.vms_stream.specs.State.{Spot, Before, Headed, Free, Inside, Ended, State, at_start, or_none, open_at, onward, inside, slots_at, next_spot, due_by}
+use Rattle.vms_stream.specs.State.{known_at, after, by_state}
 use Rattle.vms_stream.specs.SoFar.{Known, beyond, images, known, machine, passed, put_image, tail}
 use Rattle.vms_stream.proofs.Finding.Advancing.{IsSolid, field_solid}
 use Rattle.vms_stream.proofs.Judging.Verdicts.{refuses, accepts}

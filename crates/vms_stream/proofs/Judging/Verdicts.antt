@@ -1,5 +1,6 @@
 -- The judge refuses exactly the inputs that have a fault, for each state that mirrors the units so far.
-use Rattle.std.proofs.Common.{◌≡◌, ℕ, zero, suc, ◌+◌, ◌<◌, ◌≤◌, List, ◌∷◌, ◌++◌, length, drop, length-drop, Option, Some, None, refl, sym, ap, ◌∙◌, subst, arith, length-append, append_assoc, Bool, true, false, if◌then◌else◌, []}
+use Rattle.std.proofs.Common.{◌≡◌, ℕ, zero, suc, ◌+◌, ◌<◌, ◌≤◌, List, ◌∷◌, ◌++◌, length, drop, length-drop, Option, Some, None, refl, sym, ap, ◌∙◌, subst}
+use Rattle.std.proofs.Common.{arith, length-append, append_assoc, Bool, true, false, if◌then◌else◌, []}
 use Rattle.vms_kinds.specs.Bytes.{IsBytes}
 use Rattle.vms_kinds.proofs.ByteLemmas.{bytes_rest}
 use Rattle.vms_spec.specs.declared.Reason.{Reason}

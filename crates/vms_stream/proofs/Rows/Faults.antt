@@ -9,7 +9,8 @@ use Rattle.vms_spec.specs.Layout.{first}
 use Rattle.vms_spec.specs.Streams.{magic}
 use Rattle.vms_spec.specs.Shipped.{set_0}
 use Rattle.vms_spec.specs.Units.{Piece, Magic, Version, Configuration, Long, Head, Number, Constant, SubHead, Foot, End, Start, Mark, spell, spelled}
-use Rattle.vms_stream.specs.Dues.{Between, AfterFields, May, AtMagic, AtVersion, AtConfiguration, AtStart, AtHead, AtEnd, AtMark, AtNumber, AtConstant, AtSubHead, AtFoot, AtLongText, AtTrailing, due, holds}
+use Rattle.vms_stream.specs.Dues.{Between, AfterFields, May, AtMagic, AtVersion, AtConfiguration, AtStart, AtHead, AtEnd, AtMark, AtNumber, AtConstant}
+use Rattle.vms_stream.specs.Dues.{AtSubHead, AtFoot, AtLongText, AtTrailing, due, holds}
 use Rattle.vms_stream.specs.SoFar.{Unknown}
 use Rattle.vms_stream.specs.Table.{reason_of}
 use Rattle.vms_stream.specs.Faults.{Front, Fails, Cut, Wrong, Fault}

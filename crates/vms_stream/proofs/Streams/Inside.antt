@@ -1,6 +1,7 @@
 -- In a section whose slots are all passed: what an accepted reading finds after the fields. The subsections are spelled, in any
 -- order and each once; the image stays normal and valid.
-use Rattle.std.proofs.Common.{◌≡◌, ℕ, ◌+◌, ◌<◌, List, ◌++◌, length, drop, slice_set, Option, Some, None, refl, ap, ◌∙◌, subst, arith, Bool, true, false, if◌then◌else◌, ◌==◌, [], zero, suc, ◌∷◌, Ok, Err, ℤ, sym, append_assoc, length-append}
+use Rattle.std.proofs.Common.{◌≡◌, ℕ, ◌+◌, ◌<◌, List, ◌++◌, length, drop, slice_set, Option, Some, None, refl, ap, ◌∙◌, subst, arith, Bool, true, false}
+use Rattle.std.proofs.Common.{if◌then◌else◌, ◌==◌, [], zero, suc, ◌∷◌, Ok, Err, ℤ, sym, append_assoc, length-append}
 use Rattle.std.specs.List.{slice_get}
 use Rattle.vms_kinds.specs.Bytes.{IsBytes}
 use Rattle.vms_kinds.proofs.ByteLemmas.{bytes_rest}

@@ -1,5 +1,6 @@
 -- What an input takes is accepted, so it takes at most one stream: its sections are read, and all of it.
-use Rattle.std.proofs.Common.{◌≡◌, ℕ, ◌+◌, ◌^◌, ◌<◌, ◌≤◌, List, ◌∷◌, ◌++◌, length, drop, slice_set, Option, Some, None, ℤ, refl, sym, ap, ◌∙◌, subst, arith, append_assoc, length-append, Bool, true, false, not, ◌==◌, [], map}
+use Rattle.std.proofs.Common.{◌≡◌, ℕ, ◌+◌, ◌^◌, ◌<◌, ◌≤◌, List, ◌∷◌, ◌++◌, length, drop, slice_set, Option, Some, None, ℤ, refl, sym, ap, ◌∙◌, subst, arith}
+use Rattle.std.proofs.Common.{append_assoc, length-append, Bool, true, false, not, ◌==◌, [], map}
 use Rattle.std.specs.List.{slice_get}
 use Rattle.std.proofs.lemmas.List.{length-set}
 use Rattle.vms_spec.specs.Lists.{position}
@@ -7,7 +8,7 @@ use Rattle.vms_spec.specs.Sets.{Device, Set}
 use Rattle.vms_spec.specs.Images.{Image, default_image, own_slots, Spells, IsNormal, IsValid}
 use Rattle.vms_spec.specs.Streams.{section_head, sub_head, ComesOnce, SubsSpell, EachOnce, be32, magic, stream_head, configuration, end_mark, IsTrailer}
 use Rattle.vms_spec.specs.SoFar.{part_slots}
-use Rattle.vms_spec.specs.Units.{Piece, Head, SubHead, Foot, End, Magic, Version, Configuration, Description}
+use Rattle.vms_spec.specs.Units.{Head, SubHead, Foot, End, Magic, Version, Configuration, Description}
 use Rattle.vms_spec.specs.Taking.{Progress}
 use Rattle.vms_spec.specs.Readings.{Reading, Accepted}
 use Rattle.vms_bodies.specs.Whole.{reading_on}
@@ -20,7 +21,8 @@ use Rattle.vms_bodies.proofs.FineLaws.{part_place}
 use Rattle.vms_bodies.proofs.SubsOnly.{so_far, image_at, so_at_last, own_taken, part_taken, sub_so}
 use Rattle.vms_bodies.proofs.ComeLaws.{none_missing, came_at, same_lists, agrees, falses, defaults_of, never_true}
 use Rattle.vms_stream.specs.SoFar.{Tail, Unknown, Footed, Bare, Known}
-use Rattle.vms_stream.specs.Dues.{Due, Between, AfterFields, is_foot, May, AtHead, AtEnd, AtSubHead, AtFoot, AtNext, AtMagic, AtVersion, AtConfiguration, AtDescription}
+use Rattle.vms_stream.specs.Dues.{Due, Between, AfterFields, fits_four, is_foot, is_next, May, AtHead, AtEnd, AtSubHead, AtFoot, AtNext, AtMagic, AtVersion}
+use Rattle.vms_stream.specs.Dues.{AtConfiguration, AtDescription}
 use Rattle.vms_stream.specs.Table.{first_of}
 use Rattle.vms_stream.specs.Judge.{judge, reading}
 use Rattle.vms_stream.specs.State.{State, Spot, Free, Ended, known_at, after, by_state, Headed, Over, between, at_start}
@@ -32,33 +34,22 @@ use Rattle.vms_stream.proofs.Streams.Inside.{Agrees, tail_of, closing, Section, 
 use Rattle.vms_stream.proofs.Streams.StreamFound.{came_to}
 use Rattle.vms_stream.specs.Finding.{trailer_at}
 
--- a section head, or the end mark
-abbrev IsOpening : Piece → Type 0
-IsOpening (Head id name instance v) = Unit {0}
-IsOpening End = Unit {0}
-IsOpening _ = ⊥
-
 -- a section may begin, and the end mark may come
 pub record IsFree (set : Set) (names : List (List ℕ)) (s : State) : Type 0 where
   held : (g set names).holds s ≡ true
-  may : (x : Piece) → May (Between false false) x → IsOpening x → May ((g set names).due s) x
+  head : (id : ℕ) (name : List ℕ) (instance v : ℕ) → fits_four id → fits_four instance → fits_four v → May ((g set names).due s) (Head id name instance v)
+  end : May ((g set names).due s) End
 
 pub free_is : (set : Set) (names : List (List ℕ)) (first c : Bool) (s : State) → s.spot ≡ Free first c → IsFree set names s
-free_is set names first c s e = subst (IsFree set names) (ap (λ (p : Spot). record s { spot = p }) (sym e)) (record { held = refl; may = may })
-  where
-    may : (x : Piece) → May (Between false false) x → IsOpening x → May (Between first c) x
-    may _ (AtHead _ _ id name instance v f g h) o = AtHead first c id name instance v f g h
-    may _ (AtEnd _ _) o = AtEnd first c
-    may _ _ o = absurd o
+free_is set names first c s e =
+    subst (IsFree set names) (ap (λ (p : Spot). record s { spot = p }) (sym e))
+    (record { held = refl; head = λ id name instance v f g h. AtHead first c id name instance v f g h; end = AtEnd first c })
 
 -- after the fields of a section, if the stream isn't footed
-next_may : (k : ℕ) (t : Tail) → Agrees t false → (x : Piece) → May (Between false false) x → IsOpening x → May (AfterFields k t) x
-next_may k Footed a x m o = cc
-next_may k Unknown a _ (AtHead p q id name instance v f g h) o = AtNext k Unknown (Head id name instance v) refl (AtHead p q id name instance v f g h)
-next_may k Unknown a _ (AtEnd p q) o = AtNext k Unknown End refl (AtEnd p q)
-next_may k Bare a _ (AtHead p q id name instance v f g h) o = AtNext k Bare (Head id name instance v) refl (AtHead p q id name instance v f g h)
-next_may k Bare a _ (AtEnd p q) o = AtNext k Bare End refl (AtEnd p q)
-next_may k _ a _ _ o = absurd o
+next_is : (t : Tail) → Agrees t false → (is_next t 0x00 ≡ true) × (is_next t 0x04 ≡ true)
+next_is Unknown a = (refl, refl)
+next_is Footed a = cc
+next_is Bare a = (refl, refl)
 
 foot_may : (t : Tail) → Agrees t true → is_foot t 0x7e ≡ true
 foot_may Unknown a = refl
@@ -115,8 +106,10 @@ module _ (set : Set) (names : List (List ℕ)) (good : IsGood set) (c : Section 
         state = s;
         free = record {
           held = held_is c image part i done;
-          may = λ x m o. subst (λ (y : Due). May y x) (sym (due_is c image part i done))
-              (next_may c.k c.state.tail a x m o);
+          head = λ id name instance v f g h.
+              rw (due_is c image part i done)
+              (AtNext c.k c.state.tail (Head id name instance v) (next_is c.state.tail a).1 (AtHead false false id name instance v f g h));
+          end = rw (due_is c image part i done) (AtNext c.k c.state.tail End (next_is c.state.tail a).0 (AtEnd false false));
         };
         is = refl;
         at = λ e. cc;
@@ -257,7 +250,7 @@ module _ (set : Set) (names : List (List ℕ)) (good : IsGood set) where
       (ap (λ (l : List ℕ). J s place (l ++ rest)) whole
       ∙ ap (J s place) (append_assoc head more rest)
       ∙ unit_on set names s x place (more ++ rest) free.held
-      (free.may x (AtHead false false id d.desc.name d.instance image.version is.fits tops.0 (omega arith)) tt)
+      (free.head id d.desc.name d.instance image.version is.fits tops.0 (omega arith))
       (head_passes set names ((g set names).due s) (known_at set s) id d.desc.name d.instance image.version k d named there
       (subst (λ (y : State). slice_get y.came k ≡ Some false) (sym e) new) is.normal.version)
       ∙ ap (λ (y : State). J y (place + length head) (more ++ rest))
@@ -277,7 +270,7 @@ module _ (set : Set) (names : List (List ℕ)) (good : IsGood set) where
         came = to.came;
         tail = to.tail;
         reads = ap (λ (l : List ℕ). J s place (l ++ (0x00 ∷ after))) spell
-            ∙ unit_on set names s End place after free.held (free.may End (AtEnd false false) tt)
+            ∙ unit_on set names s End place after free.held free.end
             (end_passes set names ((g set names).due s) (known_at set s)
             (subst (λ (y : State). position not 0 y.came ≡ None) (sym e) (none_missing 0 to.came once)))
             ∙ ap (λ (y : State). J (record y { spot = Ended }) (place + 1) after) e
