@@ -22,7 +22,8 @@ key_text k v p =
     ap (λ (s : List ℕ). 44 ∷ 34 ∷ s) (append_assoc k (34 ∷ 58 ∷ []) v ∙ sym (append_assoc k (34 ∷ []) (58 ∷ v)))
     ∙ ap (λ (q : List ℕ). 44 ∷ (q ++ 58 ∷ v)) (quoted_plain k p)
 
-pub puts : (a b c : Text) (k v : List ℕ) (d : Data) → IsPlain k → Extends a b (codes ",\"" ++ (k ++ codes "\":")) → Extends b c v → v ≡ compact_text d → IsSound d → Puts a c k d
+pub puts : (a b c : Text) (k v : List ℕ) (d : Data) → IsPlain k → Extends a b (codes ",\"" ++ (k ++ codes "\":")) → Extends b c v → v ≡ compact_text d
+    → IsSound d → Puts a c k d
 puts a b c k v d p key value is sound = record {
   text = same a c (further a b c _ _ key value) (key_text k v p ∙ ap (λ (s : List ℕ). 44 ∷ (quoted k ++ 58 ∷ s)) is);
   sound = sound;
@@ -58,9 +59,11 @@ size_text size type ms s e =
     ∙ sym (member_more (codes "size") (natural size) (member (codes "type") (string type) ms))
 
 -- what was begun, the path, and the rest of an entry
-pub entry_adds : (a b c e : Draft) (d : Data) (size : ℕ) (type : List ℕ) (ms : Members) (rest : List ℕ) → IsPlain (string_bytes a.path.text) → Begins a b (codes "{\"name\":\"")
+pub entry_adds : (a b c e : Draft) (d : Data) (size : ℕ) (type : List ℕ) (ms : Members) (rest : List ℕ) → IsPlain (string_bytes a.path.text)
+    → Begins a b (codes "{\"name\":\"")
     → Extends b.text c.text (string_bytes b.path.text) → Extends c.text e.text (34 ∷ rest) → members_text true (size_members size type ms) ≡ rest
-    → d ≡ object (member (codes "name") (string (string_bytes a.path.text)) (size_members size type ms)) → IsSound d → e.later ≡ true → string_bytes e.path.text ≡ string_bytes a.path.text → Adds a e (d ∷ [])
+    → d ≡ object (member (codes "name") (string (string_bytes a.path.text)) (size_members size type ms)) → IsSound d → e.later ≡ true
+    → string_bytes e.path.text ≡ string_bytes a.path.text → Adds a e (d ∷ [])
 entry_adds a b c e d size type ms rest p begun path more is equal sound later kept = record {
   text = same a.text e.text (further a.text c.text e.text _ _ (further a.text b.text c.text _ _ begun.text path) more) pieces;
   later = later;

@@ -1,5 +1,6 @@
 -- Paths that are gone into and left again, and how long they get.
-use Rattle.std.proofs.Common.{◌≡◌, ℕ, ◌+◌, ◌*◌, ◌<◌, ◌≤◌, ◌^◌, List, [], ◌∷◌, ◌++◌, length, length-append, take, decimal, String, string_bytes, sym, ap, ◌∙◌, subst, arith, true}
+use Rattle.std.proofs.Common.{◌≡◌, ℕ, ◌+◌, ◌*◌, ◌<◌, ◌≤◌, ◌^◌, List, [], ◌∷◌, ◌++◌, length, length-append, take, decimal, String, string_bytes, sym}
+use Rattle.std.proofs.Common.{ap, ◌∙◌, subst, arith, true}
 use Rattle.std.specs.Str.{IsUtf8}
 use Rattle.std.proofs.lemmas.Str.{IsUtf8-string_bytes}
 use Rattle.std.proofs.Math.Seq.{take-append_seam}
@@ -35,7 +36,8 @@ enters old now kept more is e =
 
 pub index_long : (path : List ℕ) (i : ℕ) → i < 2 ^ 32 → length (element_path path i) ≤ length path + 12
 index_long path i lt =
-    omega (arith, length-append path (91 ∷ (decimal i ++ 93 ∷ [])), length-append (decimal i) (93 ∷ []), length-decimal-le 10 i (omega arith) (omega arith) (omega arith))
+    let digits = length-decimal-le 10 i (omega arith) (omega arith) (omega arith) in
+    omega (arith, length-append path (91 ∷ (decimal i ++ 93 ∷ [])), length-append (decimal i) (93 ∷ []), digits)
 
 pub item_levels_are : (item : Item) → item_rank item ≡ 5 * item_levels item
 item_levels_are (Struct j) = omega arith

@@ -1,5 +1,6 @@
 -- Trees that are written one after the other.
-use Rattle.std.proofs.Common.{◌≡◌, ℕ, Bool, true, false, ◌+◌, ◌<◌, ◌≤◌, List, [], ◌∷◌, ◌++◌, length, append_assoc, get_or, drop, codes, None, string_bytes, refl, sym, ap, subst, ◌∙◌}
+use Rattle.std.proofs.Common.{◌≡◌, ℕ, Bool, true, false, ◌+◌, ◌<◌, ◌≤◌, List, [], ◌∷◌, ◌++◌, length, append_assoc, get_or, drop, codes, None}
+use Rattle.std.proofs.Common.{string_bytes, refl, sym, ap, subst, ◌∙◌}
 use Rattle.std.proofs.lemmas.List.{drop_more, drop_all, append-nil}
 use Rattle.json.specs.Print.{escape_byte, quoted}
 use Rattle.serde_json.specs.Data.{Data, string, boolean, array, object, Members, no_members, member, put}
@@ -50,10 +51,12 @@ items_texts later (d ∷ ds) =
     ∙ ap (λ (t : List ℕ). comma_if later ++ t) (sym (append_assoc (compact_text d) (texts true ds) (93 ∷ [])))
     ∙ sym (append_assoc (comma_if later) (compact_text d ++ texts true ds) (93 ∷ []))
 
-pub lays : (a : Draft) (s : Text) (b c : Draft) (ds : List Data) → Extends a.text s (91 ∷ []) → Adds (record { text = s; path = a.path; later = false }) b ds → Extends b.text c.text (93 ∷ [])
+pub lays : (a : Draft) (s : Text) (b c : Draft) (ds : List Data) → Extends a.text s (91 ∷ []) → Adds (record { text = s; path = a.path; later = false }) b ds
+    → Extends b.text c.text (93 ∷ [])
     → string_bytes c.path.text ≡ string_bytes b.path.text → Lays a c (array (items_of ds))
 lays a s b c ds opens adds close path = record {
-  text = same a.text c.text (further a.text s c.text _ _ opens (further s b.text c.text _ _ adds.text close)) (ap (λ (t : List ℕ). 91 ∷ t) (sym (items_texts false ds)));
+  text = same a.text c.text (further a.text s c.text _ _ opens (further s b.text c.text _ _ adds.text close))
+      (ap (λ (t : List ℕ). 91 ∷ t) (sym (items_texts false ds)));
   sound = array_sound ds adds.sound;
   path = path ∙ adds.path;
 }
@@ -115,13 +118,16 @@ device_text instance name subs version =
     ∙ sym (append_assoc i n rest)
 
 -- the whole
-pub whole_lays : (a : Draft) (s : Text) (b c : Draft) (ds : List Data) → Extends a.text s (codes "{\"devices\":[") → Adds (record { text = s; path = a.path; later = false }) b ds
-    → Extends b.text c.text (codes "]}") → string_bytes c.path.text ≡ string_bytes b.path.text → Lays a c (object (put (codes "devices") (array (items_of ds)) no_members))
+pub whole_lays : (a : Draft) (s : Text) (b c : Draft) (ds : List Data)
+    → Extends a.text s (codes "{\"devices\":[") → Adds (record { text = s; path = a.path; later = false }) b ds
+    → Extends b.text c.text (codes "]}") → string_bytes c.path.text ≡ string_bytes b.path.text
+    → Lays a c (object (put (codes "devices") (array (items_of ds)) no_members))
 unfolding escape_byte
 whole_lays a s b c ds opens adds close path = record {
   text =
       same a.text c.text (further a.text s c.text _ _ opens (further s b.text c.text _ _ adds.text close))
-      (ap (λ (t : List ℕ). codes "{\"devices\":[" ++ t) (sym (append_assoc (texts false ds) (93 ∷ []) (125 ∷ [])) ∙ ap (λ (t : List ℕ). t ++ 125 ∷ []) (sym (items_texts false ds))));
+      (ap (λ (t : List ℕ). codes "{\"devices\":[" ++ t)
+      (sym (append_assoc (texts false ds) (93 ∷ []) (125 ∷ [])) ∙ ap (λ (t : List ℕ). t ++ 125 ∷ []) (sym (items_texts false ds))));
   sound = whole_sound ds (array_sound ds adds.sound);
   path = path ∙ adds.path;
 }

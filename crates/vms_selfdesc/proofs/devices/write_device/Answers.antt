@@ -56,7 +56,8 @@ returns c =
     let inner = further c.push.new.self c.write_subs.new.draft.text end.text _ _ subs.text last in
     let rest = further laid.text c.put_name.new.text end.text _ _ name.text (further c.put_name.new.text c.push.new.self end.text _ _ c.push.ensures inner) in
     let adds = fields_adds c.args.draft.now c.begin.new.draft laid end (object (device_members entries code.instance code.desc.name trees code.desc.version)) (list_tree entry_tree entries)
-    (tail_members code.instance code.desc.name (array (items_of trees)) code.desc.version) _ c.begin.ensures fields rest (device_text code.instance code.desc.name (array (items_of trees)) code.desc.version) refl
+    (tail_members code.instance code.desc.name (array (items_of trees)) code.desc.version) _ c.begin.ensures fields rest
+    (device_text code.instance code.desc.name (array (items_of trees)) code.desc.version) refl
     (device_sound entries code.instance code.desc.name trees code.desc.version fields.sound name.sound subs.sound version.sound) refl subs.path in
     let same = ap (λ (x : Device). object (device_members entries x.instance x.desc.name trees x.desc.version)) c.device-described.ensures in
     subst (λ (x : Data). Adds c.args.draft.now end (x ∷ [])) same adds

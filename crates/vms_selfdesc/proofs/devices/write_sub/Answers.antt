@@ -49,7 +49,8 @@ returns c =
     let laid = c.write_fields.new.draft in
     let end : Draft = record { text = c.push.new.self; path = laid.path; later = true } in
     let adds = fields_adds c.args.draft.now c.begin.new.draft laid end (tree sent desc.name desc.version cell) (list_tree entry_tree (entries sent cell))
-    (member (codes "name") (string desc.name) (member (codes "sent") (boolean sent) (member (codes "version") (natural desc.version) no_members))) _ c.begin.ensures fields
+    (member (codes "name") (string desc.name) (member (codes "sent") (boolean sent) (member (codes "version") (natural desc.version) no_members))) _
+    c.begin.ensures fields
     (further laid.text c.put_sub_head.new.text end.text _ _ head.text c.push.ensures) (head_text desc.name sent desc.version) refl
     (sub_sound (entries sent cell) desc.name sent desc.version fields.sound head.sound) refl refl in
     let same =

@@ -24,9 +24,11 @@ returns c =
     let last = member (codes "value") value no_members in
     let mid : Draft = record { text = c.push.new.self; path = b.path; later = b.later } in
     let end : Draft = record { text = c.push-3.new.self; path = b.path; later = true } in
-    let put = subst (λ (z : ℤ). Spells c.push-2.new.self c.put_integer.new.text (number (of_integer z))) (to_z-of_z {w = w128} c.ranges.default) c.put_integer.ensures in
+    let put = subst (λ (z : ℤ). Spells c.push-2.new.self c.put_integer.new.text (number (of_integer z))) (to_z-of_z {w = w128} c.ranges.default)
+    c.put_integer.ensures in
     let rest = further c.push-2.new.self c.put_integer.new.text end.text _ _ put.text c.push-3.ensures in
     let tail = further mid.text c.push-2.new.self end.text _ _ (same mid.text c.push-2.new.self c.push-2.ensures c.absent_tail.ensures) rest in
-    entry_adds a b mid end (entry_tree (absent_entry path type c.args.default)) 0 type last (members_text true (size_members 0 type last)) c.requires.path c.begin_entry.ensures
+    entry_adds a b mid end (entry_tree (absent_entry path type c.args.default)) 0 type last (members_text true (size_members 0 type last)) c.requires.path
+    c.begin_entry.ensures
     (same b.text mid.text c.push.ensures c.as_str.ensures) (same mid.text end.text tail (absent_text c.args.kind value))
     refl refl (absent_sound path type c.args.default put.sound) refl c.begin_entry.ensures.keeps.path

@@ -21,6 +21,7 @@ returns c =
     let type = kind_word c.args.kind in
     let mid : Draft = record { text = c.push.new.self; path = b.path; later = b.later } in
     let end : Draft = record { text = c.push-2.new.self; path = b.path; later = true } in
-    entry_adds a b mid end (entry_tree (sent_entry path size type)) size type no_members (members_text true (size_members size type no_members)) c.requires c.begin_entry.ensures
+    entry_adds a b mid end (entry_tree (sent_entry path size type)) size type no_members (members_text true (size_members size type no_members)) c.requires
+    c.begin_entry.ensures
     (same b.text mid.text c.push.ensures c.as_str.ensures) (same mid.text end.text c.push-2.ensures (c.cell_tail.ensures ∙ tail_text c.args.kind))
     refl refl (sent_sound path size type (natural_sound size (omega (arith, width_small c.args.kind)))) refl c.begin_entry.ensures.keeps.path

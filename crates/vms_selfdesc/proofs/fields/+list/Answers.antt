@@ -1,4 +1,5 @@
-use Rattle.std.proofs.Common.{rules, arith, sym, ap, ◌∙◌, subst, ◌≡◌, ℕ, ◌+◌, ◌*◌, ◌-◌, ◌<◌, ◌^◌, List, ◌++◌, length, length-append, map, codes, string_bytes, decimal, refl}
+use Rattle.std.proofs.Common.{rules, arith, sym, ap, ◌∙◌, subst, ◌≡◌, ℕ, ◌+◌, ◌*◌, ◌-◌, ◌<◌, ◌^◌, List, ◌++◌, length, length-append, map, codes}
+use Rattle.std.proofs.Common.{string_bytes, decimal, refl}
 use Rattle.vms_spec.specs.declared.Count.{Count}
 use Rattle.vms_spec.specs.Sets.{Desc, Field}
 use Rattle.vms_spec.specs.Layout.{item_size, struct_cells, capacity_of}
@@ -31,8 +32,13 @@ list_item-list_part-requires t c =
     let lower = struct_lower set well item j c.in-Struct.is c.requires.cells.reaches in
     let place = struct_place set well item j c.in-Struct.is c.requires.cells.reaches c.args.lister.now.image.now.numbers c.args.place.cell c.requires.cells.few c.requires.cells.room in
     let path = string_bytes c.args.draft.now.path.text in
-    let long = ap length c.enter.ensures ∙ length-append path (codes ".") in
-    (search rules, (place, (subst IsPlain (sym c.enter.ensures) (dot_plain path c.requires.path), omega (arith, c.requires.deep, ap item_levels c.in-Struct.is, long))))
+    let long = ap length c.enter.ensures ∙ length-append path (codes ".") in (
+      search rules,
+      (
+        place,
+        (subst IsPlain (sym c.enter.ensures) (dot_plain path c.requires.path), omega (arith, c.requires.deep, ap item_levels c.in-Struct.is, long)),
+      ),
+    )
 
 pub list_item-enter-requires : goal.list_item-enter-requires
 list_item-enter-requires t c = omega (arith, c.requires.deep, ap item_levels c.in-Struct.is)
@@ -50,7 +56,8 @@ list_item-returns-in-Struct t c =
     let j = c.in-Struct.number in
     let n = c.args.lister.now.image.now.numbers in
     let draft = c.args.draft.now in
-    let same = struct_list set well item j c.in-Struct.is c.requires.cells.reaches c.args.field.now.default c.args.place.sent (string_bytes draft.path.text) (string_bytes c.enter.new.self.text) n c.args.place.cell
+    let same = struct_list set well item j c.in-Struct.is c.requires.cells.reaches c.args.field.now.default c.args.place.sent (string_bytes draft.path.text)
+    (string_bytes c.enter.new.self.text) n c.args.place.cell
     c.enter.ensures in
     let entered = enters draft.path.text c.list_part.new.draft.path.text c.len-kept.result (codes ".") c.len-kept.ensures
     (c.list_part.ensures.path ∙ c.enter.ensures) in
@@ -80,7 +87,8 @@ list_elements-list_item-requires t c =
       room = element_room (item_size (struct_cells set) c.args.field.now.item) c.args.place.cell i c.args.count c.loop-number.cell (length c.args.lister.now.image.now.numbers) c.loop-number-test.true inv.here cells.room;
     } in
     let small : i < 2 ^ 64 = omega (arith, c.loop-number-test.true, c.ranges.count.fits) in
-    let plain = subst IsPlain (sym (c.enter_element.ensures ∙ ap (λ (p : List ℕ). element_path p i) inv.lists.lists.path)) (element_plain path i small c.requires.path) in
+    let plain = subst IsPlain (sym (c.enter_element.ensures ∙ ap (λ (p : List ℕ). element_path p i) inv.lists.lists.path))
+    (element_plain path i small c.requires.path) in
     let long = index_long (string_bytes c.loop-number.draft.path.text) i (omega (arith, c.loop-number-test.true, c.ranges.count.fits)) in
     (search rules, (elements, (plain, omega (arith, c.requires.deep, ap length c.enter_element.ensures, long, ap length inv.lists.lists.path))))
 
@@ -91,7 +99,8 @@ pub list_elements-leave-requires-clause-text : goal.list_elements-leave-requires
 list_elements-leave-requires-clause-text t c =
     let now = c.loop-number.draft.path in
     let kept = c.len-kept.ensures ∙ ap length (sym c.loop-number.invariant.lists.lists.path) in
-    (enters now.text c.list_item.new.draft.path.text c.len-kept.result (codes "[" ++ (decimal c.loop-number.number ++ codes "]")) kept (c.list_item.ensures.path ∙ c.enter_element.ensures)).text
+    (enters now.text c.list_item.new.draft.path.text c.len-kept.result (codes "[" ++ (decimal c.loop-number.number ++ codes "]")) kept
+    (c.list_item.ensures.path ∙ c.enter_element.ensures)).text
 
 pub list_elements-loop-number-preserved : goal.list_elements-loop-number-preserved
 list_elements-loop-number-preserved t c =
@@ -107,7 +116,8 @@ list_elements-loop-number-preserved t c =
     let width : c.item_cells-size.result ≡ size = omega (arith, c.item_cells-size.ensures, c.requires.cells.small) in
     let moved : c.loop-number.cell + c.item_cells-size.result ≡ c.loop-number.cell + size = omega (arith, width) in
     let kept = c.len-kept.ensures ∙ ap length (sym inv.lists.lists.path) in
-    let entered = enters now.path.text c.list_item.new.draft.path.text c.len-kept.result (codes "[" ++ (decimal i ++ codes "]")) kept (c.list_item.ensures.path ∙ c.enter_element.ensures) in
+    let entered = enters now.path.text c.list_item.new.draft.path.text c.len-kept.result (codes "[" ++ (decimal i ++ codes "]")) kept
+    (c.list_item.ensures.path ∙ c.enter_element.ensures) in
     let new : Draft = record { text = c.list_item.new.draft.text; path = c.leave.new.self; later = c.list_item.new.draft.later } in
     let listed = leave_path now c.enter_element.new.self c.leave.new.self c.list_item.new.draft _ c.list_item.ensures (c.leave.ensures ∙ entered.back) in
     record {
@@ -133,7 +143,8 @@ list_run-returns-in-One t c =
     let n = c.args.lister.now.image.now.numbers in
     let draft = c.args.draft.now in
     subst (λ (k : Count). Lists draft c.list_item.new.draft
-    (array_entries (item_list set f c.args.place.sent n) k c.args.count (string_bytes draft.path.text) c.args.place.cell (item_size (struct_cells set) f.item))) (sym c.in-One.is) c.list_item.ensures
+    (array_entries (item_list set f c.args.place.sent n) k c.args.count (string_bytes draft.path.text) c.args.place.cell
+    (item_size (struct_cells set) f.item))) (sym c.in-One.is) c.list_item.ensures
 
 pub list_run-returns-in_default : goal.list_run-returns-in_default
 list_run-returns-in_default t c =
@@ -142,7 +153,8 @@ list_run-returns-in_default t c =
     let n = c.args.lister.now.image.now.numbers in
     let draft = c.args.draft.now in
     subst (λ (l : List Entry). Lists draft c.list_elements.new.draft l)
-    (sym (array_many (item_list set f c.args.place.sent n) f.count c.args.count (string_bytes draft.path.text) c.args.place.cell (item_size (struct_cells set) f.item) c.in_default.not-One)) c.list_elements.ensures
+    (sym (array_many (item_list set f c.args.place.sent n) f.count c.args.count (string_bytes draft.path.text) c.args.place.cell
+    (item_size (struct_cells set) f.item) c.in_default.not-One)) c.list_elements.ensures
 
 pub list_field-list_run-requires : goal.list_field-list_run-requires
 list_field-list_run-requires t c =
@@ -163,8 +175,13 @@ list_field-list_run-requires t c =
     let name = field_name set well part k c.requires.place.has c.requires.field in
     let named = c.enter.ensures ∙ ap (λ (x : List ℕ). string_bytes c.args.draft.now.path.text ++ x) (c.as_str.ensures ∙ ap (λ (x : Field). x.name) is) in
     let plain = subst IsPlain (sym named) (plain_append (string_bytes c.args.draft.now.path.text) (field_at set part k).name c.requires.path name.plain) in
-    let long = ap length named ∙ length-append (string_bytes c.args.draft.now.path.text) (field_at set part k).name in
-    (search rules, (needs.elements, (all.elements, (plain, omega (arith, c.requires.deep, name.short, long, needs.lower, levels_are set part, item_levels_are f.item)))))
+    let long = ap length named ∙ length-append (string_bytes c.args.draft.now.path.text) (field_at set part k).name in (
+      search rules,
+      (
+        needs.elements,
+        (all.elements, (plain, omega (arith, c.requires.deep, name.short, long, needs.lower, levels_are set part, item_levels_are f.item))),
+      ),
+    )
 
 pub list_field-enter-requires : goal.list_field-enter-requires
 list_field-enter-requires t c =
@@ -194,7 +211,8 @@ list_field-returns t c =
     let same = field_run set part c.args.within.cell k c.args.within.sent n (string_bytes draft.path.text) c.args.at.cell (field_of f) c.is_sent-sent.result
     (string_bytes c.enter.new.self.text) c.elements-count.result is c.is_sent-sent.ensures
     (c.enter.ensures ∙ ap (λ (name : List ℕ). string_bytes draft.path.text ++ name) c.as_str.ensures) c.elements-count.ensures in
-    let entered = enters draft.path.text c.list_run.new.draft.path.text c.len-kept.result c.as_str.result.now c.len-kept.ensures (c.list_run.ensures.path ∙ c.enter.ensures) in
+    let entered = enters draft.path.text c.list_run.new.draft.path.text c.len-kept.result c.as_str.result.now c.len-kept.ensures
+    (c.list_run.ensures.path ∙ c.enter.ensures) in
     subst (λ (l : List Entry). Lists draft (record { text = c.list_run.new.draft.text; path = c.leave.new.self; later = c.list_run.new.draft.later }) l) same
     (leave_path draft c.enter.new.self c.leave.new.self c.list_run.new.draft _ c.list_run.ensures (c.leave.ensures ∙ entered.back))
 
@@ -262,6 +280,7 @@ list_part-loop-field-preserved t c =
           (fields_next set part c.args.place.cell c.args.place.sent path n cell k lt
           ∙ ap (λ (x : ℕ). field_list set part c.args.place.cell k c.args.place.sent n path cell ++ left x) (sym moved))
           inv.lists
-          (subst (λ (p : List ℕ). Lists c.loop-field.draft c.list_field.new.draft (field_list set part c.args.place.cell k c.args.place.sent n p cell)) inv.lists.lists.path c.list_field.ensures);
+          (subst (λ (p : List ℕ). Lists c.loop-field.draft c.list_field.new.draft (field_list set part c.args.place.cell k c.args.place.sent n p cell))
+          inv.lists.lists.path c.list_field.ensures);
       room = omega (arith, moved, room.later);
     }

@@ -8,14 +8,18 @@ use Rattle.vms_selfdesc.proofs.tree.describe.Goals as goal
 
 pub returns-clause-text : goal.returns-clause-text
 returns-clause-text c =
-    IfOk-weaker c.finish.result _ _ (λ s h. ap string_bytes h.1 ∙ wrote c.in_ok-draft.draft.text c.write_tree.new.draft.text _ _ c.in_ok-draft.ensures.text c.write_tree.ensures.text h.0) c.finish.ensures
+    let start = c.in_ok-draft.draft.text in
+    let end = c.write_tree.new.draft.text in
+    IfOk-weaker c.finish.result _ _ (λ s h. ap string_bytes h.1 ∙ wrote start end _ _ c.in_ok-draft.ensures.text c.write_tree.ensures.text h.0) c.finish.ensures
 
 pub returns-clause-reads : goal.returns-clause-reads
 returns-clause-reads c =
     let set = described c.args.set.now in
-    IfOk-weaker c.finish.result _ _ (λ s text. text_reads set (map state_of c.args.images.now) c.write_tree.ensures.sound (string_bytes s) text) (returns-clause-text c)
+    IfOk-weaker c.finish.result _ _ (λ s text. text_reads set (map state_of c.args.images.now) c.write_tree.ensures.sound (string_bytes s) text)
+    (returns-clause-text c)
 
 pub returns-clause-short : goal.returns-clause-short
 returns-clause-short c =
     let set = c.args.set.now in
-    IfOk-weaker c.finish.result _ _ (λ s text. omega (arith, ap length text, text_short (described set) (map state_of c.args.images.now) set.well_formed set.heads)) (returns-clause-text c)
+    let short = text_short (described set) (map state_of c.args.images.now) set.well_formed set.heads in
+    IfOk-weaker c.finish.result _ _ (λ s text. omega (arith, ap length text, short)) (returns-clause-text c)
