@@ -164,6 +164,7 @@ impl Serial {
     }
 
     // Removes and returns the oldest received byte ("Receiver Buffer Register").
+    #[inline(never)]
     fn read_byte(&mut self, now: u64) -> u8
         requires { now ≤ LAST_MOMENT }
         ensures { (result, self.new) ≡ byte_read now self.old }
@@ -174,6 +175,7 @@ impl Serial {
 
     // Reads the "Interrupt Identification Register". Doing so clears the interrupt of an empty
     // transmit list.
+    #[inline(never)]
     #[tactic(auto, unfolding(crate::specs::Access::iir_of))]
     fn read_id(&mut self, now: u64) -> u8
         ensures { (result, self.new) ≡ id_read now self.old }
@@ -241,14 +243,19 @@ impl Serial {
 
     // Writes the "Transmitter Holding Register". This clears the latch, which is set again if the
     // byte moves on to the shift register at once.
-    #[tactic(auto, unfolding(crate::specs::Access::thr_written))]
+    #[tactic(auto, unfolding(crate::specs::Access::thr_written, crate::specs::Transmit::loaded))]
     fn write_byte(&mut self, byte: u8, now: u64)
         requires { now ≤ LAST_MOMENT }
         ensures state { self.new ≡ thr_written byte now self.old }
         ensures level { self.new.level ≡ self.old.level }
     {
-        let due = now + character_time(self.divisor, self.lcr);
-        self.transmitter.write(self.fifos.is_some(), byte, due);
+        let has_fifos = self.fifos.is_some();
+        if self.transmitter.shift().is_none() {
+            let due = now + character_time(self.divisor, self.lcr);
+            self.transmitter.write(has_fifos, byte, due);
+        } else {
+            self.transmitter.queue(has_fifos, byte);
+        }
         self.thr_empty = self.transmitter.waiting().is_empty();
     }
 
@@ -319,7 +326,7 @@ impl Serial {
     /// # Requires
     ///
     /// `to` is at most `LAST_MOMENT`.
-    #[tactic(auto, unfolding(crate::specs::Access::advanced))]
+    #[tactic(auto, unfolding(crate::specs::Access::advanced, crate::specs::Transmit::run_until, crate::specs::Transmit::departures, crate::specs::Transmit::gone, crate::specs::Transmit::arrived))]
     pub fn advance(&mut self, to: u64) -> ArrayVec<u8, MOST_SENT>
         requires { to ≤ LAST_MOMENT }
         ensures state { (result.items, self.new) ≡ advanced to self.old }
@@ -327,6 +334,9 @@ impl Serial {
         ensures few { length result.items ≤ MOST_SENT }
         ensures none_due { IsSentAfter to self.new.transmitter.shift }
     {
+        let Some(_) = self.transmitter.shift() else {
+            return ArrayVec::new();
+        };
         let mode = self.mode();
         let was_empty = self.transmitter.waiting().is_empty();
         let sent = self.transmitter.advance(mode, to, &mut self.receiver);
