@@ -272,6 +272,7 @@ impl Parts {
 
     // Lets time pass up to `to`; returns whether counter 0 had a rising edge, and the bytes that
     // left.
+    #[inline(always)]
     #[tactic(auto, unfolding(crate::specs::Step::waited))]
     fn wait(&mut self, to: u64) -> (bool, ArrayVec<u8, MOST_SENT>)
         requires later { self.old.moment ≤ to }
@@ -285,6 +286,7 @@ impl Parts {
     }
 
     // Returns OUT of counter 0, which is still in the earlier lines if it wasn't touched.
+    #[inline(always)]
     fn timer_out(&self, touched: bool, lines: u16) -> bool
         requires { touched ≡ false → has_of lines 0 ≡ pit_out 0 self.now.moment self.now.pit }
         ensures { result ≡ pit_out 0 self.now.moment self.now.pit }
@@ -309,6 +311,7 @@ impl Parts {
     }
 
     // Returns the inputs of the pair: the wires, OUT of counter 0 and the serial port's line.
+    #[inline(always)]
     #[tactic(auto, unfolding(crate::specs::Step::inputs_of))]
     fn inputs(&self, wires: u16, lines: u16, touch: Touch) -> u16
         requires { Stays touch lines self.now }
