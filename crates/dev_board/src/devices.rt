@@ -78,6 +78,7 @@ impl Devices {
     /// # Requires
     ///
     /// If `event` is an [`Event::Wire`], its input is a wire: one of 1, 3, 5, 6, 7 and 8 to 15.
+    #[inline(always)]
     pub fn event(&mut self, event: Event) -> Answer
         requires wire { IsTrue (names_wire event) }
         ensures step { (result, self.new) ≡ step event self.old }

@@ -86,6 +86,7 @@ impl Counter {
     }
 
     /// Returns the level of OUT at `now`; true is high.
+    #[inline(always)]
     #[tactic(auto, unfolding(crate::specs::Counter::out_of, crate::specs::Count::out_at))]
     pub fn out(&self, now: u64) -> bool
         requires loaded { LoadedBy now self.now.loaded_at }
@@ -107,6 +108,7 @@ impl Counter {
     }
 
     /// Tells whether OUT has a rising edge after `from` and not after `to`.
+    #[inline(always)]
     #[tactic(auto, unfolding(crate::specs::Counter::edge_of, crate::specs::Count::rises))]
     pub fn edge(&self, from: u64, to: u64) -> bool
         requires loaded { LoadedBy from self.now.loaded_at }

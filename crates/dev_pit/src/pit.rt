@@ -116,6 +116,7 @@ impl Pit {
     /// # Requires
     ///
     /// `counter` is below 3, `now` is at most `LAST_MOMENT`, and no counter was loaded after `now`.
+    #[inline(always)]
     #[tactic(auto, unfolding(crate::specs::Pit::pit_out))]
     pub fn out(&self, counter: u8, now: u64) -> bool
         requires counter { counter < 3 }
@@ -134,6 +135,7 @@ impl Pit {
     ///
     /// `counter` is below 3, `from` is not after `to`, `to` is at most `LAST_MOMENT`, and no
     /// counter was loaded after `from`.
+    #[inline(always)]
     #[tactic(auto, unfolding(crate::specs::Pit::pit_edge))]
     pub fn edge(&self, counter: u8, from: u64, to: u64) -> bool
         requires counter { counter < 3 }
