@@ -1,4 +1,4 @@
-use Rattle.std.proofs.Common.{◌≡◌, List, ℕ, Result, Err, length, map, ap, ◌∙◌, subst, sym}
+use Rattle.std.proofs.Common.{◌≡◌, List, Result, Err, map, ap, ◌∙◌, subst, sym}
 use Rattle.std.proofs.lemmas.List.{with_items_is}
 use Rattle.std.proofs.lemmas.Result.{err_from_is_err_and}
 use Rattle.vms_spec.specs.Lists.{at_option}
@@ -19,7 +19,6 @@ use Rattle.vms_convert.specs.Losing.{stream_of}
 use Rattle.vms_convert.specs.Lost.{numbers_in}
 use Rattle.vms_convert.specs.Returns.{AreReturned}
 use Rattle.vms_convert.specs.declared.fault.ConvertFault.{ConvertFault}
-use Rattle.vms_convert.specs.declared.fault.ConvertFault.TheVariants as faults
 use Rattle.vms_convert.proofs.ConvertLaws.{loses_kept, puts_kept}
 use Rattle.vms_convert.proofs.JudgeLaws.{ComesBack, backs_are, ready_back}
 use Rattle.vms_convert.proofs.call.convert_kept.Given.{Over}
@@ -89,8 +88,8 @@ returns-in_err-write_back g c =
     let full = outlet g.K.Sink c.write_back.new.sink in
     let stops : Stops empty full (stream_of to (at_option to.machines m) (map state_of typed)) =
     subst (λ (l : List Typed). Stops empty full (stream_of to (at_option to.machines m) (map state_of l))) (same g p.After-deref-2) c.in_err-write_back.ensures in
-    subst (λ (x : Result Unit ConvertFault). ConvertsKept to _ _ images empty full x) (sym (r.1 ∙ ap Err r.2))
-    (subst (λ (s : Set). PutsStream to s (name_of s c.args.machine) images (Stops empty full)) c.requires.newest
+    subst (λ (s : Set). ConvertsKept to s (name_of s c.args.machine) images empty full c.from_residual-in_err-write_back.result) c.requires.newest
+    (subst (λ (x : Result Unit ConvertFault). ConvertsKept to new (name_of new c.args.machine) images empty full x) (sym (r.1 ∙ ap Err r.2))
     (puts_kept to new (name_of new c.args.machine) images (map state_of typed) back m c.in_ok-machine.ensures (Stops empty full) stops))
 
 pub returns : goal.returns

@@ -18,7 +18,7 @@ loop-device-preserved c =
     let to = described c.args.to.now in
     let new = described c.args.newest.now in
     let n = c.loop-device.device in
-    subst (λ (l : List Route). AreRoutes to new (n + 1) l) (sym c.in_ok-push.ensures.items)
+    subst (λ (l : List Route). AreRoutes to new (n + 1) l) (sym {A = List Route} c.in_ok-push.ensures.items)
     (route_more to new n c.loop-device.routes.items c.in_ok-route_to.field-0 c.loop-device.invariant c.in_ok-route_to.ensures)
 
 pub returns : goal.returns
