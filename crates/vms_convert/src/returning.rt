@@ -2,7 +2,7 @@
 ghost use Rattle.std.specs.Prelude.{◌≡◌, ◌<◌, length};
 ghost use Rattle.vms_spec.specs.Layout.{device_cells};
 ghost use Rattle.vms_desc.specs.Described.{described, device_at};
-ghost use Rattle.vms_image.specs.Typed.{IsImageOf, default_at, state_of};
+ghost use Rattle.vms_image.specs.Typed.{IsImageOf, default_at};
 ghost use Rattle.vms_check.specs.Partners.{device_partners};
 ghost use Rattle.vms_check_laws.specs.Pairing.{AreOfKinds};
 ghost use Rattle.vms_load.specs.Lean.{loads};

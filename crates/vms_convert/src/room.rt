@@ -1,7 +1,7 @@
 // The memory of a conversion. All of it is allocated before the input is read.
-ghost use Rattle.std.specs.Prelude.{◌≡◌, ◌<◌, ◌&&◌, None, Some, IfOk, if◌then◌else◌, length};
+ghost use Rattle.std.specs.Prelude.{◌≡◌, ◌<◌, IfOk, length};
 ghost use Rattle.vms_check.specs.Comparing.{Compatible};
-ghost use Rattle.vms_desc.specs.Described.{described, device_at};
+ghost use Rattle.vms_desc.specs.Described.{described};
 ghost use Rattle.vms_convert.specs.Returns.{ArePaired};
 ghost use Rattle.vms_convert.specs.Rooms.{AreRoutes, IsRoom, IsRoute, recast_room};
 
