@@ -6,11 +6,9 @@
 
 mod answer;
 mod border;
-mod growing;
 mod handle;
 mod held;
 mod kinds;
-mod lent;
 mod parts;
 mod question;
 mod reason;

@@ -1,28 +1,41 @@
 // A source over bytes that it borrows.
-ghost use Rattle.std.specs.Prelude.{◌^◌, ◌<◌, ◌≤◌, length};
+ghost use Rattle.std.specs.Prelude.{◌≡◌, ◌^◌, ◌<◌, ◌≤◌, length};
 ghost use Rattle.vms_kinds.specs.Bytes.{IsBytes};
 
 use vms_io::{Failed, Source};
 
-/// Borrowed bytes in memory. No read fails.
+/// A source of borrowed bytes in memory. No read fails.
 #[derive(Drop)]
-pub(crate) struct Lent<'a> {
-    /// All bytes.
-    pub(crate) bytes: &'a [u8],
-    /// The offset of the next byte to read.
-    pub(crate) at: usize,
-    /// The number of bytes read, at most 2^64 - 1.
-    pub(crate) given: u64,
+pub struct Lent<'a> {
+    bytes: &'a [u8],
+    at: usize,
+    given: u64,
     ghost within: { at ≤ length bytes.now },
     ghost octets: { IsBytes bytes.now },
     ghost counted: { given < 2 ^ 64 },
 }
 
-impl Source for Lent<'_> {
-    ghost use Rattle.std.specs.Prelude.{Some, drop, refl, true};
-    ghost use Rattle.vms_io.specs.Memory.{bytes_left};
+impl<'a> Lent<'a> {
+    ghost use Rattle.vms_board_streams.specs.Memory.{rest};
 
-    ghost left = { λ s. Some (drop s.at s.bytes.now) };
+    /// Returns a source of `bytes`.
+    pub fn new(bytes: &'a [u8]) -> Self
+        ensures { rest result ≡ bytes.now }
+    {
+        Lent {
+            bytes,
+            at: 0,
+            given: 0,
+        }
+    }
+}
+
+impl Source for Lent<'_> {
+    ghost use Rattle.std.specs.Prelude.{Some, refl, true};
+    ghost use Rattle.vms_io.specs.Memory.{bytes_left};
+    ghost use Rattle.vms_board_streams.specs.Memory.{rest};
+
+    ghost left = { λ s. Some (rest s) };
 
     ghost given = { λ s. s.given };
 
@@ -36,6 +49,11 @@ impl Source for Lent<'_> {
 
     ghost octets = { λ s. bytes_left s.bytes.now s.at s.octets };
 
+    /// Copies the next bytes into the front of `buf` and returns their number.
+    ///
+    /// # Errors
+    ///
+    /// None: no read fails.
     fn read(&mut self, buf: &mut [u8]) -> Result<usize, Failed> {
         let rest = self.bytes.len() - self.at;
         let count = buf.len().min(rest);
