@@ -100,7 +100,8 @@ impl Machine for ClockDevices {
     }
 
     fn of_images(number: u8, images: &[Image]) -> Result<ClockDevices, Misfit> {
-        ClockDevices::of_cells(number, &clock_cells_in(images))
+        let cells = clock_cells_in(images);
+        ClockDevices::of_cells(number, &cells)
     }
 
     ghost stands = { clock_stands };

@@ -17,8 +17,9 @@ use vms_board_streams::KeptSets;
 use vms_io::{Shelf, Sink};
 use vms_script::Line;
 
-/// Plays `lines` on `board` and `shelf`, and appends their trace to `out`. Each set that a line saves
-/// under is made once.
+/// Plays `lines` on `board` and `shelf`, and appends their trace to `out`.
+///
+/// Each set that lines save under is made once.
 ///
 /// # Requires
 ///

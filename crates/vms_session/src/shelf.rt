@@ -35,8 +35,8 @@ pub(crate) fn save<H: Shelf>(
 ) -> Result<u64, PlayFault>
     requires may { MaySaveUnder board.now.state.level set }
     requires sets { AreOf isa sets.old }
-    ensures saves { SavesUnder name.now (saved_stream isa set board.now.state) (stock H.Shelf shelf.old)
-        (stock H.Shelf shelf.new) result }
+    ensures saves { SavesUnder name.now (saved_stream isa set board.now.state)
+        (stock H.Shelf shelf.old) (stock H.Shelf shelf.new) result }
     ensures sets { AreOf isa sets.new }
 {
     let Ok(stream) = stream_by(sets.alloc(), board, set, sets) else {
