@@ -118,8 +118,7 @@ AreOf n = AllByRecursion (IsOf n)
 
 module _ (n m : List ℤ) (short : AreShort n) (short' : AreShort m) where
   one_number : (x : Element) (k : List ℤ) (f : Entry) (c : ℕ) → k ≡ n → IsOf m f → ForNumber x ≡ demand_of f → entry_line (OfNumber x k) ≡ entry_line f
-      → x.cell ≡ c
-      → get_or n c (pos 0) ≡ get_or m c (pos 0)
+      → x.cell ≡ c → get_or n c (pos 0) ≡ get_or m c (pos 0)
   one_number x k (OfNumber y l) c is of demand line at =
       let same : y ≡ x = cc in
       rw (← at) (number_same x.name _ _ (short x.cell) (short' x.cell) (rw (is, of, same) at line))
@@ -212,8 +211,7 @@ device_same set d image image' a b short short' u u' m =
     let long : length image.numbers ≡ length image'.numbers = a.cells ∙ sym b.cells in
     same_image image image' (a.version ∙ sym b.version)
     (sym (whole_came set d image a.subs) ∙ came_same es fs (whole_at set d image a.versions) (whole_at set d image' b.versions) m
-    ∙ whole_came set d image' b.subs)
-    (ext_get_or (pos 0) image.numbers image'.numbers long (λ c lt. by_line c lt (omega (arith, long)) (has_line es c) refl))
+    ∙ whole_came set d image' b.subs) (ext_get_or (pos 0) image.numbers image'.numbers long (λ c lt. by_line c lt (omega (arith, long)) (has_line es c) refl))
   where
     by_line : (c : ℕ) → c < length image.numbers → c < length image'.numbers → (t : Bool) → has_line (inside_of set d image) c ≡ t
         → get_or image.numbers c (pos 0) ≡ get_or image'.numbers c (pos 0)
@@ -227,10 +225,8 @@ begins_new set (d ∷ devices) (image ∷ images) = refl
 begins_new set _ _ = tt
 
 pub devices_same : (set : Set) (devices : List Device) (images images' : List Image) → AreShaped set devices images → AreShaped set devices images'
-    → AllShort images
-    → AllShort images' → AllUnsaid set devices images → AllUnsaid set devices images'
-    → Match (devices_entries set devices images) (devices_entries set devices images')
-    → images ≡ images'
+    → AllShort images → AllShort images' → AllUnsaid set devices images → AllUnsaid set devices images'
+    → Match (devices_entries set devices images) (devices_entries set devices images') → images ≡ images'
 devices_same set [] [] [] a b s s' u u' m = refl
 devices_same set [] (i ∷ images) images' a b s s' u u' m = absurd a
 devices_same set [] [] (i ∷ images') a b s s' u u' m = absurd b
@@ -238,8 +234,7 @@ devices_same set (d ∷ devices) [] images' a b s s' u u' m = absurd a
 devices_same set (d ∷ devices) (i ∷ images) [] a b s s' u u' m = absurd b
 devices_same set (d ∷ devices) (i ∷ images) (j ∷ images') a b s s' u u' m =
     let p = parted (inside_of set d i) (devices_entries set devices images) (inside_of set d j) (devices_entries set devices images')
-    (whole_inside set d i a.0.versions)
-    (whole_inside set d j b.0.versions) (begins_new set devices images) (begins_new set devices images') m.2 in
+    (whole_inside set d i a.0.versions) (whole_inside set d j b.0.versions) (begins_new set devices images) (begins_new set devices images') m.2 in
     rw (device_same set d i j a.0 b.0 s.0 s'.0 u.0 u'.0 p.inside, devices_same set devices images images' a.1 b.1 s.1 s'.1 u.1 u'.1 p.rest) refl
 
 -- ---- A text in which no line is bad says a state; the second pass finds its first bad part, or the state is ready.

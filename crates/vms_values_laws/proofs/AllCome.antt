@@ -1,14 +1,14 @@
 -- All devices, read as entries, and which devices reading requires.
-use Rattle.vms_values_laws.proofs.Facade.{◌≡◌, ℕ, zero, suc, ◌+◌, ◌<◌, ◌≤◌, List, [], ◌∷◌, ◌++◌, length, get_or, map, slice_set, Bool, true, false, nat_lt}
-use Rattle.vms_values_laws.proofs.Facade.{nat_le, ◌||◌, ◌&&◌, ◌==◌, if◌then◌else◌, Some, None, ℤ, pos, negsuc, Ok, Err, Result, refl, sym, ap, ◌∙◌, arith}
-use Rattle.vms_values_laws.proofs.Facade.{get_or-set_other, append-nil, Option, list_all, slice_get, ltb-true, ltb-false, eqb-true, eq-eqb, and_parts, leb-true}
-use Rattle.vms_values_laws.proofs.Facade.{le-leb, length-map, length-set, get_or-set_same, get_or-map, get_or-eq_default, Device, Set, Sub, no_cell}
-use Rattle.vms_values_laws.proofs.Facade.{device_cells, Cell, Image, default_image, own_cells, first_line, BadLine, ReadSubs, ReadDevice, ReadAll, readers}
-use Rattle.vms_values_laws.proofs.Facade.{read_desc, read_subs, read_devices, device_read, with_device, then_subs, next_line, is_line, IsSound, AreSound}
-use Rattle.vms_values_laws.proofs.Facade.{IsShort, section_line, Entry, device_entries, devices_entries, is_short, IsShaped, AreShaped, AreUnsaid, AllUnsaid}
-use Rattle.vms_values_laws.proofs.Facade.{Said, put_all, Demand, reason_for, Taken, Follows, Along, Begins, Moved, IsGood, DefaultsFit, ranged}
+use Rattle.vms_values_laws.proofs.Facade.{◌≡◌, ℕ, zero, suc, ◌+◌, ◌<◌, List, [], ◌∷◌, ◌++◌, length, get_or, map, slice_set, Bool, true, false, nat_le, ◌||◌}
+use Rattle.vms_values_laws.proofs.Facade.{◌&&◌, ◌==◌, if◌then◌else◌, Some, None, ℤ, pos, negsuc, Ok, Err, Result, refl, sym, ap, ◌∙◌, arith, get_or-set_other}
+use Rattle.vms_values_laws.proofs.Facade.{append-nil, Option, list_all, slice_get, eqb-true, eq-eqb, and_parts, leb-true, le-leb, length-map, length-set}
+use Rattle.vms_values_laws.proofs.Facade.{get_or-set_same, get_or-map, Device, Set, Sub, no_cell, device_cells, Cell, Image, default_image, own_cells}
+use Rattle.vms_values_laws.proofs.Facade.{first_line, BadLine, ReadSubs, ReadDevice, ReadAll, readers, read_desc, read_subs, read_devices, device_read}
+use Rattle.vms_values_laws.proofs.Facade.{with_device, then_subs, next_line, is_line, IsSound, AreSound, IsShort, section_line, Entry, device_entries}
+use Rattle.vms_values_laws.proofs.Facade.{devices_entries, is_short, IsShaped, AreShaped, AreUnsaid, AllUnsaid, Said, put_all, Demand, reason_for, Taken}
+use Rattle.vms_values_laws.proofs.Facade.{Follows, Along, Begins, Moved, IsGood, DefaultsFit, ranged}
 use Rattle.vms_values_laws.proofs.Coming.{short}
-use Rattle.vms_values_laws.proofs.Numbers.{follows_then, along_then, moved_none, moved_then, AreShort}
+use Rattle.vms_values_laws.proofs.Numbers.{follows_then, along_then, moved_none, moved_then, AreShort, short_within}
 use Rattle.vms_values_laws.proofs.SecondPass.{IsLined, AreLined}
 use Rattle.vms_values_laws.proofs.SubsCome.{AreSoundSubs, none_at}
 use Rattle.vms_values_laws.proofs.DevicesCome.{AllShort, default_numbers, image_of, DeviceRead, DeviceStop, DeviceComes, section_refused, inside_comes}
@@ -20,21 +20,18 @@ use Rattle.vms_spec.specs.declared.ValuesReason.TheVariants as reasons
 
 -- ---- numbers of at most 64 bits
 
-short_set : (n : List ℤ) (i c : ℕ) (z : ℤ) → IsShort z → AreShort n → IsShort (get_or (slice_set n i z) c (pos 0))
-short_set n i c z h short = by_same (c == i) refl
+short_set : (n : List ℤ) (i : ℕ) (z : ℤ) → IsShort z → AreShort n → AreShort (slice_set n i z)
+short_set n i z h short = short_within (slice_set n i z) (λ c lt. by_same c lt (c == i) refl)
   where
-    inside : (b : Bool) → nat_lt i (length n) ≡ b → IsShort (get_or (slice_set n i z) i (pos 0))
-    inside true lt = rw (get_or-set_same n i z (pos 0) (ltb-true i (length n) lt)) h
-    inside false ge =
-        let l = ltb-false i (length n) ge in rw (get_or-eq_default (slice_set n i z) (pos 0) {n = i} (omega (arith, length-set n i z))) (omega arith)
-
-    by_same : (b : Bool) → (c == i) ≡ b → IsShort (get_or (slice_set n i z) c (pos 0))
-    by_same true e = rw (eqb-true c i e) (inside (nat_lt i (length n)) refl)
-    by_same false e = rw (get_or-set_other n i c z (pos 0) (λ s. let f = eq-eqb c i s in cc)) (short c)
+    by_same : (c : ℕ) → c < length (slice_set n i z) → (b : Bool) → (c == i) ≡ b → IsShort (get_or (slice_set n i z) c (pos 0))
+    by_same c lt true e =
+        let same = eqb-true c i e in
+        rw (same, get_or-set_same n i z (pos 0) (omega (arith, length-set n i z))) h
+    by_same c lt false e = rw (get_or-set_other n i c z (pos 0) (λ s. let f = eq-eqb c i s in cc)) (short c)
 
 pub short_all : (n : List ℤ) (said : List Said) → AreShortSaid said → AreShort n → AreShort (put_all n said)
 short_all n [] h short = short
-short_all n (s ∷ said) h short = short_all (slice_set n s.element.cell s.number) said h.1 (λ c. short_set n s.element.cell c s.number h.0 short)
+short_all n (s ∷ said) h short = short_all (slice_set n s.element.cell s.number) said h.1 (short_set n s.element.cell s.number h.0 short)
 
 -- as a test that computes
 is_short_one : (z : ℤ) → IsShort z → is_short z ≡ true
@@ -127,8 +124,7 @@ defaults_shaped set (d ∷ devices) good = (
     version = refl;
     subs = length-map d.subs (λ s. None);
     versions = none_at set d d.subs;
-    cells = length-map (device_cells set d)
-        (λ c. c.default);
+    cells = length-map (device_cells set d) (λ c. c.default);
     short = are_short (default_numbers set d) good.2;
   },
   defaults_shaped set devices good.3,
@@ -183,8 +179,7 @@ module _ (set : Set) (d : Device) (devices : List Device) (line : ℕ) (text : L
 
     -- the other devices behind it
     all_behind : {images : List Image} {line' : ℕ} {rest : List ℕ} {Then : List Entry → Type 0}
-        → AllWent set devices r.place.line r.place.rest images line' rest Then
-        → AllWent set (d ∷ devices) line text (image ∷ images) line' rest Then
+        → AllWent set devices r.place.line r.place.rest images line' rest Then → AllWent set (d ∷ devices) line text (image ∷ images) line' rest Then
     all_behind {images = images} {Then = Then} a =
         record {
           taken = x.taken ++ a.taken;
@@ -230,8 +225,7 @@ module _ (set : Set) (d : Device) (devices : List Device) (line : ℕ) (text : L
   by_device (Err e) go later x h = stopped_here e later x
 
   by_section : (b : Bool) → is_line (section_line d d.desc.version) (first_line text) ≡ b → AreSound set.structs → IsSound d.desc → AreSoundSubs set d d.subs
-      → AreGoodDevices set devices
-      → (go : ℕ → List ℕ → Result ReadAll BadLine) → ((line : ℕ) (text : List ℕ) → AllCome set devices line text (go line text))
+      → AreGoodDevices set devices → (go : ℕ → List ℕ → Result ReadAll BadLine) → ((line : ℕ) (text : List ℕ) → AllCome set devices line text (go line text))
       → AllCome set (d ∷ devices) line text
       (if b
       then device_read d line
@@ -253,23 +247,15 @@ devices_come set structs [] good line text =
     }
 devices_come set structs (d ∷ devices) good line text =
     by_section set d devices line text good.2 (is_line (section_line d d.desc.version) (first_line text)) refl structs good.0 good.1 good.3
-    (λ line text. read_devices set devices line text)
-    (λ line text. devices_come set structs devices good.3 line text)
+    (λ line text. read_devices set devices line text) (λ line text. devices_come set structs devices good.3 line text)
 
 -- ---- What reading requires of the devices follows from what the laws require of a set.
 
 short_defaults : (cells : List Cell) → DefaultsFit cells → AreShort (map (λ c. c.default) cells)
-short_defaults cells fit c = go (nat_lt c (length cells)) refl
-  where
-    go : (b : Bool) → nat_lt c (length cells) ≡ b → IsShort (get_or (map (λ c. c.default) cells) c (pos 0))
-    go true lt =
-        let l : c < length cells = ltb-true c (length cells) lt in
-        let f = fit c l in
-        let cell = get_or cells c no_cell in
-        rw (get_or-map (λ c. c.default) cells c no_cell (pos 0) l) (short cell.kind cell.default (ranged cell.kind cell.default f.0))
-    go false ge =
-        let l : length cells ≤ c = ltb-false c (length cells) ge in
-        rw (get_or-eq_default (map (λ c. c.default) cells) (pos 0) {n = c} (omega (arith, length-map cells (λ c. c.default)))) (omega arith)
+short_defaults cells fit = short_within (map (λ c. c.default) cells) (λ c lt.
+    let l : c < length cells = omega (arith, length-map cells (λ c. c.default)) in
+    let cell = get_or cells c no_cell in
+    rw (get_or-map (λ c. c.default) cells c no_cell (pos 0) l) (short cell.kind cell.default (ranged cell.kind cell.default (fit c l).0)))
 
 subs_from : (set : Set) (d : Device) (subs : List Sub) → ((j : ℕ) (s : Sub) → slice_get subs j ≡ Some s → IsSound s.desc) → AreSoundSubs set d subs
 subs_from set d [] h = tt

@@ -113,14 +113,12 @@ pub record Headed (set : Set) (text : List ℕ) (machine : Option (List ℕ)) (l
   pub moved : Moved 1 text (machine_taken machine) line after
 
 follows_machine : (set : Set) (machine : Option (List ℕ)) (images : List Image) (taken : List Taken) (P : List Entry → Type 0)
-    → Follows taken P (devices_entries set set.devices images)
-    → Follows (machine_taken machine ++ taken) P (entries set machine images)
+    → Follows taken P (devices_entries set set.devices images) → Follows (machine_taken machine ++ taken) P (entries set machine images)
 follows_machine set None images taken P f = f
 follows_machine set (Some name) images taken P f = (refl, λ e. f)
 
 along_machine : (set : Set) (machine : Option (List ℕ)) (images : List Image) (taken : List Taken) (P : List Entry → Type 0)
-    → Along taken P (devices_entries set set.devices images)
-    → Along (machine_taken machine ++ taken) P (entries set machine images)
+    → Along taken P (devices_entries set set.devices images) → Along (machine_taken machine ++ taken) P (entries set machine images)
 along_machine set None images taken P f = f
 along_machine set (Some name) images taken P f = (refl, f)
 
@@ -139,8 +137,7 @@ module _ (set : Set) (text : List ℕ) (machine : Option (List ℕ)) (line : ℕ
       let all = machine_taken machine ++ a.taken in
       let passed : Moved 1 text all at rest = moved_then head.moved a.moved in
       let its : (images : List Image) → AreShaped set set.devices images → AllShort images → Follows all P (entries set machine images) =
-      λ images shaped short. follows_machine set machine images a.taken P
-      (follows_ends a.taken Q P _ (a.follows images shaped short) bad) in
+      λ images shaped short. follows_machine set machine images a.taken P (follows_ends a.taken Q P _ (a.follows images shaped short) bad) in
       let s = split all P P (entries set machine images) passed.fine (its images a.shaped a.short)
       (along_machine set machine images a.taken P (along_ends a.taken Q P _ a.along bad)) in
       record {
@@ -196,8 +193,7 @@ module _ (set : Set) (text : List ℕ) (machine : Option (List ℕ)) (line : ℕ
 -- ---- the line of the machine
 
 machine_line : (machines : List (List ℕ)) (line name : List ℕ) (b : Bool) → begins_with (codes "machine ") line ≡ b → (c : Bool)
-    → is_one_of machines (drop 8 line) ≡ c
-    → (if b && c then Some (drop 8 line) else None) ≡ Some name → line ≡ codes "machine " ++ name
+    → is_one_of machines (drop 8 line) ≡ c → (if b && c then Some (drop 8 line) else None) ≡ Some name → line ≡ codes "machine " ++ name
 machine_line machines line name true e true f h =
     let is : drop 8 line ≡ name = same_Some (drop 8 line) name h in
     begun (codes "machine ") line e ∙ ap (λ (l : List ℕ). codes "machine " ++ l) is
@@ -243,23 +239,20 @@ abbrev pub FirstPass : Set → List ℕ → ValuesRead → Type 0
 FirstPass set text v = OneBad set text v ⊎ NoneBad set text v
 
 by_rest : (set : Set) (text : List ℕ) (machine : Option (List ℕ)) (line : ℕ) (after : List ℕ) (head : Headed set text machine line after) (all : ReadAll)
-    → (rest : List ℕ) → all.rest ≡ rest
-    → AllRead set set.devices line after all → FirstPass set text (judged set machine all rest)
+    → (rest : List ℕ) → all.rest ≡ rest → AllRead set set.devices line after all → FirstPass set text (judged set machine all rest)
 by_rest set text machine line after head all [] e a =
     inr (record { machine = machine; all = all; first = fine_first set text machine line after head all a; ends = e; is = refl })
 by_rest set text machine line after head all (b ∷ rest) e a =
     inl (record { line = all.line; reason = reasons.Form; first = more_first set text machine line after head all b rest e a; is = refl })
 
 by_end : (set : Set) (text : List ℕ) (machine : Option (List ℕ)) (line : ℕ) (after : List ℕ) (head : Headed set text machine line after)
-    → (o : Result ReadAll BadLine)
-    → AllCome set set.devices line after o → FirstPass set text (ended set machine o)
+    → (o : Result ReadAll BadLine) → AllCome set set.devices line after o → FirstPass set text (ended set machine o)
 by_end set text machine line after head (Ok all) a = by_rest set text machine line after head all all.rest refl a
 by_end set text machine line after head (Err e) a =
     inl (record { line = e.line; reason = e.reason; first = stopped_first set text machine line after head e a; is = refl })
 
 by_machine : (set : Set) (text : List ℕ) → AreSound set.structs → AreGoodDevices set set.devices → (machine : Option (List ℕ))
-    → machine_named set.machines (first_line text) ≡ machine
-    → FirstPass set text (after_machine set text machine)
+    → machine_named set.machines (first_line text) ≡ machine → FirstPass set text (after_machine set text machine)
 by_machine set text structs good None e =
     by_end set text None 1 text (record { named = sym e; moved = moved_none 1 text }) (read_devices set set.devices 1 text)
     (devices_come set structs set.devices good 1 text)
@@ -286,8 +279,7 @@ taken_before set text v b =
     let f = b.first in
     record {
       named = f.named;
-      follows = λ images shaped. f.follows images shaped
-          (all_short set set.devices images shaped);
+      follows = λ images shaped. f.follows images shaped (all_short set set.devices images shaped);
       fine = f.moved.fine;
       texts = f.moved.texts;
     }

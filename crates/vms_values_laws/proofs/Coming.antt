@@ -72,8 +72,7 @@ module _ (steps : List (ℕ × ℕ)) (path : List ℕ) (present : Bool) (at : �
     wanted o e = rw (begins, e) refl
 
     refused : (z : ℤ) (reason : Rattle.vms_spec.specs.declared.ValuesReason.ValuesReason) → number_spelled text ≡ Some z
-        → number_reason c present z ≡ Some reason
-        → NotPut here p (Some (line, rest)) (record { line = p.line; reason = reason })
+        → number_reason c present z ≡ Some reason → NotPut here p (Some (line, rest)) (record { line = p.line; reason = reason })
     refused z reason e f = record { line = refl; bad = wanted (Some z) e ∙ f }
 
     taken : (z : ℤ) → number_spelled text ≡ Some z → in_range c.kind z ≡ true → number_reason c present z ≡ None
@@ -93,8 +92,7 @@ module _ (steps : List (ℕ × ℕ)) (path : List ℕ) (present : Bool) (at : �
 
     -- by the three tests on a number
     judged : (z : ℤ) → number_spelled text ≡ Some z → (a b d : Bool) → in_range c.kind z ≡ a → exceeds c.capacities z ≡ b
-        → (present || same_number z c.default) ≡ d
-        → Stepped here p (Some (line, rest)) (put_number its p rest (Some z))
+        → (present || same_number z c.default) ≡ d → Stepped here p (Some (line, rest)) (put_number its p rest (Some z))
     judged z e false b d ra eb pd = rw ra (refused z reasons.Number e (rw ra refl))
     judged z e true true d ra eb pd = rw (ra, eb) (refused z reasons.Count e (rw (ra, eb) refl))
     judged z e true false false ra eb pd = rw (ra, eb, pd) (refused z reasons.Absent e (rw (ra, eb, pd) refl))
@@ -254,7 +252,6 @@ module _ (total : List ℤ → List Element) (start : Standing) (low : ℕ) wher
         record { comes = record { cell = x.cell; place = p; said = said; element = x; after = left; stood = a; line = not.line; wrong = not.bad } }
 
   pub line_comes : (steps : List (ℕ × ℕ)) (path : List ℕ) (present : Bool) (cell : ℕ) (c : Cell) (p : Standing) (said : List Said)
-      → (left : List ℤ → List Element)
-      → cell < length start.numbers → At cell p said (λ m. spot steps path present cell c ∷ left m)
+      → (left : List ℤ → List Element) → cell < length start.numbers → At cell p said (λ m. spot steps path present cell c ∷ left m)
       → Comes (cell + 1) (cell ∷ []) said left (put_line path (cell_line present cell c) p (first_line p.rest))
   line_comes steps path present cell c p said left room a = by_read (spot steps path present cell c) p said left room a _ (one_line steps path present cell c p)

@@ -102,8 +102,7 @@ module _ (set : Set) (d : Device) (line : ℕ) (text : List ℕ) where
   follows_head taken P image more h = subst (λ (l : List Entry). Follows (head ∷ taken) P l) (sym (entries_are image more)) (refl, λ e. h)
 
   along_head : (taken : List Taken) (P : List Entry → Type 0) (image : Image) (more : List Entry) → image.version ≡ d.desc.version
-      → Along taken P (behind_head image more)
-      → Along (head ∷ taken) P (device_entries set d image ++ more)
+      → Along taken P (behind_head image more) → Along (head ∷ taken) P (device_entries set d image ++ more)
   along_head taken P image more v h =
       subst (λ (l : List Entry). Along (head ∷ taken) P l) (sym (entries_are image more)) (ap (λ (n : ℕ). section_line d n) v, h)
 

@@ -5,8 +5,7 @@ pub use Rattle.std.proofs.Common.{sym, take, true, zero, ℕ, ℤ, ⊎_elim, ◌
 pub use Rattle.std.proofs.Math.Bool.{and-true, and_assoc, or_assoc}
 pub use Rattle.std.proofs.Math.ListN.{get_or-eq_default}
 pub use Rattle.std.proofs.Math.Seq.{drop-append_seam, drop-cons}
-pub use Rattle.std.proofs.lemmas.Bool.{and_from, and_parts, eq-eqb, eqb-true, le-leb, le-ltb, leb-true, lt-ltb, ltb-false, ltb-true, ne_eqb, or_from, or_parts}
-pub use Rattle.std.proofs.lemmas.Bool.{or_right}
+pub use Rattle.std.proofs.lemmas.Bool.{and_from, and_parts, cases_lt, eq-eqb, eqb-true, le-leb, le-ltb, leb-true, lt-ltb, ne_eqb, or_from, or_parts, or_right}
 pub use Rattle.std.proofs.lemmas.List.{ext_get_or, get_or-append-add, get_or-map, get_or-set_same, get_or_append_left, length-append, length-map, length-set}
 pub use Rattle.std.proofs.lemmas.List.{map-append, take-append-drop}
 pub use Rattle.std.proofs.lemmas.List.Sums.{sum_by-cons}

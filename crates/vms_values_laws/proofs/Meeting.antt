@@ -85,8 +85,7 @@ by_spelled : (cell : Cell) (present : Bool) (text : List ℕ) (o : Option ℤ) �
 by_spelled cell present text None e f = cc
 by_spelled cell present text (Some z) e f = by_range (in_range cell.kind z) refl f
   where
-    by_range : (b : Bool) → in_range cell.kind z ≡ b
-        → or_else (if_not b reasons.Number)
+    by_range : (b : Bool) → in_range cell.kind z ≡ b → or_else (if_not b reasons.Number)
         (or_else (if_not (not (exceeds cell.capacities z)) reasons.Count)
         (if_not (present || same_number z cell.default) reasons.Absent)) ≡ None
         → NoFeed text
@@ -233,8 +232,7 @@ module _ (ss : List Shape) (good : (j : ℕ) → NamesShape (get_or ss j no_shap
       all_both _ (field_elements ss fields v own n i at f) (elements_from ss fields v own n (suc i) next fs)
       (array_named f (stand_of i f v own) (item_elements ss f.item (counted i fields) f.default n) h.0
       (λ at. item_named f.item (counted i fields) f.default n at)
-      (item_size (cells_in ss) f.item) 0 (capacity_of f.count) at)
-      (fields_named fields v own n (suc i) next fs h.1)
+      (item_size (cells_in ss) f.item) 0 (capacity_of f.count) at) (fields_named fields v own n (suc i) next fs h.1)
 
   pub desc_named : (d : Desc) (v : ℕ) (n : List ℤ) (at : ℕ) → AreCleanFields d.fields → AreNamed (desc_elements ss d v n at)
   desc_named d v n at h =
@@ -285,8 +283,7 @@ module _ (set : Set) (structs : (j : ℕ) → AreCleanFields (get_or set.structs
         h.0.0,
         all_both _ (number_entries set d.desc image.numbers 0) (subs_entries set d image 0 (own_cells set d) d.subs image.came)
             (clean_part d.desc image.numbers 0 h.0.1) (clean_subs d image 0 (own_cells set d) d.subs image.came h.0.2),
-      )
-      (clean_images devices images h.1)
+      ) (clean_images devices images h.1)
   clean_images _ _ h = tt
 
   pub clean_entries : (machine : Option (List ℕ)) (images : List Image) → AreCleanDevices set.devices → ((name : List ℕ) → machine ≡ Some name → NoFeed name)

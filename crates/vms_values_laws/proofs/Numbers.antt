@@ -1,10 +1,11 @@
 -- The numbers of one description, read as entries; following what was taken.
-use Rattle.vms_values_laws.proofs.Facade.{◌≡◌, ℕ, suc, List, [], ◌∷◌, ◌++◌, Option, Some, None, refl, sym, ap, ◌∙◌, arith, append_assoc, ◌+◌, ◌≤◌, length}
-use Rattle.vms_values_laws.proofs.Facade.{get_or, map, true, ℤ, pos, Ok, Err, append-nil, codes, map-append, length-append, length-map, signed_decimal, text_of}
-use Rattle.vms_values_laws.proofs.Facade.{printed, Entry, OfMachine, wanted_reason, OfNumber, number_entries, text_append, demand_of, reason_for, Taken}
-use Rattle.vms_values_laws.proofs.Facade.{lines_of, AreFineTaken, Follows, Along, Moved, ForNumber, Begins, Desc, Set, desc_cells, struct_cells, first_line}
-use Rattle.vms_values_laws.proofs.Facade.{number_spelled, Standing, Read, BadLine, readers, read_desc, IsSound, AreSound, IsShort, number_holds, Element}
-use Rattle.vms_values_laws.proofs.Facade.{shapes, desc_elements, elements_in, Said, said_line, AreFineLines, Agrees, Meets, AreBelow, Ran, has_line}
+use Rattle.vms_values_laws.proofs.Facade.{◌≡◌, ℕ, suc, List, [], ◌∷◌, ◌++◌, Option, Some, None, refl, sym, ap, ◌∙◌, arith, append_assoc, ◌+◌, ◌≤◌, length, ◌<◌}
+use Rattle.vms_values_laws.proofs.Facade.{get_or, map, true, ℤ, pos, Ok, Err, append-nil, codes, map-append, length-append, length-map, signed_decimal, ⊎_elim}
+use Rattle.vms_values_laws.proofs.Facade.{cases_lt, get_or-eq_default, text_of, printed, Entry, OfMachine, wanted_reason, OfNumber, number_entries, text_append}
+use Rattle.vms_values_laws.proofs.Facade.{demand_of, reason_for, Taken, lines_of, AreFineTaken, Follows, Along, Moved, ForNumber, Begins, Desc, Set, desc_cells}
+use Rattle.vms_values_laws.proofs.Facade.{struct_cells, first_line, number_spelled, Standing, Read, BadLine, readers, read_desc, IsSound, AreSound, IsShort}
+use Rattle.vms_values_laws.proofs.Facade.{number_holds, Element, shapes, desc_elements, elements_in, Said, said_line, AreFineLines, Agrees, Meets, AreBelow}
+use Rattle.vms_values_laws.proofs.Facade.{Ran, has_line}
 use Rattle.vms_values_laws.proofs.Coming.{ComesTo, At}
 use Rattle.vms_values_laws.proofs.Walk.{under, wrapped, part_comes}
 use Rattle.vms_values_laws.proofs.SecondPass.{subs_past, sub_numbers}
@@ -62,6 +63,10 @@ all_taken said = map (λ (s : Said). taken_of s) said
 abbrev pub AreShort : List ℤ → Type 0
 AreShort numbers = (c : ℕ) → IsShort (get_or numbers c (pos 0))
 
+pub short_within : (n : List ℤ) → ((c : ℕ) → c < length n → IsShort (get_or n c (pos 0))) → AreShort n
+short_within n h c =
+    ⊎_elim (λ (lt : c < length n). h c lt) (λ (ge : length n ≤ c). rw (get_or-eq_default n (pos 0) ge) (omega arith)) (cases_lt c (length n))
+
 -- entries of these elements, in a state
 abbrev pub of_numbers : List ℤ → List Element → List Entry
 of_numbers n xs = map (λ x. OfNumber x n) xs
@@ -86,8 +91,7 @@ number_same name y z p q e =
     some_same y z (sym (number_holds y p) ∙ ap number_spelled same ∙ number_holds z q)
 
 pub follows_meets : (said : List Said) (left : List Element) (n : List ℤ) (xs : List Element) (more : List Entry) (P : List Entry → Type 0) → AreShort n
-    → AreShortSaid said
-    → Meets said left n xs → P (of_numbers n left ++ more) → Follows (all_taken said) P (of_numbers n xs ++ more)
+    → AreShortSaid said → Meets said left n xs → P (of_numbers n left ++ more) → Follows (all_taken said) P (of_numbers n xs ++ more)
 follows_meets [] left n xs more P short said-short h p = rw h p
 follows_meets (s ∷ said) left n [] more P short said-short h p = absurd h
 follows_meets (s ∷ said) left n (x ∷ xs) more P short said-short h p = (

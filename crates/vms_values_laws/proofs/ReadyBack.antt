@@ -1,16 +1,16 @@
 -- Numbers and images that may be written are read back.
 use Rattle.vms_values_laws.proofs.Facade.{◌≡◌, ℕ, suc, ◌+◌, ◌<◌, ◌≤◌, Bool, true, false, ◌==◌, List, ◌∷◌, ◌++◌, length, get_or, None, ℤ, pos, refl, sym, ap}
-use Rattle.vms_values_laws.proofs.Facade.{◌∙◌, arith, ⊎_elim, if◌then◌else◌, [], ◌||◌, nat_lt, Option, Some, codes, or_from, or_parts, and_from, ltb-true}
-use Rattle.vms_values_laws.proofs.Facade.{ltb-false, or_right, get_or_append_left, get_or-append-add, length-append, get_or-eq_default, slice_get, bytes_eq}
-use Rattle.vms_values_laws.proofs.Facade.{bytes_eq-Decides, Cell, no_cell, Slot, desc_cells, struct_cells, device_cells, has_cell, Image, own_cells, own_slots}
-use Rattle.vms_values_laws.proofs.Facade.{sub_slots, came_slots, RulesHold, none_joined, is_same, ranged, are_rules, Element, cells_of, slots_of, numbers_in}
-use Rattle.vms_values_laws.proofs.Facade.{CountsUp, elements_in, printed, number_line, text_of, sub_line, section_line, OfNumber, have_defaults, line_reason}
-use Rattle.vms_values_laws.proofs.Facade.{Entry, number_entries, subs_entries, device_entries, devices_entries, entries, if_not, sub_holds, AreFine, has_line}
-use Rattle.vms_values_laws.proofs.Facade.{IsShaped, AreShaped, AreUnsaid, AllUnsaid, AreAtVersions, IsText, Says, AreCounted, walks, Desc, Sub, Device, Set}
-use Rattle.vms_values_laws.proofs.Facade.{is_needed, ComeAsNeeded, IsReady, rules_split, IsShort, elements_slots, entry_law, text_is}
+use Rattle.vms_values_laws.proofs.Facade.{◌∙◌, arith, ⊎_elim, if◌then◌else◌, [], ◌||◌, Option, Some, codes, or_from, or_parts, and_from, or_right}
+use Rattle.vms_values_laws.proofs.Facade.{get_or_append_left, get_or-append-add, length-append, slice_get, bytes_eq, bytes_eq-Decides, Cell, no_cell, Slot}
+use Rattle.vms_values_laws.proofs.Facade.{desc_cells, struct_cells, device_cells, has_cell, Image, own_cells, own_slots, sub_slots, came_slots, RulesHold}
+use Rattle.vms_values_laws.proofs.Facade.{none_joined, is_same, ranged, are_rules, Element, cells_of, slots_of, numbers_in, CountsUp, elements_in, printed}
+use Rattle.vms_values_laws.proofs.Facade.{number_line, text_of, sub_line, section_line, OfNumber, have_defaults, line_reason, Entry, number_entries}
+use Rattle.vms_values_laws.proofs.Facade.{subs_entries, device_entries, devices_entries, entries, if_not, sub_holds, AreFine, has_line, IsShaped, AreShaped}
+use Rattle.vms_values_laws.proofs.Facade.{AreUnsaid, AllUnsaid, AreAtVersions, IsText, Says, AreCounted, walks, Desc, Sub, Device, Set, is_needed, ComeAsNeeded}
+use Rattle.vms_values_laws.proofs.Facade.{IsReady, rules_split, elements_slots, entry_law, text_is}
 use Rattle.vms_values_laws.proofs.Rights.{line_number, fits_reason, IsRight, AreRight, AreBare, IsNumberOf, IsNoNumber, view, no_bytes, none_outside, right_by}
 use Rattle.vms_values_laws.proofs.Rights.{with_slot}
-use Rattle.vms_values_laws.proofs.Numbers.{AreShort, of_numbers}
+use Rattle.vms_values_laws.proofs.Numbers.{AreShort, of_numbers, short_within}
 use Rattle.vms_values_laws.proofs.Coming.{short}
 use Rattle.vms_values_laws.proofs.SecondPass.{desc_rules}
 use Rattle.vms_values_laws.proofs.AllCome.{are_short}
@@ -28,8 +28,7 @@ pub bare_bytes : (n : List ℤ) (xs : List Element) → AreCounted xs → (k : �
 bare_bytes n [] h k e = refl
 bare_bytes n (x ∷ xs) h k e =
     ⊎_elim (λ (v : IsNumberOf x xs). rw (v.bytes) (by_both v (bare_bytes n xs h.1 k) x.present x.counted h.0 (rw (v.lines) at e)))
-    (λ (v : IsNoNumber x xs). v.bytes k ∙ bare_bytes n xs h.1 k (rw (v.lines) at e))
-    (view x xs)
+    (λ (v : IsNoNumber x xs). v.bytes k ∙ bare_bytes n xs h.1 k (rw (v.lines) at e)) (view x xs)
   where
     by_both : (v : IsNumberOf x xs) → (has_line (of_numbers n (printed xs)) k ≡ false → has_cell (slots_of xs) k ≡ false) → (p c : Bool)
         → (p ≡ true → c ≡ true) → has_line (of_numbers n (if c then x ∷ printed xs else printed xs)) k ≡ false
@@ -63,11 +62,9 @@ right_later n at cell cells all ss h a =
 
 module _ (n : List ℤ) (short : AreShort n) where
   right_line : (x : Element) (xs : List Element) (v : IsNumberOf x xs) (at : ℕ) → x.cell ≡ at → CountsUp (at + 1) (numbers_in xs)
-      → IsRight n (with_slot x v.cell (slots_of xs)) at v.cell
-      → line_reason (OfNumber x n) (number_line n x) ≡ None
+      → IsRight n (with_slot x v.cell (slots_of xs)) at v.cell → line_reason (OfNumber x n) (number_line n x) ≡ None
   right_line x xs v at is up r =
-      line_number x n v.cell v.what (short x.cell)
-      ∙ fits_reason v.cell x.present (get_or n x.cell (pos 0))
+      line_number x n v.cell v.what (short x.cell) ∙ fits_reason v.cell x.present (get_or n x.cell (pos 0))
       (record {
         fits = rw is r.fits;
         absent = λ e. ap (λ (k : ℕ). get_or n k (pos 0)) is
@@ -88,8 +85,7 @@ module _ (n : List ℤ) (short : AreShort n) where
       (λ (v : IsNoNumber x xs).
       let r : AreRight n at (cells_of xs) (slots_of (x ∷ xs)) = rw (v.cells) at a in
       rw (v.lines) (right_said at xs (rw (v.numbers) at up)
-      (record { right = λ c k lt e. right_by (λ bare. v.bytes k ∙ bare) (r.right c k lt e) })))
-      (view x xs)
+      (record { right = λ c k lt e. right_by (λ bare. v.bytes k ∙ bare) (r.right c k lt e) }))) (view x xs)
     where
       either : (b : Bool) → line_reason (OfNumber x n) (number_line n x) ≡ None → AreFine (of_numbers n (printed xs))
           → AreFine (of_numbers n (if b then x ∷ printed xs else printed xs))
@@ -104,8 +100,7 @@ bare_have n at (x ∷ xs) up b =
     let c : AreBare n at (v.cell ∷ cells_of xs) (λ k. false) = rw (v.cells) at b in
     let here : get_or n x.cell (pos 0) ≡ v.cell.default = rw (u.0) (c 0 at (omega arith) (omega arith) refl) in
     v.defaults n ∙ and_from _ _ (is_same _ v.cell.default here) (bare_have n (at + 1) xs u.1 (λ i k lt e f. c (suc i) k (omega arith) (omega arith) refl)))
-    (λ (v : IsNoNumber x xs). v.defaults n ∙ bare_have n at xs (rw (v.numbers) at up) (rw (v.cells) at b))
-    (view x xs)
+    (λ (v : IsNoNumber x xs). v.defaults n ∙ bare_have n at xs (rw (v.numbers) at up) (rw (v.cells) at b)) (view x xs)
 
 -- ---- Ready images are what their text says, and no part of them is bad.
 
@@ -115,8 +110,7 @@ pub fine_then : (es fs : List Entry) → AreFine es → AreFine fs → AreFine (
 fine_then [] fs a b = b
 fine_then (e ∷ es) fs a b = (a.0, fine_then es fs a.1 b)
 
-numbers_good : (set : Set) (n : List ℤ) (xs : List Element)
-    → AreGood set (of_numbers n xs)
+numbers_good : (set : Set) (n : List ℤ) (xs : List Element) → AreGood set (of_numbers n xs)
 numbers_good set n [] = tt
 numbers_good set n (x ∷ xs) = (refl, numbers_good set n xs)
 
@@ -192,8 +186,7 @@ module _ (set : Set) (d : Device) (image : Image) (short_all : AreShort image.nu
     others = subs_entries set d image (suc j) next subs came
 
     it_came : (v : ℕ) → v ≡ s.desc.version → is_needed set d image s j ≡ true → AreRight n at own (sub_slots set s v n at)
-        → RulesHold (sub_slots set s v n at) → SubsSay (suc j) next subs came
-        → SubsSay j at (s ∷ subs) (Some v ∷ came)
+        → RulesHold (sub_slots set s v n at) → SubsSay (suc j) next subs came → SubsSay j at (s ∷ subs) (Some v ∷ came)
     it_came v same needed right rules later =
         let mine : AreRight n at own (sub_slots set s s.desc.version n at) = rw (same) at right in
         let holds : sub_holds set s (Some v) n at ≡ true = desc_rules set s.desc v n at ∙ are_rules (sub_slots set s v n at) rules in
@@ -233,8 +226,7 @@ module _ (set : Set) (d : Device) (image : Image) (short_all : AreShort image.nu
         }
 
   subs_say : (j at : ℕ) (subs : List Sub) (came : List (Option ℕ)) → ComeAsNeeded set d image j subs came
-      → AreRight n at (sub_cells set subs) (came_slots set d n at subs came) → RulesHold (came_slots set d n at subs came)
-      → SubsSay j at subs came
+      → AreRight n at (sub_cells set subs) (came_slots set d n at subs came) → RulesHold (came_slots set d n at subs came) → SubsSay j at subs came
   subs_say j at [] [] needed right rules = record { long = refl; versions = tt; fine = tt; good = tt; unsaid = λ k e. refl }
   subs_say j at [] (o ∷ came) needed right rules = absurd (cc)
   subs_say j at (s ∷ subs) [] needed right rules = absurd needed
@@ -302,17 +294,10 @@ module _ (set : Set) (d : Device) (image : Image) (short_all : AreShort image.nu
 
 -- numbers that fit their cells have at most 64 bits
 ready_short : (set : Set) (d : Device) (image : Image) → IsReady set d image → AreShort image.numbers
-ready_short set d image ready c = go (nat_lt c (length image.numbers)) refl
-  where
-    go : (b : Bool) → nat_lt c (length image.numbers) ≡ b → IsShort (get_or image.numbers c (pos 0))
-    go true lt =
-        let l : c < length image.numbers = ltb-true c (length image.numbers) lt in
-        let f = ready.normal.cells.fits c (omega (arith, ready.normal.cells.long)) in
-        let cell = get_or (device_cells set d) c no_cell in
-        short cell.kind (get_or image.numbers c (pos 0)) (ranged cell.kind (get_or image.numbers c (pos 0)) f.0)
-    go false ge =
-        let l : length image.numbers ≤ c = ltb-false c (length image.numbers) ge in
-        rw (get_or-eq_default image.numbers (pos 0) l) (omega arith)
+ready_short set d image ready = short_within image.numbers (λ c lt.
+    let cell = get_or (device_cells set d) c no_cell in
+    let f = ready.normal.cells.fits c (omega (arith, ready.normal.cells.long)) in
+    short cell.kind (get_or image.numbers c (pos 0)) (ranged cell.kind (get_or image.numbers c (pos 0)) f.0))
 
 record AllSay (set : Set) (devices : List Device) (images : List Image) : Type 0 where
   shaped : AreShaped set devices images

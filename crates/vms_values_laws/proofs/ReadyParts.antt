@@ -76,8 +76,7 @@ module _ (set : Set) (n : List ℤ) (short : AreShort n) where
 
   -- a part, and what comes after it
   pub bare_parts : (d : Desc) (at next : ℕ) (cs : List Cell) (others : List Entry) → next ≡ at + length (cells d)
-      → ((k : ℕ) → k < next → has_line others k ≡ false)
-      → AreBare n at (cells d ++ cs) (λ k. has_line (number_entries set d n at ++ others) k)
+      → ((k : ℕ) → k < next → has_line others k ≡ false) → AreBare n at (cells d ++ cs) (λ k. has_line (number_entries set d n at ++ others) k)
       → AreBare n at (cells d) (λ k. has_line (number_entries set d n at) k) × AreBare n next cs (λ k. has_line others k)
   bare_parts d at next cs others is below b = (
     λ c k lt e f.
@@ -153,10 +152,8 @@ module _ (set : Set) (d : Device) (image : Image) (short : AreShort image.number
         it_did_not defaults (is_needed set d image s j) refl (two_none true well good).1 later
 
   pub subs_ready : (j at : ℕ) (subs : List Sub) (came : List (Option ℕ)) → length came ≡ length subs → AreAtVersions subs came
-      → AreFine (subs_entries set d image j at subs came)
-      → AreGood set (subs_entries set d image j at subs came) → DefaultsFit (sub_cells set subs)
-      → AreBare n at (sub_cells set subs) (λ k. has_line (subs_entries set d image j at subs came) k)
-      → SubsReady j at subs came
+      → AreFine (subs_entries set d image j at subs came) → AreGood set (subs_entries set d image j at subs came) → DefaultsFit (sub_cells set subs)
+      → AreBare n at (sub_cells set subs) (λ k. has_line (subs_entries set d image j at subs came) k) → SubsReady j at subs came
   subs_ready j at [] [] long versions fine good defaults bare = record { right = right_none n at []; valid = tt; needed = refl }
   subs_ready j at (s ∷ subs) (o ∷ came) long versions fine good defaults bare =
       let own = desc_cells (struct_cells set) s.desc in

@@ -1,11 +1,11 @@
 -- Which numbers have fine lines, and which entries.
 use Rattle.vms_values_laws.proofs.Facade.{◌≡◌, ℕ, Bool, true, false, not, List, ◌∷◌, ◌++◌, length, get_or, drop, Some, None, ℤ, pos, refl, sym, ap, ◌∙◌, codes}
-use Rattle.vms_values_laws.proofs.Facade.{append_assoc, if◌then◌else◌, ◌||◌, [], ◌⊎◌, inl, inr, zero, suc, ◌+◌, ◌-◌, ◌<◌, ◌≤◌, ◌&&◌, ◌==◌, nat_lt, subst, arith}
-use Rattle.vms_values_laws.proofs.Facade.{⊎_elim, signed_decimal, eq-eqb, ltb-true, ltb-false, ne_eqb, and_parts, or_parts, drop-append_seam}
-use Rattle.vms_values_laws.proofs.Facade.{get_or_append_left, get_or-append-add, length-append, or_else, exceeds, same_number, Cell, no_cell, Slot, FitsCell}
-use Rattle.vms_values_laws.proofs.Facade.{has_cell, in_range, begins_with, is_same, ranged, ranges, or_second, same_number_is, within_all, not_exceeds, IsShort}
-use Rattle.vms_values_laws.proofs.Facade.{number_holds, Number, Element, What, number_line, printed, OfNumber, if_not, number_reason, element_reason}
-use Rattle.vms_values_laws.proofs.Facade.{line_reason, have_defaults, DefaultsFit, names_append, cells_of, slots_of, numbers_in, CountsUp, AreFine, has_line}
+use Rattle.vms_values_laws.proofs.Facade.{append_assoc, if◌then◌else◌, ◌||◌, [], ◌⊎◌, inl, inr, zero, suc, ◌+◌, ◌-◌, ◌<◌, ◌≤◌, ◌&&◌, ◌==◌, subst, arith, ⊎_elim}
+use Rattle.vms_values_laws.proofs.Facade.{signed_decimal, eq-eqb, ne_eqb, and_parts, or_parts, drop-append_seam, get_or_append_left, get_or-append-add}
+use Rattle.vms_values_laws.proofs.Facade.{length-append, cases_lt, or_else, exceeds, same_number, Cell, no_cell, Slot, FitsCell, has_cell, in_range}
+use Rattle.vms_values_laws.proofs.Facade.{begins_with, is_same, ranged, ranges, or_second, same_number_is, within_all, not_exceeds, IsShort, number_holds}
+use Rattle.vms_values_laws.proofs.Facade.{Number, Element, What, number_line, printed, OfNumber, if_not, number_reason, element_reason, line_reason}
+use Rattle.vms_values_laws.proofs.Facade.{have_defaults, DefaultsFit, names_append, cells_of, slots_of, numbers_in, CountsUp, AreFine, has_line}
 use Rattle.vms_values_laws.proofs.Numbers.{AreShort, of_numbers}
 use Rattle.vms_spec.specs.declared.ValuesReason.TheVariants as reasons
 use Rattle.vms_spec.specs.Layout as slots
@@ -44,8 +44,7 @@ by_tests : (cell : Cell) (present : Bool) (z : ℤ) (a b c : Bool) → in_range 
 by_tests cell present z true false true e f g h =
     record {
       fits = (ranges cell.kind z e, within_all cell.capacities z f);
-      absent = λ p. same_number_is z cell.default
-          (or_second present (same_number z cell.default) g p);
+      absent = λ p. same_number_is z cell.default (or_second present (same_number z cell.default) g p);
     }
 by_tests cell present z _ _ _ e f g h = cc
 
@@ -84,21 +83,19 @@ right_none n at ss = record { right = λ c k lt e. absurd (omega arith) }
 
 pub right_both : (n : List ℤ) (at next : ℕ) (xs ys : List Cell) (ss ts : List Slot) → next ≡ at + length xs → AreRight n at xs ss → AreRight n next ys ts
     → AreRight n at (xs ++ ys) (ss ++ ts)
-right_both n at next xs ys ss ts is a b = record { right = λ c k lt e. by_test c k lt e (nat_lt c (length xs)) refl }
+right_both n at next xs ys ss ts is a b = record {
+  right = λ c k lt e.
+      ⊎_elim (λ (inside : c < length xs). rw (get_or_append_left xs ys no_cell c inside) (right_by (λ h. (bare k h).0) (a.right c k inside e)))
+      (λ (past : length xs ≤ c).
+      let m : ℕ = c - length xs in
+      let whole : length xs + m ≡ c = omega arith in
+      subst (λ (i : ℕ). IsRight n (ss ++ ts) k (get_or (xs ++ ys) i no_cell)) whole
+      (rw (get_or-append-add xs ys m no_cell) (right_by (λ h. (bare k h).1) (b.right m k (omega (arith, length-append xs ys)) (omega arith)))))
+      (cases_lt c (length xs));
+}
   where
     bare : (k : ℕ) → has_cell (ss ++ ts) k ≡ false → (has_cell ss k ≡ false) × (has_cell ts k ≡ false)
     bare k h = or_parts (has_cell ss k) (has_cell ts k) (sym (names_append ss ts k) ∙ h)
-
-    by_test : (c k : ℕ) → c < length (xs ++ ys) → k ≡ at + c → (t : Bool) → nat_lt c (length xs) ≡ t → IsRight n (ss ++ ts) k (get_or (xs ++ ys) c no_cell)
-    by_test c k lt e true t =
-        let inside : c < length xs = ltb-true c (length xs) t in
-        rw (get_or_append_left xs ys no_cell c inside) (right_by (λ h. (bare k h).0) (a.right c k inside e))
-    by_test c k lt e false t =
-        let past : length xs ≤ c = ltb-false c (length xs) t in
-        let m : ℕ = c - length xs in
-        let whole : length xs + m ≡ c = omega arith in
-        subst (λ (i : ℕ). IsRight n (ss ++ ts) k (get_or (xs ++ ys) i no_cell)) whole
-        (rw (get_or-append-add xs ys m no_cell) (right_by (λ h. (bare k h).1) (b.right m k (omega (arith, length-append xs ys)) (omega arith))))
 
 -- ---- defaults that fit
 
@@ -196,8 +193,7 @@ none_outside n at (x ∷ xs) up k h =
     (rw (v.lines) (no_line n x (printed xs) k x.counted ne later.0), rw (v.bytes) (no_bytes x v.cell (slots_of xs) k x.present ne later.1)))
     (λ (v : IsNoNumber x xs).
     let later = none_outside n at xs (rw (v.numbers) at up) k (rw (v.cells) at h) in
-    (rw (v.lines) later.0, v.bytes k ∙ later.1))
-    (view x xs)
+    (rw (v.lines) later.0, v.bytes k ∙ later.1)) (view x xs)
 
 -- ---- elements whose lines are fine
 
@@ -209,8 +205,7 @@ fine_rest n x xs false f = f
 module _ (n : List ℤ) (short : AreShort n) where
   -- one line
   counted_right : (x : Element) (cell : Cell) (ss : List Slot) (k : ℕ) → x.what ≡ Number cell → x.cell ≡ k
-      → line_reason (OfNumber x n) (number_line n x) ≡ None
-      → IsRight n (with_slot x cell ss) k cell
+      → line_reason (OfNumber x n) (number_line n x) ≡ None → IsRight n (with_slot x cell ss) k cell
   counted_right x cell ss k what at fine =
       let f = reason_fits cell x.present (get_or n x.cell (pos 0)) (sym (line_number x n cell what (short x.cell)) ∙ fine) in
       record {
@@ -237,8 +232,7 @@ module _ (n : List ℤ) (short : AreShort n) where
       go : IsNumberOf x xs ⊎ IsNoNumber x xs
           → ((next : ℕ) → CountsUp next (numbers_in xs) → AreFine (of_numbers n (printed xs)) → DefaultsFit (cells_of xs) → AreBare n next (cells_of xs)
           (λ k. has_line (of_numbers n (printed xs)) k)
-          → AreRight n next (cells_of xs) (slots_of xs))
-          → AreRight n at (cells_of (x ∷ xs)) (slots_of (x ∷ xs))
+          → AreRight n next (cells_of xs) (slots_of xs)) → AreRight n at (cells_of (x ∷ xs)) (slots_of (x ∷ xs))
       go (inl v) more =
           let cell = v.cell in
           let u : CountsUp at (x ∷ numbers_in xs) = rw (v.numbers) at up in
@@ -253,18 +247,14 @@ module _ (n : List ℤ) (short : AreShort n) where
         where
           first : (t : Bool) → AreFine (of_numbers n (if t then x ∷ printed xs else printed xs))
               → AreBare n at (v.cell ∷ cells_of xs) (λ k. has_line (of_numbers n (if t then x ∷ printed xs else printed xs)) k)
-              → x.cell ≡ at → CountsUp (at + 1) (numbers_in xs) → FitsCell v.cell v.cell.default
-              → IsRight n (with_slot x v.cell (slots_of xs)) at v.cell
+              → x.cell ≡ at → CountsUp (at + 1) (numbers_in xs) → FitsCell v.cell v.cell.default → IsRight n (with_slot x v.cell (slots_of xs)) at v.cell
           first true f b e up d = counted_right x v.cell (slots_of xs) at v.what e f.0
           first false f b e up d =
               let is : get_or n at (pos 0) ≡ v.cell.default = b 0 at (omega arith) (omega arith) (none_outside n (at + 1) xs up at (λ le. omega arith)).0 in
               record { fits = rw is d; absent = λ h. is }
 
-          place : (c k : ℕ) → c < suc (length (cells_of xs)) → k ≡ at + c
-              → IsRight n (with_slot x v.cell (slots_of xs)) at v.cell
-              → AreRight n (at + 1) (cells_of xs) (slots_of xs)
-              → IsRight n (with_slot x v.cell (slots_of xs)) k
-              (get_or (v.cell ∷ cells_of xs) c no_cell)
+          place : (c k : ℕ) → c < suc (length (cells_of xs)) → k ≡ at + c → IsRight n (with_slot x v.cell (slots_of xs)) at v.cell
+              → AreRight n (at + 1) (cells_of xs) (slots_of xs) → IsRight n (with_slot x v.cell (slots_of xs)) k (get_or (v.cell ∷ cells_of xs) c no_cell)
           place zero k lt e h later =
               let is : at ≡ k = omega arith in
               rw (is) at h
@@ -286,11 +276,9 @@ have_each n at (x ∷ xs) up h =
     let p = and_parts (same_number (get_or n x.cell (pos 0)) v.cell.default) _ (sym (v.defaults n) ∙ h) in
     let is : get_or n at (pos 0) ≡ v.cell.default = rw (u.0) at (same_number_is _ v.cell.default p.0) in
     rw (v.cells) (λ c k lt e f. place v c k lt e is (have_each n (at + 1) xs u.1 p.1)))
-    (λ (v : IsNoNumber x xs). rw (v.cells) (have_each n at xs (rw (v.numbers) at up) (sym (v.defaults n) ∙ h)))
-    (view x xs)
+    (λ (v : IsNoNumber x xs). rw (v.cells) (have_each n at xs (rw (v.numbers) at up) (sym (v.defaults n) ∙ h))) (view x xs)
   where
     place : (v : IsNumberOf x xs) (c k : ℕ) → c < suc (length (cells_of xs)) → k ≡ at + c → get_or n at (pos 0) ≡ v.cell.default
-        → AreBare n (at + 1) (cells_of xs) (λ k. false)
-        → get_or n k (pos 0) ≡ (get_or (v.cell ∷ cells_of xs) c no_cell).default
+        → AreBare n (at + 1) (cells_of xs) (λ k. false) → get_or n k (pos 0) ≡ (get_or (v.cell ∷ cells_of xs) c no_cell).default
     place v zero k lt e is later = let same : k ≡ at = omega arith in rw same is
     place v (suc c) k lt e is later = later c k (omega arith) (omega arith) refl

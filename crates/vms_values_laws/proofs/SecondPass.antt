@@ -54,8 +54,7 @@ pub rules_same : (xs : List Element) → rules_hold xs ≡ rules_are_true (slots
 rules_same [] = refl
 rules_same (x ∷ xs) = by_what x.what x.present (rules_same xs)
   where
-    by_what : (w : What) (present : Bool) → rules_hold xs ≡ rules_are_true (slots_of xs)
-        → ((not present || rule_holds w) && rules_hold xs)
+    by_what : (w : What) (present : Bool) → rules_hold xs ≡ rules_are_true (slots_of xs) → ((not present || rule_holds w) && rules_hold xs)
         ≡ rules_are_true (if present then slot_of x.cell w ∷ slots_of xs else slots_of xs)
     by_what (Rule false) true h = refl
     by_what _ true h = h
@@ -76,8 +75,7 @@ defaults_same n at (x ∷ xs) up room = by_what x.what (λ next. defaults_same n
     by_what _ more up room = more at up room
 
 module _ (set : Set) where
-  pub desc_rules : (d : Desc) (v : ℕ) (n : List ℤ) (at : ℕ)
-      → rules_hold (elements_in set d v n at) ≡ rules_are_true
+  pub desc_rules : (d : Desc) (v : ℕ) (n : List ℤ) (at : ℕ) → rules_hold (elements_in set d v n at) ≡ rules_are_true
       (desc_slots (meanings set.structs (length set.structs)) d v n at)
   desc_rules d v n at = rules_same (elements_in set d v n at) ∙ ap rules_are_true (elements_slots set d v n at)
 

@@ -68,8 +68,7 @@ by_devices set text (d ∷ devices) (image ∷ images) clean e =
     ∙ no_name set.machines d image.version (text_of lines)
 
 named_by : (set : Set) → WellFormed set → (text : List ℕ) (machine : Option (List ℕ)) (images : List Image) → IsMachineOf set machine
-    → text ≡ text_of (map entry_line (entries set machine images))
-    → machine_named set.machines (first_line text) ≡ machine
+    → text ≡ text_of (map entry_line (entries set machine images)) → machine_named set.machines (first_line text) ≡ machine
 named_by set well text None images named e = by_devices set text set.devices images (clean_devices set well) e
 named_by set well text (Some name) images named e =
     let lines = map entry_line (devices_entries set set.devices images) in
@@ -127,8 +126,7 @@ module _ (set : Set) (well : WellFormed set) (text : List ℕ) (machine : Option
       let e = (beside f.machine f.taken f.rest (Some b.reason) (taken_before set text v b)).reason in
       cc
   says_answers v (inr n) =
-      none_answers set text v n
-      ∙ rw (same_machine v n, same_images v n) refl
+      none_answers set text v n ∙ rw (same_machine v n, same_images v n) refl
 
 -- ---- The laws of reading, as they are stated.
 
@@ -163,8 +161,7 @@ bad_part set text machine images b says p =
     }
 
 by_parts : (set : Set) (text : List ℕ) (machine : Option (List ℕ)) (images : List Image) (o : Option BadLine) → IsFit set → Says set text machine images
-    → parts_from set 1 (entries set machine images) ≡ o
-    → Reads set text (answer_by machine images o)
+    → parts_from set 1 (entries set machine images) ≡ o → Reads set text (answer_by machine images o)
 by_parts set text machine images (Some b) fit says e = inr (bad_part set text machine images b says (first_part set 1 (entries set machine images) b e))
 by_parts set text machine images None fit says e = text_of_ready set text machine images fit says (none_good set 1 (entries set machine images) e)
 
@@ -185,8 +182,7 @@ line_back : (set : Set) (text : List ℕ) (line : ℕ) (reason : ValuesReason) �
 line_back set text line reason fit x =
     bad_back set text line reason x
     (clean_entries set (clean_structs set fit.well) x.machine x.images (clean_devices set fit.well)
-    (λ name e. clean_machine set fit.well (first_line text) name (sym x.named ∙ e)))
-    (values_read set text) (its_first_pass set text fit)
+    (λ name e. clean_machine set fit.well (first_line text) name (sym x.named ∙ e))) (values_read set text) (its_first_pass set text fit)
 
 part_back : (set : Set) (text : List ℕ) (line : ℕ) (reason : ValuesReason) → IsFit set → IsBadPart set text line reason → values_read set text ≡ Bad line reason
 part_back set text line reason fit x =
@@ -227,8 +223,7 @@ trailed (Some text) h = (h, refl)
 
 -- all of it is taken
 pub takes : (set : Set) → WellFormed set → (machine described : Option (List ℕ)) (images : List Image) → IsMachineOf set machine → FitsText described
-    → AreReady set images
-    → Takes set set.machines (written set machine images described) (length (written set machine images described)) machine images
+    → AreReady set images → Takes set set.machines (written set machine images described) (length (written set machine images described)) machine images
 takes set well machine described images named fits ready =
     let few = few_devices set well in
     let stream = written set machine images described in
@@ -265,8 +260,7 @@ few_printed : (xs : List Element) → length (printed xs) ≤ length (cells_of x
 few_printed [] = omega arith
 few_printed (x ∷ xs) =
     ⊎_elim (λ (v : IsNumberOf x xs). omega (arith, ap length v.lines, ap length v.cells, either x.counted, few_printed xs))
-    (λ (v : IsNoNumber x xs). omega (arith, ap length v.lines, ap length v.cells, few_printed xs))
-    (view x xs)
+    (λ (v : IsNoNumber x xs). omega (arith, ap length v.lines, ap length v.cells, few_printed xs)) (view x xs)
   where
     either : (b : Bool) → length (if b then x ∷ printed xs else printed xs) ≤ suc (length (printed xs))
     either true = omega arith

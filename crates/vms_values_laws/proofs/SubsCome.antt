@@ -161,16 +161,14 @@ module _ (set : Set) (d : Device) where
       entries_are image o others more = ap (λ (l : List Entry). OfSub d image j s at o ∷ l) (append_assoc (number_entries set s.desc image.numbers at) _ more)
 
       follows_head : (taken : List Taken) (P : List Entry → Type 0) (image : Image) (others : List (Option ℕ)) (more : List Entry)
-          → length others ≡ suc (length subs)
-          → ((others : List (Option ℕ)) → length others ≡ length subs → Follows taken P (behind_head image others more))
+          → length others ≡ suc (length subs) → ((others : List (Option ℕ)) → length others ≡ length subs → Follows taken P (behind_head image others more))
           → Follows (taken_head ∷ taken) P (subs_entries set d image j at (s ∷ subs) others ++ more)
       follows_head taken P image [] more long h = absurd (omega (arith, long))
       follows_head taken P image (o ∷ others) more long h =
           subst (λ (l : List Entry). Follows (taken_head ∷ taken) P l) (sym (entries_are image o others more)) (refl, λ e. h others (omega (arith, long)))
 
       along_head : (taken : List Taken) (P : List Entry → Type 0) (image : Image) (others : List (Option ℕ)) (more : List Entry)
-          → Along taken P (behind_head image others more)
-          → Along (taken_head ∷ taken) P (subs_entries set d image j at (s ∷ subs) (came ∷ others) ++ more)
+          → Along taken P (behind_head image others more) → Along (taken_head ∷ taken) P (subs_entries set d image j at (s ∷ subs) (came ∷ others) ++ more)
       along_head taken P image others more h = subst (λ (l : List Entry). Along (taken_head ∷ taken) P l) (sym (entries_are image came others more)) (refl, h)
 
       stopped_inside : (e : BadLine) → NumbersStop set s.desc at (next_line p) e → SubsStop (s ∷ subs) j at p e
@@ -244,8 +242,7 @@ module _ (set : Set) (d : Device) where
   AreSoundSubs (s ∷ subs) = IsSound s.desc × AreSoundSubs subs
 
   by_head : (s : Sub) (subs : List Sub) (j at : ℕ) (p : Standing) (o : Option (Option ℕ)) → AreSound set.structs → IsSound s.desc
-      → sub_said s (first_line p.rest) ≡ o
-      → at + size_of s ≤ length p.numbers
+      → sub_said s (first_line p.rest) ≡ o → at + size_of s ≤ length p.numbers
       → ((q : Standing) → length q.numbers ≡ length p.numbers → SubsCome subs (suc j) (at + size_of s) q (read_subs set (at + size_of s) subs q))
       → SubsCome (s ∷ subs) j at p (read_sub set s at p o (λ q. read_subs set (at + size_of s) subs q))
   by_head s subs j at p None structs sound e here later = refused s subs j at p e

@@ -1,14 +1,14 @@
 -- Reading the fields of a description, beside its elements.
 use Rattle.vms_values_laws.proofs.Facade.{◌≡◌, ℕ, List, ◌∷◌, ◌++◌, map, refl, sym, ap, ◌∙◌, Bool, true, false, ◌&&◌, if◌then◌else◌, append_assoc, codes, []}
-use Rattle.vms_values_laws.proofs.Facade.{zero, suc, ◌+◌, ◌*◌, ◌≤◌, length, get_or, drop, ℤ, nat_lt, arith, append-nil, map-append, length-append, and_assoc}
-use Rattle.vms_values_laws.proofs.Facade.{and-true, decimal, ltb-true, ltb-false, le-ltb, lt-ltb, Element, dotted, behind, Number, Shape, no_shape, shape}
-use Rattle.vms_values_laws.proofs.Facade.{shapes, cells_in, single, Rule, item_elements, Stand, stand_of, array_elements, field_elements, elements_from}
-use Rattle.vms_values_laws.proofs.Facade.{desc_elements, index_text, is_number, printed, printed_append, Item, Num, Struct, width, residue, Count, One, Fixed}
-use Rattle.vms_values_laws.proofs.Facade.{Counted, Field, Desc, Set, Cell, no_desc, no_field, first, counted, capacity_of, elements_of, item_size, field_cells}
-use Rattle.vms_values_laws.proofs.Facade.{cells_from, desc_cells, struct_cells, numbers_of, place_of, kind_of, all_hold, Standing, Read, Reader, no_reader}
-use Rattle.vms_values_laws.proofs.Facade.{reader, readers, read_item, read_elements, read_array, read_field, read_fields, read_desc, elements_fit, field_size}
-use Rattle.vms_values_laws.proofs.Facade.{IsNumber, IsOne, IsEarlier, IsSoundField, AreSoundFields, IsSound, AreSound, there_same, elements_same, place_next}
-use Rattle.vms_values_laws.proofs.Facade.{drop_next, zero_plus, place_first, first_long, readers_cells, two_more, shapes_cells, Said, Agrees}
+use Rattle.vms_values_laws.proofs.Facade.{◌<◌, zero, suc, ◌+◌, ◌*◌, ◌≤◌, length, get_or, drop, ℤ, arith, append-nil, map-append, length-append, and_assoc}
+use Rattle.vms_values_laws.proofs.Facade.{and-true, decimal, le-ltb, lt-ltb, ⊎_elim, cases_lt, Element, dotted, behind, Number, Shape, no_shape, shape, shapes}
+use Rattle.vms_values_laws.proofs.Facade.{cells_in, single, Rule, item_elements, Stand, stand_of, array_elements, field_elements, elements_from, desc_elements}
+use Rattle.vms_values_laws.proofs.Facade.{index_text, is_number, printed, printed_append, Item, Num, Struct, width, residue, Count, One, Fixed, Counted, Field}
+use Rattle.vms_values_laws.proofs.Facade.{Desc, Set, Cell, no_desc, no_field, first, counted, capacity_of, elements_of, item_size, field_cells, cells_from}
+use Rattle.vms_values_laws.proofs.Facade.{desc_cells, struct_cells, numbers_of, place_of, kind_of, all_hold, Standing, Read, Reader, no_reader, reader, readers}
+use Rattle.vms_values_laws.proofs.Facade.{read_item, read_elements, read_array, read_field, read_fields, read_desc, elements_fit, field_size, IsNumber, IsOne}
+use Rattle.vms_values_laws.proofs.Facade.{IsEarlier, IsSoundField, AreSoundFields, IsSound, AreSound, there_same, elements_same, place_next, drop_next}
+use Rattle.vms_values_laws.proofs.Facade.{zero_plus, place_first, first_long, readers_cells, two_more, shapes_cells, Said, Agrees}
 use Rattle.vms_spec.specs.ValuesReading.{cells_of}
 use Rattle.vms_values_laws.proofs.Coming.{spot, Knows, AllKnown, knows_grows, At, Comes, at_left, stay, forget, then_comes, line_comes}
 
@@ -68,8 +68,7 @@ module _ (steps : List (ℕ × ℕ)) (path : List ℕ) (present : Bool) (f : Fie
       rw (wrapped_append steps path present, le-ltb e stand.count le, wrapped_none steps path present, past_count (suc e) k (at + step) (omega arith)) refl
 
   -- the first element of an array that has some, and those after it
-  first_counted : (e k m at : ℕ) → stand.count ≡ e + suc m
-      → wrapped steps path present (array_elements f stand part step e (suc k) at)
+  first_counted : (e k m at : ℕ) → stand.count ≡ e + suc m → wrapped steps path present (array_elements f stand part step e (suc k) at)
       ≡ wrapped (steps ++ (stand.number, e) ∷ []) (path ++ (f.name ++ index_text f.count e)) (present && stand.there) (part at)
       ++ wrapped steps path present (array_elements f stand part step (suc e) k (at + step))
   first_counted e k m at c =
@@ -98,14 +97,15 @@ is_known _ item at said n o k = absurd o
 known_next : (cs : List (List Cell)) (d : Desc) (base i at : ℕ) (f : Field) (fs : List Field) (said more : List Said) → drop i d.fields ≡ f ∷ fs
     → at ≡ place_of cs d.fields 0 base d.fields i → ((m : List ℤ) → Agrees more m → Agrees said m)
     → ((j : ℕ) → IsEarlier d.fields i j → Knows said (place_of cs d.fields 0 base d.fields j)) → AllKnown (known_cell f.count f.item at) more
-    → (j : ℕ) → IsEarlier d.fields (suc i) j → (b : Bool) → nat_lt j i ≡ b → Knows more (place_of cs d.fields 0 base d.fields j)
-known_next cs d base i at f fs said more is here grows known k j x true lt =
-    knows_grows said more _ grows (known j (record { earlier = ltb-true j i lt; there = x.there; number = x.number; one = x.one }))
-known_next cs d base i at f fs said more is here grows known k j x false ge =
-    let le : i ≤ j = ltb-false j i ge in
+    → (j : ℕ) → IsEarlier d.fields (suc i) j → Knows more (place_of cs d.fields 0 base d.fields j)
+known_next cs d base i at f fs said more is here grows known k j x =
+    ⊎_elim
+    (λ (lt : j < i). knows_grows said more _ grows (known j (record { earlier = lt; there = x.there; number = x.number; one = x.one })))
+    (λ (ge : i ≤ j).
     let same : j ≡ i = omega (arith, x.earlier) in
     let this : get_or d.fields j no_field ≡ f = rw same (dropped d.fields i f fs is) in
-    rw (same, ← here) (is_known f.count f.item at more (rw this at x.number) (rw this at x.one) k)
+    rw (same, ← here) (is_known f.count f.item at more (rw this at x.number) (rw this at x.one) k))
+    (cases_lt j i)
 
 module _ (total : List ℤ → List Element) (start : Standing) (low : ℕ) where
   abbrev Here : ℕ → Standing → List Said → (List ℤ → List Element) → Type 0
@@ -131,8 +131,7 @@ module _ (total : List ℤ → List Element) (start : Standing) (low : ℕ) wher
     cells_get (t ∷ ts) (suc j) = cells_get ts j
 
     item_comes : (f : Field) (item : Item) (caps : List ℕ) (steps : List (ℕ × ℕ)) (path : List ℕ) (present : Bool) (at end : ℕ) (p : Standing)
-        → (said : List Said)
-        → (left : List ℤ → List Element) → end ≡ at + item_size (cells_of rs) item → end ≤ length start.numbers
+        → (said : List Said) → (left : List ℤ → List Element) → end ≡ at + item_size (cells_of rs) item → end ≤ length start.numbers
         → Here at p said (λ m. wrapped steps path present (item_elements ss item caps f.default m at) ++ left m)
         → Came end (single_cell item at) said left (read_item rs f caps path present at item p)
     item_comes f (Num kind) caps steps path present at end p said left e room a =
@@ -262,7 +261,7 @@ module _ (total : List ℤ → List Element) (start : Standing) (low : ℕ) wher
           ∙ append_assoc (lines (first m)) _ (left m)) a))
           (λ q done a' grows k.
           fields_comes (suc i) next end fs q done left sound.1 there (drop_next d.fields i f fs is)
-          (λ j x. known_next cs d base i at f fs said done is here grows known k j x (nat_lt j i) refl) e' room a')
+          (λ j x. known_next cs d base i at f fs said done is here grows known k j x) e' room a')
 
       -- a description's lines are those of its elements
       pub desc_comes : (end : ℕ) (p : Standing) (said : List Said) (left : List ℤ → List Element) → IsSound d → end ≡ base + length (desc_cells (cells_of rs) d)
@@ -310,5 +309,4 @@ module _ (total : List ℤ → List Element) (start : Standing) (low : ℕ) wher
       let same : length (desc_cells (struct_cells set) d) ≡ length (desc_cells (cells_of (readers set)) d) =
       ap (λ (cs : List (List Cell)). length (desc_cells cs d)) (sym (readers_cells set.structs k)) in
       desc_comes (readers set) (shapes set) (same_cells set.structs k)
-      (all_read set.structs structs k (omega arith)) d d.version [] [] true at _ p said left sound
-      (omega (arith, same)) room a
+      (all_read set.structs structs k (omega arith)) d d.version [] [] true at _ p said left sound (omega (arith, same)) room a
