@@ -95,6 +95,7 @@ int main(void)
     number("OUT of counter 2", vmstate_board_output(&other, 2));
     number("port 60", vmstate_board_has_port(&other, 0x60));
     number("character", vmstate_board_character(&other));
+    number("due", vmstate_board_due(&other));
     vmstate_board_free(&other);
     free(stream);
     return 0;

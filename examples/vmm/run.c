@@ -13,7 +13,6 @@
 enum {
     SECOND = 1000000000,   /* in nanoseconds, as what follows */
     ACCESS_TIME = 1000,    /* of an access with the clock of steps */
-    SLICE = 100000,        /* the longest time between two looks at the board */
     LOOK_EACH = 1000000,   /* between two looks for a typed byte while the guest runs */
     SPINNING = SECOND / 4, /* clock of steps: the processor's time without an access after which time passes */
     PORT_61 = 0x61         /* the PC's own port, which the board leaves to the VMM */
@@ -57,17 +56,25 @@ static uint64_t moment(struct vmm *vmm)
     return vmm->facts.is_real && host > board ? host : board;
 }
 
-/* Returns the moment at which time must pass on the board, even if the guest makes no access until then. */
-static uint64_t next_wake(struct vmm *vmm)
+static uint64_t earlier(uint64_t first, uint64_t second)
 {
-    uint64_t now = moment(vmm), wake = now + SLICE, paced = vmm->facts.paced_until;
-    return now < paced && paced < wake ? paced : wake;
+    return first < second ? first : second;
+}
+
+/* Returns the moment at which time must pass on the board, even if the guest makes no access until then: when the board shows
+ * something, when a typed byte may arrive, and after `longest` nanoseconds. */
+static uint64_t next_wake(struct vmm *vmm, uint64_t longest)
+{
+    uint64_t now = moment(vmm), paced = vmm->facts.paced_until, due = number_of(vmstate_board_due(&vmm->board));
+    if (due != VMSTATE_BOARD_NEVER)
+        due += number_of(vmstate_board_now(&vmm->board));
+    return earlier(due, earlier(now < paced ? paced : NEVER, now + longest));
 }
 
 /* Lets time pass on the board: to the present with the real clock, to the next wake with the clock of steps. */
 static void pass_time(struct vmm *vmm)
 {
-    take(vmm, vmstate_board_advance(&vmm->board, vmm->facts.is_real ? moment(vmm) : next_wake(vmm)));
+    take(vmm, vmstate_board_advance(&vmm->board, vmm->facts.is_real ? moment(vmm) : next_wake(vmm, LOOK_EACH)));
 }
 
 static struct kvm_run *running;
@@ -80,16 +87,16 @@ static void stop_guest(int signal)
 }
 
 /* Returns the nanoseconds from now to the next wake, with the real clock. */
-static uint64_t time_left(struct vmm *vmm)
+static uint64_t time_left(struct vmm *vmm, uint64_t longest)
 {
-    uint64_t wake = next_wake(vmm), now = moment(vmm);
+    uint64_t wake = next_wake(vmm, longest), now = moment(vmm);
     return wake > now ? wake - now : 0;
 }
 
 /* Sets the host's timer to the next wake. The clock of steps needs it only for a guest that computes without an access. */
 static void set_timer(struct vmm *vmm)
 {
-    uint64_t left = vmm->facts.is_real ? time_left(vmm) : SPINNING;
+    uint64_t left = vmm->facts.is_real ? time_left(vmm, LOOK_EACH) : SPINNING;
     struct itimerval timer = {{0, 0}, {left / SECOND, left % SECOND / 1001 + 1}};
     checked(setitimer(vmm->facts.is_real ? ITIMER_REAL : ITIMER_PROF, &timer, NULL), "setitimer");
 }
@@ -98,7 +105,7 @@ static void set_timer(struct vmm *vmm)
  * is read no earlier, so a guest that is passed on leaves no byte behind. With `waits` it waits for one until the next wake. */
 static void receive(struct vmm *vmm, bool waits)
 {
-    uint64_t now = moment(vmm), left = waits ? time_left(vmm) : 0;
+    uint64_t now = moment(vmm), left = waits ? time_left(vmm, SECOND) : 0;
     bool can_arrive = vmm->look_at != NEVER && now >= vmm->facts.paced_until && number_of(vmstate_board_room(&vmm->board)) > 0;
     struct pollfd input = {can_arrive ? STDIN_FILENO : -1, POLLIN, 0};
     uint8_t byte;

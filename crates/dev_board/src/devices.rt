@@ -9,6 +9,8 @@ ghost use Rattle.dev_serial.specs.Line.{character_time};
 
 use crate::event::{Answer, Event};
 use crate::parts::Parts;
+use dev_pit::Pit;
+use dev_serial::Serial;
 use std::marker::Model;
 
 /// The pair of 8259A, the timer chip and the serial port of a board, at a present moment.
@@ -76,6 +78,7 @@ impl Devices {
     /// # Requires
     ///
     /// If `event` is an [`Event::Wire`], its input is a wire: one of 1, 3, 5, 6, 7 and 8 to 15.
+    #[inline(always)]
     pub fn event(&mut self, event: Event) -> Answer
         requires wire { IsTrue (names_wire event) }
         ensures step { (result, self.new) ≡ step event self.old }
@@ -126,5 +129,35 @@ impl Devices {
         ensures { result ≡ character_time self.now.serial.divisor self.now.serial.lcr }
     {
         self.parts.character()
+    }
+
+    /// Returns the timer chip.
+    pub fn pit(&self) -> &Pit
+        ensures { result.now ≡ self.now.pit }
+    {
+        &self.parts.pit
+    }
+
+    /// Returns the serial port.
+    pub fn serial(&self) -> &Serial
+        ensures { result.now ≡ self.now.serial }
+    {
+        &self.parts.serial
+    }
+
+    /// States that the devices are sound at any time.
+    pub fn is_sound(&self)
+        ensures { IsSound self.now }
+    {
+        let _ = &self.parts;
+    }
+
+    /// Returns other devices in the same state.
+    pub fn copy(&self) -> Devices
+        ensures { result ≡ self.now }
+    {
+        Devices {
+            parts: self.parts.copy(),
+        }
     }
 }

@@ -88,6 +88,7 @@ impl Parts {
     ///
     /// The board is sound before and after. A wire is one of the inputs 1, 3, 5, 6, 7 and 8 to 15.
     /// Time passes at most up to the last moment.
+    #[inline(always)]
     #[tactic(auto, unfolding(crate::specs::Step::step, crate::specs::Step::after_act, crate::specs::Step::acted, crate::specs::Step::wires_after))]
     pub(crate) fn event(&mut self, event: Event) -> Answer
         requires wire { IsTrue (names_wire event) }
@@ -172,7 +173,18 @@ impl Parts {
         self.serial.character()
     }
 
+    /// Returns other devices in the same state.
+    pub(crate) fn copy(&self) -> Parts
+        ensures { result ≡ self.now }
+    {
+        Parts {
+            serial: self.serial.copy(),
+            ..*self
+        }
+    }
+
     // Returns the wires as they are now.
+    #[inline(always)]
     #[tactic(auto, unfolding(crate::specs::Wires::wires_of))]
     fn wires(&self) -> u16
         ensures wires { result ≡ wires_of self.now }
@@ -189,6 +201,7 @@ impl Parts {
     }
 
     // Returns what a port reaches.
+    #[inline(always)]
     #[tactic(auto, unfolding(crate::specs::Ports::target_of))]
     fn target(&self, port: u16) -> Target
         ensures { result ≡ target_of self.now.level port }
@@ -209,6 +222,7 @@ impl Parts {
     }
 
     // Reads a port, and returns the value and what that touched.
+    #[inline(always)]
     #[tactic(auto, unfolding(crate::specs::Ports::read_at))]
     fn read(&mut self, port: u16) -> (u8, Touch)
         ensures step { (result.0, self.new) ≡ read_of port self.old }
@@ -233,6 +247,7 @@ impl Parts {
     }
 
     // Writes a byte to a port, and returns what that touched.
+    #[inline(always)]
     #[tactic(auto, unfolding(crate::specs::Ports::written_at))]
     fn write(&mut self, port: u16, value: u8) -> Touch
         ensures step { self.new ≡ written port value self.old }
@@ -257,19 +272,21 @@ impl Parts {
 
     // Lets time pass up to `to`; returns whether counter 0 had a rising edge, and the bytes that
     // left.
+    #[inline(always)]
     #[tactic(auto, unfolding(crate::specs::Step::waited))]
     fn wait(&mut self, to: u64) -> (bool, ArrayVec<u8, MOST_SENT>)
         requires later { self.old.moment ≤ to }
         requires last { to ≤ last_moment }
         ensures { (record { value = None; edge = result.0; sent = result.1.items }, self.new) ≡ waited to self.old }
     {
-        let edge = self.pit.edge(0, self.moment, to);
         let sent = self.serial.advance(to);
+        let edge = self.pit.edge(0, self.moment, to);
         self.moment = to;
         (edge, sent)
     }
 
     // Returns OUT of counter 0, which is still in the earlier lines if it wasn't touched.
+    #[inline(always)]
     fn timer_out(&self, touched: bool, lines: u16) -> bool
         requires { touched ≡ false → has_of lines 0 ≡ pit_out 0 self.now.moment self.now.pit }
         ensures { result ≡ pit_out 0 self.now.moment self.now.pit }
@@ -294,6 +311,7 @@ impl Parts {
     }
 
     // Returns the inputs of the pair: the wires, OUT of counter 0 and the serial port's line.
+    #[inline(always)]
     #[tactic(auto, unfolding(crate::specs::Step::inputs_of))]
     fn inputs(&self, wires: u16, lines: u16, touch: Touch) -> u16
         requires { Stays touch lines self.now }

@@ -157,6 +157,30 @@ impl ClockDevices {
         self.board.character()
     }
 
+    /// Returns the clock chip.
+    pub fn clock(&self) -> &Rtc
+        ensures { result.now ≡ self.now.clock }
+    {
+        &self.clock
+    }
+
+    /// Returns the board's devices.
+    pub fn board(&self) -> &Devices
+        ensures { result.now ≡ self.now.board }
+    {
+        &self.board
+    }
+
+    /// Returns other devices in the same state.
+    pub fn copy(&self) -> ClockDevices
+        ensures { result ≡ self.now }
+    {
+        ClockDevices {
+            clock: self.clock,
+            board: self.board.copy(),
+        }
+    }
+
     // Applies an event, before the board's input is updated from the chip's line.
     #[tactic(auto, unfolding(crate::specs::Step::acted))]
     fn act(&mut self, event: Event) -> Answer

@@ -6,6 +6,7 @@ pub mod CounterSteps
 pub mod EdgeMeaning
 pub mod Edges
 pub mod LatchLaws
+pub mod Marks
 pub mod Moments
 pub mod PlainSound
 pub mod ReadBackLaw
@@ -15,3 +16,4 @@ pub mod SheetNumbers
 pub mod SoundLaws
 pub mod SoundSteps
 pub mod StatusLaw
+pub mod TurnLaws

@@ -11,3 +11,4 @@ pub mod Pit
 pub mod Saved
 pub mod SheetNumbers
 pub mod Sound
+pub mod Turns

@@ -3,7 +3,8 @@ ghost use Rattle.std.specs.Prelude.{◌≡◌, ◌<◌, ◌≤◌, ◌+◌, ◌*
 ghost use Rattle.dev_pit.specs.Count.{down as down_of, square as square_of};
 
 use crate::mode::{Access, Mode};
-use crate::ticks::{period, ticks};
+use crate::ticks::{moment_of, period, ticks};
+use crate::turns::{Turns, marks_of};
 use dev_base::LAST_MOMENT;
 
 /// The registers of a counter ("Counter" in "Internal Block Diagram of a Counter").
@@ -32,6 +33,7 @@ pub(crate) struct Counter {
 }
 
 impl Counter {
+    ghost use Rattle.dev_pit.specs.Turns.{AreTurns};
     ghost use Rattle.dev_pit.specs.Counter.{LoadedBy, live_of, out_of, edge_of, status_of, powered_on, latched, status_latched, read_back, programmed, loaded, written, read_of, counted_of};
 
     /// Returns a counter at power on: mode 0, RW 3, nothing loaded and nothing latched.
@@ -84,6 +86,7 @@ impl Counter {
     }
 
     /// Returns the level of OUT at `now`; true is high.
+    #[inline(always)]
     #[tactic(auto, unfolding(crate::specs::Counter::out_of, crate::specs::Count::out_at))]
     pub fn out(&self, now: u64) -> bool
         requires loaded { LoadedBy now self.now.loaded_at }
@@ -105,6 +108,7 @@ impl Counter {
     }
 
     /// Tells whether OUT has a rising edge after `from` and not after `to`.
+    #[inline(always)]
     #[tactic(auto, unfolding(crate::specs::Counter::edge_of, crate::specs::Count::rises))]
     pub fn edge(&self, from: u64, to: u64) -> bool
         requires loaded { LoadedBy from self.now.loaded_at }
@@ -123,6 +127,27 @@ impl Counter {
             Mode::OneShot | Mode::HardwareStrobe => false,
             Mode::RateGenerator | Mode::SquareWave => n != 1 && before / n < after / n,
             Mode::SoftwareStrobe => before < n + 1 && n + 1 <= after,
+        }
+    }
+
+    /// Returns moments from `base` on by which OUT has done all that it does.
+    pub fn turns(&self, base: u64) -> Turns
+        requires loaded { LoadedBy base self.now.loaded_at }
+        requires moment { base ≤ LAST_MOMENT }
+        ensures { AreTurns result self.now base }
+    {
+        let Some(load) = self.loaded_at else {
+            return Turns {
+                first: base,
+                second: base,
+                third: base,
+            };
+        };
+        let marks = marks_of(self.mode, period(self.count), ticks(load, base));
+        Turns {
+            first: moment_of(load, marks.first),
+            second: moment_of(load, marks.second),
+            third: moment_of(load, marks.third),
         }
     }
 

@@ -15,6 +15,7 @@ mod mode;
 mod pit;
 mod saved;
 mod ticks;
+mod turns;
 
 pub use laws::{
     cells_law, counting_law, edge_parts_law, edge_turns_high_law, latch_law, level_law,
@@ -22,3 +23,4 @@ pub use laws::{
     terminal_count_law, ticks_law,
 };
 pub use pit::Pit;
+pub use turns::Turns;

@@ -4,6 +4,7 @@ ghost use Rattle.std.specs.Prelude.{◌≡◌, ℕ, ◌<◌, ◌≤◌, IsTrue, 
 use crate::control::ControlWord;
 use crate::counter::Counter;
 use crate::limits::READ_BACK_LEVEL;
+use crate::turns::Turns;
 use dev_base::LAST_MOMENT;
 
 /// The port of counter 0; those of counters 1 and 2 follow.
@@ -27,7 +28,8 @@ pub struct Pit {
 
 impl Pit {
     ghost use Rattle.dev_pit.specs.Control.{IsWord};
-    ghost use Rattle.dev_pit.specs.Pit.{IsPort, IsLoadedBy, new_pit, pit_read, pit_written, asked_back, controlled, pit_out, pit_edge};
+    ghost use Rattle.dev_pit.specs.Pit.{IsPort, IsLoadedBy, counter_of, new_pit, pit_read, pit_written, asked_back, controlled, pit_out, pit_edge};
+    ghost use Rattle.dev_pit.specs.Turns.{AreTurns};
     ghost use Rattle.dev_base.specs.Levels.{IsLevel};
 
     /// Returns the chip at power on, at `level` from 1 to 4.
@@ -114,6 +116,7 @@ impl Pit {
     /// # Requires
     ///
     /// `counter` is below 3, `now` is at most `LAST_MOMENT`, and no counter was loaded after `now`.
+    #[inline(always)]
     #[tactic(auto, unfolding(crate::specs::Pit::pit_out))]
     pub fn out(&self, counter: u8, now: u64) -> bool
         requires counter { counter < 3 }
@@ -132,6 +135,7 @@ impl Pit {
     ///
     /// `counter` is below 3, `from` is not after `to`, `to` is at most `LAST_MOMENT`, and no
     /// counter was loaded after `from`.
+    #[inline(always)]
     #[tactic(auto, unfolding(crate::specs::Pit::pit_edge))]
     pub fn edge(&self, counter: u8, from: u64, to: u64) -> bool
         requires counter { counter < 3 }
@@ -141,6 +145,23 @@ impl Pit {
         ensures { result ≡ pit_edge counter from to self.now }
     {
         self.counters[counter as usize].edge(from, to)
+    }
+
+    /// Returns moments from `base` on by which OUT of `counter`, 0 to 2, has done all that it does.
+    ///
+    /// At each later moment its level, and whether it rose since one before `base`, are those at `base` or
+    /// at one of these moments that has come.
+    ///
+    /// # Requires
+    ///
+    /// `counter` is below 3, `base` is at most `LAST_MOMENT`, and no counter was loaded after `base`.
+    pub fn turns(&self, counter: u8, base: u64) -> Turns
+        requires counter { counter < 3 }
+        requires moment { base ≤ LAST_MOMENT }
+        requires loaded { IsLoadedBy base self.now }
+        ensures { AreTurns result (counter_of counter self.now) base }
+    {
+        self.counters[counter as usize].turns(base)
     }
 
     // Latches the count of counter `k`, its status or both.

@@ -23,5 +23,7 @@ places_are = record {
   tx_count = refl;
   timeout_at = refl;
   rx_data = refl;
+  rx_number = refl;
   tx_data = refl;
+  tx_number = refl;
 }

@@ -1,10 +1,11 @@
 -- The index of each field's first cell in the newest set. Definitions cite the constants that the
 -- code uses; this file gives their values.
 use Rattle.std.specs.Prelude.{◌≡◌}
-use Rattle.vms_fields.specs.declared.serial.TheConstants.{DIVISOR, IER, IIR, LCR, MCR, LSR, SCR, RBR, THR, TSR, TX_DUE, FCR, THR_IPENDING, RX_COUNT, TX_COUNT, TIMEOUT_AT, RX_DATA, TX_DATA}
+use Rattle.vms_fields.specs.declared.serial.TheConstants.{DIVISOR, IER, IIR, LCR, MCR, LSR, SCR, RBR, THR, TSR, TX_DUE, FCR, THR_IPENDING, RX_COUNT, TX_COUNT, TIMEOUT_AT, RX_DATA, RX_NUMBER, TX_DATA, TX_NUMBER}
 use Rattle.dev_serial.specs.declared.stored.TheConstants.{ARRAY_CELLS, RING_CELLS}
 
--- The number of cells of a counted array and of a ring, and the index of each field's first cell.
+-- The number of cells of a counted array and of a ring, the index of each field's first cell, and that of the number of
+-- bytes in each ring.
 pub record PlacesAre : Type 0 where
   pub array_cells : ARRAY_CELLS ≡ 17
   pub ring_cells : RING_CELLS ≡ 18
@@ -25,4 +26,6 @@ pub record PlacesAre : Type 0 where
   pub tx_count : TX_COUNT ≡ 30
   pub timeout_at : TIMEOUT_AT ≡ 47
   pub rx_data : RX_DATA ≡ 48
+  pub rx_number : RX_NUMBER ≡ 65
   pub tx_data : TX_DATA ≡ 66
+  pub tx_number : TX_NUMBER ≡ 83

@@ -16,7 +16,8 @@ pub fn numbers_law()
     ensures { NumbersAre }
 {}
 
-/// States the index of each field's first cell among the `PORT_CELLS` of the newest set.
+/// States the index of each field's first cell, and of the number of bytes in each ring, among the
+/// `PORT_CELLS` of the newest set.
 #[tactic(auto, using(crate::proofs::Places::places_are))]
 pub fn places_law()
     ensures { PlacesAre }

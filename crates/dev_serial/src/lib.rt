@@ -21,6 +21,7 @@ mod shift;
 mod stored;
 mod transmitter;
 mod trigger;
+mod views;
 
 pub use laws::{
     alike_law, cells_law, divisor_law, fifo_control_law, interrupt_law, level_law, likeness_law,
@@ -29,5 +30,6 @@ pub use laws::{
 };
 pub use rings::recast;
 pub use serial::Serial;
+pub use shift::Shift;
 pub use stored::PORT_CELLS;
 pub use transmitter::MOST_SENT;

@@ -2,7 +2,7 @@
 ghost use Rattle.std.specs.Prelude.{◌≡◌, ◌≤◌, length, false};
 ghost use Rattle.dev_serial.specs.declared.fifo.TheConstants.{FIFO_BYTES};
 
-use crate::fifo::FIFO_BYTES;
+use crate::fifo::{FIFO_BYTES, copied};
 use crate::mode::{LONGEST_CHARACTER, Mode};
 use arrayvec::ArrayVec;
 use dev_base::LAST_MOMENT;
@@ -38,6 +38,17 @@ impl Receiver {
             held,
             overrun,
             timeout,
+        }
+    }
+
+    /// Returns another receiver in the same state.
+    pub fn copy(&self) -> Receiver
+        ensures { result ≡ self.now }
+    {
+        Receiver {
+            held: copied(&self.held),
+            overrun: self.overrun,
+            timeout: self.timeout,
         }
     }
 

@@ -4,7 +4,6 @@ ghost use Rattle.dev_base.specs.Levels.{IsLevel};
 ghost use Rattle.std.specs.Prelude.{◌≡◌, ◌≤◌, ◌+◌, length, ◌&&◌};
 ghost use Rattle.dev_serial.specs.declared.transmitter.TheConstants.{MOST_SENT};
 
-use crate::fifo::FIFO_BYTES;
 use crate::interrupt::Interrupt;
 use crate::levels::{FIFOS_SINCE, TIMEOUT_SINCE};
 use crate::mode::{LONGEST_CHARACTER, Mode, character_time};
@@ -53,10 +52,9 @@ impl Model for Serial {
 }
 
 impl Serial {
-    ghost use Rattle.dev_serial.specs.Line.{character_time as character_time_of};
     ghost use Rattle.dev_serial.specs.Transmit.{IsSentAfter};
     ghost use Rattle.dev_serial.specs.Port.{power_on, mode_of, is_data_ready, has_timed_out, interrupt, line_of};
-    ghost use Rattle.dev_serial.specs.Access.{lsr_of, byte_read, id_read, lsr_read, read_of, thr_written, ier_written, receiver_cleared, transmitter_cleared, fcr_written, written, came_in, advanced, room_of};
+    ghost use Rattle.dev_serial.specs.Access.{lsr_of, byte_read, id_read, lsr_read, read_of, thr_written, ier_written, receiver_cleared, transmitter_cleared, fcr_written, written, came_in, advanced};
 
     /// Creates a port of the level `level`, from 1 to 4, as it is at power on.
     ///
@@ -164,6 +162,7 @@ impl Serial {
     }
 
     // Removes and returns the oldest received byte ("Receiver Buffer Register").
+    #[inline(never)]
     fn read_byte(&mut self, now: u64) -> u8
         requires { now ≤ LAST_MOMENT }
         ensures { (result, self.new) ≡ byte_read now self.old }
@@ -174,6 +173,7 @@ impl Serial {
 
     // Reads the "Interrupt Identification Register". Doing so clears the interrupt of an empty
     // transmit list.
+    #[inline(never)]
     #[tactic(auto, unfolding(crate::specs::Access::iir_of))]
     fn read_id(&mut self, now: u64) -> u8
         ensures { (result, self.new) ≡ id_read now self.old }
@@ -241,14 +241,19 @@ impl Serial {
 
     // Writes the "Transmitter Holding Register". This clears the latch, which is set again if the
     // byte moves on to the shift register at once.
-    #[tactic(auto, unfolding(crate::specs::Access::thr_written))]
+    #[tactic(auto, unfolding(crate::specs::Access::thr_written, crate::specs::Transmit::loaded))]
     fn write_byte(&mut self, byte: u8, now: u64)
         requires { now ≤ LAST_MOMENT }
         ensures state { self.new ≡ thr_written byte now self.old }
         ensures level { self.new.level ≡ self.old.level }
     {
-        let due = now + character_time(self.divisor, self.lcr);
-        self.transmitter.write(self.fifos.is_some(), byte, due);
+        let has_fifos = self.fifos.is_some();
+        if self.transmitter.shift().is_none() {
+            let due = now + character_time(self.divisor, self.lcr);
+            self.transmitter.write(has_fifos, byte, due);
+        } else {
+            self.transmitter.queue(has_fifos, byte);
+        }
         self.thr_empty = self.transmitter.waiting().is_empty();
     }
 
@@ -319,8 +324,25 @@ impl Serial {
     /// # Requires
     ///
     /// `to` is at most `LAST_MOMENT`.
-    #[tactic(auto, unfolding(crate::specs::Access::advanced))]
+    #[inline(always)]
+    #[tactic(auto, unfolding(crate::specs::Access::advanced, crate::specs::Transmit::run_until, crate::specs::Transmit::departures, crate::specs::Transmit::gone, crate::specs::Transmit::arrived))]
     pub fn advance(&mut self, to: u64) -> ArrayVec<u8, MOST_SENT>
+        requires { to ≤ LAST_MOMENT }
+        ensures state { (result.items, self.new) ≡ advanced to self.old }
+        ensures level { self.new.level ≡ self.old.level }
+        ensures few { length result.items ≤ MOST_SENT }
+        ensures none_due { IsSentAfter to self.new.transmitter.shift }
+    {
+        if self.transmitter.shift().is_none() {
+            return ArrayVec::new();
+        }
+        self.send(to)
+    }
+
+    // Lets time pass up to `to` as `advance` does.
+    #[inline(never)]
+    #[tactic(auto, unfolding(crate::specs::Access::advanced))]
+    fn send(&mut self, to: u64) -> ArrayVec<u8, MOST_SENT>
         requires { to ≤ LAST_MOMENT }
         ensures state { (result.items, self.new) ≡ advanced to self.old }
         ensures level { self.new.level ≡ self.old.level }
@@ -343,30 +365,6 @@ impl Serial {
         ensures { result ≡ line_of now self.now }
     {
         self.interrupt(now).is_pending()
-    }
-
-    /// Returns how many bytes may arrive on the line before one is lost: up to 16 with FIFOs, else 1 or 0.
-    ///
-    /// It is 0 in loop mode, in which bytes on the line are ignored.
-    pub fn room(&self) -> u8
-        ensures { result ≡ room_of self.now }
-    {
-        let held = self.receiver.held().len();
-        if has(self.mcr, LOOP) {
-            0
-        } else if self.fifos.is_some() {
-            (FIFO_BYTES - held) as u8
-        } else {
-            (1 - held) as u8
-        }
-    }
-
-    /// Returns the time of one character on the line, in nanoseconds.
-    pub fn character(&self) -> u64
-        ensures time { result ≡ character_time_of self.now.divisor self.now.lcr }
-        ensures longest { result ≤ LONGEST_CHARACTER }
-    {
-        character_time(self.divisor, self.lcr)
     }
 }
 

@@ -5,7 +5,7 @@ ghost use Rattle.dev_serial.specs.Parts.{IsShort};
 ghost use Rattle.dev_serial.specs.declared.transmitter.TheConstants.{MOST_SENT};
 ghost use Rattle.dev_serial.specs.declared.fifo.TheConstants.{FIFO_BYTES};
 
-use crate::fifo::FIFO_BYTES;
+use crate::fifo::{FIFO_BYTES, copied};
 use crate::mode::{LONGEST_CHARACTER, Mode};
 use crate::receiver::Receiver;
 use crate::shift::Shift;
@@ -36,7 +36,7 @@ impl Model for Transmitter {
 }
 
 impl Transmitter {
-    ghost use Rattle.dev_serial.specs.Transmit.{after_write, run_until, gone_from};
+    ghost use Rattle.dev_serial.specs.Transmit.{after_write, gone_from, queued, run_until};
 
     /// Creates a transmitter with the bytes `waiting`, the oldest first, and the shift register
     /// `shift`.
@@ -46,13 +46,20 @@ impl Transmitter {
         Transmitter { waiting, shift }
     }
 
-    /// Writes `byte` to be sent.
-    ///
-    /// If the shift register is idle, it takes the first byte at once, which is sent at the moment
-    /// `due`.
-    #[tactic(auto, unfolding(crate::specs::Transmit::queued, crate::specs::Transmit::loaded))]
-    pub fn write(&mut self, has_fifos: bool, byte: u8, due: u64)
-        ensures state { self.new ≡ after_write has_fifos byte due self.old }
+    /// Returns another transmitter in the same state.
+    pub fn copy(&self) -> Transmitter
+        ensures { result ≡ self.now }
+    {
+        Transmitter {
+            waiting: copied(&self.waiting),
+            shift: self.shift,
+        }
+    }
+
+    /// Writes `byte` behind the bytes that wait. The shift register stays.
+    #[tactic(auto, unfolding(crate::specs::Transmit::queued))]
+    pub fn queue(&mut self, has_fifos: bool, byte: u8)
+        ensures state { self.new ≡ record self.old { waiting = queued has_fifos byte self.old.waiting } }
         ensures short { length self.old.waiting ≤ FIFO_BYTES
             → length self.new.waiting ≤ FIFO_BYTES }
         ensures one { has_fifos ≡ false → length self.new.waiting ≤ 1 }
@@ -63,6 +70,20 @@ impl Transmitter {
         if !self.waiting.is_full() {
             self.waiting.push(byte);
         }
+    }
+
+    /// Writes `byte` to be sent.
+    ///
+    /// If the shift register is idle, it takes the first byte at once, which is sent at the moment
+    /// `due`.
+    #[tactic(auto, unfolding(crate::specs::Transmit::loaded))]
+    pub fn write(&mut self, has_fifos: bool, byte: u8, due: u64)
+        ensures state { self.new ≡ after_write has_fifos byte due self.old }
+        ensures short { length self.old.waiting ≤ FIFO_BYTES
+            → length self.new.waiting ≤ FIFO_BYTES }
+        ensures one { has_fifos ≡ false → length self.new.waiting ≤ 1 }
+    {
+        self.queue(has_fifos, byte);
         if self.shift.is_none() && !self.waiting.is_empty() {
             let byte = self.waiting.remove(0);
             self.shift = Some(Shift { byte, due });

@@ -1,21 +1,181 @@
--- What is read of a description's devices is exactly what it says.
-use Rattle.std.proofs.Common.{◌≡◌, ℕ, Bool, true, false, ◌&&◌, ◌||◌, if◌then◌else◌, List, [], ◌∷◌, map, Option, Some, None, IfSome, Ordering, Less, Equal, Greater, codes, refl, sym, ap, ◌∙◌, subst}
+-- What is read of a description is exactly what it says.
+use Rattle.std.proofs.Common.{◌≡◌, ℕ, Bool, true, false, ◌&&◌, ◌||◌, ◌==◌, nat_le, if◌then◌else◌, List, [], Option, Some, None, ℤ, codes, refl, sym, ap, ap₂, ◌∙◌, ◌∷◌, map, IfSome, Ordering, Less, Equal, Greater, subst, ◌+◌, drop}
+use Rattle.std.specs.Str.{bytes_eq, is_utf8}
+use Rattle.std.proofs.lemmas.Bool.{and_parts, eqb-true, and_from, eq-eqb}
+use Rattle.std.proofs.lemmas.Slice.Eq.{bytes_eq-Decides}
+use Rattle.serde_json.specs.Data.{Data, number, string, object, no_members, member, array, Items, Members}
+use Rattle.serde_json.specs.Find.{of_integer, get, get_member, as_array}
+use Rattle.vms_json.specs.Keys.{fits}
+use Rattle.vms_kinds.specs.declared.Kind.{Kind}
+use Rattle.vms_kinds.specs.Codes.{width}
+use Rattle.vms_spec.specs.declared.TheConstants.{MOST_UNUSED, LONGEST_NAME}
+use Rattle.vms_spec.specs.Rules.{in_range}
+use Rattle.vms_words.specs.Words.{kind_word, kind_named}
+use Rattle.vms_words.proofs.WordLaws.{word_named, tells_kind}
+use Rattle.vms_selfdesc.specs.Tree.{natural, entry_tree, list_tree}
+use Rattle.vms_analyze.specs.declared.elements.TheConstants.{LONGEST_PATH}
+use Rattle.vms_analyze.specs.Told.{Told, Sent, Kept, Fixed, Skipped, told_entry, is_path, is_good, ToldSub, told_sub, ToldDevice, told_device, told_tree, fits_four, is_kept, is_good_sub, is_good_device}
+use Rattle.vms_analyze.specs.Sorted.{IsSorted, AreSorted, HoldSorted}
+use Rattle.vms_analyze.specs.Read.{only, text_at, path_at, natural_at, whole_at, sent_keys, kept_keys, unprinted, sent_as, sent_in, kept_as, kept_in, element_in, next, four_at, flag_at, list_at, each, elements_in, sub_keys, sub_in, subs_in, device_keys, device_in, devices_in}
+use Rattle.vms_analyze.proofs.MembersRead.{is_picked, after, first_then, only_is, only_so, text_is, path_is, natural_is, whole_is, whole_back, Says, under, IsPathAt, four_is, flag_is, list_is, each_says, each_back, read_sorted}
 use Rattle.std.specs.List.{list_all}
 use Rattle.std.specs.Ordering.{nat_cmp, match_ordering}
 use Rattle.std.specs.Cmp.Lexicographic.{slice_cmp}
-use Rattle.std.proofs.lemmas.Bool.{and_parts, and_from}
-use Rattle.serde_json.specs.Data.{Data, array, object, Items, Members, no_members, member}
-use Rattle.serde_json.specs.Find.{get, get_member, as_array}
 use Rattle.serde_json.specs.View.{items_of}
-use Rattle.vms_spec.specs.declared.TheConstants.{LONGEST_NAME}
-use Rattle.vms_json.specs.Keys.{fits}
-use Rattle.vms_selfdesc.specs.Tree.{entry_tree, list_tree}
-use Rattle.vms_analyze.specs.Told.{Told, told_entry, ToldSub, told_sub, ToldDevice, told_device, told_tree, is_path, fits_four, is_good, is_kept, is_good_sub, is_good_device}
-use Rattle.vms_analyze.specs.Sorted.{IsSorted, AreSorted, HoldSorted}
-use Rattle.vms_analyze.specs.Read.{next, path_at, four_at, flag_at, list_at, each, element_in, elements_in, sub_keys, sub_in, subs_in, device_keys, device_in, devices_in}
-use Rattle.vms_analyze.proofs.Ordered.{is_picked}
-use Rattle.vms_analyze.proofs.MembersRead.{after, first_then, only_is, only_so, under, path_is, IsPathAt, four_is, flag_is, list_is, Says, each_says, each_back}
-use Rattle.vms_analyze.proofs.ElementsRead.{element_tree, element_says, element_back}
+use Rattle.serde_json.specs.Read.{read}
+use Rattle.vms_json.specs.Texts.{value_in}
+use Rattle.vms_analyze.specs.Listing.{Tells}
+use Rattle.vms_analyze.proofs.Parts.{sub_parts, sub_from, device_parts, device_from}
+
+-- ---- What is read of an element is the element whose entry the value is, and of each good element's entry that element is read.
+
+abbrev pub element_tree : Told → Data
+element_tree t = entry_tree (told_entry t)
+
+abbrev three : Data → Data → Data → Data
+three path size type = object (member (codes "name") path (member (codes "size") size (member (codes "type") type no_members)))
+
+abbrev four : Data → Data → Data → Data → Data
+four path size type value =
+    object (member (codes "name") path (member (codes "size") size (member (codes "type") type (member (codes "value") value no_members))))
+
+word_of : (word : List ℕ) (kind : Kind) → kind_named word ≡ Some kind → word ≡ kind_word kind
+word_of word kind e = (tells_kind word kind).0 e
+
+-- ---- what is in the stream
+
+-- an element of a path, and its tree
+record IsToldBy (path : List ℕ) (tree_read : Data) (t : Told) : Type 0 where
+  tree : tree_read ≡ element_tree t
+  good : is_path LONGEST_PATH path ≡ true → is_good t ≡ true
+
+abbrev IsUnprinted : List ℕ → ℕ → List ℕ → Told → Type 0
+IsUnprinted path size word t = IsToldBy path (three (string path) (natural size) (string word)) t
+
+abbrev is_fixed : ℕ → Bool
+is_fixed size = size == 1 || size == 2 || size == 4 || size == 8
+
+abbrev is_few : ℕ → Bool
+is_few size = nat_le 1 size && nat_le size MOST_UNUSED
+
+unprinted_is : (path : List ℕ) (size : ℕ) (word : List ℕ) (t : Told) → unprinted path size word ≡ Some t → IsUnprinted path size word t
+unprinted_is path size word t e = go (bytes_eq word (codes "equal")) (bytes_eq word (codes "unused")) refl refl e
+  where
+    same : (w : List ℕ) → bytes_eq word w ≡ true → three (string path) (natural size) (string word) ≡ three (string path) (natural size) (string w)
+    same w f = ap (λ (l : List ℕ). three (string path) (natural size) (string l)) ((bytes_eq-Decides word w).0 f)
+
+    go : (a b : Bool) → bytes_eq word (codes "equal") ≡ a → bytes_eq word (codes "unused") ≡ b
+        → (if a then only (is_fixed size) (Fixed path size) else if b then only (is_few size) (Skipped path size) else None) ≡ Some t
+        → IsUnprinted path size word t
+    go true b f g e =
+        let o = only_is (is_fixed size) (Fixed path size) t e in
+        record {
+          tree = same (codes "equal") f ∙ ap element_tree o.same;
+          good = λ h. ap is_good (sym o.same) ∙ and_from (is_path LONGEST_PATH path) (is_fixed size) h o.so;
+        }
+    go false true f g e =
+        let o = only_is (is_few size) (Skipped path size) t e in
+        record {
+          tree = same (codes "unused") g ∙ ap element_tree o.same;
+          good = λ h. ap is_good (sym o.same) ∙ and_from (is_path LONGEST_PATH path) (is_few size) h o.so;
+        }
+    go false false f g e = cc
+
+sent_is : (path : List ℕ) (size : ℕ) (word : List ℕ) (named : Option Kind) (t : Told) → kind_named word ≡ named → sent_as path size word named ≡ Some t
+    → IsUnprinted path size word t
+sent_is path size word None t f e = unprinted_is path size word t e
+sent_is path size word (Some kind) t f e =
+    let o = only_is (size == width kind) (Sent path kind) t e in
+    let wide : size ≡ width kind = eqb-true size (width kind) o.so in
+    record {
+      tree = ap₂ (λ (n : ℕ) (w : List ℕ). three (string path) (natural n) (string w)) wide (word_of word kind f) ∙ ap element_tree o.same;
+      good = λ h. ap is_good (sym o.same) ∙ h;
+    }
+
+sent_says : (d : Data) → IsSorted d → fits sent_keys [] d ≡ true → (t : Told) → sent_in d ≡ Some t → Says element_tree is_good d t
+sent_says d sorted h t e =
+    let a = after (path_at LONGEST_PATH (codes "name") d) _ t e in
+    let b = after (natural_at (codes "size") d) _ t a.then in
+    let c = after (text_at (codes "type") d) _ t b.then in
+    let path = path_is LONGEST_PATH (codes "name") d a.value a.first in
+    let s = sent_is a.value b.value c.value (kind_named c.value) t refl c.then in
+    record {
+      tree_is =
+          is_picked sent_keys ((refl, (refl, tt)), ((refl, tt), (tt, tt))) d sorted h
+          ∙ rw (path.is, natural_is (codes "size") d b.value b.first, text_is (codes "type") d c.value c.first) s.tree;
+      good_is = s.good path.good;
+    }
+
+-- ---- what doesn't
+
+abbrev IsKept : List ℕ → ℕ → List ℕ → ℤ → Told → Type 0
+IsKept path size word value t = IsToldBy path (four (string path) (natural size) (string word) (number (of_integer value))) t
+
+kept_is : (path : List ℕ) (size : ℕ) (word : List ℕ) (value : ℤ) (named : Option Kind) (t : Told) → kind_named word ≡ named
+    → kept_as path size value named ≡ Some t → IsKept path size word value t
+kept_is path size word value None t f e = cc
+kept_is path size word value (Some kind) t f e =
+    let o = only_is (size == 0 && in_range kind value) (Kept path kind value) t e in
+    let p = and_parts (size == 0) (in_range kind value) o.so in
+    let none : size ≡ 0 = eqb-true size 0 p.0 in
+    record {
+      tree = ap₂ (λ (n : ℕ) (w : List ℕ). four (string path) (natural n) (string w) (number (of_integer value))) none (word_of word kind f)
+          ∙ ap element_tree o.same;
+      good = λ h. ap is_good (sym o.same) ∙ ap (λ (b : Bool). b && in_range kind value) h ∙ p.1;
+    }
+
+kept_says : (d : Data) → IsSorted d → fits kept_keys [] d ≡ true → (t : Told) → kept_in d ≡ Some t → Says element_tree is_good d t
+kept_says d sorted h t e =
+    let a = after (path_at LONGEST_PATH (codes "name") d) _ t e in
+    let b = after (natural_at (codes "size") d) _ t a.then in
+    let c = after (text_at (codes "type") d) _ t b.then in
+    let v = after (whole_at (codes "value") d) _ t c.then in
+    let path = path_is LONGEST_PATH (codes "name") d a.value a.first in
+    let s = kept_is a.value b.value c.value v.value (kind_named c.value) t refl v.then in
+    record {
+      tree_is =
+          is_picked kept_keys ((refl, (refl, (refl, tt))), ((refl, (refl, tt)), ((refl, tt), (tt, tt)))) d sorted h ∙ rw (
+            path.is,
+            natural_is (codes "size") d b.value b.first,
+            text_is (codes "type") d c.value c.first,
+            whole_is (codes "value") d v.value v.first,
+          ) s.tree;
+      good_is = s.good path.good;
+    }
+
+pub element_says : (d : Data) → IsSorted d → (t : Told) → element_in d ≡ Some t → Says element_tree is_good d t
+element_says d sorted t e = go (fits sent_keys [] d) (fits kept_keys [] d) refl refl e
+  where
+    go : (a b : Bool) → fits sent_keys [] d ≡ a → fits kept_keys [] d ≡ b → (if a then sent_in d else if b then kept_in d else None) ≡ Some t
+        → Says element_tree is_good d t
+    go true b f g e = sent_says d sorted f t e
+    go false true f g e = kept_says d sorted g t e
+    go false false f g e = cc
+
+-- ---- back
+
+pub element_back : (t : Told) → is_good t ≡ true → element_in (element_tree t) ≡ Some t
+element_back (Sent path kind) e =
+    first_then _ (only_so (is_path LONGEST_PATH path) path e)
+    (ap (sent_as path (width kind) (kind_word kind)) (word_named kind) ∙ only_so (width kind == width kind) (Sent path kind) (itself (width kind)))
+  where
+    itself : (n : ℕ) → (n == n) ≡ true
+    itself n = eq-eqb n n refl
+element_back (Kept path kind value) e =
+    let p = and_parts (is_path LONGEST_PATH path) (in_range kind value) e in
+    first_then _ (only_so (is_path LONGEST_PATH path) path p.0)
+    (first_then _ (whole_back value)
+    (ap (kept_as path 0 value) (word_named kind) ∙ only_so (in_range kind value) (Kept path kind value) p.1))
+element_back (Fixed path n) e =
+    let fixed = n == 1 || n == 2 || n == 4 || n == 8 in
+    let p = and_parts (is_path LONGEST_PATH path) fixed e in
+    first_then _ (only_so (is_path LONGEST_PATH path) path p.0) (only_so fixed (Fixed path n) p.1)
+element_back (Skipped path n) e =
+    let few = nat_le 1 n && nat_le n MOST_UNUSED in
+    let p = and_parts (is_path LONGEST_PATH path) few e in
+    first_then _ (only_so (is_path LONGEST_PATH path) path p.0) (only_so few (Skipped path n) p.1)
+
+-- ---- What is read of a description's devices is exactly what it says.
 
 -- ---- what a member holds is sorted
 
@@ -46,7 +206,8 @@ record ListAt {A : Type 0} (tree : A → Data) (good : A → Bool) (key : List �
   fine : list_all good list ≡ true
 
 module _ {A : Type 0} (tree : A → Data) (good : A → Bool) (says : Data → Option A) where
-  list_says : ((d : Data) → IsSorted d → (a : A) → says d ≡ Some a → Says tree good d a) → (key : List ℕ) (d : Data) → IsSorted d → (list : List A) → next (list_at key d) (each says) ≡ Some list → ListAt tree good key d list
+  list_says : ((d : Data) → IsSorted d → (a : A) → says d ≡ Some a → Says tree good d a) → (key : List ℕ) (d : Data) → IsSorted d → (list : List A)
+      → next (list_at key d) (each says) ≡ Some list → ListAt tree good key d list
   list_says one key d sorted list e =
       let a = after (list_at key d) (each says) list e in
       let s = each_says tree good says one a.value (list_sorted key d a.value sorted a.first) list a.then in
@@ -59,17 +220,11 @@ twice (t ∷ ts) = ap (λ (l : List Data). element_tree t ∷ l) (twice ts)
 entries_back : (ts : List Told) → list_all is_good ts ≡ true → each element_in (items_of (map entry_tree (map told_entry ts))) ≡ Some ts
 entries_back ts h = ap (λ (l : List Data). each element_in (items_of l)) (twice ts) ∙ each_back element_tree is_good element_in element_back ts h
 
-entries_are : (d : Data) (ts : List Told) → under (codes "fields") d ≡ list_tree element_tree ts → under (codes "fields") d ≡ list_tree entry_tree (map told_entry ts)
+entries_are : (d : Data) (ts : List Told) → under (codes "fields") d ≡ list_tree element_tree ts
+    → under (codes "fields") d ≡ list_tree entry_tree (map told_entry ts)
 entries_are d ts e = e ∙ ap (λ (l : List Data). array (items_of l)) (sym (twice ts))
 
 -- ---- subsections
-
-abbrev sub_object : Data → Data → Data → Data → Data
-sub_object fields name sent version =
-    object (member (codes "fields") fields (member (codes "name") name (member (codes "sent") sent (member (codes "version") version no_members))))
-
-sub_same : (f f' n n' s s' v v' : Data) → f ≡ f' → n ≡ n' → s ≡ s' → v ≡ v' → sub_object f n s v ≡ sub_object f' n' s' v'
-sub_same f f' n n' s s' v v' a b c d = cc
 
 abbrev a_sub : List ℕ → Bool → ℕ → List Told → ToldSub
 a_sub name sent version elements = record { name = name; sent = sent; version = version; elements = elements }
@@ -97,35 +252,20 @@ sub_says d sorted s e = by_keys told_sub is_good_sub sub_keys _ d s e (λ h name
     record {
       tree_is =
           is_picked sub_keys ((refl, (refl, (refl, tt))), ((refl, (refl, tt)), ((refl, tt), (tt, tt)))) d sorted h
-          ∙ sub_same _ _ _ _ _ _ _ _ (entries_are d l.value elements.is) named.is (flag_is (codes "sent") d b.value b.first) version.is
-          ∙ ap told_sub o.same;
+          ∙ rw (entries_are d l.value elements.is, named.is, flag_is (codes "sent") d b.value b.first, version.is) (ap told_sub o.same);
       good_is =
-          ap is_good_sub (sym o.same)
-          ∙ and_from (is_path LONGEST_NAME name && fits_four c.value && list_all is_good l.value) (b.value || list_all is_kept l.value)
-          (and_from (is_path LONGEST_NAME name && fits_four c.value) (list_all is_good l.value) (and_from (is_path LONGEST_NAME name) (fits_four c.value) named.good version.good) elements.fine) o.so;
+          ap is_good_sub (sym o.same) ∙ sub_from (a_sub name b.value c.value l.value)
+          (record { name = named.good; version = version.good; elements = elements.fine; kept = o.so });
     })
 
 pub sub_back : (s : ToldSub) → is_good_sub s ≡ true → sub_in (told_sub s) ≡ Some s
 sub_back s e =
-    let p = and_parts (is_path LONGEST_NAME s.name && fits_four s.version && list_all is_good s.elements) (s.sent || list_all is_kept s.elements) e in
-    let q = and_parts (is_path LONGEST_NAME s.name && fits_four s.version) (list_all is_good s.elements) p.0 in
-    let r = and_parts (is_path LONGEST_NAME s.name) (fits_four s.version) q.0 in
-    first_then (path_at LONGEST_NAME (codes "name") (told_sub s)) _ s.name _ (only_so (is_path LONGEST_NAME s.name) s.name r.0)
-    (first_then (four_at (codes "version") (told_sub s)) _ s.version _ (only_so (fits_four s.version) s.version r.1)
-    (first_then (elements_in (told_sub s)) _ s.elements _ (entries_back s.elements q.1) (only_so (s.sent || list_all is_kept s.elements) s p.1)))
+    let p = sub_parts s e in
+    first_then _ (only_so (is_path LONGEST_NAME s.name) s.name p.name)
+    (first_then _ (only_so (fits_four s.version) s.version p.version)
+    (first_then _ (entries_back s.elements p.elements) (only_so (s.sent || list_all is_kept s.elements) s p.kept)))
 
 -- ---- devices
-
-abbrev device_object : Data → Data → Data → Data → Data → Data
-device_object fields instance name subs version = object (
-    member (codes "fields") fields
-    (member (codes "instance_id") instance
-    (member (codes "name") name
-    (member (codes "subsections") subs
-    (member (codes "version") version no_members)))))
-
-device_same : (f f' i i' n n' s s' v v' : Data) → f ≡ f' → i ≡ i' → n ≡ n' → s ≡ s' → v ≡ v' → device_object f i n s v ≡ device_object f' i' n' s' v'
-device_same f f' i i' n n' s s' v v' a b c d e = cc
 
 abbrev a_device : List ℕ → ℕ → ℕ → List Told → List ToldSub → ToldDevice
 a_device name instance version elements subs = record { name = name; instance = instance; version = version; elements = elements; subs = subs }
@@ -144,33 +284,28 @@ device_says d sorted t e = by_keys told_device is_good_device device_keys _ d t 
     record {
       tree_is =
           is_picked device_keys ((refl, (refl, (refl, (refl, tt)))), ((refl, (refl, (refl, tt))), ((refl, (refl, tt)), ((refl, tt), (tt, tt))))) d sorted h
-          ∙ device_same _ _ _ _ _ _ _ _ _ _ (entries_are d l.value elements.is) instance.is named.is subs.is version.is
-          ∙ ap told_device same;
+          ∙ rw (entries_are d l.value elements.is, instance.is, named.is, subs.is, version.is) (ap told_device same);
       good_is =
-          ap is_good_device (sym same)
-          ∙ and_from (is_path LONGEST_NAME name && fits_four b.value && fits_four c.value && list_all is_good l.value) (list_all is_good_sub m.value)
-          (and_from (is_path LONGEST_NAME name && fits_four b.value && fits_four c.value) (list_all is_good l.value)
-          (and_from (is_path LONGEST_NAME name && fits_four b.value) (fits_four c.value) (and_from (is_path LONGEST_NAME name) (fits_four b.value) named.good instance.good) version.good) elements.fine) subs.fine;
+          ap is_good_device (sym same) ∙ device_from (a_device name b.value c.value l.value m.value)
+          (record { name = named.good; instance = instance.good; version = version.good; elements = elements.fine; subs = subs.fine });
     })
 
 pub device_back : (t : ToldDevice) → is_good_device t ≡ true → device_in (told_device t) ≡ Some t
 device_back t e =
-    let p = and_parts (is_path LONGEST_NAME t.name && fits_four t.instance && fits_four t.version && list_all is_good t.elements) (list_all is_good_sub t.subs) e in
-    let q = and_parts (is_path LONGEST_NAME t.name && fits_four t.instance && fits_four t.version) (list_all is_good t.elements) p.0 in
-    let r = and_parts (is_path LONGEST_NAME t.name && fits_four t.instance) (fits_four t.version) q.0 in
-    let s = and_parts (is_path LONGEST_NAME t.name) (fits_four t.instance) r.0 in
-    first_then (path_at LONGEST_NAME (codes "name") (told_device t)) _ t.name _ (only_so (is_path LONGEST_NAME t.name) t.name s.0)
-    (first_then (four_at (codes "instance_id") (told_device t)) _ t.instance _ (only_so (fits_four t.instance) t.instance s.1)
-    (first_then (four_at (codes "version") (told_device t)) _ t.version _ (only_so (fits_four t.version) t.version r.1)
-    (first_then (elements_in (told_device t)) _ t.elements _ (entries_back t.elements q.1)
-    (first_then (subs_in (told_device t)) _ t.subs _ (each_back told_sub is_good_sub sub_in sub_back t.subs p.1) refl))))
+    let p = device_parts t e in
+    first_then _ (only_so (is_path LONGEST_NAME t.name) t.name p.name)
+    (first_then _ (only_so (fits_four t.instance) t.instance p.instance)
+    (first_then _ (only_so (fits_four t.version) t.version p.version)
+    (first_then _ (entries_back t.elements p.elements)
+    (first_then _ (each_back told_sub is_good_sub sub_in sub_back t.subs p.subs) refl))))
 
 -- ---- the whole
 
 pub devices_say : (d : Data) → IsSorted d → (ts : List ToldDevice) → devices_in d ≡ Some ts → Says told_tree (list_all is_good_device) d ts
 devices_say d sorted ts e = go (fits (codes "devices" ∷ []) [] d) refl e
   where
-    go : (a : Bool) → fits (codes "devices" ∷ []) [] d ≡ a → (if a then next (list_at (codes "devices") d) (each device_in) else None) ≡ Some ts → Says told_tree (list_all is_good_device) d ts
+    go : (a : Bool) → fits (codes "devices" ∷ []) [] d ≡ a → (if a then next (list_at (codes "devices") d) (each device_in) else None) ≡ Some ts
+        → Says told_tree (list_all is_good_device) d ts
     go true f e =
         let l = list_says told_device is_good_device device_in device_says (codes "devices") d sorted ts e in
         record {
@@ -181,3 +316,28 @@ devices_say d sorted ts e = go (fits (codes "devices" ∷ []) [] d) refl e
 
 pub devices_back : (ts : List ToldDevice) → list_all is_good_device ts ≡ true → devices_in (told_tree ts) ≡ Some ts
 devices_back ts h = each_back told_device is_good_device device_in device_back ts h
+
+-- ---- What is read of a description's text is what it says.
+
+value_sorted : (text : List ℕ) (d : Data) → value_in text ≡ Some d → IsSorted d
+value_sorted text d e = go (is_utf8 text) (read text) (read_sorted text) e
+  where
+    go : (b : Bool) (o : Option Data) → IfSome o IsSorted → (if b then o else None) ≡ Some d → IsSorted d
+    go true (Some other) h e = let same : other ≡ d = cc in subst IsSorted same h
+    go true None h e = cc
+    go false o h e = cc
+
+pub tells_if : (input : List ℕ) (p : ℕ) (devices : List ToldDevice) → next (value_in (drop (p + 5) input)) devices_in ≡ Some devices → Tells input p devices
+tells_if input p devices e =
+    let a = after (value_in (drop (p + 5) input)) devices_in devices e in
+    let s = devices_say a.value (value_sorted (drop (p + 5) input) a.value a.first) devices a.then in
+    record { tree = a.first ∙ ap (λ (d : Data). Some d) s.tree_is; good = s.good_is }
+
+pub told_back : (input : List ℕ) (p : ℕ) (devices : List ToldDevice) → Tells input p devices → next (value_in (drop (p + 5) input)) devices_in ≡ Some devices
+told_back input p devices t = first_then devices_in t.tree (devices_back devices t.good)
+
+pub not_told : (input : List ℕ) (p : ℕ) → next (value_in (drop (p + 5) input)) devices_in ≡ None → (devices : List ToldDevice) → Tells input p devices → ⊥
+not_told input p e devices t = no (sym (told_back input p devices t) ∙ e)
+  where
+    no : Some devices ≡ None → ⊥
+    no f = cc

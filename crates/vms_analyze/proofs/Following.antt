@@ -9,7 +9,7 @@ use Rattle.vms_spec.specs.Streams.{be32, section_head, foot}
 use Rattle.vms_spec.proofs.KindLaws.{length-code, value_code, be32_read}
 use Rattle.vms_bodies.proofs.BodyOnly.{front_take, front_drop}
 use Rattle.vms_bodies.proofs.ReadyLaws.{ranged}
-use Rattle.vms_values_laws.proofs.FineNumbers.{begins_itself}
+use Rattle.vms_values_laws.proofs.Rights.{begins_itself}
 use Rattle.vms_analyze.specs.Wanted.{Want, Bytes, Any, Number, Head, Foot, Line, number_line, Took, took, only_if, take_number, take_head, taken, Found, Lines, Differs, behind, found_after, found}
 
 -- ---- one
@@ -43,24 +43,28 @@ takes_number path kind z id fits = record { is = λ more. whole more }
     whole : (more : List ℕ) → taken (Number path kind) id (code kind z ++ more) ≡ Some (took (length (code kind z)) id (number_line path z ∷ []))
     whole more =
         let rest = code kind z ++ more in
-        let value : value_of kind (take (width kind) rest) ≡ z = ap (value_of kind) (front_take (width kind) (code kind z) more rest refl (length-code kind z)) ∙ value_code kind z fits in
+        let value : value_of kind (take (width kind) rest) ≡ z =
+        ap (value_of kind) (front_take (width kind) (code kind z) more rest refl (length-code kind z)) ∙ value_code kind z fits in
         ap (λ (y : ℤ). take_number path kind id rest y) value
         ∙ if_so (nat_le (width kind) (length rest) && in_range kind z) (took (width kind) id (number_line path z ∷ []))
         (and_from _ _ (le-leb (width kind) (length rest) (omega (arith, length-append (code kind z) more, length-code kind z))) (ranged kind z fits))
         ∙ ap (λ (k : ℕ). Some (took k id (number_line path z ∷ []))) (sym (length-code kind z))
 
 pub takes_head : (name : List ℕ) (instance version old id : ℕ) → id < 2 ^ 32
-    → Takes (Head name instance version) old (section_head id name instance version) id ((codes "section " ++ (name ++ (codes " " ++ (decimal instance ++ (codes " v" ++ decimal version))))) ∷ [])
+    → Takes (Head name instance version) old (section_head id name instance version) id
+    ((codes "section " ++ (name ++ (codes " " ++ (decimal instance ++ (codes " v" ++ decimal version))))) ∷ [])
 takes_head name instance version old id small = record { is = λ more. whole more }
   where
     line : List ℕ
     line = codes "section " ++ (name ++ (codes " " ++ (decimal instance ++ (codes " v" ++ decimal version))))
 
-    whole : (more : List ℕ) → taken (Head name instance version) old (section_head id name instance version ++ more) ≡ Some (took (length (section_head id name instance version)) id (line ∷ []))
+    whole : (more : List ℕ) → taken (Head name instance version) old (section_head id name instance version ++ more) ≡ Some
+        (took (length (section_head id name instance version)) id (line ∷ []))
     whole more =
         let rest = section_head id name instance version ++ more in
         let tail = (length name ∷ name) ++ be32 instance ++ be32 version in
-        let its : number_at 4 1 rest ≡ id = ap (λ (l : List ℕ). Rattle.byteorder.specs.Endian.big_number 4 l) (append_assoc (be32 id) tail more) ∙ be32_read id (tail ++ more) small in
+        let its : number_at 4 1 rest ≡ id =
+        ap (λ (l : List ℕ). Rattle.byteorder.specs.Endian.big_number 4 l) (append_assoc (be32 id) tail more) ∙ be32_read id (tail ++ more) small in
         ap (λ (k : ℕ). take_head name instance version rest k) its
         ∙ if_so _ (took (length (section_head id name instance version)) id (line ∷ [])) (begins_itself (section_head id name instance version) more)
 
@@ -76,7 +80,8 @@ behind_both xs ys (Differs place) = refl
 
 -- what is required takes these bytes, with these lines, and what is required next is looked for after them
 pub record Follows (ws : List Want) (id : ℕ) (bytes : List ℕ) (next : ℕ) (lines : List (List ℕ)) : Type 0 where
-  pub goes : (more : List Want) (place : ℕ) (rest : List ℕ) → found (ws ++ more) id place (bytes ++ rest) ≡ behind lines (found more next (place + length bytes) rest)
+  pub goes : (more : List Want) (place : ℕ) (rest : List ℕ)
+      → found (ws ++ more) id place (bytes ++ rest) ≡ behind lines (found more next (place + length bytes) rest)
 
 pub none_follows : (id : ℕ) → Follows [] id [] id []
 none_follows id = record {
@@ -85,34 +90,23 @@ none_follows id = record {
       ap (λ (k : ℕ). found more id k rest) same ∙ sym (behind_none (found more id (place + 0) rest));
 }
 
-pub one_follows : (w : Want) (id : ℕ) (bytes : List ℕ) (next : ℕ) (lines : List (List ℕ)) → Takes w id bytes next lines → Follows (w ∷ []) id bytes next lines
-one_follows w id bytes next lines t = record {
+pub one_follows : {w : Want} {id : ℕ} {bytes : List ℕ} {next : ℕ} {lines : List (List ℕ)} → Takes w id bytes next lines → Follows (w ∷ []) id bytes next lines
+one_follows {id = id} {bytes = bytes} {next = next} {lines = lines} t = record {
   goes = λ more place rest.
       ap (found_after (found more) place (bytes ++ rest)) (t.is rest)
       ∙ ap (λ (l : List ℕ). behind lines (found more next (place + length bytes) l)) (front_drop (length bytes) bytes rest (bytes ++ rest) refl refl);
 }
 
-pub both_follow : (ws vs : List Want) (id next last : ℕ) (bytes more : List ℕ) (lines others : List (List ℕ))
+pub both_follow : {ws vs : List Want} {id next last : ℕ} {bytes more : List ℕ} {lines others : List (List ℕ)}
     → Follows ws id bytes next lines → Follows vs next more last others → Follows (ws ++ vs) id (bytes ++ more) last (lines ++ others)
-both_follow ws vs id next last bytes more lines others a b = record { goes = λ us place rest. whole us place rest }
-  where
-    whole : (us : List Want) (place : ℕ) (rest : List ℕ) → found ((ws ++ vs) ++ us) id place ((bytes ++ more) ++ rest) ≡ behind (lines ++ others) (found us last (place + length (bytes ++ more)) rest)
-    whole us place rest =
-        let long : place + length bytes + length more ≡ place + length (bytes ++ more) = omega (arith, length-append bytes more) in
-        ap (λ (l : List Want). found l id place ((bytes ++ more) ++ rest)) (append_assoc ws vs us)
-        ∙ ap (λ (l : List ℕ). found (ws ++ (vs ++ us)) id place l) (append_assoc bytes more rest)
-        ∙ a.goes (vs ++ us) place (more ++ rest)
-        ∙ ap (behind lines) (b.goes us (place + length bytes) rest)
-        ∙ behind_both lines others (found us last (place + length bytes + length more) rest)
-        ∙ ap (λ (k : ℕ). behind (lines ++ others) (found us last k rest)) long
+both_follow {ws = ws} {vs = vs} {bytes = bytes} {more = more} {lines = lines} {others = others} a b = record {
+  goes = λ us place rest.
+      let long : place + length (bytes ++ more) ≡ place + length bytes + length more = omega (arith, length-append bytes more) in
+      rw (append_assoc ws vs us, append_assoc bytes more rest, a.goes (vs ++ us) place (more ++ rest), b.goes us (place + length bytes) rest, long)
+      (behind_both lines others _);
+}
 
 -- the same, with other spellings of the bytes and the lines
-pub follows_as : (ws vs : List Want) (id next : ℕ) (bytes more : List ℕ) (lines others : List (List ℕ)) → ws ≡ vs → bytes ≡ more → lines ≡ others → Follows ws id bytes next lines → Follows vs id more next others
-follows_as ws vs id next bytes more lines others e f g h = record {
-  goes = λ us place rest.
-      ap (λ (l : List Want). found (l ++ us) id place (more ++ rest)) (sym e)
-      ∙ ap (λ (l : List ℕ). found (ws ++ us) id place (l ++ rest)) (sym f)
-      ∙ h.goes us place rest
-      ∙ ap (λ (l : List ℕ). behind lines (found us next (place + length l) rest)) f
-      ∙ ap (λ (l : List (List ℕ)). behind l (found us next (place + length more) rest)) g;
-}
+pub follows_as : {ws vs : List Want} {id next : ℕ} {bytes more : List ℕ} {lines others : List (List ℕ)} → ws ≡ vs → bytes ≡ more → lines ≡ others
+    → Follows ws id bytes next lines → Follows vs id more next others
+follows_as e f g h = rw (← e, ← f, ← g) h

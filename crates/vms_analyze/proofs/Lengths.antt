@@ -1,12 +1,12 @@
 -- How many bytes are as required: no more than the description allows.
 use Rattle.std.proofs.Common.{◌≡◌, ℕ, ◌+◌, ◌*◌, ◌≤◌, Bool, true, false, ◌&&◌, ◌||◌, ◌==◌, nat_le, if◌then◌else◌, List, [], ◌∷◌, ◌++◌, length, length-append, length-drop, get_or, map, drop, Option, Some, None, ℤ, refl, sym, ap, arith}
-use Rattle.std.proofs.lemmas.Bool.{and_parts, leb-true, eqb-true}
+use Rattle.std.proofs.lemmas.Bool.{and_parts, leb-true}
 use Rattle.std.specs.List.{flat_map, list_all}
 use Rattle.vms_kinds.specs.Codes.{width}
 use Rattle.vms_spec.specs.declared.TheConstants.{LONGEST_NAME, MOST_UNUSED}
 use Rattle.vms_spec.specs.Lookup.{number_at, bytes_at}
 use Rattle.vms_spec.specs.Names.{is_name_byte}
-use Rattle.vms_spec.specs.Sets.{Sub, Device, Set}
+use Rattle.vms_spec.specs.Sets.{Sub, Device, Set, Desc}
 use Rattle.vms_spec.specs.Layout.{desc_cells, struct_cells}
 use Rattle.vms_spec.specs.Images.{Image, own_cells}
 use Rattle.vms_spec.specs.Spelling.{begins_with}
@@ -16,8 +16,9 @@ use Rattle.vms_spec.proofs.KindLaws.{width_small}
 use Rattle.vms_analyze.specs.declared.elements.TheConstants.{LONGEST_PATH}
 use Rattle.vms_analyze.specs.Told.{Told, Sent, Kept, Fixed, Skipped, is_path, is_good}
 use Rattle.vms_analyze.specs.Wanted.{Want, Bytes, Any, Number, Machine, Head, Foot, Line, element_want, sub_wants, device_wants, Took, took, only_if, take_machine, is_machine, taken, Found, Lines, Differs, behind, found_after, found}
-use Rattle.vms_analyze.specs.Telling.{told_part, told_subs, told_devices}
-use Rattle.vms_analyze.proofs.Good.{IsGoodPart, AreGoodSubs, IsGoodDevice, AreGoodDevices}
+use Rattle.vms_analyze.specs.Telling.{told_part, told_subs, told_devices, told_device_of, told_sub_of}
+use Rattle.vms_analyze.proofs.Shapes.{IsGoodPart, AreGoodSubs, IsGoodDevice, AreGoodDevices}
+use Rattle.vms_analyze.proofs.Parts.{fixed_small}
 
 -- the most bytes that are taken
 abbrev most_of : Want → ℕ
@@ -77,7 +78,8 @@ found_long [] id place [] lines e = omega arith
 found_long [] id place (b ∷ rest) lines e = cc
 found_long (w ∷ ws) id place rest lines e = by_took (λ id place rest lines e. found_long ws id place rest lines e) (taken w id rest) refl e
   where
-    by_found : IsBound ws → (t : Took) (f : Found) → found ws t.id (place + t.long) (drop t.long rest) ≡ f → behind t.lines f ≡ Lines lines → length (drop t.long rest) ≤ total ws
+    by_found : IsBound ws → (t : Took) (f : Found) → found ws t.id (place + t.long) (drop t.long rest) ≡ f → behind t.lines f ≡ Lines lines
+        → length (drop t.long rest) ≤ total ws
     by_found more t (Lines others) is e = more t.id (place + t.long) (drop t.long rest) others is
     by_found more t (Differs at) is e = cc
 
@@ -94,21 +96,12 @@ pub total_append : (xs ys : List Want) → total (xs ++ ys) ≡ total xs + total
 total_append [] ys = omega arith
 total_append (x ∷ xs) ys = omega (arith, total_append xs ys)
 
-fixed_small : (n : ℕ) → (n == 1 || n == 2 || n == 4 || n == 8) ≡ true → n ≤ MOST_UNUSED
-fixed_small n e = go (n == 1) (n == 2) (n == 4) (n == 8) (λ h. eqb-true n 1 h) (λ h. eqb-true n 2 h) (λ h. eqb-true n 4 h) (λ h. eqb-true n 8 h) e
-  where
-    go : (a b c d : Bool) → (a ≡ true → n ≡ 1) → (b ≡ true → n ≡ 2) → (c ≡ true → n ≡ 4) → (d ≡ true → n ≡ 8) → (a || b || c || d) ≡ true → n ≤ MOST_UNUSED
-    go true b c d p q r s h = let i = p refl in omega (arith, i)
-    go false true c d p q r s h = let i = q refl in omega (arith, i)
-    go false false true d p q r s h = let i = r refl in omega (arith, i)
-    go false false false true p q r s h = let i = s refl in omega (arith, i)
-    go false false false false p q r s h = cc
-
 element_long : (t : Told) → is_good t ≡ true → most_of (element_want t) ≤ MOST_UNUSED
 element_long (Sent path kind) e = width_small kind
 element_long (Kept path kind z) e = omega arith
-element_long (Fixed path n) e = fixed_small n (and_parts (is_path LONGEST_PATH path) (n == 1 || n == 2 || n == 4 || n == 8) e).1
-element_long (Skipped path n) e = leb-true n MOST_UNUSED (and_parts (nat_le 1 n) (nat_le n MOST_UNUSED) (and_parts (is_path LONGEST_PATH path) (nat_le 1 n && nat_le n MOST_UNUSED) e).1).1
+element_long (Fixed path n) e = let small = fixed_small n (and_parts (is_path LONGEST_PATH path) (n == 1 || n == 2 || n == 4 || n == 8) e).1 in omega arith
+element_long (Skipped path n) e =
+    leb-true n MOST_UNUSED (and_parts (nat_le 1 n) (nat_le n MOST_UNUSED) (and_parts (is_path LONGEST_PATH path) (nat_le 1 n && nat_le n MOST_UNUSED) e).1).1
 
 elements_long : (ts : List Told) → list_all is_good ts ≡ true → total (map element_want ts) ≤ MOST_UNUSED * length ts
 elements_long [] e = omega arith
@@ -122,28 +115,31 @@ module _ (set : Set) where
   abbrev sizes : List ℕ
   sizes = struct_items set.structs
 
-  part_long : (most : ℕ) (d : Rattle.vms_spec.specs.Sets.Desc) → IsGoodPart set most d → (sent : Bool) (n : List ℤ) (at : ℕ) → total (map element_want (told_part set d sent n at)) ≤ MOST_UNUSED * items_in sizes d.fields
+  part_long : (most : ℕ) (d : Desc) → IsGoodPart set most d → (sent : Bool) (n : List ℤ) (at : ℕ)
+      → total (map element_want (told_part set d sent n at)) ≤ MOST_UNUSED * items_in sizes d.fields
   part_long most d h sent n at =
       let long = elements_long (told_part set d sent n at) (h.elements sent n at) in
       let few = h.few sent n at in
       omega arith
 
   sub_long : (s : Sub) → IsGoodPart set 165 s.desc → (c : Option ℕ) (n : List ℤ) (at : ℕ)
-      → total (sub_wants (Rattle.vms_analyze.specs.Telling.told_sub_of set n at s c)) ≤ MOST_UNUSED * items_in sizes s.desc.fields + 300
+      → total (sub_wants (told_sub_of set n at s c)) ≤ MOST_UNUSED * items_in sizes s.desc.fields + 300
   sub_long s h None n at = let long = part_long 165 s.desc h false n at in omega arith
-  sub_long s h (Some v) n at = let long = part_long 165 s.desc h true n at in let few = h.name.few in omega (arith, long, few, length-append s.desc.name (be32 s.desc.version))
+  sub_long s h (Some v) n at =
+      let long = part_long 165 s.desc h true n at in let few = h.name.few in omega (arith, long, few, length-append s.desc.name (be32 s.desc.version))
 
-  subs_long : (n : List ℤ) (at : ℕ) (subs : List Sub) (came : List (Option ℕ)) → AreGoodSubs set subs → total (flat_map sub_wants (told_subs set n at subs came)) ≤ MOST_UNUSED * subs_items sizes subs + 300 * length subs
+  subs_long : (n : List ℤ) (at : ℕ) (subs : List Sub) (came : List (Option ℕ)) → AreGoodSubs set subs
+      → total (flat_map sub_wants (told_subs set n at subs came)) ≤ MOST_UNUSED * subs_items sizes subs + 300 * length subs
   subs_long n at [] came h = omega arith
   subs_long n at (s ∷ subs) [] h = omega arith
   subs_long n at (s ∷ subs) (c ∷ came) h =
       let next = at + length (desc_cells (struct_cells set) s.desc) in
       let here = sub_long s h.0 c n at in
       let later = subs_long n next subs came h.1 in
-      omega (arith, here, later, total_append (sub_wants (Rattle.vms_analyze.specs.Telling.told_sub_of set n at s c)) (flat_map sub_wants (told_subs set n next subs came)))
+      omega (arith, here, later, total_append (sub_wants (told_sub_of set n at s c)) (flat_map sub_wants (told_subs set n next subs came)))
 
   device_long : (d : Device) (image : Image) → IsGoodDevice set d
-      → total (device_wants (Rattle.vms_analyze.specs.Telling.told_device_of set d image)) ≤ MOST_UNUSED * (items_in sizes d.desc.fields + subs_items sizes d.subs) + 10000
+      → total (device_wants (told_device_of set d image)) ≤ MOST_UNUSED * (items_in sizes d.desc.fields + subs_items sizes d.subs) + 10000
   device_long d image h =
       let n = image.numbers in
       let own = map element_want (told_part set d.desc true n 0) in
@@ -161,4 +157,4 @@ module _ (set : Set) where
   devices_long (d ∷ devices) (image ∷ images) h =
       let here = device_long d image h.0 in
       let later = devices_long devices images h.1 in
-      omega (arith, here, later, total_append (device_wants (Rattle.vms_analyze.specs.Telling.told_device_of set d image)) (flat_map device_wants (told_devices set devices images)))
+      omega (arith, here, later, total_append (device_wants (told_device_of set d image)) (flat_map device_wants (told_devices set devices images)))

@@ -1,14 +1,214 @@
--- What was read of the members of an object, and of a list's items.
-use Rattle.std.proofs.Common.{◌≡◌, ℕ, Bool, true, false, ◌&&◌, List, [], ◌∷◌, map, unwrap_or, Option, Some, None, ℤ, pos, negsuc, int_lt, refl, sym, ap, ap₂, ◌∙◌, arith}
-use Rattle.std.specs.List.{list_all}
+-- What was read of an object's members and of a list's items, and keys in order.
+use Rattle.std.proofs.Common.{Ordering, Less, Equal, Greater, ◌≡◌, ℕ, Bool, true, false, ◌&&◌, ◌||◌, List, [], ◌∷◌, ◌++◌, append-nil, is_some, unwrap_or, Option, Some, None, refl, sym, ap, ap₂, ◌∙◌, subst, IfSome, option_map, option_and_then, map, ℤ, pos, negsuc, arith}
 use Rattle.std.proofs.lemmas.Bool.{and_parts, le-ltb}
-use Rattle.serde_json.specs.Data.{Num, unsigned, negative, float, Data, null, boolean, number, string, array, object, Items, no_items, item}
-use Rattle.serde_json.specs.Find.{get, as_bool, as_number, as_str, as_array, as_u64, of_integer}
+use Rattle.std.proofs.lemmas.Cmp.{nat_list_cmp_total}
+use Rattle.std.proofs.lemmas.Map.Lookups.{exact_bytes}
+use Rattle.std.proofs.lemmas.Map.Text.{is_eq-slice_cmp}
+use Rattle.std.specs.Ordering.{nat_cmp, match_ordering, ordering_reverse, is_eq}
+use Rattle.std.specs.Cmp.Lexicographic.{slice_cmp}
+use Rattle.std.specs.Str.{bytes_eq}
+use Rattle.serde_json.specs.Data.{Data, null, boolean, number, string, array, object, Members, no_members, member, put, Items, item, Num, unsigned, negative, float, no_items}
+use Rattle.serde_json.specs.Find.{get, get_member, as_bool, as_number, as_str, as_array, as_u64, of_integer}
+use Rattle.vms_spec.specs.Streams.{is_one_of}
+use Rattle.vms_json.specs.Keys.{has, has_no_others, has_all, fits}
+use Rattle.vms_analyze.specs.Sorted.{IsLess, IsBefore, AreOrdered, keys_of, IsSorted, AreSorted, HoldSorted}
+use Rattle.json.specs.Lex.{tokens}
+use Rattle.serde_json.specs.Read.{number_of, of_json, of_items, of_members, max_depth, read}
+use Rattle.std.specs.List.{list_all}
 use Rattle.serde_json.specs.View.{items_of}
 use Rattle.vms_selfdesc.specs.Tree.{natural}
 use Rattle.vms_analyze.specs.Told.{is_path, fits_four}
-use Rattle.vms_analyze.specs.Sorted.{IsSorted, AreSorted}
 use Rattle.vms_analyze.specs.Read.{next, only, text_at, path_at, natural_at, four_at, flag_at, list_at, whole_of, whole_at, each}
+use Rattle.json.specs.Json as json
+
+-- ---- An object whose keys are in order and are exactly these has them one after the other.
+
+-- ---- the order of keys
+
+less_turned : (k l : List ℕ) → slice_cmp nat_cmp k l ≡ Greater → IsLess l k
+less_turned k l e = nat_list_cmp_total.antisymm l k ∙ ap ordering_reverse e
+
+greater_turned : (k l : List ℕ) → IsLess l k → slice_cmp nat_cmp k l ≡ Greater
+greater_turned k l e = nat_list_cmp_total.antisymm k l ∙ ap ordering_reverse e
+
+before_more : (k l : List ℕ) (keys : List (List ℕ)) → IsLess k l → IsBefore l keys → IsBefore k keys
+before_more k l [] lt h = tt
+before_more k l (m ∷ keys) lt h = (nat_list_cmp_total.trans k l m lt h.0, before_more k l keys lt h.1)
+
+-- ---- putting keeps it
+
+put_before : (l k : List ℕ) (d : Data) (ms : Members) → IsLess l k → IsBefore l (keys_of ms) → IsBefore l (keys_of (put k d ms))
+put_before l k d no_members lt h = (lt, tt)
+put_before l k d (member m e ms) lt h = go (slice_cmp nat_cmp k m) (put_before l k d ms lt h.1)
+  where
+    go : (o : Ordering) → IsBefore l (keys_of (put k d ms))
+        → IsBefore l (keys_of (match_ordering o (member k d (member m e ms)) (member m d ms) (member m e (put k d ms))))
+    go Less more = (lt, h)
+    go Equal more = h
+    go Greater more = (h.0, more)
+
+pub put_ordered : (k : List ℕ) (d : Data) (ms : Members) → AreOrdered (keys_of ms) → AreOrdered (keys_of (put k d ms))
+put_ordered k d no_members h = (tt, tt)
+put_ordered k d (member m e ms) h = go (slice_cmp nat_cmp k m) refl (put_ordered k d ms h.1)
+  where
+    go : (o : Ordering) → slice_cmp nat_cmp k m ≡ o → AreOrdered (keys_of (put k d ms))
+        → AreOrdered (keys_of (match_ordering o (member k d (member m e ms)) (member m d ms) (member m e (put k d ms))))
+    go Less is more = ((is, before_more k m (keys_of ms) is h.0), h)
+    go Equal is more = h
+    go Greater is more = (put_before m k d ms (less_turned k m is) h.0, more)
+
+-- ---- exactly these keys
+
+other_key : (k l : List ℕ) → IsLess k l → bytes_eq k l ≡ false
+other_key k l e = sym (is_eq-slice_cmp k l) ∙ ap is_eq e
+
+other_back : (k l : List ℕ) → IsLess l k → bytes_eq k l ≡ false
+other_back k l e = sym (is_eq-slice_cmp k l) ∙ ap is_eq (greater_turned k l e)
+
+-- a key before all of these isn't one of them, and has no value
+none_of : (l : List ℕ) (keys : List (List ℕ)) → IsBefore l keys → is_one_of keys l ≡ false
+none_of l [] h = refl
+none_of l (k ∷ keys) h = ap (λ (b : Bool). b || is_one_of keys l) (other_back k l h.0) ∙ none_of l keys h.1
+
+none_under : (k : List ℕ) (ms : Members) → IsBefore k (keys_of ms) → get_member k ms ≡ None
+none_under k no_members h = refl
+none_under k (member l e ms) h = ap (λ (o : Ordering). match_ordering o (get_member k ms) (Some e) (get_member k ms)) h.0 ∙ none_under k ms h.1
+
+-- without the first key, if no other is it
+others_left : (k : List ℕ) (keys : List (List ℕ)) (ms : Members) → IsBefore k (keys_of ms) → has_no_others (k ∷ keys) ms ≡ true → has_no_others keys ms ≡ true
+others_left k keys no_members h e = refl
+others_left k keys (member l d ms) h e =
+    let p = and_parts (is_one_of (k ∷ keys) l) (has_no_others (k ∷ keys) ms) e in
+    let here : is_one_of keys l ≡ true = sym (ap (λ (b : Bool). b || is_one_of keys l) (other_key k l h.0)) ∙ p.0 in
+    ap (λ (b : Bool). b && has_no_others keys ms) here ∙ others_left k keys ms h.1 p.1
+
+all_left : (l : List ℕ) (d : Data) (ms : Members) (keys : List (List ℕ)) → IsBefore l keys → has_all keys (object (member l d ms)) ≡ true
+    → has_all keys (object ms) ≡ true
+all_left l d ms [] h e = refl
+all_left l d ms (k ∷ keys) h e =
+    let p = and_parts (has k (object (member l d ms))) (has_all keys (object (member l d ms))) e in
+    let same : has k (object (member l d ms)) ≡ has k (object ms) =
+    ap (λ (o : Ordering). is_some (match_ordering o (get_member k ms) (Some d) (get_member k ms))) (greater_turned k l h.0) in
+    ap (λ (b : Bool). b && has_all keys (object ms)) (sym same ∙ p.0) ∙ all_left l d ms keys h.1 p.1
+
+pub just_keys : (keys : List (List ℕ)) (ms : Members) → AreOrdered keys → AreOrdered (keys_of ms) → has_no_others keys ms ≡ true
+    → has_all keys (object ms) ≡ true → keys_of ms ≡ keys
+just_keys [] no_members h g e f = refl
+just_keys [] (member l d ms) h g e f = cc
+just_keys (k ∷ keys) no_members h g e f = cc
+just_keys (k ∷ keys) (member l d ms) h g e f = go (slice_cmp nat_cmp k l) refl (λ a b. just_keys keys ms h.1 g.1 a b)
+  where
+    p : (is_one_of (k ∷ keys) l ≡ true) × (has_no_others (k ∷ keys) ms ≡ true)
+    p = and_parts (is_one_of (k ∷ keys) l) (has_no_others (k ∷ keys) ms) e
+
+    q : (has k (object (member l d ms)) ≡ true) × (has_all keys (object (member l d ms)) ≡ true)
+    q = and_parts (has k (object (member l d ms))) (has_all keys (object (member l d ms))) f
+
+    go : (o : Ordering) → slice_cmp nat_cmp k l ≡ o → (has_no_others keys ms ≡ true → has_all keys (object ms) ≡ true → keys_of ms ≡ keys)
+        → l ∷ keys_of ms ≡ k ∷ keys
+    go Less is more =
+        let none : has k (object (member l d ms)) ≡ false =
+        ap (λ (o : Ordering). is_some (match_ordering o (get_member k ms) (Some d) (get_member k ms))) is ∙ ap is_some
+        (none_under k ms (before_more k l (keys_of ms) is g.0)) in
+        cc (q.0)
+    go Greater is more =
+        let lt = less_turned k l is in
+        cc (none_of l (k ∷ keys) (lt, before_more l k keys lt h.0), p.0)
+    go Equal is more =
+        let same : k ≡ l = exact_bytes k l is in
+        let first : IsBefore l keys = subst (λ (m : List ℕ). IsBefore m keys) same h.0 in
+        let left : has_no_others keys ms ≡ true = others_left k keys ms (subst (λ (m : List ℕ). IsBefore m (keys_of ms)) (sym same) g.0) p.1 in
+        ap (λ (m : List ℕ). m ∷ keys_of ms) (sym same) ∙ ap (λ (ks : List (List ℕ)). k ∷ ks) (more left (all_left l d ms keys first q.1))
+
+-- ---- their values
+
+-- the members of these keys, one after the other
+abbrev pub picked : List (List ℕ) → Data → Members
+picked [] d = no_members
+picked (k ∷ keys) d = member k (unwrap_or (get k d) null) (picked keys d)
+
+picked_behind : (keys : List (List ℕ)) (l : List ℕ) (e : Data) (ms : Members) → IsBefore l keys → picked keys (object (member l e ms)) ≡ picked keys (object ms)
+picked_behind [] l e ms h = refl
+picked_behind (k ∷ keys) l e ms h =
+    ap₂ (λ (o : Option Data) (rest : Members). member k (unwrap_or o null) rest)
+    (ap (λ (o : Ordering). match_ordering o (get_member k ms) (Some e) (get_member k ms)) (greater_turned k l h.0)) (picked_behind keys l e ms h.1)
+
+is_itself : (k : List ℕ) → slice_cmp nat_cmp k k ≡ Equal
+is_itself k = itself (slice_cmp nat_cmp k k) (nat_list_cmp_total.antisymm k k)
+  where
+    itself : (o : Ordering) → o ≡ ordering_reverse o → o ≡ Equal
+    itself Equal e = refl
+    itself Less e = cc
+    itself Greater e = cc
+
+all_picked : (ms : Members) → AreOrdered (keys_of ms) → ms ≡ picked (keys_of ms) (object ms)
+all_picked no_members h = refl
+all_picked (member l d ms) h =
+    let there : get_member l (member l d ms) ≡ Some d = ap (λ (o : Ordering). match_ordering o (get_member l ms) (Some d) (get_member l ms)) (is_itself l) in
+    ap₂ (λ (e : Data) (rest : Members). member l e rest) (sym (ap (λ (o : Option Data). unwrap_or o null) there))
+    (all_picked ms h.1 ∙ sym (picked_behind (keys_of ms) l d ms h.0))
+
+-- an object of exactly these keys
+pub is_picked : (keys : List (List ℕ)) → AreOrdered keys → (d : Data) → IsSorted d → fits keys [] d ≡ true → d ≡ object (picked keys d)
+is_picked keys h (object ms) sorted e =
+    let p = and_parts (has_no_others (keys ++ []) ms) (has_all keys (object ms)) e in
+    let others : has_no_others keys ms ≡ true = ap (λ (l : List (List ℕ)). has_no_others l ms) (sym (append-nil keys)) ∙ p.0 in
+    let just : keys_of ms ≡ keys = just_keys keys ms h sorted.0 others p.1 in
+    ap object (all_picked ms sorted.0 ∙ ap (λ (l : List (List ℕ)). picked l (object ms)) just)
+is_picked keys h _ sorted e = cc
+
+-- ---- A value that was read has the keys of each object in order.
+
+by_map : {A B : Type 0} (P : A → Type 0) (Q : B → Type 0) (f : A → B) → ((a : A) → P a → Q (f a)) → (o : Option A) → IfSome o P → IfSome (option_map f o) Q
+by_map P Q f h None x = tt
+by_map P Q f h (Some a) x = h a x
+
+by_then : {A B : Type 0} (P : A → Type 0) (Q : B → Type 0) (f : A → Option B) → ((a : A) → P a → IfSome (f a) Q) → (o : Option A) → IfSome o P
+    → IfSome (option_and_then f o) Q
+by_then P Q f h None x = tt
+by_then P Q f h (Some a) x = h a x
+
+any : {A : Type 0} (o : Option A) → IfSome o (λ _. Unit {0})
+any None = tt
+any (Some a) = tt
+
+put_holds : (k : List ℕ) (d : Data) (ms : Members) → IsSorted d → HoldSorted ms → HoldSorted (put k d ms)
+put_holds k d no_members p q = (p, q)
+put_holds k d (member l e ms) p q = go _ (put_holds k d ms p q.1)
+  where
+    go : (o : Ordering) → HoldSorted (put k d ms) → HoldSorted (match_ordering o (member k d (member l e ms)) (member l d ms) (member l e (put k d ms)))
+    go Less more = (p, q)
+    go Equal more = (p, q.1)
+    go Greater more = (q.0, more)
+
+abbrev AreBoth : Members → Type 0
+AreBoth ms = AreOrdered (keys_of ms) × HoldSorted ms
+
+mutual
+  sorted_json : (j : json.Json) → IfSome (of_json j) IsSorted
+  sorted_json (json.number s) = by_map (λ _. Unit {0}) IsSorted number (λ n x. tt) (number_of s) (any (number_of s))
+  sorted_json (json.array js) = by_map AreSorted IsSorted array (λ ds x. x) (of_items js) (sorted_items js)
+  sorted_json (json.object ms) = by_map AreBoth IsSorted object (λ ds x. x) (of_members ms no_members) (sorted_members ms no_members tt tt)
+  sorted_json _ = tt
+
+  sorted_items : (js : json.Items) → IfSome (of_items js) AreSorted
+  sorted_items json.no_items = tt
+  sorted_items (json.item j js) =
+      by_then IsSorted AreSorted _ (λ d x. by_map AreSorted AreSorted (item d) (λ ds y. (x, y)) (of_items js) (sorted_items js)) (of_json j) (sorted_json j)
+
+  sorted_members : (ms : json.Members) (found : Members) → AreOrdered (keys_of found) → HoldSorted found → IfSome (of_members ms found) AreBoth
+  sorted_members json.no_members found p q = (p, q)
+  sorted_members (json.member k j ms) found p q =
+      by_then IsSorted AreBoth _ (λ d x. sorted_members ms (put k d found) (put_ordered k d found p) (put_holds k d found x q)) (of_json j) (sorted_json j)
+
+if_parsed : (o : Option json.Json) → IfSome (option_and_then of_json o) IsSorted
+if_parsed None = tt
+if_parsed (Some j) = sorted_json j
+
+pub read_sorted : (text : List ℕ) → IfSome (read text) IsSorted
+read_sorted text = if_parsed (option_and_then (λ p. json.if_last p.0 p.1) (json.value max_depth (tokens text)))
+
+-- ---- What was read of the members of an object, and of a list's items.
 
 -- ---- one after the other
 
@@ -23,8 +223,8 @@ after None f b e = cc
 after (Some a) f b e = record { value = a; first = refl; then = e }
 
 -- and so it was read
-pub first_then : {A B : Type 0} (o : Option A) (f : A → Option B) (a : A) (r : Option B) → o ≡ Some a → f a ≡ r → next o f ≡ r
-first_then o f a r e g = ap (λ p. next p f) e ∙ g
+pub first_then : {A B : Type 0} {o : Option A} {a : A} {r : Option B} (f : A → Option B) → o ≡ Some a → f a ≡ r → next o f ≡ r
+first_then f e g = ap (λ p. next p f) e ∙ g
 
 pub record Only {A : Type 0} (b : Bool) (a c : A) : Type 0 where
   pub so : b ≡ true
@@ -44,13 +244,8 @@ abbrev pub under : List ℕ → Data → Data
 under key d = unwrap_or (get key d) null
 
 text_in : (o : Option Data) (t : List ℕ) → next o as_str ≡ Some t → unwrap_or o null ≡ string t
-text_in None t e = cc
-text_in (Some null) t e = cc
-text_in (Some (boolean b)) t e = cc
-text_in (Some (number n)) t e = cc
 text_in (Some (string s)) t e = cc
-text_in (Some (array ds)) t e = cc
-text_in (Some (object ms)) t e = cc
+text_in _ t e = cc
 
 pub text_is : (key : List ℕ) (d : Data) (t : List ℕ) → text_at key d ≡ Some t → under key d ≡ string t
 text_is key d t e = text_in (get key d) t e
@@ -66,37 +261,22 @@ path_is most key d t e =
     record { is = text_is key d t (a.first ∙ ap (λ (x : List ℕ). Some x) o.same); good = ap (is_path most) (sym o.same) ∙ o.so }
 
 flag_in : (o : Option Data) (b : Bool) → next o as_bool ≡ Some b → unwrap_or o null ≡ boolean b
-flag_in None t e = cc
-flag_in (Some null) t e = cc
 flag_in (Some (boolean b)) t e = cc
-flag_in (Some (number n)) t e = cc
-flag_in (Some (string s)) t e = cc
-flag_in (Some (array ds)) t e = cc
-flag_in (Some (object ms)) t e = cc
+flag_in _ t e = cc
 
 pub flag_is : (key : List ℕ) (d : Data) (b : Bool) → flag_at key d ≡ Some b → under key d ≡ boolean b
 flag_is key d b e = flag_in (get key d) b e
 
 list_in : (o : Option Data) (ds : Items) → next o as_array ≡ Some ds → unwrap_or o null ≡ array ds
-list_in None t e = cc
-list_in (Some null) t e = cc
-list_in (Some (boolean b)) t e = cc
-list_in (Some (number n)) t e = cc
-list_in (Some (string s)) t e = cc
 list_in (Some (array ds)) t e = cc
-list_in (Some (object ms)) t e = cc
+list_in _ t e = cc
 
 pub list_is : (key : List ℕ) (d : Data) (ds : Items) → list_at key d ≡ Some ds → under key d ≡ array ds
 list_is key d ds e = list_in (get key d) ds e
 
 number_in : (o : Option Data) (n : Num) → next o as_number ≡ Some n → unwrap_or o null ≡ number n
-number_in None t e = cc
-number_in (Some null) t e = cc
-number_in (Some (boolean b)) t e = cc
 number_in (Some (number n)) t e = cc
-number_in (Some (string s)) t e = cc
-number_in (Some (array ds)) t e = cc
-number_in (Some (object ms)) t e = cc
+number_in _ t e = cc
 
 unsigned_is : (n : Num) (k : ℕ) → as_u64 n ≡ Some k → n ≡ unsigned k
 unsigned_is (unsigned m) k e = cc
@@ -119,23 +299,11 @@ four_is key d k e =
     record { is = natural_is key d k (a.first ∙ ap (λ (x : ℕ). Some x) o.same); good = ap fits_four (sym o.same) ∙ o.so }
 
 whole_is_of : (n : Num) (z : ℤ) → whole_of n ≡ Some z → n ≡ of_integer z
-whole_is_of (unsigned m) z e = by z e
-  where
-    by : (z : ℤ) → Some (pos m) ≡ Some z → unsigned m ≡ of_integer z
-    by (pos k) e = cc
-    by (negsuc k) e = cc
-whole_is_of (negative (pos m)) z e = no (sym (ap (λ (b : Bool). only b (pos m)) (below m)) ∙ e)
-  where
-    below : (m : ℕ) → int_lt (pos m) (pos 0) ≡ false
-    below m = le-ltb m 0 (omega arith)
-
-    no : None ≡ Some z → negative (pos m) ≡ of_integer z
-    no f = cc
-whole_is_of (negative (negsuc m)) z e = by z e
-  where
-    by : (z : ℤ) → Some (negsuc m) ≡ Some z → negative (negsuc m) ≡ of_integer z
-    by (pos k) e = cc
-    by (negsuc k) e = cc
+whole_is_of (unsigned m) (pos k) e = cc
+whole_is_of (unsigned m) (negsuc k) e = cc
+whole_is_of (negative (negsuc m)) (pos k) e = cc
+whole_is_of (negative (negsuc m)) (negsuc k) e = cc
+whole_is_of (negative (pos m)) z e = let f = rw (le-ltb m 0 (omega arith)) at e in cc
 whole_is_of (float x) z e = cc
 
 pub whole_is : (key : List ℕ) (d : Data) (z : ℤ) → whole_at key d ≡ Some z → under key d ≡ number (of_integer z)
@@ -159,7 +327,8 @@ pub record EachSays {A : Type 0} (tree : A → Data) (good : A → Bool) (ds : I
   pub good_are : list_all good list ≡ true
 
 module _ {A : Type 0} (tree : A → Data) (good : A → Bool) (says : Data → Option A) where
-  pub each_says : ((d : Data) → IsSorted d → (a : A) → says d ≡ Some a → Says tree good d a) → (ds : Items) → AreSorted ds → (list : List A) → each says ds ≡ Some list → EachSays tree good ds list
+  pub each_says : ((d : Data) → IsSorted d → (a : A) → says d ≡ Some a → Says tree good d a) → (ds : Items) → AreSorted ds → (list : List A)
+      → each says ds ≡ Some list → EachSays tree good ds list
   each_says one no_items sorted [] e = record { trees_are = refl; good_are = refl }
   each_says one no_items sorted (b ∷ list) e = cc
   each_says one (item d ds) sorted list e = go list a.value b.value (one d sorted.0 a.value a.first) (each_says one ds sorted.1 b.value b.first) b.then
@@ -170,7 +339,8 @@ module _ {A : Type 0} (tree : A → Data) (good : A → Bool) (says : Data → O
       b : After (each says ds) (λ rest. Some (a.value ∷ rest)) list
       b = after (each says ds) (λ rest. Some (a.value ∷ rest)) list a.then
 
-      go : (list : List A) (x : A) (rest : List A) → Says tree good d x → EachSays tree good ds rest → Some (x ∷ rest) ≡ Some list → EachSays tree good (item d ds) list
+      go : (list : List A) (x : A) (rest : List A) → Says tree good d x → EachSays tree good ds rest → Some (x ∷ rest) ≡ Some list
+          → EachSays tree good (item d ds) list
       go [] x rest s more e = cc
       go (y ∷ others) x rest s more e =
           let first : x ≡ y = cc in
@@ -180,8 +350,9 @@ module _ {A : Type 0} (tree : A → Data) (good : A → Bool) (says : Data → O
             good_are = ap₂ (λ (b c : Bool). b && c) (ap good (sym first) ∙ s.good_is) (ap (list_all good) (sym later) ∙ more.good_are);
           }
 
-  pub each_back : ((a : A) → good a ≡ true → says (tree a) ≡ Some a) → (list : List A) → list_all good list ≡ true → each says (items_of (map tree list)) ≡ Some list
+  pub each_back : ((a : A) → good a ≡ true → says (tree a) ≡ Some a) → (list : List A) → list_all good list ≡ true
+      → each says (items_of (map tree list)) ≡ Some list
   each_back one [] e = refl
   each_back one (a ∷ list) e =
       let p = and_parts (good a) (list_all good list) e in
-      first_then (says (tree a)) _ a _ (one a p.0) (first_then (each says (items_of (map tree list))) _ list _ (each_back one list p.1) refl)
+      first_then _ (one a p.0) (first_then _ (each_back one list p.1) refl)

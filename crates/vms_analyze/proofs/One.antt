@@ -1,20 +1,19 @@
 -- An input has at most one listing.
-use Rattle.std.proofs.Common.{◌≡◌, ℕ, Bool, true, false, nat_lt, List, [], ◌∷◌, map, take, Some, None, ℤ, pos, negsuc, refl, sym, ap, ap₂, ◌∙◌, subst, arith, codes}
-use Rattle.std.proofs.lemmas.Bool.{ltb-true, ltb-false}
+use Rattle.std.proofs.Common.{◌≡◌, ℕ, Bool, true, false, List, [], ◌∷◌, map, take, Some, None, ℤ, pos, negsuc, refl, sym, ap, ap₂, ◌∙◌, subst, arith, codes, ⊎_elim, ◌≤◌, ◌<◌}
 use Rattle.serde_json.specs.Data.{Data, number, string, boolean, array, object, Members, no_members, member}
 use Rattle.serde_json.specs.Find.{of_integer}
 use Rattle.serde_json.specs.View.{items_of}
 use Rattle.vms_kinds.specs.declared.Kind.{Kind}
-use Rattle.vms_kinds.specs.declared.Kind.TheVariants as kinds
 use Rattle.vms_kinds.specs.Codes.{width}
 use Rattle.vms_words.specs.Words.{kind_word, kind_named}
 use Rattle.vms_selfdesc.specs.Tree.{natural, entry_tree, list_tree}
 use Rattle.vms_analyze.specs.Told.{Told, Sent, Kept, Fixed, Skipped, told_entry, ToldSub, told_sub, ToldDevice, told_device, told_tree}
 use Rattle.vms_analyze.specs.Wanted.{wants, found}
-use Rattle.vms_analyze.specs.Listing.{IsPlace, IsLastPlace, Tells, Listing, listing_of, Lists, IsTooLong, HasNone, HasNoShape, IsRead}
+use Rattle.vms_analyze.specs.Listing.{IsLastPlace, Tells, listing_of, IsTooLong, HasNone, HasNoShape, IsRead, Refused}
 use Rattle.vms_analyze.specs.Laws.{OneLaw}
-use Rattle.vms_analyze.proofs.ReadBack.{map_twice}
+use Rattle.vms_analyze.proofs.Texts.{map_twice}
 use Rattle.vms_words.proofs.WordLaws.{word_named}
+use Rattle.std.proofs.lemmas.Bool.{cases_lt}
 
 -- ---- one tree has one list of devices
 
@@ -44,7 +43,8 @@ pub record SameMembers (p q v w : List ℕ) (m n : ℕ) : Type 0 where
 abbrev pub members : List ℕ → ℕ → List ℕ → Members → Data
 members path size type ms = object (member (codes "name") (string path) (member (codes "size") (natural size) (member (codes "type") (string type) ms)))
 
-pub same_members : (path path' type type' : List ℕ) (size size' : ℕ) (ms ms' : Members) → members path size type ms ≡ members path' size' type' ms' → SameMembers path path' type type' size size'
+pub same_members : (path path' type type' : List ℕ) (size size' : ℕ) (ms ms' : Members) → members path size type ms ≡ members path' size' type' ms'
+    → SameMembers path path' type type' size size'
 same_members path path' type type' size size' ms ms' e = record { path = cc; size = cc; type = cc }
 
 other_words : codes "equal" ≡ codes "unused" → ⊥
@@ -60,8 +60,10 @@ element_same (Sent p k) (Sent q l) e =
     let s = same_members p q (kind_word k) (kind_word l) (width k) (width l) no_members no_members e in
     ap₂ Sent s.path (word_same k l s.type)
 element_same (Sent p k) (Kept q l z) e = cc
-element_same (Sent p k) (Fixed q n) e = absurd (no_word k (codes "equal") refl (same_members p q (kind_word k) (codes "equal") (width k) n no_members no_members e).type)
-element_same (Sent p k) (Skipped q n) e = absurd (no_word k (codes "unused") refl (same_members p q (kind_word k) (codes "unused") (width k) n no_members no_members e).type)
+element_same (Sent p k) (Fixed q n) e =
+    absurd (no_word k (codes "equal") refl (same_members p q (kind_word k) (codes "equal") (width k) n no_members no_members e).type)
+element_same (Sent p k) (Skipped q n) e =
+    absurd (no_word k (codes "unused") refl (same_members p q (kind_word k) (codes "unused") (width k) n no_members no_members e).type)
 element_same (Kept p k y) (Sent q l) e = cc
 element_same (Kept p k y) (Kept q l z) e =
     let s = same_members p q (kind_word k) (kind_word l) 0 0 (value y) (value z) e in
@@ -69,11 +71,13 @@ element_same (Kept p k y) (Kept q l z) e =
     ap₂ (λ (a : List ℕ) (b : Kind). Kept a b y) s.path (word_same k l s.type) ∙ ap (Kept q l) (integer_same y z v)
 element_same (Kept p k y) (Fixed q n) e = cc
 element_same (Kept p k y) (Skipped q n) e = cc
-element_same (Fixed p m) (Sent q l) e = absurd (no_word l (codes "equal") refl (sym (same_members p q (codes "equal") (kind_word l) m (width l) no_members no_members e).type))
+element_same (Fixed p m) (Sent q l) e =
+    absurd (no_word l (codes "equal") refl (sym (same_members p q (codes "equal") (kind_word l) m (width l) no_members no_members e).type))
 element_same (Fixed p m) (Kept q l z) e = cc
 element_same (Fixed p m) (Fixed q n) e = let s = same_members p q (codes "equal") (codes "equal") m n no_members no_members e in ap₂ Fixed s.path s.size
 element_same (Fixed p m) (Skipped q n) e = absurd (other_words (same_members p q (codes "equal") (codes "unused") m n no_members no_members e).type)
-element_same (Skipped p m) (Sent q l) e = absurd (no_word l (codes "unused") refl (sym (same_members p q (codes "unused") (kind_word l) m (width l) no_members no_members e).type))
+element_same (Skipped p m) (Sent q l) e =
+    absurd (no_word l (codes "unused") refl (sym (same_members p q (codes "unused") (kind_word l) m (width l) no_members no_members e).type))
 element_same (Skipped p m) (Kept q l z) e = cc
 element_same (Skipped p m) (Fixed q n) e = absurd (other_words (sym (same_members p q (codes "unused") (codes "equal") m n no_members no_members e).type))
 element_same (Skipped p m) (Skipped q n) e = let s = same_members p q (codes "unused") (codes "unused") m n no_members no_members e in ap₂ Skipped s.path s.size
@@ -96,7 +100,8 @@ elements_same ts us e =
 
 abbrev sub_object : Data → List ℕ → Bool → ℕ → Data
 sub_object fields name sent version =
-    object (member (codes "fields") fields (member (codes "name") (string name) (member (codes "sent") (boolean sent) (member (codes "version") (natural version) no_members))))
+    object (member (codes "fields") fields
+    (member (codes "name") (string name) (member (codes "sent") (boolean sent) (member (codes "version") (natural version) no_members))))
 
 record SameSub (f g : Data) (p q : List ℕ) (a b : Bool) (m n : ℕ) : Type 0 where
   fields : f ≡ g
@@ -109,10 +114,11 @@ same_sub f g p q a b m n e = record { fields = cc; name = cc; sent = cc; version
 
 sub_same : (s t : ToldSub) → told_sub s ≡ told_sub t → s ≡ t
 sub_same s t e =
-    let h = same_sub (list_tree entry_tree (map told_entry s.elements)) (list_tree entry_tree (map told_entry t.elements)) s.name t.name s.sent t.sent s.version t.version e in
+    let h = same_sub (list_tree entry_tree (map told_entry s.elements))
+    (list_tree entry_tree (map told_entry t.elements)) s.name t.name s.sent t.sent s.version t.version e in
     let i = elements_same s.elements t.elements h.fields in
-    ap₂ (λ (name : List ℕ) (sent : Bool). record { name = name; sent = sent; version = s.version; elements = s.elements }) h.name h.sent
-    ∙ ap₂ (λ (version : ℕ) (elements : List Told). record { name = t.name; sent = t.sent; version = version; elements = elements }) h.version i
+    let same : s ≡ record { name = t.name; sent = t.sent; version = t.version; elements = t.elements } = rw (← h.name, ← h.sent, ← h.version, ← i) refl in
+    same
 
 abbrev device_object : Data → ℕ → List ℕ → Data → ℕ → Data
 device_object fields instance name subs version = object (
@@ -137,13 +143,14 @@ subs_same xs ys e = let f : items_of (map told_sub xs) ≡ items_of (map told_su
 
 device_same : (d e : ToldDevice) → told_device d ≡ told_device e → d ≡ e
 device_same d e eq =
-    let h = same_device (list_tree entry_tree (map told_entry d.elements)) (list_tree entry_tree (map told_entry e.elements)) d.instance e.instance d.name e.name
+    let h = same_device (list_tree entry_tree (map told_entry d.elements))
+    (list_tree entry_tree (map told_entry e.elements)) d.instance e.instance d.name e.name
     (array (items_of (map told_sub d.subs))) (array (items_of (map told_sub e.subs))) d.version e.version eq in
     let i = elements_same d.elements e.elements h.fields in
     let j = subs_same d.subs e.subs h.subs in
-    ap₂ (λ (name : List ℕ) (instance : ℕ). record { name = name; instance = instance; version = d.version; elements = d.elements; subs = d.subs }) h.name h.instance
-    ∙ ap₂ (λ (version : ℕ) (elements : List Told). record { name = e.name; instance = e.instance; version = version; elements = elements; subs = d.subs }) h.version i
-    ∙ ap (λ (subs : List ToldSub). record { name = e.name; instance = e.instance; version = e.version; elements = e.elements; subs = subs }) j
+    let same : d ≡ record { name = e.name; instance = e.instance; version = e.version; elements = e.elements; subs = e.subs } =
+    rw (← h.name, ← h.instance, ← h.version, ← i, ← j) refl in
+    same
 
 pub told_same : (ds es : List ToldDevice) → told_tree ds ≡ told_tree es → ds ≡ es
 told_same ds es e =
@@ -153,12 +160,9 @@ told_same ds es e =
 -- ---- one place, and one listing
 
 last_same : (input : List ℕ) (p q : ℕ) → IsLastPlace input p → IsLastPlace input q → p ≡ q
-last_same input p q a b = go (nat_lt p q) (nat_lt q p) refl refl
-  where
-    go : (s t : Bool) → nat_lt p q ≡ s → nat_lt q p ≡ t → p ≡ q
-    go true t e f = absurd (a.last q (ltb-true p q e) b.is)
-    go false true e f = absurd (b.last p (ltb-true q p f) a.is)
-    go false false e f = let x = ltb-false p q e in let y = ltb-false q p f in omega arith
+last_same input p q a b =
+    ⊎_elim (λ (lt : p < q). absurd (a.last q lt b.is))
+    (λ (ge : q ≤ p). ⊎_elim (λ (lt : q < p). absurd (b.last p lt a.is)) (λ (le : p ≤ q). let same : p ≡ q = omega arith in same) (cases_lt q p)) (cases_lt p q)
 
 tells_same : (input : List ℕ) (p : ℕ) (ds es : List ToldDevice) → Tells input p ds → Tells input p es → ds ≡ es
 tells_same input p ds es a b = told_same ds es (some_same (told_tree ds) (told_tree es) (sym a.tree ∙ b.tree))
@@ -175,11 +179,13 @@ one_holds input _ _ (HasNone le none) (IsRead q es le' last tells) = absurd (non
 one_holds input _ _ (HasNoShape p le last other) (IsTooLong lt) = absurd (omega arith)
 one_holds input _ _ (HasNoShape p le last other) (HasNone le' none) = absurd (none p last.is)
 one_holds input _ _ (HasNoShape p le last other) (HasNoShape q le' last' others') =
-    ap (λ (k : ℕ). Rattle.vms_analyze.specs.Listing.Refused k Rattle.vms_analyze.specs.declared.fault.AnalyzeReason.TheVariants.Shape) (last_same input p q last last')
-one_holds input _ _ (HasNoShape p le last other) (IsRead q es le' last' tells) = absurd (other es (subst (λ (k : ℕ). Tells input k es) (last_same input q p last' last) tells))
+    ap (λ (k : ℕ). Refused k Rattle.vms_analyze.specs.declared.fault.AnalyzeReason.TheVariants.Shape) (last_same input p q last last')
+one_holds input _ _ (HasNoShape p le last other) (IsRead q es le' last' tells) =
+    absurd (other es (subst (λ (k : ℕ). Tells input k es) (last_same input q p last' last) tells))
 one_holds input _ _ (IsRead p ds le last tells) (IsTooLong lt) = absurd (omega arith)
 one_holds input _ _ (IsRead p ds le last tells) (HasNone le' none) = absurd (none p last.is)
-one_holds input _ _ (IsRead p ds le last tells) (HasNoShape q le' last' other) = absurd (other ds (subst (λ (k : ℕ). Tells input k ds) (last_same input p q last last') tells))
+one_holds input _ _ (IsRead p ds le last tells) (HasNoShape q le' last' other) =
+    absurd (other ds (subst (λ (k : ℕ). Tells input k ds) (last_same input p q last last') tells))
 one_holds input _ _ (IsRead p ds le last tells) (IsRead q es le' last' tells') =
     let at = last_same input p q last last' in
     let same = tells_same input q ds es (subst (λ (k : ℕ). Tells input k ds) at tells) tells' in

@@ -19,7 +19,7 @@ use Rattle.vms_analyze.specs.Told.{Told, Sent, Kept, Fixed, Skipped, told_entry,
 use Rattle.vms_analyze.specs.Wanted.{Lines, Differs, wants, found}
 use Rattle.vms_analyze.specs.Listing.{Refused, Lists, HasNone, HasNoShape}
 use Rattle.vms_analyze.proofs.One.{members, same_members, word_same}
-use Rattle.vms_analyze.proofs.Places.{last_place}
+use Rattle.vms_analyze.proofs.Texts.{last_place}
 
 abbrev timer : List Image
 timer = record { version = 1; came = []; numbers = pos 0 ∷ [] } ∷ []
@@ -34,7 +34,8 @@ abbrev says_timer : List ToldDevice
 says_timer = record { name = codes "timer"; instance = 0; version = 1; elements = Sent (codes "now") U64 ∷ []; subs = [] } ∷ []
 
 -- its description has one number
-reads_the_description : value_in (codes "{\"devices\":[{\"fields\":[{\"name\":\"now\",\"size\":8,\"type\":\"u64\"}],\"instance_id\":0,\"name\":\"timer\",\"subsections\":[],\"version\":1}]}")
+reads_the_description : value_in
+    (codes "{\"devices\":[{\"fields\":[{\"name\":\"now\",\"size\":8,\"type\":\"u64\"}],\"instance_id\":0,\"name\":\"timer\",\"subsections\":[],\"version\":1}]}")
     ≡ Some (told_tree says_timer)
 unfolding serde_json_on_literals is_utf8 chars
 reads_the_description = refl
@@ -78,7 +79,8 @@ finds_no_description = HasNone (omega arith) (λ p h. no_six (smallest 0x7e) ref
 -- ---- a number of 64 bits that is said to have 4 bytes
 
 abbrev four_bytes : List ℕ
-four_bytes = codes "{\"devices\":[{\"fields\":[{\"name\":\"now\",\"size\":4,\"type\":\"u64\"}],\"instance_id\":0,\"name\":\"timer\",\"subsections\":[],\"version\":1}]}"
+four_bytes =
+    codes "{\"devices\":[{\"fields\":[{\"name\":\"now\",\"size\":4,\"type\":\"u64\"}],\"instance_id\":0,\"name\":\"timer\",\"subsections\":[],\"version\":1}]}"
 
 abbrev four_entry : Data
 four_entry = members (codes "now") 4 (codes "u64") no_members
@@ -88,7 +90,9 @@ four_tree = object (put (codes "devices") (array (item (object (device_members_o
   where
     device_members_of : Data → Members
     device_members_of fields =
-        put (codes "version") (natural 1) (put (codes "subsections") (array no_items) (put (codes "name") (string (codes "timer")) (put (codes "instance_id") (natural 0) (put (codes "fields") fields no_members))))
+        put (codes "version") (natural 1)
+        (put (codes "subsections") (array no_items)
+        (put (codes "name") (string (codes "timer")) (put (codes "instance_id") (natural 0) (put (codes "fields") fields no_members))))
 
 reads_four_bytes : value_in four_bytes ≡ Some four_tree
 unfolding serde_json_on_literals is_utf8 chars four_tree
@@ -103,9 +107,10 @@ no_element (Kept p k z) e = cc
 no_element (Fixed p n) e = let h = same_members p (codes "now") (codes "equal") (codes "u64") n 4 no_members no_members e in other (ap kind_named h.type) where
   other : None ≡ Some U64 → ⊥
   other e = cc
-no_element (Skipped p n) e = let h = same_members p (codes "now") (codes "unused") (codes "u64") n 4 no_members no_members e in other (ap kind_named h.type) where
-  other : None ≡ Some U64 → ⊥
-  other e = cc
+no_element (Skipped p n) e =
+    let h = same_members p (codes "now") (codes "unused") (codes "u64") n 4 no_members no_members e in other (ap kind_named h.type) where
+      other : None ≡ Some U64 → ⊥
+      other e = cc
 
 first_element : (ts : List Told) (rest : Items) → items_of (map entry_tree (map told_entry ts)) ≡ item four_entry rest → ⊥
 first_element [] rest e = cc

@@ -1,42 +1,104 @@
--- The description of a well-formed set has the right shape: the elements of one part.
-use Rattle.std.proofs.Common.{◌≡◌, ℕ, suc, ◌+◌, ◌*◌, ◌<◌, ◌≤◌, Bool, true, false, cond, ◌&&◌, ◌||◌, ◌==◌, nat_lt, nat_le, List, [], ◌∷◌, ◌++◌, length, length-append, get_or, map, ℤ, refl, sym, ap, subst, arith, codes}
-use Rattle.std.specs.List.{list_all}
-use Rattle.std.proofs.lemmas.Bool.{and_parts, ltb-true, ltb-false, and_from}
+-- The description of a well-formed set has the right shape.
+use Rattle.std.proofs.Common.{◌≡◌, ℕ, ◌+◌, Bool, true, false, ◌&&◌, is_some, List, [], ◌∷◌, ◌++◌, length, map, Option, ℤ, refl, ap, ◌∙◌, codes, suc, ◌*◌, ◌<◌, ◌≤◌, cond, ◌||◌, ◌==◌, nat_lt, nat_le, length-append, get_or, sym, subst, arith, zero, is_none, Some, None, ⊎_elim, ◌/◌, ◌%◌}
+use Rattle.std.proofs.lemmas.List.{map-append, length-map}
+use Rattle.serde_json.specs.Data.{Data, array, object, no_members, put, Members, member, number, string}
+use Rattle.serde_json.specs.View.{items_of}
+use Rattle.vms_spec.specs.Sets.{Desc, Sub, Device, Set, AtLeast}
+use Rattle.vms_spec.specs.Layout.{desc_cells, struct_cells, no_desc, no_field, counted}
+use Rattle.vms_spec.specs.Images.{Image, own_cells}
+use Rattle.vms_elements.specs.Elements.{What, Number, Constant, Filler, Rule, Element, shapes}
+use Rattle.vms_elements.specs.Parts.{elements_in}
+use Rattle.vms_selfdesc.specs.Entries.{Entry, entry_of, entries_of, part_entries}
+use Rattle.vms_selfdesc.specs.Tree.{sub_members, sub_tree, sub_trees, device_members, device_tree, device_trees, described_tree, natural, entry_tree}
+use Rattle.vms_analyze.specs.Told.{told_entry, told_sub, told_device, told_tree, Told, Sent, Kept, Fixed, Skipped, is_path_byte, is_good, is_kept, fits_four, is_good_sub, is_good_device}
+use Rattle.vms_analyze.specs.Telling.{told_what, tolds, told_part, told_subs, told_devices, told, told_sub_of, told_device_of}
+use Rattle.std.specs.List.{list_all, AllByRecursion}
+use Rattle.std.proofs.lemmas.Bool.{and_parts, and_from, lt-ltb, cases_lt}
 use Rattle.std.proofs.Math.ListN.{get_or-eq_default}
-use Rattle.std.proofs.lemmas.List.{length-map}
 use Rattle.json.specs.Print.{escape, escape_byte, escape_letter}
-use Rattle.serde_json.specs.Data.{Members, no_members, member, number, string}
 use Rattle.serde_json.specs.Written.{compact_text, members_text}
 use Rattle.vms_kinds.specs.declared.Kind.{Kind}
-use Rattle.vms_kinds.specs.declared.Kind.TheVariants as kinds
 use Rattle.vms_kinds.specs.Codes.{width}
 use Rattle.vms_words.specs.Words.{kind_word}
 use Rattle.serde_json.specs.Find.{of_integer}
 use Rattle.vms_spec.specs.declared.Part.{Part}
-use Rattle.vms_spec.specs.declared.Part.TheVariants as parts
-use Rattle.vms_spec.specs.declared.TheConstants.{MOST_UNUSED}
+use Rattle.vms_spec.specs.declared.TheConstants.{MOST_UNUSED, LONGEST_NAME}
 use Rattle.vms_spec.specs.Names.{is_name}
 use Rattle.vms_spec.specs.Rules.{in_range, defaults_well, counts_well, is_small_item, is_small_optional}
-use Rattle.vms_spec.specs.Sets.{Field, Desc, Set}
-use Rattle.vms_spec.specs.Layout.{no_desc, no_field, counted}
-use Rattle.vms_spec.specs.WellFormed.{WellFormed, struct_items, struct_depths, items_in, deepest}
-use Rattle.vms_elements.specs.Elements.{What, Number, Constant, Filler, Rule, Element, shapes}
-use Rattle.vms_elements.specs.Parts.{elements_in}
+use Rattle.vms_spec.specs.WellFormed.{WellFormed, struct_items, struct_depths, items_in, deepest, subs_items, devices_items}
 use Rattle.vms_elements.proofs.Members.{Each}
-use Rattle.vms_desc.specs.Parts.{HasPart, desc_at}
-use Rattle.vms_desc.proofs.Clean.{field_sound}
-use Rattle.vms_selfdesc.specs.Entries.{Entry, part_entries}
-use Rattle.vms_selfdesc.specs.Tree.{natural, entry_tree}
+use Rattle.vms_desc.specs.Parts.{HasPart, desc_at, sub_at}
+use Rattle.vms_desc.proofs.Clean.{field_sound, few_subs, device_clean, sub_clean}
 use Rattle.vms_selfdesc.proofs.EntryLong.{member_long}
 use Rattle.vms_selfdesc.proofs.Fits.{AreLong, longer, entries_few, entries_long}
 use Rattle.vms_selfdesc.proofs.Lengths.{fit}
 use Rattle.vms_selfdesc.proofs.Soundness.{part_sound, fields_flat}
 use Rattle.vms_analyze.specs.declared.elements.TheConstants.{LONGEST_PATH}
-use Rattle.vms_analyze.specs.Told.{Told, Sent, Kept, Fixed, Skipped, told_entry, is_path_byte, is_path, is_good, is_kept}
-use Rattle.vms_analyze.specs.Telling.{told_what, tolds, told_part}
-use Rattle.vms_analyze.proofs.Letters.{named_path}
-use Rattle.vms_analyze.proofs.Names.{IsGoodWhat, HasPath, IsGoodElement, IsGoodField, AreGoodFields, elements_good}
-use Rattle.vms_analyze.proofs.Trees.{part_same}
+use Rattle.vms_analyze.proofs.Letters.{named_path, IsNamed, named_within, name_named, sub_named, IsGoodWhat, HasPath, IsGoodElement, IsGoodField, AreGoodFields, elements_good}
+use Rattle.std.proofs.lemmas.Option.{slice_get-get_or}
+use Rattle.vms_spec.specs.Heads.{FitsHeads}
+use Rattle.vms_desc.specs.Described.{device_at}
+use Rattle.vms_desc.specs.Formed.{is_well_formed}
+use Rattle.vms_desc.proofs.Bounds.{few_items}
+use Rattle.vms_analyze.proofs.Parts.{sub_from, device_from, all_at}
+use Rattle.vms_values_laws.proofs.SaidLaws.{all_both}
+use Rattle.std.proofs.lemmas.List.Folds.{list_all-append}
+use Rattle.std.specs.Char.{digit_char}
+use Rattle.vms_kinds.specs.declared.Kind.TheVariants as kinds
+use Rattle.vms_spec.specs.declared.Part.TheVariants as parts
+
+-- ---- The tree of a self-description is that of what it says.
+
+-- ---- entries
+
+one_entry : (w : What) (counted present : Bool) (path : List ℕ) → map told_entry (told_what w counted present path) ≡ entry_of w counted present path
+one_entry (Number cell) true true path = refl
+one_entry (Number cell) true false path = refl
+one_entry (Number cell) false present path = refl
+one_entry (Constant kind z) counted true path = refl
+one_entry (Constant kind z) counted false path = refl
+one_entry (Filler n) counted true path = refl
+one_entry (Filler n) counted false path = refl
+one_entry (Rule holds) counted present path = refl
+
+all_entries : (sent : Bool) (xs : List Element) → map told_entry (tolds sent xs) ≡ entries_of sent [] xs
+all_entries sent [] = refl
+all_entries sent (x ∷ xs) =
+    map-append told_entry (told_what x.what x.counted (sent && x.present) x.name) (tolds sent xs)
+    ∙ ap (λ (l : List Entry). l ++ map told_entry (tolds sent xs)) (one_entry x.what x.counted (sent && x.present) x.name)
+    ∙ ap (λ (l : List Entry). entry_of x.what x.counted (sent && x.present) x.name ++ l) (all_entries sent xs)
+
+-- ---- parts
+
+-- the entries of a part of a set are those of what is described
+pub part_same : (set : Set) (d : Desc) (sent : Bool) (n : List ℤ) (at : ℕ) → map told_entry (told_part set d sent n at) ≡ part_entries set d sent n at
+part_same set d sent n at = all_entries sent (elements_in set d d.version n at)
+
+subs_same : (set : Set) (n : List ℤ) (at : ℕ) (subs : List Sub) (came : List (Option ℕ))
+    → map told_sub (told_subs set n at subs came) ≡ sub_trees set n at subs came
+subs_same set n at [] came = refl
+subs_same set n at (s ∷ subs) [] = refl
+subs_same set n at (s ∷ subs) (c ∷ came) =
+    let next = at + length (desc_cells (struct_cells set) s.desc) in
+    ap (λ (es : List Entry). object (sub_members es s.desc.name (is_some c) s.desc.version) ∷ map told_sub (told_subs set n next subs came))
+    (part_same set s.desc (is_some c) n at) ∙ ap (λ (l : List Data). sub_tree set n at s c ∷ l) (subs_same set n next subs came)
+
+devices_same : (set : Set) (devices : List Device) (images : List Image) → map told_device (told_devices set devices images) ≡ device_trees set devices images
+devices_same set [] images = refl
+devices_same set (d ∷ devices) [] = refl
+devices_same set (d ∷ devices) (image ∷ images) =
+    ap (λ (es : List Entry). object
+    (device_members es d.instance d.desc.name
+    (map told_sub (told_subs set image.numbers (own_cells set d) d.subs image.came)) d.desc.version) ∷ map told_device (told_devices set devices images))
+    (part_same set d.desc true image.numbers 0)
+    ∙ ap (λ (l : List Data). object (device_members (part_entries set d.desc true image.numbers 0) d.instance d.desc.name l d.desc.version) ∷ map told_device
+    (told_devices set devices images)) (subs_same set image.numbers (own_cells set d) d.subs image.came)
+    ∙ ap (λ (l : List Data). device_tree set d image ∷ l) (devices_same set devices images)
+
+pub tree_same : (set : Set) (images : List Image) → told_tree (told set images) ≡ described_tree set images
+tree_same set images = ap (λ (l : List Data). object (put (codes "devices") (array (items_of l)) no_members)) (devices_same set set.devices images)
+
+-- ---- The description of a well-formed set has the right shape: the elements of one part.
 
 abbrev path_of : Told → List ℕ
 path_of (Sent path kind) = path
@@ -50,7 +112,8 @@ byte_some : (x : ℕ) → 1 ≤ length (escape_byte x)
 unfolding escape_byte
 byte_some x = go (nat_lt 0 (escape_letter x)) (nat_lt x 32)
   where
-    go : (a b : Bool) → 1 ≤ length (cond a (92 ∷ escape_letter x ∷ []) (cond b (92 ∷ 117 ∷ 48 ∷ 48 ∷ Rattle.std.specs.Char.digit_char (Rattle.std.proofs.Common.◌/◌ x 16) ∷ Rattle.std.specs.Char.digit_char (Rattle.std.proofs.Common.◌%◌ x 16) ∷ []) (x ∷ [])))
+    go : (a b : Bool)
+        → 1 ≤ length (cond a (92 ∷ escape_letter x ∷ []) (cond b (92 ∷ 117 ∷ 48 ∷ 48 ∷ digit_char (x / 16) ∷ digit_char (x % 16) ∷ []) (x ∷ [])))
     go true b = omega arith
     go false true = omega arith
     go false false = omega arith
@@ -85,12 +148,7 @@ record IsFine (t : Told) : Type 0 where
   shape : IsOfShape t
 
 abbrev AreFine : List Told → Type 0
-AreFine [] = Unit {0}
-AreFine (t ∷ ts) = IsFine t × AreFine ts
-
-fine_append : (xs ys : List Told) → AreFine xs → AreFine ys → AreFine (xs ++ ys)
-fine_append [] ys p q = q
-fine_append (x ∷ xs) ys p q = (p.0, fine_append xs ys p.1 q)
+AreFine = AllByRecursion IsFine
 
 width_fits : (kind : Kind) → (width kind == 1 || width kind == 2 || width kind == 4 || width kind == 8) ≡ true
 width_fits kinds.U8 = refl
@@ -104,7 +162,8 @@ width_fits kinds.I64 = refl
 width_fits kinds.Bool = refl
 width_fits kinds.Timer = refl
 
-what_fine : (w : What) (counted present : Bool) (path : List ℕ) → list_all is_path_byte path ≡ true → IsGoodWhat w → HasPath w path → AreFine (told_what w counted present path)
+what_fine : (w : What) (counted present : Bool) (path : List ℕ) → list_all is_path_byte path ≡ true → IsGoodWhat w → HasPath w path
+    → AreFine (told_what w counted present path)
 what_fine (Number cell) true true path bytes good some = (record { some = some; bytes = bytes; shape = tt }, tt)
 what_fine (Number cell) true false path bytes good some = (record { some = some; bytes = bytes; shape = good }, tt)
 what_fine (Number cell) false present path bytes good some = tt
@@ -117,49 +176,38 @@ what_fine (Rule holds) counted present path bytes good some = tt
 all_fine : (sent : Bool) (xs : List Element) → Each IsGoodElement xs → AreFine (tolds sent xs)
 all_fine sent [] h = tt
 all_fine sent (x ∷ xs) h =
-    fine_append (told_what x.what x.counted (sent && x.present) x.name) (tolds sent xs)
+    all_both _ (told_what x.what x.counted (sent && x.present) x.name) (tolds sent xs)
     (what_fine x.what x.counted (sent && x.present) x.name h.0.part.bytes h.0.part.what h.0.path) (all_fine sent xs h.1)
 
 one_good : (t : Told) → IsFine t → length (path_of t) ≤ LONGEST_PATH → is_good t ≡ true
 one_good (Sent path kind) h le = named_path LONGEST_PATH path (record { some = h.some; few = le; bytes = h.bytes })
-one_good (Kept path kind z) h le = and_from (is_path LONGEST_PATH path) _ (named_path LONGEST_PATH path (record { some = h.some; few = le; bytes = h.bytes })) h.shape
-one_good (Fixed path n) h le = and_from (is_path LONGEST_PATH path) _ (named_path LONGEST_PATH path (record { some = h.some; few = le; bytes = h.bytes })) h.shape
-one_good (Skipped path n) h le = and_from (is_path LONGEST_PATH path) _ (named_path LONGEST_PATH path (record { some = h.some; few = le; bytes = h.bytes })) h.shape
+one_good (Kept path kind z) h le = and_from _ _ (named_path LONGEST_PATH path (record { some = h.some; few = le; bytes = h.bytes })) h.shape
+one_good (Fixed path n) h le = and_from _ _ (named_path LONGEST_PATH path (record { some = h.some; few = le; bytes = h.bytes })) h.shape
+one_good (Skipped path n) h le = and_from _ _ (named_path LONGEST_PATH path (record { some = h.some; few = le; bytes = h.bytes })) h.shape
 
-all_good : (ts : List Told) → AreFine ts → AreLong 299 (map told_entry ts) → list_all is_good ts ≡ true
-all_good [] fine long = refl
-all_good (t ∷ ts) fine long = and_from (is_good t) (list_all is_good ts) (one_good t fine.0 (path_short t long.0)) (all_good ts fine.1 long.1)
+each_told : (ts : List Told) → AreFine ts → AreLong 299 (map told_entry ts) → list_all is_good ts ≡ true
+each_told [] fine long = refl
+each_told (t ∷ ts) fine long = and_from (is_good t) (list_all is_good ts) (one_good t fine.0 (path_short t long.0)) (each_told ts fine.1 long.1)
 
 -- of a part that isn't sent no element is in the stream
-kept_append : (xs ys : List Told) → list_all is_kept xs ≡ true → list_all is_kept ys ≡ true → list_all is_kept (xs ++ ys) ≡ true
-kept_append [] ys e f = f
-kept_append (x ∷ xs) ys e f =
-    let p = and_parts (is_kept x) (list_all is_kept xs) e in
-    and_from (is_kept x) (list_all is_kept (xs ++ ys)) p.0 (kept_append xs ys p.1 f)
-
 what_kept : (w : What) (counted : Bool) (path : List ℕ) → list_all is_kept (told_what w counted false path) ≡ true
 what_kept (Number cell) true path = refl
 what_kept (Number cell) false path = refl
-what_kept (Constant kind z) counted path = refl
-what_kept (Filler n) counted path = refl
-what_kept (Rule holds) counted path = refl
+what_kept _ counted path = refl
 
 pub all_kept : (xs : List Element) → list_all is_kept (tolds false xs) ≡ true
 all_kept [] = refl
-all_kept (x ∷ xs) = kept_append (told_what x.what x.counted false x.name) (tolds false xs) (what_kept x.what x.counted x.name) (all_kept xs)
+all_kept (x ∷ xs) =
+    list_all-append is_kept (told_what x.what x.counted false x.name) (tolds false xs) ∙ and_from _ _ (what_kept x.what x.counted x.name) (all_kept xs)
 
 -- ---- a part of a well-formed set
 
-fields_of : (fs : List Field) → ((i : ℕ) → i < length fs → IsGoodField (get_or fs i no_field)) → AreGoodFields fs
-fields_of [] h = tt
-fields_of (f ∷ fs) h = (h 0 (omega arith), fields_of fs (λ i lt. h (suc i) (omega arith)))
-
 module _ (set : Set) (well : WellFormed set) where
-  formed : Rattle.vms_desc.specs.Formed.is_well_formed set ≡ true
-  formed = ap Rattle.std.proofs.Common.is_none well
+  formed : is_well_formed set ≡ true
+  formed = ap is_none well
 
   part_fields : (part : Part) → HasPart set part → AreGoodFields (desc_at set part).fields
-  part_fields part has = fields_of (desc_at set part).fields (λ i lt. one i lt)
+  part_fields part has = all_at _ no_field (desc_at set part).fields (λ i lt. one i lt)
     where
       one : (i : ℕ) → i < length (desc_at set part).fields → IsGoodField (get_or (desc_at set part).fields i no_field)
       one i lt =
@@ -173,19 +221,19 @@ module _ (set : Set) (well : WellFormed set) where
           }
 
   struct_fields : (j : ℕ) → AreGoodFields (get_or set.structs j no_desc).fields
-  struct_fields j = by_place (nat_lt j (length set.structs)) refl
-    where
-      by_place : (b : Bool) → nat_lt j (length set.structs) ≡ b → AreGoodFields (get_or set.structs j no_desc).fields
-      by_place true e = part_fields (parts.Struct j) (ltb-true j (length set.structs) e)
-      by_place false e = subst (λ (d : Desc). AreGoodFields d.fields) (sym (get_or-eq_default set.structs no_desc (ltb-false j (length set.structs) e))) tt
+  struct_fields j =
+      ⊎_elim (λ (lt : j < length set.structs). part_fields (parts.Struct j) lt)
+      (λ (ge : length set.structs ≤ j). rw (get_or-eq_default set.structs no_desc ge) tt) (cases_lt j (length set.structs))
 
-  pub part_few : (part : Part) → HasPart set part → (sent : Bool) (n : List ℤ) (at : ℕ) → length (told_part set (desc_at set part) sent n at) ≤ items_in (struct_items set.structs) (desc_at set part).fields
+  pub part_few : (part : Part) → HasPart set part → (sent : Bool) (n : List ℤ) (at : ℕ)
+      → length (told_part set (desc_at set part) sent n at) ≤ items_in (struct_items set.structs) (desc_at set part).fields
   part_few part has sent n at =
       let d = desc_at set part in
       let few = entries_few (shapes set) (struct_items set.structs) (struct_depths set.structs) (fit set formed) d d.version sent [] n at in
       omega (arith, few, ap length (part_same set d sent n at), length-map (told_part set d sent n at) told_entry)
 
-  part_long : (part : Part) → HasPart set part → items_in (struct_items set.structs) (desc_at set part).fields ≤ 16384 → (sent : Bool) (n : List ℤ) (at : ℕ) → AreLong 299 (part_entries set (desc_at set part) sent n at)
+  part_long : (part : Part) → HasPart set part → items_in (struct_items set.structs) (desc_at set part).fields ≤ 16384 → (sent : Bool) (n : List ℤ) (at : ℕ)
+      → AreLong 299 (part_entries set (desc_at set part) sent n at)
   part_long part has few sent n at =
       let d = desc_at set part in
       let depths = struct_depths set.structs in
@@ -193,9 +241,122 @@ module _ (set : Set) (well : WellFormed set) where
       longer (0 + 40 * deepest depths d.fields + 107) 299 (part_entries set d sent n at) (omega arith)
       (entries_long (shapes set) (struct_items set.structs) depths (fit set formed) d d.version sent [] n at tt (part_sound set formed part has) few)
 
-  pub part_good : (part : Part) → HasPart set part → items_in (struct_items set.structs) (desc_at set part).fields ≤ 16384 → (sent : Bool) (n : List ℤ) (at : ℕ) → list_all is_good (told_part set (desc_at set part) sent n at) ≡ true
+  pub part_good : (part : Part) → HasPart set part → items_in (struct_items set.structs) (desc_at set part).fields ≤ 16384
+      → (sent : Bool) (n : List ℤ) (at : ℕ) → list_all is_good (told_part set (desc_at set part) sent n at) ≡ true
   part_good part has few sent n at =
       let d = desc_at set part in
-      all_good (told_part set d sent n at)
+      each_told (told_part set d sent n at)
       (all_fine sent (elements_in set d d.version n at) (elements_good set struct_fields d (part_fields part has) d.version n at))
       (subst (λ (es : List Entry). AreLong 299 es) (sym (part_same set d sent n at)) (part_long part has few sent n at))
+
+-- ---- The description of a well-formed set has the right shape.
+
+-- ---- what is described has the shape
+
+abbrev no_device : Device
+no_device = record { instance = 0; desc = no_desc; subs = [] }
+
+abbrev no_sub : Sub
+no_sub = record { desc = no_desc; needed = AtLeast 0 }
+
+sub_few : (sizes : List ℕ) (subs : List Sub) (j : ℕ) → j < length subs → items_in sizes (get_or subs j no_sub).desc.fields ≤ subs_items sizes subs
+sub_few sizes [] j lt = absurd (omega arith)
+sub_few sizes (s ∷ subs) zero lt = omega arith
+sub_few sizes (s ∷ subs) (suc j) lt = let h = sub_few sizes subs j (omega arith) in omega arith
+
+device_few : (sizes : List ℕ) (devices : List Device) (i : ℕ) → i < length devices
+    → items_in sizes (get_or devices i no_device).desc.fields + subs_items sizes (get_or devices i no_device).subs ≤ devices_items sizes devices
+device_few sizes [] i lt = absurd (omega arith)
+device_few sizes (d ∷ devices) zero lt = omega arith
+device_few sizes (d ∷ devices) (suc i) lt = let h = device_few sizes devices i (omega arith) in omega arith
+
+-- what a description of the set says
+pub record IsGoodPart (set : Set) (most : ℕ) (d : Desc) : Type 0 where
+  pub name : IsNamed most d.name
+  pub version : fits_four d.version ≡ true
+  pub elements : (sent : Bool) (n : List ℤ) (at : ℕ) → list_all is_good (told_part set d sent n at) ≡ true
+  pub few : (sent : Bool) (n : List ℤ) (at : ℕ) → length (told_part set d sent n at) ≤ items_in (struct_items set.structs) d.fields
+
+abbrev pub AreGoodSubs : Set → List Sub → Type 0
+AreGoodSubs set = AllByRecursion (λ (s : Sub). IsGoodPart set 165 s.desc)
+
+pub record IsGoodDevice (set : Set) (d : Device) : Type 0 where
+  pub own : IsGoodPart set 100 d.desc
+  pub instance : fits_four d.instance ≡ true
+  pub subs : AreGoodSubs set d.subs
+  pub few : length d.subs ≤ 32
+
+abbrev pub AreGoodDevices : Set → List Device → Type 0
+AreGoodDevices set = AllByRecursion (IsGoodDevice set)
+
+kept_or_sent : (set : Set) (d : Desc) (c : Option ℕ) (n : List ℤ) (at : ℕ) → (is_some c || list_all is_kept (told_part set d (is_some c) n at)) ≡ true
+kept_or_sent set d None n at = all_kept (elements_in set d d.version n at)
+kept_or_sent set d (Some v) n at = refl
+
+subs_good : (set : Set) (n : List ℤ) (at : ℕ) (subs : List Sub) (came : List (Option ℕ)) → AreGoodSubs set subs
+    → list_all is_good_sub (told_subs set n at subs came) ≡ true
+subs_good set n at [] came h = refl
+subs_good set n at (s ∷ subs) [] h = refl
+subs_good set n at (s ∷ subs) (c ∷ came) h =
+    let t = told_sub_of set n at s c in
+    and_from (is_good_sub t) _
+    (sub_from t
+    (record {
+      name = named_path LONGEST_NAME s.desc.name (named_within 165 LONGEST_NAME s.desc.name (omega arith) h.0.name);
+      version = h.0.version;
+      elements = h.0.elements (is_some c) n at;
+      kept = kept_or_sent set s.desc c n at;
+    })) (subs_good set n (at + length (desc_cells (struct_cells set) s.desc)) subs came h.1)
+
+devices_good : (set : Set) (devices : List Device) (images : List Image) → AreGoodDevices set devices
+    → list_all is_good_device (told_devices set devices images) ≡ true
+devices_good set [] images h = refl
+devices_good set (d ∷ devices) [] h = refl
+devices_good set (d ∷ devices) (image ∷ images) h =
+    let t = told_device_of set d image in
+    and_from (is_good_device t) _
+    (device_from t
+    (record {
+      name = named_path LONGEST_NAME d.desc.name (named_within 100 LONGEST_NAME d.desc.name (omega arith) h.0.own.name);
+      instance = h.0.instance;
+      version = h.0.own.version;
+      elements = h.0.own.elements true image.numbers 0;
+      subs = subs_good set image.numbers (own_cells set d) d.subs image.came h.0.subs;
+    })) (devices_good set devices images h.1)
+
+module _ (set : Set) (well : WellFormed set) (heads : FitsHeads set) where
+  device_good : (i : ℕ) → i < length set.devices → IsGoodDevice set (device_at set i)
+  device_good i lt =
+      let sizes = struct_items set.structs in
+      let d = device_at set i in
+      let here = slice_get-get_or set.devices i no_device lt in
+      let rules = (device_clean set (formed set well) i lt).own in
+      let name = name_named 100 d.desc.name rules.0 in
+      let few = few_items set (formed set well) in
+      let items = device_few sizes set.devices i lt in
+      record {
+        own = record {
+          name = name;
+          version = lt-ltb _ _ (omega (arith, (heads.instance i d here).1));
+          elements = part_good set well (parts.Device i) lt (omega arith);
+          few = part_few set well (parts.Device i) lt;
+        };
+        instance = lt-ltb _ _ (omega (arith, (heads.instance i d here).0));
+        subs = all_at _ no_sub d.subs (λ j l.
+            let s = sub_at d j in
+            let own = (sub_clean set (formed set well) i j lt l).own in
+            let inner = sub_few sizes d.subs j l in
+            record {
+              name = sub_named d.desc.name s.desc.name name own.0;
+              version = lt-ltb _ _ (omega (arith, heads.sub_version i j d s here (slice_get-get_or d.subs j no_sub l)));
+              elements = part_good set well (parts.Sub i j) (lt, l) (omega arith);
+              few = part_few set well (parts.Sub i j) (lt, l);
+            });
+        few = few_subs set (formed set well) i lt;
+      }
+
+  pub all_good : AreGoodDevices set set.devices
+  all_good = all_at _ no_device set.devices device_good
+
+  pub told_good : (images : List Image) → list_all is_good_device (told set images) ≡ true
+  told_good images = devices_good set set.devices images all_good

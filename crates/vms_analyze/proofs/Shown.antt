@@ -3,7 +3,7 @@ use Rattle.std.proofs.Common.{◌≡◌, ℕ, ◌+◌, ◌<◌, ◌≤◌, true,
 use Rattle.std.specs.Str.{is_utf8}
 use Rattle.serde_json.specs.Written.{compact_text}
 use Rattle.vms_json.specs.Texts.{value_in}
-use Rattle.vms_analyze.proofs.Ascii.{told_text}
+use Rattle.vms_analyze.proofs.Texts.{told_text, HasNoMark, last_place, tree_sound, text_printed, no_mark}
 use Rattle.std.specs.List.{flat_map}
 use Rattle.json.specs.Print.{escape_byte}
 use Rattle.serde_json.specs.Data.{Data}
@@ -29,13 +29,9 @@ use Rattle.vms_analyze.specs.Wanted.{Bytes, Lines, device_wants, wants, found}
 use Rattle.vms_analyze.specs.Listing.{IsLastPlace, Tells, Listing, Text, listing_of, Lists, IsRead}
 use Rattle.vms_analyze.specs.Telling.{told}
 use Rattle.vms_analyze.specs.Laws.{ReadBackLaw, ShownLaw}
-use Rattle.vms_analyze.proofs.Good.{all_good, told_good}
+use Rattle.vms_analyze.proofs.Shapes.{all_good, told_good, tree_same}
 use Rattle.vms_analyze.proofs.Lengths.{total_append, found_long, devices_long}
-use Rattle.vms_analyze.proofs.Places.{HasNoMark, last_place}
-use Rattle.vms_analyze.proofs.ReadBack.{tree_sound}
 use Rattle.vms_analyze.proofs.Streams.{front, front_found}
-use Rattle.vms_analyze.proofs.Texts.{text_printed, no_mark}
-use Rattle.vms_analyze.proofs.Trees.{tree_same}
 
 -- a description begins with `{"de`
 begins : (set : Set) (images : List Image) → described_text set images ≡ 0x7b ∷ 0x22 ∷ 0x64 ∷ 0x65 ∷ drop 4 (described_text set images)
@@ -69,7 +65,8 @@ module _ (set : Set) (well : WellFormed set) (heads : FitsHeads set) (images : L
   pub text_is : value_in text ≡ Some (told_tree (told set images))
   text_is =
       let same = tree_same set images in
-      let utf8 : is_utf8 text ≡ true = subst (λ (d : Data). is_utf8 (compact_text d) ≡ true) same (told_text (told set images) (told_good set well heads images)) in
+      let utf8 : is_utf8 text ≡ true =
+      subst (λ (d : Data). is_utf8 (compact_text d) ≡ true) same (told_text (told set images) (told_good set well heads images)) in
       ap (λ (b : Bool). if b then read text else None) utf8 ∙ text_read
 
   tells : (before : List ℕ) → Tells (before ++ trailer text) (length before) (told set images)
@@ -92,7 +89,17 @@ module _ (set : Set) (well : WellFormed set) (heads : FitsHeads set) (images : L
       let items = few_items set formed in
       let devices = few_devices set well in
       let most = devices_long set set.devices images (all_good set well heads) in
-      omega (arith, long, items, devices, most, short, total_append (flat_map device_wants (told set images)) (Bytes end_mark ∷ []), length-append before (trailer text))
+      omega (
+        arith,
+        long,
+        items,
+        devices,
+        most,
+        short,
+        total_append (flat_map device_wants (told set images)) (Bytes end_mark ∷ []),
+        length-append before
+            (trailer text),
+      )
 
   pub shown : (machine : Option (List ℕ)) → IsMachineOf set machine → AreReady set images
       → Lists (written set machine images (Some text)) (Text (Rattle.vms_spec.specs.Values.values_text set machine images))

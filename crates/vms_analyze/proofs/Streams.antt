@@ -1,40 +1,311 @@
--- What is written for ready images is found as described.
-use Rattle.std.proofs.Common.{◌≡◌, ℕ, ◌+◌, ◌<◌, ◌^◌, Bool, true, false, ◌&&◌, ◌==◌, nat_le, if◌then◌else◌, List, [], ◌∷◌, ◌++◌, length, append_assoc, append-nil, get_or, Option, Some, None, refl, ap, ◌∙◌, arith, codes}
-use Rattle.std.proofs.lemmas.Bool.{le-leb, and_parts, and_from}
+-- What is written for ready images is found as described: elements, devices and streams.
+use Rattle.std.proofs.Common.{◌≡◌, ℕ, Bool, true, false, ◌&&◌, List, [], ◌∷◌, ◌++◌, append_assoc, append-nil, get_or, map, replicate, None, ℤ, pos, refl, sym, ap, ◌∙◌, codes, if◌then◌else◌, suc, ◌+◌, ◌<◌, ◌≤◌, ◌^◌, length, Option, Some, arith, ◌==◌, nat_le}
+use Rattle.std.specs.Fmt.{signed_decimal}
+use Rattle.std.proofs.lemmas.List.{map-append, length-replicate}
+use Rattle.std.proofs.lemmas.Bool.{and_parts, le-leb, and_from}
+use Rattle.vms_kinds.specs.Codes.{width, code, InRange}
+use Rattle.vms_spec.proofs.KindLaws.{length-code, be32_read}
+use Rattle.vms_spec.specs.Layout.{Slot, desc_cells, struct_cells, meanings, desc_slots, Cell}
+use Rattle.vms_spec.specs.Images.{zeroed, Image, own_cells, own_slots, sub_slots}
+use Rattle.vms_spec.proofs.NumberLaws.{same_number_is}
+use Rattle.vms_elements.specs.Elements.{What, Number, Constant, Filler, Rule, Element}
+use Rattle.vms_elements.specs.Parts.{is_number, slot_of, slots_of, elements_in}
+use Rattle.vms_elements.specs.Lines.{printed, number_line, number_lines, section_line, sub_line, subs_lines, device_lines, devices_lines, machine_lines, values_lines}
+use Rattle.vms_elements.specs.Entries.{OfNumber, has_default, have_defaults, line_reason, if_not, came_well, number_entries, subs_entries, device_entries, devices_entries, entries}
+use Rattle.vms_elements.specs.Reading.{AreFine, AreAtVersions, IsShaped, AreShaped, IsMachineOf}
+use Rattle.vms_elements.proofs.Members.{Each}
+use Rattle.vms_values_laws.proofs.Rights.{line_number, reason_fits, fine_rest, begins_itself, IsFitting}
+use Rattle.vms_values_laws.proofs.Numbers.{AreShort, of_numbers}
+use Rattle.vms_elements.proofs.Walk.{IsCounted, AreCounted, walks}
+use Rattle.vms_analyze.specs.Told.{Kept}
+use Rattle.vms_analyze.specs.Wanted.{element_want, Bytes, sub_wants, device_wants, Want, Machine, wants, took, take_machine, is_machine, taken, Found, Lines, behind, found_after, found}
+use Rattle.vms_analyze.specs.Telling.{told_what, tolds, told_part, told_subs, told_device_of, told_devices, told}
+use Rattle.vms_analyze.proofs.Following.{Follows, none_follows, one_follows, both_follow, follows_as, takes_line, takes_any, takes_number, takes_bytes, takes_foot, takes_head, Takes, if_so}
+use Rattle.std.proofs.Math.Bool.{and-false, and-true}
 use Rattle.std.specs.List.{flat_map, list_all}
+use Rattle.vms_spec.specs.Sets.{Desc, Sub, Device, Set}
+use Rattle.vms_spec.specs.Streams.{sub_head, section_head, foot, is_needed, written_subs, written_section, written_sections, AreReady, is_one_of, be32, magic, stream_head, configuration, end_mark, optional}
+use Rattle.vms_elements.proofs.SlotsOf.{elements_slots}
+use Rattle.vms_values_laws.proofs.AllCome.{short_are}
+use Rattle.vms_values_laws.proofs.ReadyParts.{fine_both, AreGood, good_both}
 use Rattle.byteorder.specs.Endian.{big_number}
 use Rattle.vms_spec.specs.declared.TheConstants.{LONGEST_NAME}
 use Rattle.vms_spec.specs.Lookup.{number_at, bytes_at}
 use Rattle.vms_spec.specs.Names.{is_name, is_name_byte}
-use Rattle.vms_spec.specs.Sets.{Device, Set}
-use Rattle.vms_spec.specs.Images.{Image}
-use Rattle.vms_spec.specs.Streams.{AreReady, is_one_of, be32, magic, stream_head, configuration, end_mark, optional, written_sections}
 use Rattle.vms_spec.specs.Values.{values_text}
-use Rattle.vms_spec.specs.declared.Part.TheVariants as parts
 use Rattle.vms_spec.specs.WellFormed.{WellFormed, failing, first_fault, here, set_rules}
 use Rattle.vms_spec.proofs.Faultless.{machine_short, few_devices, all_true, or_else_none, every_one}
-use Rattle.vms_spec.proofs.KindLaws.{be32_read}
 use Rattle.vms_bodies.proofs.BodyOnly.{front_take}
-use Rattle.vms_elements.specs.Lines.{machine_lines, devices_lines, values_lines}
-use Rattle.vms_elements.specs.Entries.{devices_entries, entries}
-use Rattle.vms_elements.specs.Reading.{IsMachineOf, AreFine}
-use Rattle.vms_values_laws.proofs.FineNumbers.{begins_itself}
 use Rattle.vms_values_laws.proofs.ReadyBack.{text_says}
-use Rattle.vms_values_laws.proofs.ReadyParts.{AreGood}
-use Rattle.vms_analyze.specs.Wanted.{Want, Bytes, Machine, device_wants, wants, took, take_machine, is_machine, taken, Found, Lines, behind, found_after, found}
-use Rattle.vms_analyze.specs.Telling.{told}
-use Rattle.vms_analyze.proofs.Following.{Takes, one_follows, both_follow, takes_bytes, if_so}
-use Rattle.vms_analyze.proofs.DevicesFollow.{last, devices_follow}
+use Rattle.vms_spec.specs.declared.ValuesReason.TheVariants as reasons
+use Rattle.vms_spec.specs.declared.Part.TheVariants as parts
+
+-- ---- The elements of a part are found as described: those in the bytes are taken, and the printed numbers are listed.
+
+-- ---- what is required of an element
+
+-- a number in the bytes is counted and in range, and one that has only a line is its default
+abbrev pub IsSaidAs : Bool → What → Bool → Bool → ℤ → Type 0
+IsSaidAs sent (Number cell) counted present z =
+    ((sent && present) ≡ true → (counted ≡ true) × InRange cell.kind z) × (counted ≡ true → (sent && present) ≡ false → z ≡ cell.default)
+IsSaidAs sent (Constant kind y) counted present z = Unit {0}
+IsSaidAs sent _ counted present z = Unit {0}
+
+abbrev pub IsSaid : Bool → List ℤ → Element → Type 0
+IsSaid sent n x = IsSaidAs sent x.what x.counted x.present (get_or n x.cell (pos 0))
+
+-- ---- one element
+
+-- its bytes and its line
+abbrev bytes_if : List ℤ → Bool → ℕ → What → List ℕ
+bytes_if n true at w = zeroed n (slot_of at w ∷ [])
+bytes_if n false at w = []
+
+abbrev lines_if : Bool → List ℕ → List (List ℕ)
+lines_if true line = line ∷ []
+lines_if false line = []
+
+module _ (n : List ℤ) (id : ℕ) where
+  number_follows : (sent counted present : Bool) (cell : Cell) (at : ℕ) (name : List ℕ) → IsSaidAs sent (Number cell) counted present (get_or n at (pos 0))
+      → Follows (map element_want (told_what (Number cell) counted (sent && present) name)) id (bytes_if n (sent && present) at (Number cell)) id
+      (lines_if counted (name ++ (codes " = " ++ signed_decimal (get_or n at (pos 0)))))
+  number_follows sent counted present cell at name said = go counted (sent && present) said.0 said.1
+    where
+      z : ℤ
+      z = get_or n at (pos 0)
+
+      go : (c p : Bool) → (p ≡ true → (c ≡ true) × InRange cell.kind z) → (c ≡ true → p ≡ false → z ≡ cell.default)
+          → Follows (map element_want (told_what (Number cell) c p name)) id (bytes_if n p at (Number cell)) id
+          (lines_if c (name ++ (codes " = " ++ signed_decimal z)))
+      go true true f g =
+          rw (append-nil (code cell.kind z)) (one_follows (takes_number name cell.kind z id (f refl).1))
+      go true false f g =
+          follows_as (ap (λ (y : ℤ). element_want (Kept name cell.kind y) ∷ []) (g refl refl)) refl refl
+          (one_follows (takes_line (name ++ (codes " = " ++ signed_decimal z)) id))
+      go false true f g = no (f refl).0
+        where
+          no : false ≡ true → Follows (map element_want (told_what (Number cell) false true name)) id (bytes_if n true at (Number cell)) id []
+          no e = cc
+      go false false f g = none_follows id
+
+  one : (sent : Bool) (w : What) (counted present : Bool) (at : ℕ) (name : List ℕ) → IsSaidAs sent w counted present (get_or n at (pos 0))
+      → Follows (map element_want (told_what w counted (sent && present) name)) id (bytes_if n (sent && present) at w) id
+      (lines_if (counted && is_number w) (name ++ (codes " = " ++ signed_decimal (get_or n at (pos 0)))))
+  one sent (Number cell) counted present at name said = rw (and-true counted) (number_follows sent counted present cell at name said)
+  one sent (Constant kind y) counted present at name said = rw (and-false counted) (by (sent && present))
+    where
+      by : (p : Bool) → Follows (map element_want (told_what (Constant kind y) counted p name)) id (bytes_if n p at (Constant kind y)) id []
+      by true = rw (append-nil (code kind y)) (one_follows (takes_any (code kind y) (width kind) id (length-code kind y)))
+      by false = none_follows id
+  one sent (Filler m) counted present at name said = rw (and-false counted) (by (sent && present))
+    where
+      by : (p : Bool) → Follows (map element_want (told_what (Filler m) counted p name)) id (bytes_if n p at (Filler m)) id []
+      by true = rw (append-nil {A = ℕ} (replicate m 0)) (one_follows (takes_any (replicate m 0) m id (length-replicate m 0)))
+      by false = none_follows id
+  one sent (Rule holds) counted present at name said = rw (and-false counted) (by (sent && present))
+    where
+      by : (p : Bool) → Follows [] id (bytes_if n p at (Rule holds)) id []
+      by true = none_follows id
+      by false = none_follows id
+
+  -- ---- all of them
+
+  abbrev bytes_of : Bool → List Element → List ℕ
+  bytes_of sent [] = []
+  bytes_of sent (x ∷ xs) = bytes_if n (sent && x.present) x.cell x.what ++ bytes_of sent xs
+
+  zeroed_more : (b : Bool) (at : ℕ) (w : What) (ss : List Slot) → bytes_if n b at w ++ zeroed n ss ≡ zeroed n (if b then slot_of at w ∷ ss else ss)
+  zeroed_more false at w ss = refl
+  zeroed_more true at (Number cell) ss = append_assoc (code cell.kind (get_or n at (pos 0))) [] (zeroed n ss)
+  zeroed_more true at (Constant kind y) ss = append_assoc (code kind y) [] (zeroed n ss)
+  zeroed_more true at (Filler m) ss = append_assoc (replicate m 0) [] (zeroed n ss)
+  zeroed_more true at (Rule holds) ss = refl
+
+  sent_bytes : (xs : List Element) → bytes_of true xs ≡ zeroed n (slots_of xs)
+  sent_bytes [] = refl
+  sent_bytes (x ∷ xs) = ap (λ (l : List ℕ). bytes_if n x.present x.cell x.what ++ l) (sent_bytes xs) ∙ zeroed_more x.present x.cell x.what (slots_of xs)
+
+  no_bytes : (xs : List Element) → bytes_of false xs ≡ []
+  no_bytes [] = refl
+  no_bytes (x ∷ xs) = no_bytes xs
+
+  line_more : (b : Bool) (x : Element) (xs : List Element)
+      → lines_if b (number_line n x) ++ map (number_line n) xs ≡ map (number_line n) (if b then x ∷ xs else xs)
+  line_more true x xs = refl
+  line_more false x xs = refl
+
+  all_follow : (sent : Bool) (xs : List Element) → Each (IsSaid sent n) xs
+      → Follows (map element_want (tolds sent xs)) id (bytes_of sent xs) id (map (number_line n) (printed xs))
+  all_follow sent [] said = none_follows id
+  all_follow sent (x ∷ xs) said =
+      follows_as (sym (map-append element_want (told_what x.what x.counted (sent && x.present) x.name) (tolds sent xs))) refl
+      (line_more (x.counted && is_number x.what) x (printed xs))
+      (both_follow (one sent x.what x.counted x.present x.cell x.name said.0) (all_follow sent xs said.1))
+
+  -- of a part that is in the stream
+  pub sent_follow : (xs : List Element) → Each (IsSaid true n) xs
+      → Follows (map element_want (tolds true xs)) id (zeroed n (slots_of xs)) id (map (number_line n) (printed xs))
+  sent_follow xs said = follows_as refl (sent_bytes xs) refl (all_follow true xs said)
+
+  -- of one that doesn't
+  pub kept_follow : (xs : List Element) → Each (IsSaid false n) xs → Follows (map element_want (tolds false xs)) id [] id (map (number_line n) (printed xs))
+  kept_follow xs said = follows_as refl (no_bytes xs) refl (all_follow false xs said)
+
+-- ---- from the lines of a text
+
+said_as : (n : List ℤ) (short : AreShort n) (x : Element) (w : What) → x.what ≡ w → IsCounted x
+    → (x.counted ≡ true → is_number w ≡ true → line_reason (OfNumber x n) (number_line n x) ≡ None)
+    → IsSaidAs true w x.counted x.present (get_or n x.cell (pos 0))
+said_as n short x (Number cell) e counted fine = (
+  λ p. (counted p, (fits (counted p)).fits.0),
+  λ c p. (fits c).absent p,
+)
+  where
+    fits : x.counted ≡ true → IsFitting cell x.present (get_or n x.cell (pos 0))
+    fits c = reason_fits cell x.present (get_or n x.cell (pos 0)) (sym (line_number x n cell e (short x.cell)) ∙ fine c refl)
+said_as n short x (Constant kind y) e counted fine = tt
+said_as n short x _ e counted fine = tt
+
+pub fine_said : (n : List ℤ) → AreShort n → (xs : List Element) → AreCounted xs → AreFine (of_numbers n (printed xs)) → Each (IsSaid true n) xs
+fine_said n short [] counted fine = tt
+fine_said n short (x ∷ xs) counted fine =
+    (said_as n short x x.what refl counted.0 its_line, fine_said n short xs counted.1 (fine_rest n x xs (x.counted && is_number x.what) fine))
+  where
+    first : (b : Bool) → AreFine (of_numbers n (if b then x ∷ printed xs else printed xs)) → b ≡ true → line_reason (OfNumber x n) (number_line n x) ≡ None
+    first true f e = f.0
+    first false f e = cc
+
+    its_line : x.counted ≡ true → is_number x.what ≡ true → line_reason (OfNumber x n) (number_line n x) ≡ None
+    its_line c w = first (x.counted && is_number x.what) fine (ap (λ (b : Bool). b && is_number x.what) c ∙ w)
+
+kept_as : (n : List ℤ) (at : ℕ) (w : What) (counted present : Bool) → has_default n at w ≡ true → IsSaidAs false w counted present (get_or n at (pos 0))
+kept_as n at (Number cell) counted present h = (λ p. no p, λ c p. same_number_is (get_or n at (pos 0)) cell.default h)
+  where
+    no : false ≡ true → (counted ≡ true) × InRange cell.kind (get_or n at (pos 0))
+    no e = cc
+kept_as n at (Constant kind y) counted present h = tt
+kept_as n at _ counted present h = tt
+
+pub default_said : (n : List ℤ) (xs : List Element) → have_defaults n xs ≡ true → Each (IsSaid false n) xs
+default_said n [] h = tt
+default_said n (x ∷ xs) h =
+    let p = and_parts (has_default n x.cell x.what) (have_defaults n xs) h in
+    (kept_as n x.cell x.what x.counted x.present p.0, default_said n xs p.1)
+
+-- ---- What is written for ready images is found as described, device after device.
+
+-- what isn't needed is at its defaults
+at_defaults : (needed defaults : Bool) → if_not (came_well needed None defaults) reasons.Needed ≡ None → defaults ≡ true
+at_defaults true defaults e = cc
+at_defaults false true e = refl
+at_defaults false false e = cc
+
+module _ (set : Set) (d : Device) (image : Image) (short : AreShort image.numbers) (id : ℕ) where
+  abbrev n : List ℤ
+  n = image.numbers
+
+  -- a part that is sent
+  part_follows : (desc : Desc) (at : ℕ) → AreFine (number_entries set desc n at) → Follows (map element_want (told_part set desc true n at)) id
+      (zeroed n (desc_slots (meanings set.structs (length set.structs)) desc desc.version n at)) id (number_lines set desc n at)
+  part_follows desc at fine =
+      let xs = elements_in set desc desc.version n at in
+      follows_as refl (ap (zeroed n) (elements_slots set desc desc.version n at)) refl
+      (sent_follow n id xs (fine_said n short xs (walks set desc desc.version desc.version n n at at).counted fine))
+
+  sub_came : (s : Sub) (at : ℕ) → AreFine (number_entries set s.desc n at)
+      → Follows (sub_wants (record { name = s.desc.name; sent = true; version = s.desc.version; elements = told_part set s.desc true n at })) id
+      (sub_head s.desc.name s.desc.version ++ zeroed n (sub_slots set s s.desc.version n at)) id
+      (sub_line s (Some s.desc.version) ∷ number_lines set s.desc n at)
+  sub_came s at fine =
+      both_follow (one_follows (takes_bytes (sub_head s.desc.name s.desc.version) id))
+      (both_follow (one_follows (takes_line (sub_line s (Some s.desc.version)) id)) (part_follows s.desc at fine))
+
+  sub_kept : (s : Sub) (at : ℕ) → have_defaults n (elements_in set s.desc s.desc.version n at) ≡ true
+      → Follows (sub_wants (record { name = s.desc.name; sent = false; version = s.desc.version; elements = told_part set s.desc false n at })) id [] id
+      (sub_line s None ∷ number_lines set s.desc n at)
+  sub_kept s at have =
+      let xs = elements_in set s.desc s.desc.version n at in
+      both_follow (one_follows (takes_line (sub_line s None) id)) (kept_follow n id xs (default_said n xs have))
+
+  subs_follow : (j at : ℕ) (subs : List Sub) (came : List (Option ℕ)) → AreAtVersions subs came → AreFine (subs_entries set d image j at subs came)
+      → AreGood set (subs_entries set d image j at subs came)
+      → Follows (flat_map sub_wants (told_subs set n at subs came)) id (written_subs set d image at subs came) id (subs_lines set n at subs came)
+  subs_follow j at [] came versions fine good = none_follows id
+  subs_follow j at (s ∷ subs) [] versions fine good = none_follows id
+  subs_follow j at (s ∷ subs) (None ∷ came) versions fine good =
+      let next = at + length (desc_cells (struct_cells set) s.desc) in
+      let numbers = number_entries set s.desc n at in
+      let others = subs_entries set d image (suc j) next subs came in
+      let f = fine_both numbers others fine.1 in
+      let g = good_both set numbers others good.1 in
+      let have = at_defaults (is_needed set d image s j) (have_defaults n (elements_in set s.desc s.desc.version n at)) good.0 in
+      both_follow (sub_kept s at have) (subs_follow (suc j) next subs came versions.1 f.1 g.1)
+  subs_follow j at (s ∷ subs) (Some v ∷ came) versions fine good =
+      let next = at + length (desc_cells (struct_cells set) s.desc) in
+      let numbers = number_entries set s.desc n at in
+      let others = subs_entries set d image (suc j) next subs came in
+      let f = fine_both numbers others fine.1 in
+      let g = good_both set numbers others good.1 in
+      let rest = written_subs set d image next subs came in
+      let lines = number_lines set s.desc n at ++ subs_lines set n next subs came in
+      follows_as refl (ap (λ (w : ℕ). sub_head s.desc.name w ++ zeroed n (sub_slots set s w n at) ++ rest) (sym versions.0))
+      (ap (λ (w : ℕ). sub_line s (Some w) ∷ lines) (sym versions.0)) (both_follow (sub_came s at f.0) (subs_follow (suc j) next subs came versions.1 f.1 g.1))
+
+  -- a device, whichever section was open
+  pub device_follows : (old : ℕ) → id < 2 ^ 32 → IsShaped set d image → AreFine (device_entries set d image) → AreGood set (device_entries set d image)
+      → Follows (device_wants (told_device_of set d image)) old (written_section set d image id) id (device_lines set d image)
+  device_follows old small shaped fine good =
+      let numbers = number_entries set d.desc n 0 in
+      let others = subs_entries set d image 0 (own_cells set d) d.subs image.came in
+      let f = fine_both numbers others fine.1 in
+      let g = good_both set numbers others good.1 in
+      let body = zeroed n (own_slots set d d.desc.version n) in
+      let subs = written_subs set d image (own_cells set d) d.subs image.came in
+      let lines = number_lines set d.desc n 0 in
+      let later = subs_lines set n (own_cells set d) d.subs image.came in
+      follows_as refl (ap (λ (v : ℕ). section_head id d.desc.name d.instance v ++ zeroed n (own_slots set d v n) ++ subs ++ foot id) (sym shaped.version))
+      (ap (λ (l : List (List ℕ)). section_line d d.desc.version ∷ l) (append-nil (lines ++ later)) ∙ ap (λ (v : ℕ). section_line d v ∷ (lines ++ later))
+      (sym shaped.version))
+      (both_follow
+      (both_follow (both_follow (one_follows (takes_head d.desc.name d.instance d.desc.version old id small)) (part_follows d.desc 0 f.0))
+      (subs_follow 0 (own_cells set d) d.subs image.came shaped.versions f.1 g.1))
+      (one_follows (takes_foot id)))
+
+-- ---- all devices
+
+-- the section that is open after them
+abbrev pub last : ℕ → ℕ → List Device → List Image → ℕ
+last old id [] images = old
+last old id (d ∷ devices) [] = old
+last old id (d ∷ devices) (image ∷ images) = last id (suc id) devices images
+
+pub devices_follow : (set : Set) (old id : ℕ) (devices : List Device) (images : List Image) → id + length devices ≤ 2 ^ 32 → AreShaped set devices images
+    → AreFine (devices_entries set devices images) → AreGood set (devices_entries set devices images)
+    → Follows (flat_map device_wants (told_devices set devices images)) old (written_sections set id devices images) (last old id devices images)
+    (devices_lines set devices images)
+devices_follow set old id [] images few shaped fine good = none_follows old
+devices_follow set old id (d ∷ devices) [] few shaped fine good = none_follows old
+devices_follow set old id (d ∷ devices) (image ∷ images) few shaped fine good =
+    let here = device_entries set d image in
+    let others = devices_entries set devices images in
+    let f = fine_both here others fine in
+    let g = good_both set here others good in
+    both_follow (device_follows set d image (short_are image.numbers shaped.0.short) id old (omega arith) shaped.0 f.0 g.0)
+    (devices_follow set id (suc id) devices images (omega arith) shaped.1 f.1 g.1)
+
+-- ---- What is written for ready images is found as described.
 
 -- ---- the machine
 
-pub takes_machine : (name : List ℕ) (id : ℕ) → is_machine name ≡ true → length name < 2 ^ 32 → Takes Machine id (configuration name) id ((codes "machine " ++ name) ∷ [])
+pub takes_machine : (name : List ℕ) (id : ℕ) → is_machine name ≡ true → length name < 2 ^ 32
+    → Takes Machine id (configuration name) id ((codes "machine " ++ name) ∷ [])
 takes_machine name id good small = record { is = λ more. whole more }
   where
     whole : (more : List ℕ) → taken Machine id (configuration name ++ more) ≡ Some (took (length (configuration name)) id ((codes "machine " ++ name) ∷ []))
     whole more =
         let rest = configuration name ++ more in
-        let long : number_at 4 1 rest ≡ length name = ap (big_number 4) (append_assoc (be32 (length name)) name more) ∙ be32_read (length name) (name ++ more) small in
+        let long : number_at 4 1 rest ≡ length name =
+        ap (big_number 4) (append_assoc (be32 (length name)) name more) ∙ be32_read (length name) (name ++ more) small in
         let its : bytes_at (number_at 4 1 rest) 5 rest ≡ name =
         ap (λ (k : ℕ). bytes_at k 5 rest) long ∙ front_take (length name) name more _ (append_assoc [] name more) refl in
         ap (λ (l : List ℕ). take_machine id rest l) its
@@ -57,7 +328,8 @@ machine_good set well name h =
 pub no_machine : (id : ℕ) (rest : List ℕ) → (get_or rest 0 0 == 7) ≡ false → taken Machine id rest ≡ Some (took 0 id [])
 no_machine id rest e = ap (λ (b : Bool). if b then take_machine id rest (bytes_at (number_at 4 1 rest) 5 rest) else Some (took 0 id [])) e
 
-section_first : (set : Set) (id : ℕ) (devices : List Device) (images : List Image) → (get_or (written_sections set id devices images ++ end_mark) 0 0 == 7) ≡ false
+section_first : (set : Set) (id : ℕ) (devices : List Device) (images : List Image)
+    → (get_or (written_sections set id devices images ++ end_mark) 0 0 == 7) ≡ false
 section_first set id [] images = refl
 section_first set id (d ∷ devices) [] = refl
 section_first set id (d ∷ devices) (image ∷ images) = refl
@@ -70,17 +342,19 @@ module _ (set : Set) (well : WellFormed set) (images : List Image) (us : List Wa
       ap (found_after (found us) place sections) (no_machine 0 sections other) ∙ ap (behind []) (is (place + 0))
   machine_found (Some name) named other is place =
       let short = machine_short set well name named in
-      (one_follows Machine 0 (configuration name) 0 _ (takes_machine name 0 (machine_good set well name named) (omega arith))).goes us place sections
+      (one_follows (takes_machine name 0 (machine_good set well name named) (omega arith))).goes us place sections
       ∙ ap (behind ((codes "machine " ++ name) ∷ [])) (is (place + length (configuration name)))
 
 -- ---- the whole
 
 -- the fine lines and good parts of the devices
-devices_fine : (set : Set) (machine : Option (List ℕ)) (images : List Image) → AreFine (entries set machine images) → AreFine (devices_entries set set.devices images)
+devices_fine : (set : Set) (machine : Option (List ℕ)) (images : List Image) → AreFine (entries set machine images)
+    → AreFine (devices_entries set set.devices images)
 devices_fine set None images f = f
 devices_fine set (Some name) images f = f.1
 
-devices_good : (set : Set) (machine : Option (List ℕ)) (images : List Image) → AreGood set (entries set machine images) → AreGood set (devices_entries set set.devices images)
+devices_good : (set : Set) (machine : Option (List ℕ)) (images : List Image) → AreGood set (entries set machine images)
+    → AreGood set (devices_entries set set.devices images)
 devices_good set None images f = f
 devices_good set (Some name) images f = f.1
 
@@ -94,14 +368,17 @@ front_found set well machine named images ready =
     let few = few_devices set well in
     let lines = devices_lines set set.devices images in
     let sections = written_sections set 0 set.devices images in
-    let all = devices_follow set 0 0 set.devices images (omega arith) says.says.shaped (devices_fine set machine images says.says.fine) (devices_good set machine images says.good) in
+    let all =
+    devices_follow set 0 0 set.devices images (omega arith) says.says.shaped (devices_fine set machine images says.says.fine)
+    (devices_good set machine images says.good) in
     let end = last 0 0 set.devices images in
     let us = flat_map device_wants (told set images) ++ Bytes end_mark ∷ [] in
     let tail : (place : ℕ) → found us 0 place (sections ++ end_mark) ≡ Lines lines =
-    λ place. all.goes (Bytes end_mark ∷ []) place end_mark
-    ∙ ap (behind lines) ((one_follows (Bytes end_mark) end end_mark end [] (takes_bytes end_mark end)).goes [] (place + length sections) [])
+    λ place. all.goes (Bytes end_mark ∷ []) place end_mark ∙ ap (behind lines) ((one_follows (takes_bytes end_mark end)).goes [] (place + length sections) [])
     ∙ ap Lines (append-nil lines) in
-    let head = both_follow (Bytes magic ∷ []) (Bytes (be32 3) ∷ []) 0 0 0 magic (be32 3) [] [] (one_follows _ 0 _ 0 [] (takes_bytes magic 0)) (one_follows _ 0 _ 0 [] (takes_bytes (be32 3) 0)) in
-    ap (λ (l : List ℕ). found (wants (told set images)) 0 0 l) (append_assoc (stream_head ++ optional configuration machine) sections end_mark ∙ append_assoc stream_head (optional configuration machine) (sections ++ end_mark))
-    ∙ head.goes (Machine ∷ us) 0 (optional configuration machine ++ (sections ++ end_mark))
-    ∙ ap (behind []) (machine_found set well images us (sections ++ end_mark) (Lines lines) machine named (section_first set 0 set.devices images) tail (length stream_head))
+    let head = both_follow (one_follows (takes_bytes magic 0)) (one_follows (takes_bytes (be32 3) 0)) in
+    ap (λ (l : List ℕ). found (wants (told set images)) 0 0 l)
+    (append_assoc (stream_head ++ optional configuration machine) sections end_mark ∙ append_assoc stream_head (optional configuration machine)
+    (sections ++ end_mark)) ∙ head.goes (Machine ∷ us) 0 (optional configuration machine ++ (sections ++ end_mark))
+    ∙ ap (behind []) (machine_found set well images us (sections ++ end_mark) (Lines lines) machine named (section_first set 0 set.devices images) tail
+    (length stream_head))

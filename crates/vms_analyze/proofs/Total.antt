@@ -7,8 +7,8 @@ use Rattle.vms_analyze.specs.Told.{ToldDevice}
 use Rattle.vms_analyze.specs.Listing.{longest_input, IsPlace, IsLastPlace, TellsPlace, IsTooLong, HasNone, HasNoShape, IsRead}
 use Rattle.vms_analyze.specs.Laws.{HasListing, TotalLaw}
 use Rattle.vms_analyze.specs.Read.{next, devices_in}
-use Rattle.vms_analyze.proofs.Searches.{NoneFrom}
-use Rattle.vms_analyze.proofs.Tells.{tells_if, not_told}
+use Rattle.vms_analyze.proofs.Inputs.{NoneFrom}
+use Rattle.vms_analyze.proofs.DevicesRead.{tells_if, not_told}
 
 -- ---- the last place
 
@@ -52,7 +52,8 @@ last_place input = search_below input (length input) (λ q ge h. let long = h.lo
 
 -- ---- the listing
 
-by_shape : (input : List ℕ) (p : ℕ) → length input ≤ longest_input → IsLastPlace input p → (o : Option (List ToldDevice)) → next (value_in (drop (p + 5) input)) devices_in ≡ o → HasListing input
+by_shape : (input : List ℕ) (p : ℕ) → length input ≤ longest_input → IsLastPlace input p → (o : Option (List ToldDevice))
+    → next (value_in (drop (p + 5) input)) devices_in ≡ o → HasListing input
 by_shape input p few last None e = record { listing = _; lists = HasNoShape p few last (not_told input p e) }
 by_shape input p few last (Some devices) e = record { listing = _; lists = IsRead p devices few last (tells_if input p devices e) }
 

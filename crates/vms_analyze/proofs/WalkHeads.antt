@@ -1,5 +1,5 @@
 -- The machine and the heads of sections in a walk.
-use Rattle.std.proofs.Common.{◌≡◌, ℕ, ◌+◌, ◌<◌, ◌≤◌, ◌^◌, Bool, true, false, ◌&&◌, ◌==◌, nat_le, if◌then◌else◌, List, [], ◌∷◌, ◌++◌, length, length-append, append_assoc, get_or, take, drop, length-drop, ◌-◌, Some, None, refl, sym, ap, ◌∙◌, subst, arith}
+use Rattle.std.proofs.Common.{◌≡◌, ℕ, ◌+◌, ◌<◌, ◌≤◌, ◌^◌, Bool, true, false, ◌&&◌, ◌==◌, nat_le, if◌then◌else◌, List, [], ◌∷◌, ◌++◌, length, length-append, append_assoc, get_or, take, drop, length-drop, ◌-◌, Some, None, refl, sym, ap, ◌∙◌, subst, arith, append-nil}
 use Rattle.std.specs.List.{list_all}
 use Rattle.std.proofs.lemmas.Bool.{and_parts, leb-true, le-leb}
 use Rattle.std.proofs.lemmas.List.{take_all, drop-drop}
@@ -10,14 +10,14 @@ use Rattle.vms_spec.specs.Lookup.{number_at, bytes_at}
 use Rattle.vms_spec.specs.Names.{is_name_byte}
 use Rattle.vms_spec.specs.Spelling.{begins_with}
 use Rattle.vms_spec.specs.Streams.{be32, configuration, section_head, foot}
-use Rattle.vms_analyze.specs.Wanted.{Want, Bytes, Machine, Head, Foot, Took, took, only_if, take_machine, is_machine, machine_line, section_line, taken, Differs, behind, found_after, found}
+use Rattle.vms_analyze.specs.Wanted.{Want, Bytes, Machine, Head, Foot, Took, took, only_if, take_machine, is_machine, machine_line, section_line, taken, Differs, behind, found_after, found, take_head}
 use Rattle.vms_analyze.specs.Walking.{left, IsInside, Goes, Stops, WhyStopped, Prints, IsMachineName, is_configuration, HasNoMachine}
 use Rattle.vms_analyze.specs.declared.walk.Walk.{Walk}
 use Rattle.vms_analyze.specs.declared.walk.Stop.{Stop}
 use Rattle.vms_analyze.specs.declared.walk.Stop.TheVariants as stops
-use Rattle.vms_analyze.proofs.Following.{takes_head}
+use Rattle.vms_analyze.proofs.Following.{takes_head, Takes}
 use Rattle.vms_analyze.proofs.Streams.{takes_machine, no_machine}
-use Rattle.vms_analyze.proofs.Walks.{printed_goes}
+use Rattle.vms_analyze.proofs.Walks.{printed_goes, Passed}
 use Rattle.vms_words.proofs.Lines.{begun}
 
 -- ---- what is at the front
@@ -35,16 +35,19 @@ begins_short front rest lt = go (begins_with front rest) refl
     go true e = let long = begins_long front rest e in absurd (omega (arith, long, lt))
     go false e = e
 
--- the rest after it
-behind_front : (front : List ℕ) (old mid : Walk) → begins_with front (left old) ≡ true → mid.place ≡ old.place + length front → mid.input.now ≡ old.input.now → left old ≡ front ++ left mid
-behind_front front old mid e place input =
-    begun front (left old) e
-    ∙ ap (λ (l : List ℕ). front ++ l)
-    (drop-drop (length front) old.place old.input.now ∙ ap (λ (k : ℕ). drop k old.input.now) (sym place) ∙ ap (drop mid.place) (sym input))
-
-front_inside : (front : List ℕ) (old mid : Walk) → IsInside old → begins_with front (left old) ≡ true → mid.place ≡ old.place + length front → mid.input.now ≡ old.input.now → IsInside mid
-front_inside front old mid inside e place input =
-    omega (arith, inside, begins_long front (left old) e, length-drop old.place old.input.now, place, ap length input)
+-- past it
+passed : (front : List ℕ) (old mid : Walk) → IsInside old → begins_with front (left old) ≡ true → mid.place ≡ old.place + length front → mid.text ≡ old.text
+    → mid.input.now ≡ old.input.now → Passed old mid front
+passed front old mid inside e place text input =
+    record {
+      there = begun front (left old) e
+          ∙ ap (λ (l : List ℕ). front ++ l)
+          (drop-drop (length front) old.place old.input.now ∙ ap (λ (k : ℕ). drop k old.input.now) (sym place) ∙ ap (drop mid.place) (sym input));
+      place = place;
+      text = text;
+      inside = omega (arith, inside, begins_long front (left old) e, length-drop old.place old.input.now, place, ap length input);
+      input = input;
+    }
 
 -- ---- a step that stops
 
@@ -57,28 +60,38 @@ stops_here w old new none same = record { differs = λ more. ap (found_after (fo
 
 -- ---- heads
 
-pub head_goes : (old mid new : Walk) (name : List ℕ) (instance version : ℕ) → begins_with (section_head mid.id name instance version) (left old) ≡ true → mid.id < 2 ^ 32
-    → IsInside old → mid.place ≡ old.place + length (section_head mid.id name instance version) → mid.text ≡ old.text → mid.input.now ≡ old.input.now → Prints mid new (section_line name instance version)
-    → Goes (Head name instance version ∷ []) old new
+pub head_goes : (old mid new : Walk) (name : List ℕ) (instance version : ℕ) → begins_with (section_head mid.id name instance version) (left old) ≡ true
+    → mid.id < 2 ^ 32
+    → IsInside old → mid.place ≡ old.place + length (section_head mid.id name instance version) → mid.text ≡ old.text → mid.input.now ≡ old.input.now
+    → Prints mid new (section_line name instance version) → Goes (Head name instance version ∷ []) old new
 head_goes old mid new name instance version e small inside place text input prints =
-    let head = section_head mid.id name instance version in
-    printed_goes (Head name instance version) old mid new head (section_line name instance version) (takes_head name instance version old.id mid.id small)
-    (behind_front head old mid e place input) place text (front_inside head old mid inside e place input) input prints
+    printed_goes (takes_head name instance version old.id mid.id small)
+    (passed (section_head mid.id name instance version) old mid inside e place text input) prints
 
 pub head_short : (old : Walk) (name : List ℕ) (instance version : ℕ) → length (left old) < 5 → Stops (Head name instance version ∷ []) old old
 head_short old name instance version lt =
     let id = number_at 4 1 (left old) in
     stops_here (Head name instance version) old old
-    (if_not _ (took (length (section_head id name instance version)) id (section_line name instance version ∷ [])) (begins_short (section_head id name instance version) (left old) (long id))) refl
+    (if_not _ (took (length (section_head id name instance version)) id (section_line name instance version ∷ []))
+    (begins_short (section_head id name instance version) (left old) (long id))) refl
   where
     long : (id : ℕ) → length (left old) < length (section_head id name instance version)
-    long id = omega (arith, lt, length-append (be32 id ++ (length name ∷ name) ++ be32 instance) (be32 version), length-append (be32 id ++ (length name ∷ name)) (be32 instance), length-append (be32 id) (length name ∷ name))
+    long id =
+        omega (
+          arith,
+          lt,
+          length-append (be32 id ++ (length name ∷ name) ++ be32 instance) (be32 version),
+          length-append (be32 id ++ (length name ∷ name))
+              (be32 instance),
+          length-append (be32 id) (length name ∷ name),
+        )
 
-pub head_other : (old : Walk) (id : ℕ) (name : List ℕ) (instance version : ℕ) → id ≡ number_at 4 1 (left old) → begins_with (section_head id name instance version) (left old) ≡ false
-    → Stops (Head name instance version ∷ []) old old
+pub head_other : (old : Walk) (id : ℕ) (name : List ℕ) (instance version : ℕ) → id ≡ number_at 4 1 (left old)
+    → begins_with (section_head id name instance version) (left old) ≡ false → Stops (Head name instance version ∷ []) old old
 head_other old id name instance version is e =
     stops_here (Head name instance version) old old
-    (ap (Rattle.vms_analyze.specs.Wanted.take_head name instance version (left old)) (sym is) ∙ if_not _ (took (length (section_head id name instance version)) id (section_line name instance version ∷ [])) e) refl
+    (ap (take_head name instance version (left old)) (sym is) ∙ if_not _
+    (took (length (section_head id name instance version)) id (section_line name instance version ∷ [])) e) refl
 
 -- ---- the machine
 
@@ -88,18 +101,19 @@ machine_passes old inside e = record {
   taken = λ more.
       let same : old.place + 0 ≡ old.place = omega arith in
       ap (found_after (found more) old.place (left old)) (no_machine old.id (left old) e) ∙ ap (λ (k : ℕ). behind [] (found more old.id k (left old))) same;
-  printed = sym (Rattle.std.proofs.Common.append-nil _);
+  printed = sym (append-nil _);
   inside = inside;
   input = refl;
 }
 
-pub machine_goes : (old mid new : Walk) (name : List ℕ) → is_machine name ≡ true → begins_with (configuration name) (left old) ≡ true → mid.id ≡ old.id → IsInside old
-    → mid.place ≡ old.place + length (configuration name) → mid.text ≡ old.text → mid.input.now ≡ old.input.now → Prints mid new (machine_line name) → Goes (Machine ∷ []) old new
+pub machine_goes : (old mid new : Walk) (name : List ℕ) → is_machine name ≡ true → begins_with (configuration name) (left old) ≡ true → mid.id ≡ old.id
+    → IsInside old
+    → mid.place ≡ old.place + length (configuration name) → mid.text ≡ old.text → mid.input.now ≡ old.input.now → Prints mid new (machine_line name)
+    → Goes (Machine ∷ []) old new
 machine_goes old mid new name good e id inside place text input prints =
     let short = leb-true (length name) LONGEST_NAME (and_parts (nat_le (length name) LONGEST_NAME) (list_all is_name_byte name) good).0 in
-    printed_goes Machine old mid new (configuration name) (machine_line name)
-    (subst (λ (i : ℕ). Rattle.vms_analyze.proofs.Following.Takes Machine old.id (configuration name) i (machine_line name ∷ [])) (sym id) (takes_machine name old.id good (omega (arith, short))))
-    (behind_front (configuration name) old mid e place input) place text (front_inside (configuration name) old mid inside e place input) input prints
+    printed_goes (subst (λ (i : ℕ). Takes Machine old.id (configuration name) i (machine_line name ∷ [])) (sym id)
+    (takes_machine name old.id good (omega (arith, short)))) (passed (configuration name) old mid inside e place text input) prints
 
 pub machine_none : (old : Walk) → (get_or (left old) 0 0 == 7) ≡ true → HasNoMachine (left old) → Stops (Machine ∷ []) old old
 machine_none old e h =
@@ -108,7 +122,8 @@ machine_none old e h =
     (ap (λ (b : Bool). if b then take_machine old.id (left old) name else Some (took 0 old.id [])) e
     ∙ if_not _ (took (length (configuration name)) old.id (machine_line name ∷ [])) h.none) refl
 
-pub machine_other : (old : Walk) (name : List ℕ) → (get_or (left old) 0 0 == 7) ≡ true → IsMachineName (left old) name → begins_with (configuration name) (left old) ≡ false → Stops (Machine ∷ []) old old
+pub machine_other : (old : Walk) (name : List ℕ) → (get_or (left old) 0 0 == 7) ≡ true → IsMachineName (left old) name
+    → begins_with (configuration name) (left old) ≡ false → Stops (Machine ∷ []) old old
 machine_other old name e is other =
     machine_none old e (record { none = ap (is_configuration (left old)) (sym is.there) ∙ ap (λ (b : Bool). b && is_machine name) other })
 
@@ -157,10 +172,11 @@ pub no_name : (rest : List ℕ) → list_all is_name_byte (bytes_at (number_at 4
 no_name rest e = no_machine_if rest (λ n. no (sym n.plain ∙ e))
 
 -- the name that is there
-pub name_there : (w : Walk) (n : ℕ) → n ≡ number_at 4 1 (left w) → take n (take (length w.input.now - (w.place + 5)) (drop (w.place + 5) w.input.now)) ≡ bytes_at (number_at 4 1 (left w)) 5 (left w)
+pub name_there : (w : Walk) (n : ℕ) → n ≡ number_at 4 1 (left w)
+    → take n (take (length w.input.now - (w.place + 5)) (drop (w.place + 5) w.input.now)) ≡ bytes_at (number_at 4 1 (left w)) 5 (left w)
 name_there w n is =
-    ap (take n) (take_all (length w.input.now - (w.place + 5)) (drop (w.place + 5) w.input.now) (omega (arith, length-drop (w.place + 5) w.input.now)) ∙ sym (drop-drop 5 w.place w.input.now))
-    ∙ ap (λ (k : ℕ). take k (drop 5 (left w))) is
+    ap (take n) (take_all (length w.input.now - (w.place + 5)) (drop (w.place + 5) w.input.now) (omega (arith, length-drop (w.place + 5) w.input.now)) ∙ sym
+    (drop-drop 5 w.place w.input.now)) ∙ ap (λ (k : ℕ). take k (drop 5 (left w))) is
 
 pub is_name_of : (name : List ℕ) → length name ≤ LONGEST_NAME → list_all is_name_byte name ≡ true → is_machine name ≡ true
 is_name_of name few plain = ap (λ (b : Bool). b && list_all is_name_byte name) (le-leb (length name) LONGEST_NAME few) ∙ plain

@@ -1,15 +1,31 @@
--- One step of a walk, by what is taken.
-use Rattle.std.proofs.Common.{◌≡◌, ℕ, ◌+◌, List, [], ◌∷◌, ◌++◌, length, append_assoc, append-nil, take, drop, Vec, Global, ℤ, refl, sym, ap, ◌∙◌, subst, arith}
-use Rattle.std.proofs.lemmas.List.{take-append-drop, drop-drop}
+-- A walk over what is required, part after part.
+use Rattle.std.proofs.Common.{◌≡◌, ℕ, ◌+◌, List, [], ◌∷◌, ◌++◌, length, append_assoc, append-nil, take, drop, Vec, Global, ℤ, refl, sym, ap, ◌∙◌, subst, arith, ◌<◌, get_or, Result, Ok, Err, IfErr, suc, zero, ◌≤◌, Bool, true, ◌&&◌, nat_le, map}
+use Rattle.std.proofs.lemmas.List.{take-append-drop, drop-drop, take_more}
 use Rattle.vms_kinds.specs.declared.Kind.{Kind}
-use Rattle.vms_kinds.specs.Codes.{width, code, InRange}
-use Rattle.vms_spec.proofs.KindLaws.{length-code}
+use Rattle.vms_kinds.specs.Codes.{code, InRange}
 use Rattle.vms_elements.specs.Lines.{text_of}
-use Rattle.vms_analyze.specs.Wanted.{Want, Number, Line, number_line, behind, found}
-use Rattle.vms_analyze.specs.Walking.{left, IsInside, Goes, Stops, Prints}
+use Rattle.vms_analyze.specs.Wanted.{Want, Number, Line, number_line, behind, found, Bytes, Machine, Head, Foot, element_want, sub_head_wants, sub_wants, device_wants, start_wants, wants}
+use Rattle.vms_analyze.specs.Walking.{left, IsInside, Goes, Stops, Prints, WhyStopped}
 use Rattle.vms_analyze.specs.declared.walk.Walk.{Walk}
 use Rattle.vms_analyze.proofs.Following.{Takes, one_follows, takes_line, takes_number, behind_none, behind_both}
 use Rattle.vms_elements.proofs.LinesOf.{text_append}
+use Rattle.std.specs.List.{flat_map, list_all}
+use Rattle.std.proofs.lemmas.Grind.{flat_map-append}
+use Rattle.vms_analyze.specs.declared.walk.Stop.{Stop}
+use Rattle.std.proofs.lemmas.Bool.{and_parts, leb-true}
+use Rattle.std.proofs.lemmas.List.Concat.{flat_map_single}
+use Rattle.std.proofs.lemmas.List.Folds.{flat_map-map}
+use Rattle.vms_spec.specs.declared.TheConstants.{LONGEST_NAME}
+use Rattle.vms_spec.specs.Streams.{magic, be32, end_mark}
+use Rattle.vms_analyze.specs.Told.{ToldSub, ToldDevice, is_path, is_path_byte, is_good_sub, is_good_device}
+use Rattle.vms_analyze.specs.Typed.{told_of, sub_of, device_of, element_wants, subs_wants, devices_wants}
+use Rattle.vms_analyze.specs.declared.told.Element.{Element}
+use Rattle.vms_analyze.specs.declared.told.Sub.{Sub}
+use Rattle.vms_analyze.specs.declared.told.Device.{Device}
+use Rattle.vms_analyze.proofs.Parts.{sub_parts, device_parts}
+use Rattle.vms_analyze.specs.declared.walk.Stop.TheVariants as stops
+
+-- ---- One step of a walk, by what is taken.
 
 -- what a step moves
 pub record Moves (old new : Walk) (bytes : List ℕ) (lines : List (List ℕ)) : Type 0 where
@@ -19,12 +35,12 @@ pub record Moves (old new : Walk) (bytes : List ℕ) (lines : List (List ℕ)) :
   pub inside : IsInside new
   pub input : new.input.now ≡ old.input.now
 
-pub goes : (w : Want) (old new : Walk) (bytes : List ℕ) (lines : List (List ℕ)) → Takes w old.id bytes new.id lines → Moves old new bytes lines → Goes (w ∷ []) old new
+pub goes : (w : Want) (old new : Walk) (bytes : List ℕ) (lines : List (List ℕ)) → Takes w old.id bytes new.id lines → Moves old new bytes lines
+    → Goes (w ∷ []) old new
 goes w old new bytes lines t m = record {
   lines = lines;
   taken = λ more.
-      ap (found (w ∷ more) old.id old.place) m.there
-      ∙ (one_follows w old.id bytes new.id lines t).goes more old.place (left new)
+      ap (found (w ∷ more) old.id old.place) m.there ∙ (one_follows t).goes more old.place (left new)
       ∙ ap (λ (k : ℕ). behind lines (found more new.id k (left new))) (sym m.place);
   printed = m.printed;
   inside = m.inside;
@@ -34,69 +50,256 @@ goes w old new bytes lines t m = record {
 -- a piece of an input, and the rest after it
 pub split : (input piece : List ℕ) (place n : ℕ) → piece ≡ take n (drop place input) → drop place input ≡ piece ++ drop (place + n) input
 split input piece place n e =
-    sym (take-append-drop n (drop place input)) ∙ ap (λ (l : List ℕ). l ++ drop n (drop place input)) (sym e) ∙ ap (λ (l : List ℕ). piece ++ l) (drop-drop n place input)
+    sym (take-append-drop n (drop place input)) ∙ ap (λ (l : List ℕ). l ++ drop n (drop place input)) (sym e) ∙ ap (λ (l : List ℕ). piece ++ l)
+    (drop-drop n place input)
+
+-- a walk that is past these bytes, and has printed nothing more
+pub record Passed (old mid : Walk) (bytes : List ℕ) : Type 0 where
+  pub there : left old ≡ bytes ++ left mid
+  pub place : mid.place ≡ old.place + length bytes
+  pub text : mid.text ≡ old.text
+  pub inside : IsInside mid
+  pub input : mid.input.now ≡ old.input.now
 
 -- what is taken and then printed
-pub printed_goes : (w : Want) (old mid new : Walk) (bytes line : List ℕ) → Takes w old.id bytes mid.id (line ∷ []) → left old ≡ bytes ++ left mid → mid.place ≡ old.place + length bytes
-    → mid.text ≡ old.text → IsInside mid → mid.input.now ≡ old.input.now → Prints mid new line → Goes (w ∷ []) old new
-printed_goes w old mid new bytes line takes there place text inside input prints =
+pub printed_goes : {w : Want} {old mid new : Walk} {bytes line : List ℕ} → Takes w old.id bytes mid.id (line ∷ []) → Passed old mid bytes → Prints mid new line
+    → Goes (w ∷ []) old new
+printed_goes {w = w} {old = old} {mid = mid} {new = new} {bytes = bytes} {line = line} takes p prints =
     goes w old new bytes (line ∷ []) (subst (λ (i : ℕ). Takes w old.id bytes i (line ∷ [])) (sym prints.id) takes)
     (record {
-      there = there ∙ ap (λ (l : List ℕ). bytes ++ l) (ap (λ (k : ℕ). drop k mid.input.now) (sym prints.place) ∙ ap (drop new.place) (sym prints.input));
-      place = prints.place ∙ place;
-      printed = prints.text ∙ ap (λ (t : Vec ℕ Global). t.items ++ (line ++ 10 ∷ [])) text;
-      inside = omega (arith, inside, prints.place, ap length prints.input);
-      input = prints.input ∙ input;
+      there = p.there ∙ ap (λ (l : List ℕ). bytes ++ l) (ap (λ (k : ℕ). drop k mid.input.now) (sym prints.place) ∙ ap (drop new.place) (sym prints.input));
+      place = prints.place ∙ p.place;
+      printed = prints.text ∙ ap (λ (t : Vec ℕ Global). t.items ++ (line ++ 10 ∷ [])) p.text;
+      inside = omega (arith, p.inside, prints.place, ap length prints.input);
+      input = prints.input ∙ p.input;
     })
 
-pub number_goes : (path : List ℕ) (kind : Kind) (z : ℤ) (old mid new : Walk) (piece : List ℕ) → InRange kind z → piece ≡ code kind z → left old ≡ piece ++ left mid
-    → mid.place ≡ old.place + width kind → mid.text ≡ old.text → mid.id ≡ old.id → IsInside mid → mid.input.now ≡ old.input.now → Prints mid new (number_line path z)
-    → Goes (Number path kind ∷ []) old new
-number_goes path kind z old mid new piece fits is there place text id inside input prints =
-    printed_goes (Number path kind) old mid new (code kind z) (number_line path z)
-    (subst (λ (i : ℕ). Takes (Number path kind) old.id (code kind z) i (number_line path z ∷ [])) (sym id) (takes_number path kind z old.id fits))
-    (there ∙ ap (λ (l : List ℕ). l ++ left mid) is) (place ∙ ap (λ (n : ℕ). old.place + n) (sym (length-code kind z))) text inside input prints
+pub number_goes : {old mid new : Walk} (path : List ℕ) (kind : Kind) (z : ℤ) → InRange kind z → Passed old mid (code kind z) → mid.id ≡ old.id
+    → Prints mid new (number_line path z) → Goes (Number path kind ∷ []) old new
+number_goes {old = old} path kind z fits p id prints =
+    printed_goes (subst (λ (i : ℕ). Takes (Number path kind) old.id (code kind z) i (number_line path z ∷ [])) (sym id)
+    (takes_number path kind z old.id fits)) p prints
 
 -- ---- one step after the other
 
 pub goes_none : (walk : Walk) → IsInside walk → Goes [] walk walk
-goes_none walk inside = record { lines = []; taken = λ more. sym (behind_none (found more walk.id walk.place (left walk))); printed = sym (append-nil _); inside = inside; input = refl }
+goes_none walk inside =
+    record {
+      lines = [];
+      taken = λ more. sym (behind_none (found more walk.id walk.place (left walk)));
+      printed = sym (append-nil _);
+      inside = inside;
+      input = refl;
+    }
 
-pub goes_then : (ws vs : List Want) (a b c : Walk) → Goes ws a b → Goes vs b c → Goes (ws ++ vs) a c
-goes_then ws vs a b c g h = record {
+pub goes_then : {ws vs : List Want} {a b c : Walk} → Goes ws a b → Goes vs b c → Goes (ws ++ vs) a c
+goes_then {ws = ws} {vs = vs} {a = a} {c = c} g h = record {
   lines = g.lines ++ h.lines;
   taken = λ more.
-      ap (λ (l : List Want). found l a.id a.place (left a)) (append_assoc ws vs more)
-      ∙ g.taken (vs ++ more)
-      ∙ ap (behind g.lines) (h.taken more)
+      ap (λ (l : List Want). found l a.id a.place (left a)) (append_assoc ws vs more) ∙ g.taken (vs ++ more) ∙ ap (behind g.lines) (h.taken more)
       ∙ behind_both g.lines h.lines (found more c.id c.place (left c));
-  printed =
-      h.printed ∙ ap (λ (t : List ℕ). t ++ text_of h.lines) g.printed ∙ append_assoc (a.text.items) (text_of g.lines) (text_of h.lines)
-      ∙ ap (λ (t : List ℕ). a.text.items ++ t) (sym (text_append g.lines h.lines));
+  printed = rw (h.printed, g.printed, text_append g.lines h.lines) (append_assoc a.text.items (text_of g.lines) (text_of h.lines));
   inside = h.inside;
   input = h.input ∙ g.input;
 }
 
 -- a walk that stops, before more is required, and after what is taken
-pub stops_before : (ws vs : List Want) (a c : Walk) → Stops ws a c → Stops (ws ++ vs) a c
+stops_before : (ws vs : List Want) (a c : Walk) → Stops ws a c → Stops (ws ++ vs) a c
 stops_before ws vs a c s = record { differs = λ more. ap (λ (l : List Want). found l a.id a.place (left a)) (append_assoc ws vs more) ∙ s.differs (vs ++ more) }
 
-pub stops_then : (ws vs : List Want) (a b c : Walk) → Goes ws a b → Stops vs b c → Stops (ws ++ vs) a c
-stops_then ws vs a b c g s = record {
+stops_then : {ws vs : List Want} {a b c : Walk} → Goes ws a b → Stops vs b c → Stops (ws ++ vs) a c
+stops_then {ws = ws} {vs = vs} {a = a} g s = record {
   differs = λ more.
-      ap (λ (l : List Want). found l a.id a.place (left a)) (append_assoc ws vs more)
-      ∙ g.taken (vs ++ more) ∙ ap (behind g.lines) (s.differs more);
+      ap (λ (l : List Want). found l a.id a.place (left a)) (append_assoc ws vs more) ∙ g.taken (vs ++ more) ∙ ap (behind g.lines) (s.differs more);
 }
 
 pub line_goes : (line : List ℕ) (old new : Walk) → IsInside old → Prints old new line → Goes (Line line ∷ []) old new
 line_goes line old new inside p = record {
   lines = line ∷ [];
   taken = λ more.
-      (one_follows (Line line) old.id [] old.id (line ∷ []) (takes_line line old.id)).goes more old.place (left old)
+      (one_follows (takes_line line old.id)).goes more old.place (left old)
       ∙ ap (λ (k : ℕ). behind (line ∷ []) (found more old.id k (left old))) (omega (arith, p.place))
       ∙ ap (λ (i : ℕ). behind (line ∷ []) (found more i new.place (left old))) (sym p.id)
-      ∙ ap (λ (l : List ℕ). behind (line ∷ []) (found more new.id new.place l)) (ap (λ (k : ℕ). drop k old.input.now) (sym p.place) ∙ ap (drop new.place) (sym p.input));
+      ∙ ap (λ (l : List ℕ). behind (line ∷ []) (found more new.id new.place l))
+      (ap (λ (k : ℕ). drop k old.input.now) (sym p.place) ∙ ap (drop new.place) (sym p.input));
   printed = p.text;
   inside = omega (arith, inside, p.place, ap length p.input);
   input = p.input;
 }
+
+-- ---- A walk over what is required, one thing after the other.
+
+module _ {X : Type 0} (one : X → List Want) where
+  more_of : (xs : List X) (i : ℕ) (d : X) → i < length xs → flat_map one (take (i + 1) xs) ≡ flat_map one (take i xs) ++ one (get_or xs i d)
+  more_of xs i d lt =
+      ap (flat_map one) (take_more xs i d lt) ∙ flat_map-append one (take i xs) (get_or xs i d ∷ [])
+      ∙ ap (λ (l : List Want). flat_map one (take i xs) ++ l) (append-nil (one (get_or xs i d)))
+
+  pub more_goes : (xs : List X) (i : ℕ) (d : X) (a b c : Walk) → i < length xs → Goes (flat_map one (take i xs)) a b → Goes (one (get_or xs i d)) b c
+      → Goes (flat_map one (take (i + 1) xs)) a c
+  more_goes xs i d a b c lt g h = subst (λ (ws : List Want). Goes ws a c) (sym (more_of xs i d lt)) (goes_then g h)
+
+  pub all_go : (xs : List X) (i : ℕ) (a b : Walk) → take i xs ≡ xs → Goes (flat_map one (take i xs)) a b → Goes (flat_map one xs) a b
+  all_go xs i a b e g = subst (λ (l : List X). Goes (flat_map one l) a b) e g
+
+  pub one_stops : (xs : List X) (i : ℕ) (d : X) (a b c : Walk) (stop : Stop) → i < length xs → Goes (flat_map one (take i xs)) a b
+      → WhyStopped (one (get_or xs i d)) b c stop → WhyStopped (flat_map one xs) a c stop
+  one_stops xs i d a b c stops.Differs lt g s =
+      let front = flat_map one (take (i + 1) xs) in
+      let whole : front ++ flat_map one (drop (i + 1) xs) ≡ flat_map one xs =
+      sym (flat_map-append one (take (i + 1) xs) (drop (i + 1) xs)) ∙ ap (flat_map one) (take-append-drop (i + 1) xs) in
+      subst (λ (ws : List Want). Stops ws a c) whole
+      (stops_before front (flat_map one (drop (i + 1) xs)) a c (subst (λ (ws : List Want). Stops ws a c) (sym (more_of xs i d lt)) (stops_then g s)))
+  one_stops xs i d a b c stops.NoMemory lt g s = tt
+
+-- ---- one after the other, whatever the stop
+
+pub why_before : (ws vs : List Want) (a c : Walk) (stop : Stop) → WhyStopped ws a c stop → WhyStopped (ws ++ vs) a c stop
+why_before ws vs a c stops.Differs s = stops_before ws vs a c s
+why_before ws vs a c stops.NoMemory s = tt
+
+pub why_then : {ws : List Want} {a b : Walk} (vs : List Want) (c : Walk) (stop : Stop) → Goes ws a b → WhyStopped vs b c stop → WhyStopped (ws ++ vs) a c stop
+why_then vs c stops.Differs g s = stops_then g s
+why_then vs c stops.NoMemory g s = tt
+
+-- ---- of the last call
+
+pub if_err : {T E : Type 0} {P Q : E → Type 0} (r : Result T E) → ((e : E) → P e → Q e) → IfErr r P → IfErr r Q
+if_err (Ok x) f p = tt
+if_err (Err e) f p = f e p
+
+-- ---- A walk over a subsection, a device and a stream, part after part.
+
+-- ---- what is good
+
+path_short : (most : ℕ) (text : List ℕ) → is_path most text ≡ true → length text ≤ most
+path_short most text e =
+    let p = and_parts (nat_le 1 (length text) && nat_le (length text) most) (list_all is_path_byte text) e in
+    leb-true (length text) most (and_parts (nat_le 1 (length text)) (nat_le (length text) most) p.0).1
+
+pub sub_short : (s : ToldSub) → is_good_sub s ≡ true → length s.name ≤ LONGEST_NAME
+sub_short s e = path_short LONGEST_NAME s.name (sub_parts s e).name
+
+pub device_short : (d : ToldDevice) → is_good_device d ≡ true → length d.name ≤ LONGEST_NAME
+device_short d e = path_short LONGEST_NAME d.name (device_parts d e).name
+
+pub one_good : {X : Type 0} (good : X → Bool) (xs : List X) (i : ℕ) (d : X) → list_all good xs ≡ true → i < length xs → good (get_or xs i d) ≡ true
+one_good good [] i d e lt = absurd (omega arith)
+one_good good (x ∷ xs) zero d e lt = (and_parts (good x) (list_all good xs) e).0
+one_good good (x ∷ xs) (suc i) d e lt = one_good good xs i d (and_parts (good x) (list_all good xs) e).1 (omega arith)
+
+pub all_good : {X : Type 0} (xs : List X) → list_all (λ _. true) xs ≡ true
+all_good [] = refl
+all_good (x ∷ xs) = all_good xs
+
+-- ---- what is required
+
+elements_are : (es : List Element) → element_wants es ≡ map element_want (map told_of es)
+elements_are es = flat_map_single (λ e. element_want (told_of e)) es ∙ twice es
+  where
+    twice : (es : List Element) → map (λ e. element_want (told_of e)) es ≡ map element_want (map told_of es)
+    twice [] = refl
+    twice (e ∷ es) = ap (λ (l : List Want). element_want (told_of e) ∷ l) (twice es)
+
+subs_are : (ss : List Sub) → subs_wants ss ≡ flat_map sub_wants (map sub_of ss)
+subs_are ss = sym (flat_map-map sub_wants sub_of ss)
+
+devices_are : (ds : List Device) → devices_wants ds ≡ flat_map device_wants (map device_of ds)
+devices_are ds = sym (flat_map-map device_wants device_of ds)
+
+-- ---- a subsection
+
+sub_as : (s : Sub) → sub_head_wants (sub_of s) s.sent ++ element_wants s.elements.items ≡ sub_wants (sub_of s)
+sub_as s = ap (λ (l : List Want). sub_head_wants (sub_of s) s.sent ++ l) (elements_are s.elements.items)
+
+pub sub_goes : {a b c : Walk} (s : Sub) → Goes (sub_head_wants (sub_of s) s.sent) a b → Goes (element_wants s.elements.items) b c
+    → Goes (sub_wants (sub_of s)) a c
+sub_goes {a = a} {c = c} s g h = subst (λ (ws : List Want). Goes ws a c) (sub_as s) (goes_then g h)
+
+pub sub_head_stops : (s : Sub) (a c : Walk) (stop : Stop) → WhyStopped (sub_head_wants (sub_of s) s.sent) a c stop → WhyStopped (sub_wants (sub_of s)) a c stop
+sub_head_stops s a c stop w = subst (λ (ws : List Want). WhyStopped ws a c stop) (sub_as s) (why_before _ _ a c stop w)
+
+pub sub_elements_stop : {a b : Walk} (s : Sub) (c : Walk) (stop : Stop) → Goes (sub_head_wants (sub_of s) s.sent) a b
+    → WhyStopped (element_wants s.elements.items) b c stop → WhyStopped (sub_wants (sub_of s)) a c stop
+sub_elements_stop {a = a} s c stop g w = subst (λ (ws : List Want). WhyStopped ws a c stop) (sub_as s) (why_then _ c stop g w)
+
+-- ---- a device
+
+abbrev pub head_of : Device → List Want
+head_of d = Head d.name.now d.instance d.version ∷ []
+
+module _ (d : Device) where
+  abbrev elements : List Want
+  elements = element_wants d.elements.items
+
+  abbrev subs : List Want
+  subs = subs_wants d.subs.items
+
+  abbrev all : List Want
+  all = device_wants (device_of d)
+
+  device_as : ((head_of d ++ elements) ++ subs) ++ (Foot ∷ []) ≡ all
+  device_as =
+      ap (λ (l : List Want). ((head_of d ++ l) ++ subs) ++ (Foot ∷ [])) (elements_are d.elements.items)
+      ∙ ap (λ (l : List Want). ((head_of d ++ map element_want (map told_of d.elements.items)) ++ l) ++ (Foot ∷ [])) (subs_are d.subs.items)
+
+  as_why : (a c : Walk) (stop : Stop) → WhyStopped (((head_of d ++ elements) ++ subs) ++ (Foot ∷ [])) a c stop → WhyStopped all a c stop
+  as_why a c stop w = subst (λ (ws : List Want). WhyStopped ws a c stop) device_as w
+
+  pub device_goes : {a b c e f : Walk} → Goes (head_of d) a b → Goes elements b c → Goes subs c e → Goes (Foot ∷ []) e f → Goes all a f
+  device_goes {a = a} {f = f} g h i j = subst (λ (ws : List Want). Goes ws a f) device_as (goes_then (goes_then (goes_then g h) i) j)
+
+  pub head_stops : (a b : Walk) (stop : Stop) → WhyStopped (head_of d) a b stop → WhyStopped all a b stop
+  head_stops a b stop w =
+      as_why a b stop (why_before ((head_of d ++ elements) ++ subs) _ a b stop
+      (why_before (head_of d ++ elements) _ a b stop (why_before (head_of d) _ a b stop w)))
+
+  pub elements_stop : {a b : Walk} (c : Walk) (stop : Stop) → Goes (head_of d) a b → WhyStopped elements b c stop → WhyStopped all a c stop
+  elements_stop {a = a} c stop g w =
+      as_why a c stop (why_before ((head_of d ++ elements) ++ subs) _ a c stop (why_before (head_of d ++ elements) _ a c stop (why_then elements c stop g w)))
+
+  pub subs_stop : {a b c : Walk} (e : Walk) (stop : Stop) → Goes (head_of d) a b → Goes elements b c → WhyStopped subs c e stop → WhyStopped all a e stop
+  subs_stop {a = a} e stop g h w = as_why a e stop (why_before ((head_of d ++ elements) ++ subs) _ a e stop (why_then subs e stop (goes_then g h) w))
+
+  pub foot_stops : {a b c e : Walk} (f : Walk) (stop : Stop) → Goes (head_of d) a b → Goes elements b c → Goes subs c e → WhyStopped (Foot ∷ []) e f stop
+      → WhyStopped all a f stop
+  foot_stops {a = a} f stop g h i w = as_why a f stop (why_then (Foot ∷ []) f stop (goes_then (goes_then g h) i) w)
+
+-- ---- a stream
+
+pub start_goes : {a b c d : Walk} → Goes (Bytes magic ∷ []) a b → Goes (Bytes (be32 3) ∷ []) b c → Goes (Machine ∷ []) c d → Goes start_wants a d
+start_goes g h i = goes_then (goes_then g h) i
+
+pub magic_stops : (a b : Walk) (stop : Stop) → WhyStopped (Bytes magic ∷ []) a b stop → WhyStopped start_wants a b stop
+magic_stops a b stop w = why_before (Bytes magic ∷ []) (Bytes (be32 3) ∷ Machine ∷ []) a b stop w
+
+pub version_stops : {a b : Walk} (c : Walk) (stop : Stop) → Goes (Bytes magic ∷ []) a b → WhyStopped (Bytes (be32 3) ∷ []) b c stop
+    → WhyStopped start_wants a c stop
+version_stops {a = a} c stop g w = why_before (Bytes magic ∷ Bytes (be32 3) ∷ []) (Machine ∷ []) a c stop (why_then (Bytes (be32 3) ∷ []) c stop g w)
+
+pub machine_stops : {a b c : Walk} (d : Walk) (stop : Stop) → Goes (Bytes magic ∷ []) a b → Goes (Bytes (be32 3) ∷ []) b c → WhyStopped (Machine ∷ []) c d stop
+    → WhyStopped start_wants a d stop
+machine_stops d stop g h w = why_then (Machine ∷ []) d stop (goes_then g h) w
+
+module _ (ds : List Device) where
+  abbrev whole : List Want
+  whole = wants (map device_of ds)
+
+  stream_as : (start_wants ++ devices_wants ds) ++ (Bytes end_mark ∷ []) ≡ whole
+  stream_as = ap (λ (l : List Want). (start_wants ++ l) ++ (Bytes end_mark ∷ [])) (devices_are ds)
+
+  stream_why : (a c : Walk) (stop : Stop) → WhyStopped ((start_wants ++ devices_wants ds) ++ (Bytes end_mark ∷ [])) a c stop → WhyStopped whole a c stop
+  stream_why a c stop w = subst (λ (ws : List Want). WhyStopped ws a c stop) stream_as w
+
+  pub stream_goes : {a b c d : Walk} → Goes start_wants a b → Goes (devices_wants ds) b c → Goes (Bytes end_mark ∷ []) c d → Goes whole a d
+  stream_goes {a = a} {d = d} g h i = subst (λ (ws : List Want). Goes ws a d) stream_as (goes_then (goes_then g h) i)
+
+  pub start_stops : (a b : Walk) (stop : Stop) → WhyStopped start_wants a b stop → WhyStopped whole a b stop
+  start_stops a b stop w = stream_why a b stop (why_before (start_wants ++ devices_wants ds) _ a b stop (why_before start_wants _ a b stop w))
+
+  pub devices_stop : {a b : Walk} (c : Walk) (stop : Stop) → Goes start_wants a b → WhyStopped (devices_wants ds) b c stop → WhyStopped whole a c stop
+  devices_stop {a = a} c stop g w = stream_why a c stop (why_before (start_wants ++ devices_wants ds) _ a c stop (why_then (devices_wants ds) c stop g w))
+
+  pub end_stops : {a b c : Walk} (d : Walk) (stop : Stop) → Goes start_wants a b → Goes (devices_wants ds) b c → WhyStopped (Bytes end_mark ∷ []) c d stop
+      → WhyStopped whole a d stop
+  end_stops {a = a} d stop g h w = stream_why a d stop (why_then (Bytes end_mark ∷ []) d stop (goes_then g h) w)

@@ -13,8 +13,8 @@ use dev_images::image_cells;
 use vms_image::Image;
 use vms_kinds::DevCells;
 
-/// Returns the cells in `images` of the devices of the newest set, in its order.
-pub(crate) fn cells_in(images: &[Image]) -> BoardCells
+// Returns the cells in `images` of the devices of the newest set, in its order.
+fn cells_in(images: &[Image]) -> BoardCells
     requires { AreImagesOf (shipped_set newest) images.now }
     ensures { result ≡ cells_of (map state_of images.now) }
 {
@@ -38,8 +38,8 @@ pub(crate) fn clock_cells_in(images: &[Image]) -> ClockCells
     }
 }
 
-// Returns the cells of device `device`.
-fn cells_at(images: &[Image], device: usize) -> DevCells
+/// Returns the cells of device `device` of the newest set.
+pub(crate) fn cells_at(images: &[Image], device: usize) -> DevCells
     requires of { AreImagesOf (shipped_set newest) images.now }
     requires device { device < 5 }
     ensures { result ≡ list_at (numbers_in (map state_of images.now)) device }

@@ -11,6 +11,7 @@ use crate::cells::clock_cells_in;
 use crate::machine::Machine;
 use dev_board::{Answer, Event, Misfit};
 use dev_clock::{ClockCells, ClockDevices};
+use dev_due::clock_due;
 use std::alloc::Global;
 use vms_desc::DescSet;
 use vms_image::Image;
@@ -79,6 +80,10 @@ impl Machine for ClockDevices {
         self.character()
     }
 
+    fn due(&self) -> Option<u64> {
+        clock_due(self)
+    }
+
     fn cells(&self, set: u8) -> ClockCells {
         self.cells(set)
     }
@@ -95,7 +100,8 @@ impl Machine for ClockDevices {
     }
 
     fn of_images(number: u8, images: &[Image]) -> Result<ClockDevices, Misfit> {
-        ClockDevices::of_cells(number, &clock_cells_in(images))
+        let cells = clock_cells_in(images);
+        ClockDevices::of_cells(number, &cells)
     }
 
     ghost stands = { clock_stands };

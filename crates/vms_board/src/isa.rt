@@ -4,10 +4,11 @@ ghost use Rattle.dev_base.specs.Levels.{IsLevel};
 ghost use Rattle.vms_board.specs.Isa.{machine_of};
 
 use crate::board::MachineBoard;
-use crate::cells::cells_in;
+use crate::cells::cells_at;
 use crate::machine::Machine;
 use dev_base::NEWEST;
 use dev_board::{Answer, BoardCells, Devices, Event, Misfit};
+use dev_due::due;
 use std::alloc::Global;
 use vms_desc::DescSet;
 use vms_image::Image;
@@ -76,6 +77,10 @@ impl Machine for Devices {
         self.character()
     }
 
+    fn due(&self) -> Option<u64> {
+        due(self)
+    }
+
     fn cells(&self, set: u8) -> BoardCells {
         self.cells(set)
     }
@@ -91,7 +96,14 @@ impl Machine for Devices {
     }
 
     fn of_images(number: u8, images: &[Image]) -> Result<Devices, Misfit> {
-        Devices::of_cells(number, &cells_in(images))
+        let cells = BoardCells {
+            timer: cells_at(images, 0),
+            master: cells_at(images, 1),
+            slave: cells_at(images, 2),
+            pit: cells_at(images, 3),
+            serial: cells_at(images, 4),
+        };
+        Devices::of_cells(number, &cells)
     }
 
     ghost stands = { isa_stands };

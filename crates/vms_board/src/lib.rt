@@ -17,7 +17,7 @@ pub use dev_clock::ClockDevices;
 pub use isa::machine_name;
 pub use machine::Machine;
 pub use restore::RestoreFault;
-pub use save::SaveFault;
+pub use save::{SaveFault, save_devices};
 pub use vms_io::NoMemory;
 pub use vms_load::{Reason, Refusal};
 

@@ -18,7 +18,7 @@ use crate::asked::Saving;
 use crate::scripts::events_of;
 use dev_board::Event;
 use std::alloc::Global;
-use vms_board::{Machine, MachineBoard, SaveFault};
+use vms_board::{Machine, SaveFault, save_devices};
 use vms_commands::Ending;
 use vms_io::{Shelf, Sink};
 use vms_session::run_events;
@@ -71,9 +71,9 @@ fn save_after<M: Machine, O: Sink>(
     ensures so { (input : Intake) (shelf : Stock) → EndsSo input input (outlet O.Sink out.old)
         (outlet O.Sink out.new) shelf shelf save_course (ending_of result) }
 {
-    let mut board = MachineBoard::<M>::new(alloc, number)?;
-    run_events(&mut board, events);
-    board.save(alloc, set, out).map_err(fault_ending)
+    let mut devices = M::at_power_on(number);
+    run_events(&mut devices, events);
+    save_devices(alloc, &devices, set, out).map_err(fault_ending)
 }
 
 // Returns how the command ends if a save failed with `fault`.

@@ -7,5 +7,4 @@ pub mod FamilyLaws
 pub mod IsaBytes
 pub mod IsaLaws
 pub mod IsaStreams
-pub mod RoomLemmas
 pub mod TextBytes

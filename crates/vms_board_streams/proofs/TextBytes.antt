@@ -17,8 +17,7 @@ use Rattle.vms_spec.specs.Layout.{no_desc, first, item_size, counted, capacity_o
 use Rattle.vms_spec.specs.Names.{is_name}
 use Rattle.vms_spec.specs.Sets.{Field, Desc, Sub, Device, Set}
 use Rattle.vms_spec.specs.WellFormed.{WellFormed, struct_rules, device_rules, sub_rules}
-use Rattle.vms_stream.proofs.SetParts.{AllSubs, AllParts, EachPart, all_parts}
-use Rattle.vms_stream.proofs.WrittenBytes.{AreBytes, is_named, parts_named}
+use Rattle.vms_stream.proofs.WrittenBytes.{AllSubs, AllParts, EachPart, all_parts, AreBytes, is_named, parts_named}
 use Rattle.vms_elements.specs.Elements.{What, Number, Constant, Filler, Rule, Element, Shape, no_shape, shape, shapes, cells_in, dotted, behind, single, index_text, item_elements, Stand, stand_of, array_elements, field_elements, elements_from, desc_elements}
 use Rattle.vms_elements.specs.Parts.{elements_in}
 use Rattle.vms_elements.proofs.Members.{Each, each_append, each_map}

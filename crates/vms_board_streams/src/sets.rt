@@ -1,8 +1,7 @@
 // The sets of a family that saves have used, kept for later saves.
-ghost use Rattle.std.specs.Prelude.{◌≡◌, ◌<◌, ◌≤◌, length, IfOk, IfSome};
+ghost use Rattle.std.specs.Prelude.{◌≡◌, ◌≤◌, IfOk, IfSome};
 ghost use Rattle.vms_board.specs.Family.{MaySaveIn};
 ghost use Rattle.vms_board.specs.Saving.{saved_stream};
-ghost use Rattle.vms_board_streams.specs.declared.memory.TheConstants.{STREAM_ROOM};
 ghost use Rattle.vms_board_streams.specs.Sets.{AreOf, IsOf};
 ghost use Rattle.vms_desc.specs.Described.{described};
 
@@ -32,6 +31,11 @@ impl KeptSets {
         KeptSets {
             sets: Vec::new(alloc),
         }
+    }
+
+    /// Returns the allocator of the sets.
+    pub fn alloc(&self) -> Global {
+        *self.sets.allocator()
     }
 
     // Returns the set with the number `number`, if it is kept.
@@ -68,7 +72,7 @@ impl KeptSets {
 ///
 /// # Requires
 ///
-/// `set` and the stream are as `stream_of` requires, and `sets` are of the board's family.
+/// `set` is as `stream_of` requires, and `sets` are of the board's family.
 pub fn stream_by<M: Machine>(
     alloc: Global,
     board: &MachineBoard<M>,
@@ -76,7 +80,6 @@ pub fn stream_by<M: Machine>(
     sets: &mut KeptSets,
 ) -> Result<Vec<u8>, NoMemory>
     requires may { MaySaveIn M.family board.now.state set }
-    requires short { length (saved_stream M.family set board.now.state) < STREAM_ROOM }
     requires sets { AreOf M.family sets.old }
     ensures stream { let bytes = saved_stream M.family set board.now.state in
         IfOk result (λ stream. stream.items ≡ bytes) }

@@ -21,7 +21,7 @@ use Rattle.vms_load.specs.declared.fault.LoadFault.TheVariants as loads
 use Rattle.vms_load.proofs.LoadReads.{loads_kept}
 use Rattle.vms_check.specs.Comparing.{Compatible, first_mismatch}
 use Rattle.vms_check.specs.declared.mismatch.Mismatch.{Mismatch}
-use Rattle.vms_convert.specs.Calls.{AtOnce, Behind, Converts as Calls, IsStreamFor, LosesFirst, RefusesFirst, TakesFirst}
+use Rattle.vms_convert.specs.Calls.{Converts as Calls, IsStreamFor, LosesFirst, RefusesFirst, TakesFirst}
 use Rattle.vms_convert.specs.declared.fault.ConvertFault.{ConvertFault}
 use Rattle.vms_convert.specs.declared.fault.ConvertFault.TheVariants as faults
 use Rattle.vms_commands.specs.declared.ending.Ending.{Ending}
@@ -149,11 +149,6 @@ module _ (to : Set) (fit : IsFit to) (i i' : Intake) (o o' : Outlet) where
   given_set : (compatible : Compatible to newest) (s : Stock) (x : Outcome) → ConvertsBy (agrees to) i.left s.held x → IsSomeAnd i.left (λ bytes. Converts to bytes s.held x)
   given_set compatible s x has = subst (λ (step : Step Set). ConvertsBy step i.left s.held x) (agreed_gives to compatible) has
 
-  -- nothing was written before memory ran out
-  unwritten : Calls to newest i i' o o' (Err faults.NoMemory) → o' ≡ o
-  unwritten (AtOnce input out) = out
-  unwritten (Behind compatible t) = t.converts
-
   -- the outcome of a known input
   told_content : (s s' : Stock) (e : Option Ending) (x : Outcome) → Compatible to newest → IfSome i.left IsBytes → Seen (λ bytes y. Converts to bytes s.held y) i i' o o' s s' e → ConvertsBy (agrees to) i.left s.held x
       → EndsAs i i' o o' s s' e x
@@ -177,7 +172,7 @@ module _ (to : Set) (fit : IsFit to) (i i' : Intake) (o o' : Outlet) where
   convert_content _ _ FailsWriting c ok few s s' x same has =
       let t = c.1 in
       told_content s s' (Some endings.WriteFault) x c.0 ok (stream_seen to t.images t.taken t.machine t.converts.bytes (Some endings.WriteFault) same t.reads t.converts.is t.converts.puts) has
-  convert_content _ _ LacksMemory c ok few s s' x same has = comes_to_nothing o o' s s' x.parts (same_keeps o o' (unwritten c)) same
+  convert_content _ _ LacksMemory c ok few s s' x same has = comes_to_nothing o o' s s' x.parts (same_keeps o o' c.1) same
   convert_content _ _ (LacksLine m) c ok few s s' x same has = comes_to_nothing o o' s s' x.parts (same_keeps o o' c.2) same
 
   -- ---- known or unknown
@@ -198,12 +193,11 @@ module _ (to : Set) (fit : IsFit to) (i i' : Intake) (o o' : Outlet) where
   convert_given (Err (faults.WouldLose section cell)) c = within c.0 (taken_few (Err (faults.WouldLose section cell)) c.1)
   convert_given (Err faults.ReadFault) c = within c.0 (few_before loads.ReadFault c.1 c.1.reads.long)
   convert_given (Err faults.WriteFault) c = within c.0 (taken_few (Err faults.WriteFault) c.1)
-  convert_given (Err faults.NoMemory) (AtOnce input out) = nothing (agrees to) input
+  convert_given (Err faults.NoMemory) c = nothing (agrees to) c.0
     where
       nothing : (step : Step Set) → i' ≡ i → ConvertGives step i i'
       nothing (Ends status line) e = e
       nothing step e = omega (arith, ap (λ (x : Intake). x.given) e)
-  convert_given (Err faults.NoMemory) (Behind compatible t) = within compatible (taken_few (Err faults.NoMemory) t)
 
   -- ---- what is seen
 
@@ -253,8 +247,7 @@ module _ (to : Set) (fit : IsFit to) (i i' : Intake) (o o' : Outlet) where
       let t = c.1.reads.takes in
       let p = c.1.converts.puts.puts in
       record { input_count = t.later; out_count = p.later; input_promise = t.promise; out_promise = p.promise }
-  convert_stands (Err faults.NoMemory) (AtOnce input out) = stands_same (omega (arith, ap (λ (x : Intake). x.faults) input)) (ap (λ (x : Intake). x.promise) input) out
-  convert_stands (Err faults.NoMemory) (Behind compatible t) = stands_same t.reads.takes.later t.reads.takes.promise t.converts
+  convert_stands (Err faults.NoMemory) c = stands_same (omega (arith, ap (λ (x : Intake). x.faults) c.0)) (ap (λ (x : Intake). x.promise) c.0) c.1
 
   -- ---- what it touches
 
@@ -278,9 +271,9 @@ module _ (to : Set) (fit : IsFit to) (i i' : Intake) (o o' : Outlet) where
   convert_so _ _ FailsWriting c s asks =
       so_by s asks (Some endings.WriteFault) refl c.1.converts.puts.rose (λ f. absurd (wrong f)) (λ f. absurd (wrong f)) (convert_stands (Err faults.WriteFault) c)
   convert_so _ _ LacksMemory c s asks =
-      so_by s asks (Some endings.NoMemory) refl tt (λ f. same_keeps o o' (unwritten c)) (λ f. absurd (wrong f)) (convert_stands (Err faults.NoMemory) c)
+      so_by s asks (Some endings.NoMemory) refl tt (λ f. same_keeps o o' c.1) (λ f. c.0) (convert_stands (Err faults.NoMemory) c)
   convert_so _ _ (LacksLine m) c s asks =
-      so_by s asks (Some endings.NoMemory) refl tt (λ f. same_keeps o o' c.2) (λ f. absurd (wrong f)) (convert_stands (Err (faults.NotCompatible m)) c)
+      so_by s asks (Some endings.NoMemory) refl tt (λ f. same_keeps o o' c.2) (λ f. c.1) (convert_stands (Err (faults.NotCompatible m)) c)
 
   pub converts_stream : (r : Result (Unit {0}) ConvertFault) (e : Option Ending) → EndsLike r e → Calls to newest i i' o o' r → IfSome i.left IsBytes → i.given < 2 ^ 64 → ConvertsStream to i i' o o' e
   converts_stream r e like said octets counted = record {

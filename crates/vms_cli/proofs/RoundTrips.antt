@@ -11,8 +11,7 @@ use Rattle.vms_spec.specs.Good.{IsFit}
 use Rattle.vms_stream.specs.Streams.{Takes}
 use Rattle.vms_elements.specs.Reading.{IsMachineOf}
 use Rattle.vms_values_laws.specs.Rounds.{ShowsAs}
-use Rattle.vms_values_laws.proofs.Stated.{accepted_holds}
-use Rattle.vms_values_laws.proofs.Rounds.{packed_holds, shown_holds, written_only}
+use Rattle.vms_values_laws.proofs.Stated.{accepted_holds, packed_holds, shown_holds, written_only}
 use Rattle.vms_selfdesc.specs.Tree.{described_text}
 use Rattle.vms_selfdesc.proofs.Bounds.{short_holds}
 use Rattle.vms_analyze.specs.Listing.{Listing, Text, Lists, IsTooLong, HasNone, HasNoShape, IsRead, longest_input}

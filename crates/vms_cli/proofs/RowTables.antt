@@ -10,7 +10,7 @@ writes_one P none text play None = none
 writes_one P none text play (Some (Play level script)) = play
 writes_one P none text play (Some asked) = text
 
-pub takes_one : (P : List ℕ → Type 0) → P [] → P (0 ∷ 1 ∷ 5 ∷ 6 ∷ []) → P (0 ∷ 1 ∷ 5 ∷ 6 ∷ 10 ∷ 11 ∷ []) → P (0 ∷ 1 ∷ 5 ∷ 6 ∷ 10 ∷ []) → (asked : Option Asked)
+pub takes_one : (P : List ℕ → Type 0) → P [] → P (0 ∷ 1 ∷ 5 ∷ 6 ∷ []) → P (0 ∷ 1 ∷ 5 ∷ 6 ∷ 11 ∷ []) → P (0 ∷ 1 ∷ 5 ∷ 6 ∷ 10 ∷ []) → (asked : Option Asked)
     → P (takes_at asked)
 takes_one P none stream rewritten input (Some (Show set)) = stream
 takes_one P none stream rewritten input (Some (Convert set)) = rewritten

@@ -32,7 +32,7 @@ use Rattle.vms_spec.specs.Images.{Image}
 use Rattle.vms_spec.specs.Sets.{Set}
 use Rattle.vms_spec.specs.Streams.{AreReady, is_one_of}
 use Rattle.vms_spec.specs.Values.{values_text}
-use Rattle.vms_values_laws.proofs.Rounds.{written_only}
+use Rattle.vms_values_laws.proofs.Stated.{written_only}
 use Rattle.vms_cli.proofs.RoundTrips.{done_apart, fits_text, lists_all, same_text, shown_listed}
 use Rattle.vms_cli.proofs.WordLaws.{words_ask}
 use Rattle.vms_cli.specs.AnalyzeLaws.{PrintsAlike, SaveThenAnalyzeLaw}

@@ -11,9 +11,9 @@ use Rattle.vms_cli.specs.Commands.{Asked, Show, Convert, Analyze, Pack, Check, C
 abbrev pub show_course : Bool → Course
 show_course asks = stream_course asks
 
--- The course of `convert`, which allocates after it has read.
+-- The course of `convert`, which allocates all memory and then reads.
 abbrev pub convert_course : Bool → Course
-convert_course asks = text_course (0 ∷ 1 ∷ 4 ∷ 5 ∷ 6 ∷ 10 ∷ 11 ∷ []) (0 ∷ 1 ∷ 5 ∷ 6 ∷ 10 ∷ 11 ∷ []) asks
+convert_course asks = text_course (0 ∷ 1 ∷ 4 ∷ 5 ∷ 6 ∷ 10 ∷ 11 ∷ []) (0 ∷ 1 ∷ 5 ∷ 6 ∷ 11 ∷ []) asks
 
 -- The course of `analyze`, which allocates while it reads.
 abbrev pub analyze_course : Course

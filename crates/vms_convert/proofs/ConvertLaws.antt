@@ -10,9 +10,9 @@ use Rattle.vms_load.specs.Going.{LoadReads}
 use Rattle.vms_load.specs.Staging.{name_of}
 use Rattle.vms_load.specs.declared.fault.LoadFault.{LoadFault}
 use Rattle.vms_load.specs.declared.fault.LoadFault.TheVariants as loads
-use Rattle.vms_convert.specs.Calls.{AtOnce, Behind, Converts, ConvertsKept, IsStreamFor, as_fault}
+use Rattle.vms_convert.specs.Calls.{Converts, ConvertsInto, ConvertsKept, IsStreamFor, PutsStream, as_fault}
 use Rattle.vms_convert.specs.Converted.{AreBack, recast_each}
-use Rattle.vms_convert.specs.Losing.{Judges, PutsBytes, stream_of}
+use Rattle.vms_convert.specs.Losing.{Judges, stream_of}
 use Rattle.vms_convert.specs.Lost.{Loses, numbers_in}
 use Rattle.vms_convert.specs.declared.fault.ConvertFault.{ConvertFault}
 use Rattle.vms_convert.specs.declared.fault.ConvertFault.TheVariants as faults
@@ -31,29 +31,30 @@ module _ (to new : Set) (name : Option (List ℕ)) (images backs : List Image) (
     streams : IsStreamFor to new name images (stream_of to (at_option to.machines m) backs)
     streams = record { backs = backs; back = back; keeps = h.0; is = ap (λ (n : Option (List ℕ)). stream_of to n backs) h.1.is }
 
-    pub puts_kept : (empty full : Outlet) (r : Result Unit ConvertFault) → PutsBytes (stream_of to (at_option to.machines m) backs) empty full r → ConvertsKept to new name images empty full r
-    puts_kept empty full (Ok u) p = record { bytes = stream_of to (at_option to.machines m) backs; is = streams; puts = p }
-    puts_kept empty full (Err faults.WriteFault) p = record { bytes = stream_of to (at_option to.machines m) backs; is = streams; puts = p }
-    puts_kept empty full (Err faults.NoMemory) p = p
-    puts_kept empty full (Err faults.ReadFault) p = absurd p
-    puts_kept empty full (Err (faults.NotCompatible mismatch)) p = absurd p
-    puts_kept empty full (Err (faults.Refused refusal)) p = absurd p
-    puts_kept empty full (Err (faults.WouldLose section cell)) p = absurd p
+    pub puts_kept : (ArePut : List ℕ → Type 0) → ArePut (stream_of to (at_option to.machines m) backs) → PutsStream to new name images ArePut
+    puts_kept ArePut p = record { bytes = stream_of to (at_option to.machines m) backs; is = streams; puts = p }
 
-module _ (to new : Set) (compatible : Compatible to new) (before after : Intake) (images : List Image) (taken : ℕ) where
+module _ (to new : Set) (before after : Intake) (images : List Image) (taken : ℕ) where
   pub from_kept : (machine : Option ℕ) (empty full : Outlet) (r : Result Unit ConvertFault) → LoadReads before after new new.machines images taken (Ok machine) → ConvertsKept to new (name_of new machine) images empty full r
-      → Converts to new before after empty full r
-  from_kept machine empty full (Ok u) reads h = (compatible, record { images = images; taken = taken; machine = machine; reads = reads; converts = h })
-  from_kept machine empty full (Err faults.WriteFault) reads h = (compatible, record { images = images; taken = taken; machine = machine; reads = reads; converts = h })
-  from_kept machine empty full (Err (faults.WouldLose section cell)) reads h = (compatible, record { images = images; taken = taken; machine = machine; reads = reads; converts = h })
-  from_kept machine empty full (Err faults.NoMemory) reads h = Behind compatible (record { images = images; taken = taken; machine = machine; reads = reads; converts = h })
+      → ConvertsInto to new before after empty full r
+  from_kept machine empty full (Ok u) reads h = record { images = images; taken = taken; machine = machine; reads = reads; converts = h }
+  from_kept machine empty full (Err faults.WriteFault) reads h = record { images = images; taken = taken; machine = machine; reads = reads; converts = h }
+  from_kept machine empty full (Err (faults.WouldLose section cell)) reads h = record { images = images; taken = taken; machine = machine; reads = reads; converts = h }
+  from_kept machine empty full (Err faults.NoMemory) reads h = absurd h
   from_kept machine empty full (Err faults.ReadFault) reads h = absurd h
   from_kept machine empty full (Err (faults.NotCompatible mismatch)) reads h = absurd h
   from_kept machine empty full (Err (faults.Refused refusal)) reads h = absurd h
 
-  pub from_fault : (empty : Outlet) (fault : LoadFault) → LoadReads before after new new.machines images taken (Err fault) → Converts to new before after empty empty (Err (as_fault fault))
-  from_fault empty (loads.Refused r) reads = (compatible, record { images = images; taken = taken; reads = reads; none = refl })
-  from_fault empty loads.ReadFault reads = (compatible, record { images = images; taken = taken; reads = reads; none = refl })
+  pub from_fault : (empty : Outlet) (fault : LoadFault) → LoadReads before after new new.machines images taken (Err fault) → ConvertsInto to new before after empty empty (Err (as_fault fault))
+  from_fault empty (loads.Refused r) reads = record { images = images; taken = taken; reads = reads; none = refl }
+  from_fault empty loads.ReadFault reads = record { images = images; taken = taken; reads = reads; none = refl }
 
-pub wants_at_once : (to new : Set) (before : Intake) (empty : Outlet) → Converts to new before before empty empty (Err faults.NoMemory)
-wants_at_once to new before empty = AtOnce refl refl
+pub from_into : (to new : Set) (before after : Intake) (empty full : Outlet) (r : Result Unit ConvertFault) → Compatible to new → ConvertsInto to new before after empty full r
+    → Converts to new before after empty full r
+from_into to new before after empty full (Ok u) c h = (c, h)
+from_into to new before after empty full (Err faults.WriteFault) c h = (c, h)
+from_into to new before after empty full (Err (faults.WouldLose section cell)) c h = (c, h)
+from_into to new before after empty full (Err faults.ReadFault) c h = (c, h)
+from_into to new before after empty full (Err (faults.Refused refusal)) c h = (c, h)
+from_into to new before after empty full (Err faults.NoMemory) c h = absurd h
+from_into to new before after empty full (Err (faults.NotCompatible mismatch)) c h = absurd h

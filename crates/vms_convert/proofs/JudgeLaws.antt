@@ -34,7 +34,6 @@ use Rattle.vms_convert.specs.Lost.{IsValidAt, Loses, OfDevice, OfMachine, first_
 use Rattle.vms_convert.specs.Returns.{AreReturned, AreReturnedTo, IsFirstLost}
 use Rattle.vms_convert.specs.declared.fault.Loss.{Loss}
 use Rattle.vms_convert.specs.declared.returns.LostCell.{LostCell}
-use Rattle.vms_convert.specs.declared.returns.Returns.{Returns}
 use Rattle.vms_convert.proofs.Converts.{back_stands}
 use Rattle.vms_convert.proofs.LostLaws.{all_carried, cell_lost}
 use Rattle.vms_convert.proofs.RecastAt.{newest_kinds, recast_long}
@@ -165,12 +164,10 @@ module _ (to : Set) (images : List Typed) (writable : AreWritable to images) (na
   pub own_image : (image : Typed) → image ≡ get_or images own image → slice_get images own ≡ Some image
   own_image image is = image_at images own image own_bound is
 
--- what is first invalid of images in the newest set, as both are named elsewhere
-pub invalid_by : (to new : Set) (images : List Typed) (s : Set) (typed : List Typed) (o found : Option ℕ) → s ≡ new → typed ≡ images → FirstInvalid to s (map state_of typed) found → found ≡ o
-    → FirstInvalid to new (map state_of images) o
-invalid_by to new images s typed o found set_is typed_is h same =
-    subst (λ (x : Option ℕ). FirstInvalid to new (map state_of images) x) same
-    (subst (λ (l : List Typed). FirstInvalid to new (map state_of l) found) typed_is (subst (λ (x : Set). FirstInvalid to x (map state_of typed) found) set_is h))
+-- what is first invalid of images in the newest set, as it is named elsewhere
+pub invalid_by : (to new : Set) (images : List Typed) (s : Set) (o found : Option ℕ) → s ≡ new → FirstInvalid to s (map state_of images) found → found ≡ o → FirstInvalid to new (map state_of images) o
+invalid_by to new images s o found set_is h same =
+    subst (λ (x : Option ℕ). FirstInvalid to new (map state_of images) x) same (subst (λ (x : Set). FirstInvalid to x (map state_of images) found) set_is h)
 
 same_first : (numbers : List ℤ) (cells : List Cell) → length numbers ≡ length cells → first_cell numbers ≡ first_of cells
 same_first [] [] e = refl
@@ -179,19 +176,19 @@ same_first (z ∷ numbers) [] e = absurd (omega (arith, e))
 same_first (z ∷ numbers) (c ∷ cells) e = refl
 
 -- images that a loader of the newest set keeps, and what comes back of them
-pub record ComesBack (to new : Set) (images : List Image) (r : Returns) : Type 0 where
+pub record ComesBack (to new : Set) (images : List Image) (typed : List Typed) (lost : Option LostCell) : Type 0 where
   pub fit : IsFit to
   pub newest : new ≡ set_4
   pub compatible : Compatible to new
   pub kept : AreKept new images
-  pub returned : AreReturned to new (recast_each to new.devices (numbers_in images)) r
+  pub returned : AreReturned to new (recast_each to new.devices (numbers_in images)) typed lost
 
-module _ (to new : Set) (images : List Image) (r : Returns) (p : ComesBack to new images r) where
+module _ (to new : Set) (images : List Image) (typed : List Typed) (lost : Option LostCell) (p : ComesBack to new images typed lost) where
   abbrev wants : List (List ℤ)
   wants = recast_each to new.devices (numbers_in images)
 
   abbrev states : List Image
-  states = map state_of r.images.items
+  states = map state_of typed
 
   abbrev given : List (List ℤ)
   given = numbers_in (carried to new states)
@@ -202,31 +199,30 @@ module _ (to new : Set) (images : List Image) (r : Returns) (p : ComesBack to ne
   long : length wants ≡ length new.devices
   long = recast_long to new.devices (numbers_in images) (length-map images (λ (image : Image). image.numbers) ∙ p.kept.one_each)
 
-  pub writable_back : (typed : List Typed) → typed ≡ r.images.items → AreWritable to typed
-  writable_back typed same =
-      subst (λ (l : List Typed). AreWritable to l) (sym same) (writable to new wants r.images.items r.lost p.returned p.fit well p.compatible (newest_kinds to new p.newest images p.kept))
+  pub writable_back : AreWritable to typed
+  writable_back = writable to new wants typed lost p.returned p.fit well p.compatible (newest_kinds to new p.newest images p.kept)
 
   pub backs_are : AreBack to new wants states
-  backs_are = are_back to new wants r.images.items r.lost p.returned
+  backs_are = are_back to new wants typed lost p.returned
 
   pub ready_back : ((k : ℕ) → k < length new.devices → IsValidAt to new states k) → AreReady to states
-  ready_back valid = are_ready to new wants r.images.items r.lost p.returned p.fit well p.compatible (newest_kinds to new p.newest images p.kept) valid
+  ready_back valid = are_ready to new wants typed lost p.returned p.fit well p.compatible (newest_kinds to new p.newest images p.kept) valid
 
-  first_lost : (lost : Option LostCell) → r.lost ≡ lost → IsFirstLost to new wants (length to.devices) states lost
-  first_lost lost same = subst (λ (o : Option LostCell). IsFirstLost to new wants (length to.devices) states o) same p.returned.first_lost
+  first_lost : (found : Option LostCell) → lost ≡ found → IsFirstLost to new wants (length to.devices) states found
+  first_lost found same = subst (λ (o : Option LostCell). IsFirstLost to new wants (length to.devices) states o) same p.returned.first_lost
 
-  pub cell_first : (name : Option (List ℕ)) (l : LostCell) → r.lost ≡ Some l → Loses to new name wants given states (Some l.device) (Some l.cell)
+  pub cell_first : (name : Option (List ℕ)) (l : LostCell) → lost ≡ Some l → Loses to new name wants given states (Some l.device) (Some l.cell)
   cell_first name l same = cell_lost to new p.fit.well well p.compatible states wants long name l (first_lost (Some l) same)
 
-  kept_cells : r.lost ≡ None → wants ≡ given
+  kept_cells : lost ≡ None → wants ≡ given
   kept_cells same = all_carried to new p.fit.well well p.compatible states wants long (first_lost None same)
 
-  pub device_first : (name : Option (List ℕ)) → r.lost ≡ None → (k : ℕ) → FirstInvalid to new states (Some k) → Loses to new name wants given states (Some k) (first_cell_at new k)
+  pub device_first : (name : Option (List ℕ)) → lost ≡ None → (k : ℕ) → FirstInvalid to new states (Some k) → Loses to new name wants given states (Some k) (first_cell_at new k)
   device_first name same k h =
       let at : slice_get new.devices k ≡ Some (device_at new k) = slice_get-get_or new.devices k no_device h.0 in
       let cell : first_cell (get_or wants k []) ≡ first_cell_at new k =
       same_first (get_or wants k []) (device_cells new (device_at new k)) (newest_kinds to new p.newest images p.kept k (device_at new k) at).long in
       subst (λ (o : Option ℕ). Loses to new name wants given states (Some k) o) cell (device_lost to new name wants given states (kept_cells same) k h)
 
-  pub machine_last : (name : Option (List ℕ)) → r.lost ≡ None → FirstInvalid to new states None → (m : Result (Option ℕ) Loss) → KeepsMachine to name m → Judges to new name wants given states m
+  pub machine_last : (name : Option (List ℕ)) → lost ≡ None → FirstInvalid to new states None → (m : Result (Option ℕ) Loss) → KeepsMachine to name m → Judges to new name wants given states m
   machine_last name same valid m h = machine_judged to new name wants given states (kept_cells same) valid m h

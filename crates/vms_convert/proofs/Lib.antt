@@ -28,6 +28,7 @@ pub mod RecastOf
 pub mod ReturnAt
 pub mod ReturnedLaws
 pub mod ReturnsLaws
+pub mod RoomLaws
 pub mod Rows
 pub mod SettledAll
 pub mod TakenAll

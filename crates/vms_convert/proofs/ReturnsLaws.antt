@@ -16,7 +16,6 @@ use Rattle.vms_check_laws.proofs.Streaming.{all_in}
 use Rattle.vms_convert.specs.Back.{IsBack}
 use Rattle.vms_convert.specs.Returning.{IsReturned}
 use Rattle.vms_convert.specs.Returns.{ArePaired, AreReturnedTo, IsEarlier, IsFirstLost}
-use Rattle.vms_convert.specs.declared.returning.Returned.{Returned}
 use Rattle.vms_convert.specs.declared.returns.LostCell.{LostCell}
 use Rattle.vms_convert.proofs.BringLaws.{there}
 use Rattle.vms_convert.proofs.LostLaws.{lost_next}
@@ -34,35 +33,35 @@ module _ (to new : Set) (wanted : List (List ℤ)) where
   pub returned_none : AreReturnedTo to new wanted 0 [] None
   returned_none = record { count = refl; of = λ i image e. absurd (cc); back = λ i k image p e. absurd (cc); first_lost = λ i k lt. absurd (omega arith) }
 
-  pub returned_next : (n k : ℕ) (images : List Typed) (lost next : Option LostCell) (r : Returned) → AreReturnedTo to new wanted n images lost → ArePaired to new n k
-      → IsReturned to new n k (get_or wanted k []) r → IsEarlier lost k r.lost next → AreReturnedTo to new wanted (n + 1) (images ++ r.image ∷ []) next
-  returned_next n k images lost next r h pair is earlier =
+  pub returned_next : (n k : ℕ) (images : List Typed) (lost next : Option LostCell) (x : Typed) (cell : Option ℕ) → AreReturnedTo to new wanted n images lost → ArePaired to new n k
+      → IsReturned to new n k (get_or wanted k []) x cell → IsEarlier lost k cell next → AreReturnedTo to new wanted (n + 1) (images ++ x ∷ []) next
+  returned_next n k images lost next x cell h pair is earlier =
       let count = h.count in
-      let states : map state_of (images ++ r.image ∷ []) ≡ map state_of images ++ state_of r.image ∷ [] = map-append state_of images (r.image ∷ []) in
+      let states : map state_of (images ++ x ∷ []) ≡ map state_of images ++ state_of x ∷ [] = map-append state_of images (x ∷ []) in
       record {
-        count = length-append images (r.image ∷ []) ∙ ap (λ (m : ℕ). m + 1) count;
-        of = λ i image e. of_more i image (at_more images r.image i image e);
-        back = λ i l image p e. back_more i l image p (at_more (map state_of images) (state_of r.image) i image (sym (ap (λ (l : List Image). slice_get l i) states) ∙ e));
+        count = length-append images (x ∷ []) ∙ ap (λ (m : ℕ). m + 1) count;
+        of = λ i image e. of_more i image (at_more images x i image e);
+        back = λ i l image p e. back_more i l image p (at_more (map state_of images) (state_of x) i image (sym (ap (λ (l : List Image). slice_get l i) states) ∙ e));
         first_lost = subst (λ (l : List Image). IsFirstLost to new wanted (n + 1) l next) (sym states)
-            (lost_next to new wanted (map state_of images) (state_of r.image) n k (length-map images state_of ∙ count) pair lost r.lost next h.first_lost is.lost earlier);
+            (lost_next to new wanted (map state_of images) (state_of x) n k (length-map images state_of ∙ count) pair lost cell next h.first_lost is.lost earlier);
       }
     where
-      of_more : (i : ℕ) (image : Typed) → (slice_get images i ≡ Some image) ⊎ ((i ≡ length images) × (r.image ≡ image)) → IsImageOf to i image
+      of_more : (i : ℕ) (image : Typed) → (slice_get images i ≡ Some image) ⊎ ((i ≡ length images) × (x ≡ image)) → IsImageOf to i image
       of_more i image (inl e) = h.of i image e
       of_more i image (inr e) =
           let at : n ≡ i = sym h.count ∙ sym e.0 in
-          subst (λ (x : Typed). IsImageOf to i x) e.1 (subst (λ (m : ℕ). IsImageOf to m r.image) at is.of)
+          subst (λ (y : Typed). IsImageOf to i y) e.1 (subst (λ (m : ℕ). IsImageOf to m x) at is.of)
 
-      back_more : (i l : ℕ) (image : Image) → ArePaired to new i l → (slice_get (map state_of images) i ≡ Some image) ⊎ ((i ≡ length (map state_of images)) × (state_of r.image ≡ image))
+      back_more : (i l : ℕ) (image : Image) → ArePaired to new i l → (slice_get (map state_of images) i ≡ Some image) ⊎ ((i ≡ length (map state_of images)) × (state_of x ≡ image))
           → IsBack (to) (device_at to i) (device_partners to new (device_at to i) (device_at new l)) (get_or wanted l []) image
       back_more i l image p (inl e) = h.back i l image p e
       back_more i l image p (inr e) =
           let at : n ≡ i = sym h.count ∙ sym (length-map images state_of) ∙ sym e.0 in
           let found : Some k ≡ Some l = sym (subst (λ (m : ℕ). ArePaired to new m k) at pair).found ∙ p.found in
           let same : k ≡ l = cc in
-          subst (λ (x : Image). IsBack to (device_at to i) (device_partners to new (device_at to i) (device_at new l)) (get_or wanted l []) x) e.1
-          (subst (λ (j : ℕ). IsBack to (device_at to i) (device_partners to new (device_at to i) (device_at new j)) (get_or wanted j []) (state_of r.image)) same
-          (subst (λ (m : ℕ). IsBack to (device_at to m) (device_partners to new (device_at to m) (device_at new k)) (get_or wanted k []) (state_of r.image)) at is.back))
+          subst (λ (y : Image). IsBack to (device_at to i) (device_partners to new (device_at to i) (device_at new l)) (get_or wanted l []) y) e.1
+          (subst (λ (j : ℕ). IsBack to (device_at to i) (device_partners to new (device_at to i) (device_at new j)) (get_or wanted j []) (state_of x)) same
+          (subst (λ (m : ℕ). IsBack to (device_at to m) (device_partners to new (device_at to m) (device_at new k)) (get_or wanted k []) (state_of x)) at is.back))
 
 -- ---- the newest set's device of a name
 

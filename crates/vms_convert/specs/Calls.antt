@@ -43,7 +43,7 @@ module _ (to new : Set) where
   ConvertsKept machine images empty full (Ok u) = PutsStream machine images (Puts empty full)
   ConvertsKept machine images empty full (Err faults.WriteFault) = PutsStream machine images (Stops empty full)
   ConvertsKept machine images empty full (Err (faults.WouldLose section cell)) = LosesFirst machine images section cell × (full ≡ empty)
-  ConvertsKept machine images empty full (Err faults.NoMemory) = full ≡ empty
+  ConvertsKept machine images empty full (Err faults.NoMemory) = ⊥
   ConvertsKept machine images empty full (Err faults.ReadFault) = ⊥
   ConvertsKept machine images empty full (Err (faults.NotCompatible m)) = ⊥
   ConvertsKept machine images empty full (Err (faults.Refused r)) = ⊥
@@ -56,12 +56,6 @@ module _ (to new : Set) where
     pub reads : LoadReads before after new new.machines images taken (Ok machine)
     pub converts : ConvertsKept (name_of new machine) images empty full result
 
-  -- Memory ran out: before anything was read, or after a stream was read. In the second case the newer set reads
-  -- what the target writes.
-  pub data WantsMemory (before after : Intake) (empty full : Outlet) : Type 0 where
-    AtOnce : after ≡ before → full ≡ empty → WantsMemory before after empty full
-    Behind : Compatible to new → TakesFirst before after empty full (Err faults.NoMemory) → WantsMemory before after empty full
-
   -- The load ended with this fault, and nothing has been written.
   pub record RefusesFirst (before after : Intake) (empty full : Outlet) (fault : LoadFault) : Type 0 where
     pub images : List Image
@@ -69,18 +63,18 @@ module _ (to new : Set) where
     pub reads : LoadReads before after new new.machines images taken (Err fault)
     pub none : full ≡ empty
 
-  -- The result, if the newer set reads what the target writes.
+  -- The result once all memory is allocated, if the newer set reads what the target writes.
   abbrev pub ConvertsInto : Intake → Intake → Outlet → Outlet → Result Unit ConvertFault → Type 0
   ConvertsInto before after empty full (Ok u) = TakesFirst before after empty full (Ok u)
   ConvertsInto before after empty full (Err (faults.WouldLose section cell)) = TakesFirst before after empty full (Err (faults.WouldLose section cell))
   ConvertsInto before after empty full (Err faults.WriteFault) = TakesFirst before after empty full (Err faults.WriteFault)
   ConvertsInto before after empty full (Err (faults.Refused r)) = RefusesFirst before after empty full (loads.Refused r)
   ConvertsInto before after empty full (Err faults.ReadFault) = RefusesFirst before after empty full loads.ReadFault
-  ConvertsInto before after empty full (Err faults.NoMemory) = WantsMemory before after empty full
+  ConvertsInto before after empty full (Err faults.NoMemory) = ⊥
   ConvertsInto before after empty full (Err (faults.NotCompatible m)) = ⊥
 
   -- What a call of `convert` guarantees: its result, what has been read, and what has been written.
   abbrev pub Converts : Intake → Intake → Outlet → Outlet → Result Unit ConvertFault → Type 0
   Converts before after empty full (Err (faults.NotCompatible m)) = (first_mismatch to new ≡ Some m) × (after ≡ before) × (full ≡ empty)
-  Converts before after empty full (Err faults.NoMemory) = WantsMemory before after empty full
+  Converts before after empty full (Err faults.NoMemory) = (after ≡ before) × (full ≡ empty)
   Converts before after empty full result = Compatible to new × ConvertsInto before after empty full result

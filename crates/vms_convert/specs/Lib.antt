@@ -12,4 +12,5 @@ pub mod Putting
 pub mod Recast
 pub mod Returning
 pub mod Returns
+pub mod Rooms
 pub mod Takes

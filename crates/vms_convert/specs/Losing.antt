@@ -8,13 +8,9 @@ use Rattle.vms_spec.specs.Images.{Image}
 use Rattle.vms_spec.specs.Streams.{is_one_of, written}
 use Rattle.vms_parts.specs.Devices.{device_at}
 use Rattle.vms_image.specs.Typed.{IsImageOf, Typed, state_of}
-use Rattle.vms_io.specs.Told.{Outlet}
-use Rattle.vms_io.specs.Writing.{Puts, Stops}
 use Rattle.vms_selfdesc.specs.Tree.{described_text}
 use Rattle.vms_convert.specs.Laws.{MayBeWritten}
 use Rattle.vms_convert.specs.Lost.{IsValidAt, KeepsAll, Loses}
-use Rattle.vms_convert.specs.declared.fault.ConvertFault.{ConvertFault}
-use Rattle.vms_convert.specs.declared.fault.ConvertFault.TheVariants as faults
 use Rattle.vms_convert.specs.declared.fault.Loss.{Loss}
 
 -- One image for each device, which may be written if it is valid.
@@ -63,13 +59,3 @@ Judges to new name wanted there backs (Err loss) = Loses to new name wanted ther
 -- The stream of a machine and images of the older set, which describes itself.
 abbrev pub stream_of : Set → Option (List ℕ) → List Image → List ℕ
 stream_of to name backs = written to name backs (Some (described_text to backs))
-
--- The bytes have been written, or a prefix before a failed write; or memory ran out before.
-abbrev pub PutsBytes : List ℕ → Outlet → Outlet → Result Unit ConvertFault → Type 0
-PutsBytes bytes empty full (Ok u) = Puts empty full bytes
-PutsBytes bytes empty full (Err faults.WriteFault) = Stops empty full bytes
-PutsBytes bytes empty full (Err faults.NoMemory) = full ≡ empty
-PutsBytes bytes empty full (Err faults.ReadFault) = ⊥
-PutsBytes bytes empty full (Err (faults.NotCompatible m)) = ⊥
-PutsBytes bytes empty full (Err (faults.Refused r)) = ⊥
-PutsBytes bytes empty full (Err (faults.WouldLose section cell)) = ⊥

@@ -1,12 +1,10 @@
 -- What all devices of the newer set become.
 use Rattle.std.specs.Prelude.{◌≡◌, ℕ, ◌<◌, true, nat_lt, if◌then◌else◌, List, [], length, get_or, map, Option, Some, None, ℤ}
-use Rattle.std.specs.Borrow.{Bor}
 use Rattle.std.specs.List.{slice_get}
 use Rattle.vms_spec.specs.Sets.{Set}
 use Rattle.vms_spec.specs.Images.{Image}
 use Rattle.vms_spec.specs.Layout.{device_cells}
-use Rattle.vms_desc.specs.declared.set.DescSet.{DescSet}
-use Rattle.vms_desc.specs.Described.{described, device_at}
+use Rattle.vms_desc.specs.Described.{device_at}
 use Rattle.vms_desc.specs.Spots.{kinds_at}
 use Rattle.vms_image.specs.Typed.{IsImageOf, Typed, state_of}
 use Rattle.vms_check.specs.Carrying.{carried_device, no_image}
@@ -18,9 +16,7 @@ use Rattle.vms_convert.specs.Back.{IsBack}
 use Rattle.vms_convert.specs.Converted.{IsPairAt}
 use Rattle.vms_convert.specs.Lost.{DifferAt}
 use Rattle.vms_convert.specs.Recast.{is_port, recast}
-use Rattle.vms_convert.specs.declared.returning.Pair.{Pair}
 use Rattle.vms_convert.specs.declared.returns.LostCell.{LostCell}
-use Rattle.vms_convert.specs.declared.returns.Returns.{Returns}
 
 -- Device k of the newer set may be brought to the older set: its recast numbers are of its kinds, and a port has a
 -- port's cells.
@@ -28,13 +24,6 @@ pub record IsRecastFor (to new : Set) (k : ℕ) (numbers : List ℤ) : Type 0 wh
   pub inside : k < length new.devices
   pub kinds : AreOfKinds (device_cells new (device_at new k)) (recast to (device_at new k) numbers)
   pub port : is_port (device_at new k) ≡ true → (kinds_at new k ≡ port_kinds NEWEST) × IsPortCells numbers
-
--- A device of the older set and the newer one's of the same name and instance.
-pub record IsPairOf (to : Bor DescSet) (i : ℕ) (newest : Bor DescSet) (p : Pair) : Type 0 where
-  pub to_is : p.to ≡ to
-  pub device_is : p.device ≡ i
-  pub newest_is : p.newest ≡ newest
-  pub pair : IsPairAt (described to.now) (described newest.now) i p.other (device_at (described to.now) i) (device_at (described newest.now) p.other)
 
 -- The earlier of a known cell and one of device k.
 abbrev pub IsEarlier : Option LostCell → ℕ → Option ℕ → Option LostCell → Type 0
@@ -74,5 +63,5 @@ pub record AreReturnedTo (to new : Set) (wanted : List (List ℤ)) (n : ℕ) (im
   pub first_lost : IsFirstLost to new wanted n (map state_of images) lost
 
 -- The same for all devices.
-abbrev pub AreReturned : (to new : Set) → List (List ℤ) → Returns → Type 0
-AreReturned to new wanted r = AreReturnedTo to new wanted (length to.devices) r.images.items r.lost
+abbrev pub AreReturned : (to new : Set) → List (List ℤ) → List Typed → Option LostCell → Type 0
+AreReturned to new wanted images lost = AreReturnedTo to new wanted (length to.devices) images lost

@@ -1,5 +1,5 @@
 // The image of an older set that the numbers of a newer device become.
-ghost use Rattle.std.specs.Prelude.{◌≡◌, ◌<◌, IfOk, None, get_or, length, map, slice_set};
+ghost use Rattle.std.specs.Prelude.{◌≡◌, ◌<◌, None, get_or, length, map, slice_set};
 ghost use Rattle.vms_spec.specs.Layout.{device_cells, no_cell};
 ghost use Rattle.vms_desc.specs.Asks.{needed_at};
 ghost use Rattle.vms_desc.specs.Described.{described, device_at};
@@ -12,38 +12,31 @@ ghost use Rattle.vms_convert.specs.Bringing.{ArePutAt, SettlesSub, marked_by, pa
 ghost use Rattle.vms_convert.specs.Putting.{AreSources};
 
 use crate::taking::take_part;
-use std::alloc::Global;
 use vms_desc::{DescSet, Part};
 use vms_image::Image;
-use vms_io::NoMemory;
 use vms_walk::PartAt;
 
-/// Returns the image of device `device` of `to` that the numbers of `source` become.
+/// Makes the default image of device `device` of `to` the one that the numbers of `source` become.
 ///
 /// `partners` holds the newer cell of each older cell.
-///
-/// # Errors
-///
-/// [`NoMemory`] if memory runs out.
 pub(crate) fn come_back(
-    alloc: Global,
     to: &DescSet,
     device: u32,
     source: &Image,
     partners: &[Option<u32>],
-) -> Result<Image, NoMemory>
+    image: &mut Image,
+)
     requires device { device < length (described to.now).devices }
     requires sources { let kinds = kinds_at (described to.now) device in
         AreSources kinds source.now.numbers partners.now }
+    requires fresh { image.old ≡ default_at (described to.now) device }
     ensures back { let d = device_at (described to.now) device in let source = source.now.numbers in
-        IfOk result (λ image. IsBack (described to.now) d partners.now source (state_of image)) }
-    ensures of { IfOk result (IsImageOf (described to.now) device) }
+        IsBack (described to.now) d partners.now source (state_of image.new) }
+    ensures of { IsImageOf (described to.now) device image.new }
 {
-    let mut image = Image::new(alloc, to, device)?;
-    take_all(to, device, &mut image, source, partners);
-    settle(to, device, &mut image);
-    mark(to, device, &mut image);
-    Ok(image)
+    take_all(to, device, image, source, partners);
+    settle(to, device, image);
+    mark(to, device, image);
 }
 
 /// Returns `part` at the version that `set` gives it.

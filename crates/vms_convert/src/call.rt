@@ -11,20 +11,23 @@ ghost use Rattle.vms_load.specs.Staging.{IsMachine, name_of};
 ghost use Rattle.vms_image.specs.Typed.{AreImagesOf, state_of};
 ghost use Rattle.vms_spec.specs.Lists.{at_option};
 ghost use Rattle.vms_spec.specs.Streams.{AreReady};
-ghost use Rattle.vms_convert.specs.Losing.{PutsBytes, stream_of};
-ghost use Rattle.vms_convert.specs.Calls.{Converts, ConvertsKept};
+ghost use Rattle.vms_io.specs.Writing.{Wrote};
+ghost use Rattle.vms_convert.specs.Losing.{stream_of};
+ghost use Rattle.vms_convert.specs.Calls.{Converts, ConvertsInto, ConvertsKept};
+ghost use Rattle.vms_convert.specs.Rooms.{IsRoom};
 
 use crate::fault::ConvertFault;
 use crate::losing::judge;
 use crate::returns::return_all;
+use crate::room::{Room, room_for};
 use dev_base::NEWEST;
 use std::alloc::Global;
 use vms_check::{Verdict, check};
 use vms_desc::DescSet;
 use vms_image::Image;
-use vms_io::{NoMemory, Sink, Source};
+use vms_io::{NoMemory, Sink, Source, WriteFault};
 use vms_load::LeanLoader;
-use vms_selfdesc::describe;
+use vms_selfdesc::DescriptionRoom;
 use vms_write::write_stream;
 
 /// Reads a stream from `source` with the newest shipped set and writes the same state to `sink`
@@ -44,7 +47,7 @@ use vms_write::write_stream;
 ///   written.
 /// - [`ConvertFault::ReadFault`]: `source` failed. Nothing has been written.
 /// - [`ConvertFault::WriteFault`]: `sink` failed. A prefix of the new stream has been written.
-/// - [`ConvertFault::NoMemory`]: out of memory. Nothing has been written.
+/// - [`ConvertFault::NoMemory`]: out of memory. Nothing has been read or written.
 pub fn convert<S: Source, K: Sink>(
     alloc: Global,
     source: &mut S,
@@ -99,65 +102,68 @@ pub fn convert_with<S: Source, K: Sink>(
     if let Verdict::Refused(mismatch) = check(to, loader.set()) {
         return Err(ConvertFault::NotCompatible(mismatch));
     }
-    convert_by(alloc, source, to, loader, sink)
+    let room = room_for(alloc, to, loader.set())?;
+    convert_by(source, to, loader, room, sink)
 }
 
-// Converts with a loader of the newest set, which reads what the target writes.
+// Converts with a loader of the newest set, which reads what the target writes. Memory can't run out.
 fn convert_by<S: Source, K: Sink>(
-    alloc: Global,
     source: &mut S,
     to: &DescSet,
     loader: &mut LeanLoader,
+    room: Room,
     sink: &mut K,
 ) -> Result<(), ConvertFault>
     requires newest { loads loader.old ≡ shipped_set NEWEST }
     requires compatible { Compatible (described to.now) (shipped_set NEWEST) }
+    requires room { IsRoom (described to.now) (shipped_set NEWEST) room }
     ensures converts { let before = intake S.Source source.old in let after = intake S.Source source.new in
         let empty = outlet K.Sink sink.old in let full = outlet K.Sink sink.new in
-        Converts (described to.now) (shipped_set NEWEST) before after empty full result }
+        ConvertsInto (described to.now) (shipped_set NEWEST) before after empty full result }
     ensures set { loads loader.new ≡ shipped_set NEWEST }
 {
     let machine = loader.load(source, None)?;
-    convert_kept(alloc, to, loader, machine, sink)
+    convert_kept(to, loader, machine, room, sink)
 }
 
 // Writes the images of `loader` under the target.
 fn convert_kept<K: Sink>(
-    alloc: Global,
     to: &DescSet,
     loader: &LeanLoader,
     machine: Option<u32>,
+    mut room: Room,
     sink: &mut K,
 ) -> Result<(), ConvertFault>
     requires newest { loads loader.now ≡ shipped_set NEWEST }
     requires compatible { Compatible (described to.now) (shipped_set NEWEST) }
     requires kept { AreKept (shipped_set NEWEST) (has loader.now) }
     requires machine { IsMachine (shipped_set NEWEST).machines machine }
+    requires room { IsRoom (described to.now) (shipped_set NEWEST) room }
     ensures { let empty = outlet K.Sink sink.old in let full = outlet K.Sink sink.new in
         let new = shipped_set NEWEST in let name = name_of new machine in
         ConvertsKept (described to.now) new name (has loader.now) empty full result }
 {
-    let returns = return_all(alloc, to, loader)?;
-    let machine = judge(to, loader, machine, &returns)?;
-    write_back(alloc, to, machine, &returns.images, sink)
+    let lost = return_all(to, loader, &mut room.routes, &mut room.images);
+    let machine = judge(to, loader, machine, &room.images, lost)?;
+    write_back(to, machine, &room.images, &mut room.text, sink)?;
+    Ok(())
 }
 
 // Writes images of the target, with their description.
 fn write_back<K: Sink>(
-    alloc: Global,
     to: &DescSet,
     machine: Option<u32>,
     images: &[Image],
+    text: &mut DescriptionRoom,
     sink: &mut K,
-) -> Result<(), ConvertFault>
+) -> Result<(), WriteFault>
     requires machine { IfSome machine (λ m. m < length (described to.now).machines) }
     requires of { AreImagesOf (described to.now) images.now }
     requires ready { AreReady (described to.now) (map state_of images.now) }
     ensures { let name = at_option (described to.now).machines machine in
         let bytes = stream_of (described to.now) name (map state_of images.now) in
-        PutsBytes bytes (outlet K.Sink sink.old) (outlet K.Sink sink.new) result }
+        Wrote (outlet K.Sink sink.old) (outlet K.Sink sink.new) bytes result }
 {
-    let text = describe(alloc, to, images)?;
-    write_stream(to, machine, images, Some(&text), sink)?;
-    Ok(())
+    let text = text.describe(to, images);
+    write_stream(to, machine, images, Some(text), sink)
 }

@@ -37,7 +37,7 @@ pub enum ConvertFault {
     /// The sink failed and has counted a failure. A prefix of the stream has been written.
     #[error("a write has failed")]
     WriteFault,
-    /// Out of memory. Nothing has been written.
+    /// Out of memory. Nothing has been read or written.
     #[error("out of memory")]
     NoMemory,
 }

@@ -13,6 +13,7 @@ mod pairing;
 mod recasting;
 mod returning;
 mod returns;
+mod room;
 mod taking;
 
 pub use call::{convert, convert_with, newest_loader};

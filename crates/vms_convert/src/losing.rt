@@ -16,7 +16,7 @@ ghost use Rattle.vms_convert.specs.Lost.{IsValidAt, numbers_in};
 ghost use Rattle.vms_convert.specs.Returns.{AreReturned};
 
 use crate::fault::Loss;
-use crate::returns::Returns;
+use crate::returns::LostCell;
 use vms_desc::{DescSet, find_name};
 use vms_image::Image;
 use vms_load::LeanLoader;
@@ -27,7 +27,8 @@ pub(crate) fn judge(
     to: &DescSet,
     loader: &LeanLoader,
     machine: Option<u32>,
-    returns: &Returns,
+    images: &[Image],
+    lost: Option<LostCell>,
 ) -> Result<Option<u32>, Loss>
     requires newest { loads loader.now ≡ shipped_set NEWEST }
     requires compatible { Compatible (described to.now) (loads loader.now) }
@@ -35,20 +36,20 @@ pub(crate) fn judge(
     requires machine { IsMachine (loads loader.now).machines machine }
     requires returned { let new = loads loader.now in
         let wanted = recast_each (described to.now) new.devices (numbers_in (has loader.now)) in
-        AreReturned (described to.now) new wanted returns.now }
+        AreReturned (described to.now) new wanted images.now lost }
     ensures { let new = loads loader.now in let name = name_of new machine in
         let wanted = recast_each (described to.now) new.devices (numbers_in (has loader.now)) in
-        let backs = map state_of returns.now.images.items in
+        let backs = map state_of images.now in
         let there = numbers_in (carried (described to.now) new backs) in
         Judges (described to.now) new name wanted there backs result }
 {
-    if let Some(lost) = returns.lost {
+    if let Some(lost) = lost {
         return Err(Loss {
             section: Some(lost.device),
             cell: Some(lost.cell),
         });
     }
-    if let Some(device) = first_invalid(to, loader.set(), &returns.images) {
+    if let Some(device) = first_invalid(to, loader.set(), images) {
         return Err(Loss {
             section: Some(device),
             cell: first_cell(loader.set(), device),

@@ -1,23 +1,19 @@
 // The devices that the target keeps in another form than the newest set, and their numbers in that form.
 ghost use Rattle.std.specs.List.{list_any};
-ghost use Rattle.std.specs.Prelude.{◌≡◌, ◌&&◌, ◌<◌, ℕ, IfOk, get_or, length, map, pos, slice_set};
+ghost use Rattle.std.specs.Prelude.{◌≡◌, ◌&&◌, ◌<◌, ℕ, get_or, length, map, pos, slice_set};
 ghost use Rattle.dev_base.specs.declared.limits.TheConstants.{NEWEST};
 ghost use Rattle.dev_serial.specs.Cells.{IsPortCells, kinds};
 ghost use Rattle.dev_serial.specs.Recast.{recast_cells};
 ghost use Rattle.vms_parts.specs.Views.{device_of, sub_of};
 ghost use Rattle.vms_desc.specs.Described.{described};
-ghost use Rattle.vms_desc.specs.Spots.{kinds_at};
 ghost use Rattle.vms_kinds.specs.Codes.{InRange};
 ghost use Rattle.vms_kinds.specs.declared.Kind.TheVariants.{U8};
-ghost use Rattle.vms_image.specs.Typed.{IsImageOf};
 ghost use Rattle.vms_convert.specs.Recast.{is_port, is_ring, wants, wants_arrays};
 
 use dev_images::image_cells;
 use dev_serial::recast;
-use std::alloc::Global;
 use vms_desc::{DescSet, Device, Sub};
 use vms_image::Image;
-use vms_io::NoMemory;
 use vms_kinds::DevCells;
 
 /// Checks whether the target keeps `device` in another form than the newest set.
@@ -63,29 +59,16 @@ fn has_rings(subs: &[Sub]) -> bool
     false
 }
 
-/// Returns the port's image with its FIFOs in counted arrays, if they were only in rings.
-///
-/// # Errors
-///
-/// [`NoMemory`] if memory runs out.
-pub(crate) fn recast_image(
-    alloc: Global,
-    newest: &DescSet,
-    device: u32,
-    image: &Image,
-) -> Result<Image, NoMemory>
-    requires device { device < length (described newest.now).devices }
-    requires of { IsImageOf (described newest.now) device image.now }
-    requires kinds { kinds_at (described newest.now) device ≡ kinds NEWEST }
-    requires cells { IsPortCells image.now.numbers }
-    ensures of { IfOk result (IsImageOf (described newest.now) device) }
-    ensures numbers { let cells = recast_cells image.now.numbers in
-        IfOk result (λ recast. recast.numbers ≡ cells) }
+/// Sets the numbers of `target`, an image of the port, to those of `source` with its FIFOs in
+/// counted arrays, if they were only in rings.
+pub(crate) fn recast_into(source: &Image, target: &mut Image)
+    requires kinds { target.old.kinds ≡ kinds NEWEST }
+    requires long { length target.old.numbers ≡ length target.old.kinds }
+    requires cells { IsPortCells source.now.numbers }
+    ensures { target.new ≡ record target.old { numbers = recast_cells source.now.numbers } }
 {
-    let cells = recast(&image_cells(image));
-    let mut recast = Image::new(alloc, newest, device)?;
-    put_cells(&mut recast, &cells);
-    Ok(recast)
+    let cells = recast(&image_cells(source));
+    put_cells(target, &cells);
 }
 
 // Sets the numbers of `image` to `cells`.

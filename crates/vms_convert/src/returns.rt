@@ -1,9 +1,8 @@
 // The images of an older set that all devices of the newest set become.
-ghost use Rattle.std.specs.Prelude.{◌≡◌, ◌<◌, ◌∷◌, ◌++◌, [], IfOk, OnOk, get_or, length};
+ghost use Rattle.std.specs.Prelude.{◌≡◌, ◌<◌, [], get_or, length};
 ghost use Rattle.dev_base.specs.declared.limits.TheConstants.{NEWEST};
-ghost use Rattle.vms_check.specs.Comparing.{Compatible};
+ghost use Rattle.vms_image.specs.Typed.{IsImageOf, default_at};
 ghost use Rattle.vms_desc.specs.Described.{described, device_at};
-ghost use Rattle.vms_image.specs.Typed.{IsImageOf};
 ghost use Rattle.vms_desc.specs.Formed.{shipped_set};
 ghost use Rattle.vms_load.specs.Good.{AreKept};
 ghost use Rattle.vms_load.specs.Lean.{has, loads};
@@ -11,14 +10,14 @@ ghost use Rattle.vms_convert.specs.Converted.{recast_each};
 ghost use Rattle.vms_convert.specs.Lost.{numbers_in};
 ghost use Rattle.vms_convert.specs.Returning.{IsReturned};
 ghost use Rattle.vms_convert.specs.Recast.{recast};
-ghost use Rattle.vms_convert.specs.Returns.{ArePaired, AreReturned, IsEarlier, IsPairOf, IsRecastFor};
+ghost use Rattle.vms_convert.specs.Returns.{AreReturned, IsEarlier, IsRecastFor};
+ghost use Rattle.vms_convert.specs.Rooms.{AreFresh, AreRoutes, IsRoute};
 
-use crate::recasting::{is_recast, recast_image};
-use crate::returning::{Pair, Returned, return_device};
-use std::alloc::Global;
+use crate::recasting::recast_into;
+use crate::returning::{Pair, return_device};
+use crate::room::Route;
 use vms_desc::DescSet;
 use vms_image::Image;
-use vms_io::NoMemory;
 use vms_load::LeanLoader;
 
 /// A cell of a device of the newest set that isn't carried.
@@ -28,97 +27,78 @@ pub(crate) struct LostCell {
     pub(crate) cell: u32,
 }
 
-/// The images of all devices in the older set's order, and the first cell that they don't carry.
-#[derive(Drop)]
-pub(crate) struct Returns {
-    pub(crate) images: Vec<Image>,
-    pub(crate) lost: Option<LostCell>,
-}
-
-/// Returns what the images of `loader` become in the older set.
-///
-/// # Errors
-///
-/// [`NoMemory`] if memory runs out.
+/// Makes `images` what the images of `loader` become in the older set, and returns the first cell
+/// that they don't carry.
 pub(crate) fn return_all(
-    alloc: Global,
     to: &DescSet,
     loader: &LeanLoader,
-) -> Result<Returns, NoMemory>
+    routes: &mut [Route],
+    images: &mut [Image],
+) -> Option<LostCell>
     requires newest { loads loader.now ≡ shipped_set NEWEST }
-    requires compatible { Compatible (described to.now) (loads loader.now) }
     requires kept { AreKept (loads loader.now) (has loader.now) }
+    requires routes { AreRoutes (described to.now) (loads loader.now)
+        (length (described to.now).devices) routes.old }
+    requires fresh { AreFresh (described to.now) images.old }
     ensures { let new = loads loader.now in
         let wanted = recast_each (described to.now) new.devices (numbers_in (has loader.now)) in
-        IfOk result (AreReturned (described to.now) new wanted) }
+        AreReturned (described to.now) new wanted images.new result }
 {
-    let devices = to.parts().devices.as_slice().len() as u32;
-    let mut images = Vec::new(alloc);
     let mut lost = None;
-    for device in 0..devices {
-        let pair = pair_of(to, device, loader.set());
-        let Returned { image, lost: cell } = return_at(alloc, pair, loader)?;
-        push_image(&mut images, image)?;
+    for device in 0..images.len() {
+        let route = &mut routes[device];
+        let pair = Pair {
+            to,
+            device: device as u32,
+            loader,
+            other: route.other,
+        };
+        let cell = return_at(pair, route, &mut images[device]);
         lost = earlier(lost, pair.other, cell);
     }
-    Ok(Returns { images, lost })
+    lost
 }
 
-// Appends an image.
-fn push_image(images: &mut Vec<Image>, image: Image) -> Result<(), NoMemory>
-    ensures { OnOk result (images.new.items ≡ images.old.items ++ image ∷ []) }
-{
-    images.push(image)?;
-    Ok(())
-}
-
-// Returns a device with the newest set's device of the same name and instance.
-fn pair_of<'a>(to: &'a DescSet, device: u32, newest: &'a DescSet) -> Pair<'a>
-    requires compatible { Compatible (described to.now) (described newest.now) }
-    requires device { device < length (described to.now).devices }
-    ensures { IsPairOf to.entry device newest.entry result }
-{
-    let described = to.device(device);
-    match newest.find(described.desc.name.as_bytes(), described.instance) {
-        Some(other) => Pair {
-            to,
-            device,
-            newest,
-            other,
-        },
-        None => unreachable!(),
-    }
-}
-
-// Returns what the newest set's device in `loader` becomes.
-fn return_at(alloc: Global, pair: Pair, loader: &LeanLoader) -> Result<Returned, NoMemory>
-    requires newest { loads loader.now ≡ shipped_set NEWEST }
-    requires same { described pair.newest.now ≡ loads loader.now }
-    requires kept { AreKept (loads loader.now) (has loader.now) }
-    requires pair { ArePaired (described pair.to.now) (loads loader.now) pair.device pair.other }
-    ensures { let to = described pair.entry.to.now in let new = loads loader.now in
-        let wanted = recast_each to new.devices (numbers_in (has loader.now)) in
-        let numbers = get_or wanted pair.entry.other [] in
-        IfOk result (IsReturned to new pair.entry.device pair.entry.other numbers) }
-{
-    return_image(alloc, pair, &loader.images()[pair.other as usize])
-}
-
-// Returns what an image becomes. Its FIFOs move into counted arrays first, if the target keeps them so.
-fn return_image(alloc: Global, pair: Pair, image: &Image) -> Result<Returned, NoMemory>
+// Makes `image` what the newest set's device in the loader becomes.
+fn return_at(pair: Pair, route: &mut Route, image: &mut Image) -> Option<u32>
+    requires newest { loads pair.loader.now ≡ shipped_set NEWEST }
+    requires kept { AreKept (loads pair.loader.now) (has pair.loader.now) }
     requires device { pair.device < length (described pair.to.now).devices }
-    requires of { IsImageOf (described pair.newest.now) pair.other image.now }
-    requires recast { IsRecastFor (described pair.to.now) (described pair.newest.now) pair.other
-        image.now.numbers }
-    ensures { let to = described pair.entry.to.now in let new = described pair.entry.newest.now in
-        let numbers = recast to (device_at new pair.entry.other) image.now.numbers in
-        IfOk result (IsReturned to new pair.entry.device pair.entry.other numbers) }
+    requires route { IsRoute (described pair.to.now) (loads pair.loader.now)
+        pair.device pair.other route.old }
+    requires fresh { image.old ≡ default_at (described pair.to.now) pair.device }
+    ensures { let to = described pair.entry.to.now in let new = loads pair.entry.loader.now in
+        let wanted = recast_each to new.devices (numbers_in (has pair.entry.loader.now)) in
+        let numbers = get_or wanted pair.entry.other [] in
+        IsReturned to new pair.entry.device pair.entry.other numbers image.new result }
 {
-    if is_recast(pair.to, pair.newest.device(pair.other)) {
-        let recast = recast_image(alloc, pair.newest, pair.other, image)?;
-        return_device(alloc, pair, &recast)
-    } else {
-        return_device(alloc, pair, image)
+    return_image(
+        pair,
+        &pair.loader.images()[pair.other as usize],
+        route,
+        image,
+    )
+}
+
+// Makes `image` what `source` becomes. Its FIFOs move into counted arrays first, if the target keeps them so.
+fn return_image(pair: Pair, source: &Image, route: &mut Route, image: &mut Image) -> Option<u32>
+    requires device { pair.device < length (described pair.to.now).devices }
+    requires route { IsRoute (described pair.to.now) (loads pair.loader.now)
+        pair.device pair.other route.old }
+    requires of { IsImageOf (loads pair.loader.now) pair.other source.now }
+    requires recast { IsRecastFor (described pair.to.now) (loads pair.loader.now) pair.other
+        source.now.numbers }
+    requires fresh { image.old ≡ default_at (described pair.to.now) pair.device }
+    ensures { let to = described pair.entry.to.now in let new = loads pair.entry.loader.now in
+        let numbers = recast to (device_at new pair.entry.other) source.now.numbers in
+        IsReturned to new pair.entry.device pair.entry.other numbers image.new result }
+{
+    match &mut route.recast {
+        None => return_device(pair, source, &route.partners, image, &mut route.carried),
+        Some(recast) => {
+            recast_into(source, recast);
+            return_device(pair, recast, &route.partners, image, &mut route.carried)
+        }
     }
 }
 

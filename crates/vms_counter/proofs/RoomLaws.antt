@@ -14,7 +14,7 @@ use Rattle.vms_load.specs.Staging.{devices_most}
 use Rattle.vms_load.proofs.SetFacts.{well_of}
 use Rattle.vms_write.proofs.Formed.{device_short, sub_short}
 use Rattle.vms_counter.specs.Found.{HasRoom}
-use Rattle.vms_stream.proofs.SetParts.{EachSub, EachPart, all_parts}
+use Rattle.vms_stream.proofs.WrittenBytes.{EachSub, EachPart, all_parts}
 use Rattle.vms_counter.proofs.Lengths.{IsShort, stream-short}
 use Rattle.vms_marks.specs.declared.stream_head.TheConstants.{BESIDE_SECTIONS}
 

@@ -20,7 +20,7 @@ use Rattle.vms_stream.specs.SoFar.{Tail, Footed, Bare}
 use Rattle.vms_stream.specs.Judge.{judge}
 use Rattle.vms_stream.specs.State.{State, between, by_state}
 use Rattle.vms_stream.specs.StreamLaws.{BeginsSection}
-use Rattle.vms_stream.proofs.Streams.AtFront.{section_read_holds, section_found_holds}
+use Rattle.vms_stream.proofs.Stated.{section_read_holds, section_found_holds}
 use Rattle.vms_check.specs.Comparing.{compare_device, failing_pair, is_in}
 use Rattle.vms_check.specs.Carrying.{carried_device}
 use Rattle.vms_check_laws.specs.Laws.{ArePaired}

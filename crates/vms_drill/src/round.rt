@@ -38,7 +38,7 @@ pub(crate) fn come_back(
 {
     let stream = stream_by(alloc, board, set_of(board.level(), saves), sets)?;
     let long = stream.len() as u64;
-    match restore_from(alloc, board, stream) {
+    match restore_from(board, stream) {
         Ok(()) => Ok(long),
         // A board reads its own stream.
         Err(_) => unreachable!(),

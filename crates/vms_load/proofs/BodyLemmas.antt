@@ -12,7 +12,7 @@ use Rattle.vms_spec.specs.Units.{Piece, Number, Constant, Filler}
 use Rattle.vms_stream.specs.Dues.{raw, Field}
 use Rattle.vms_stream.specs.Seen.{Seen, Good, Bad, Short, seen}
 use Rattle.vms_stream.specs.Taking.{nothing_known, put, taken_by}
-use Rattle.vms_stream.proofs.Bodies.Takes.{IsUnit, by_tests, tested, slot_seen}
+use Rattle.vms_stream.proofs.Bodies.Body.{IsUnit, by_tests, tested, slot_seen}
 use Rattle.vms_frames.specs.Calls.{AnswersSeen, Fails, ReadsNumber, ReadsFiller}
 use Rattle.vms_frames.specs.declared.fault.FrameFault.{FrameFault}
 use Rattle.vms_frames.specs.declared.fault.FrameFault.TheVariants as faults

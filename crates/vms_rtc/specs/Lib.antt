@@ -1,5 +1,6 @@
 pub mod Cells
 pub mod Chip
+pub mod Ends
 pub mod Laws
 pub mod Saved
 pub mod Sound

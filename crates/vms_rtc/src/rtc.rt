@@ -1,10 +1,11 @@
 // The chip and its calls.
-ghost use Rattle.std.specs.Prelude.{◌≡◌, IsTrue};
+ghost use Rattle.std.specs.Prelude.{◌≡◌, ◌≤◌, IsTrue};
+ghost use Rattle.dev_base.specs.declared.limits.TheConstants.{LAST_MOMENT};
 
 use crate::limits::{
     DATA_PORT, INDEX_PORT, NMI_SINCE, REGISTER_A, REGISTER_B, REGISTER_C, REGISTER_D, REGISTERS,
 };
-use crate::ticks::{ends_within, period_of};
+use crate::ticks::{ends_within, next_end, period_of};
 use dev_base::{bits_where, has};
 
 /// The clock chip, of version 1 or 2. Version 2 has an NMI mask.
@@ -25,6 +26,7 @@ pub struct Rtc {
 impl Rtc {
     ghost use Rattle.dev_base.specs.Levels.{IsUpTo};
     ghost use Rattle.vms_rtc.specs.Chip.{is_port, data_read, data_written, flags_of, index_read, index_written, line_of, passed, power_on, read_of, register, written};
+    ghost use Rattle.vms_rtc.specs.Ends.{IsNextEnd, period_in};
     ghost use Rattle.vms_rtc.specs.declared.limits.TheConstants.{NEWEST_CLOCK};
 
     /// Creates the chip of version `version`, 1 or 2, as it is at power on: all is 0 or false.
@@ -176,6 +178,19 @@ impl Rtc {
     {
         let ends = ends_within(period_of(self.register(REGISTER_A)), from, to);
         self.pf = self.pf || ends;
+    }
+
+    /// Returns the first moment after `from` at which a period of the periodic interrupt ends, or
+    /// `None` if none is counted.
+    ///
+    /// # Requires
+    ///
+    /// `from` is at most `LAST_MOMENT`.
+    pub fn next_end(&self, from: u64) -> Option<u64>
+        requires { from ≤ LAST_MOMENT }
+        ensures { IsNextEnd (period_in self.now) from result }
+    {
+        next_end(period_of(self.register(REGISTER_A)), from)
     }
 
     /// Returns whether the interrupt line is high.

@@ -1,6 +1,6 @@
 pub mod CapacityLaws
 pub mod DeviceLaws
-pub mod EndingLaws
+pub mod KeyLaws
 pub mod FieldLaws
 pub mod NameLaws
 pub mod RuleLaws

@@ -18,11 +18,11 @@ use Rattle.vms_spec.specs.Names.{is_name, is_sub_name}
 use Rattle.vms_spec.specs.Streams.{is_one_of}
 use Rattle.vms_spec.proofs.ListLaws.{or_turned}
 use Rattle.vms_parts.proofs.Items.{drop_is}
-use Rattle.vms_rules.specs.NameSets.{ending, by_ending, has_name, with_name, are_new_to}
+use Rattle.vms_rules.specs.NameSets.{key, by_key, has_name, with_name, are_new_to}
 
 -- ---- sets
 
-in_order : IsTotalOrder by_ending
+in_order : IsTotalOrder by_key
 in_order = then_total (on_total (λ (t : ℕ × List ℕ). t.0) nat_cmp_total) (on_total (λ (t : ℕ × List ℕ). t.1) nat_list_cmp_total)
 
 second_differs : (a b : Ordering) → is_eq b ≡ false → is_eq (ordering_then a b) ≡ false
@@ -30,14 +30,14 @@ second_differs Less b e = refl
 second_differs Equal b e = e
 second_differs Greater b e = refl
 
-apart_in_order : (name n : List ℕ) (k : ℕ × List ℕ) → bytes_eq name n ≡ false → eq_by_cmp by_ending (ending name, name) k ≡ true
-    → eq_by_cmp by_ending (ending n, n) k ≡ false
+apart_in_order : (name n : List ℕ) (k : ℕ × List ℕ) → bytes_eq name n ≡ false → eq_by_cmp by_key (key name, name) k ≡ true
+    → eq_by_cmp by_key (key n, n) k ≡ false
 apart_in_order name n k differ same =
     let equal = eq_by_cmp_equiv in_order in
-    let new : ℕ × List ℕ = (ending name, name) in
-    let other : ℕ × List ℕ = (ending n, n) in
+    let new : ℕ × List ℕ = (key name, name) in
+    let other : ℕ × List ℕ = (key n, n) in
     equal.symm other k ∙ sym (equal.congr new k other same)
-    ∙ second_differs (nat_cmp (ending name) (ending n)) (slice_cmp nat_cmp name n) (is_eq-slice_cmp name n ∙ differ)
+    ∙ second_differs (nat_cmp (key name) (key n)) (slice_cmp nat_cmp name n) (is_eq-slice_cmp name n ∙ differ)
 
 other_keys : {K : Type 0} (eq : K → K → Bool) (test : K → Bool) (old new : List K) → KeepsOthers eq test old new
     → (other : K → Bool) → IsKeyTest eq other → AreApart test other → list_any other new ≡ list_any other old
@@ -52,12 +52,12 @@ abbrev pub seen : ℕ × Bor (List ℕ) → ℕ × List ℕ
 seen k = (k.0, k.1.now)
 
 pub name_added : (names after : BTreeSet (ℕ × Bor (List ℕ))) (name : List ℕ)
-    → UpdatesBy (λ x y. by_ending (seen x) (seen y)) (λ k. by_ending (ending name, name) (seen k)) names after true
+    → UpdatesBy (λ x y. by_key (seen x) (seen y)) (λ k. by_key (key name, name) (seen k)) names after true
     → (n : List ℕ) → has_name after n ≡ with_name (has_name names) name n
 name_added names after name h n =
     or_is (bytes_eq name n) (has_name names n) (has_name after n)
     (λ y. subst (λ l. has_name after l ≡ true) ((bytes_eq-Decides name n).0 y) h.1)
-    (λ e. other_keys _ _ _ _ h.3 _ (λ x y. (eq_by_cmp_equiv in_order).congr (ending n, n) (seen x) (seen y)) (λ k. apart_in_order name n (seen k) e))
+    (λ e. other_keys _ _ _ _ h.3 _ (λ x y. (eq_by_cmp_equiv in_order).congr (key n, n) (seen x) (seen y)) (λ k. apart_in_order name n (seen k) e))
 
 -- ---- lists of names that are new to a set
 

@@ -18,7 +18,7 @@ use Rattle.vms_rules.specs.declared.fault.DescFault.{DescFault}
 use Rattle.vms_rules.specs.Judged.{IsFirst}
 use Rattle.vms_rules.specs.Walks.{structs_from, devices_from}
 use Rattle.vms_rules.proofs.WalkLaws.{first_stops, first_good, later_stops}
-use Rattle.vms_rules.specs.NameSets.{ending, by_ending, has_name, with_name, are_new_to}
+use Rattle.vms_rules.specs.NameSets.{key, by_key, has_name, with_name, are_new_to}
 
 -- ---- distinct names
 
@@ -58,7 +58,7 @@ pub distinct_is : (had : List ℕ → Bool) (names : List (List ℕ)) → ((n : 
 distinct_is had names empty = new_and_distinct had names ∙ ap (λ (b : Bool). b && are_distinct names) (none_of_none had names empty)
 
 pub empty_has_none : (names : BTreeSet (ℕ × Bor (List ℕ))) → names.keys ≡ [] → (n : List ℕ) → has_name names n ≡ false
-empty_has_none names e n = ap (λ (keys : List (ℕ × Bor (List ℕ))). list_any (is_at (λ k. by_ending (ending n, n) (k.0, k.1.now))) keys) e
+empty_has_none names e n = ap (λ (keys : List (ℕ × Bor (List ℕ))). list_any (is_at (λ k. by_key (key n, n) (k.0, k.1.now))) keys) e
 
 -- ---- the walk
 

@@ -17,10 +17,10 @@ ghost use Rattle.vms_rules.specs.Naming.{may_name};
 
 use crate::DescFault;
 use crate::capacities::fits;
-use crate::endings::differ_at_ends;
 use crate::fault::lowest;
 use crate::formulas::{Scope, field_at, is_small_if_any, may_name, names_well};
-use crate::names::{Ended, add_name, add_names, are_names};
+use crate::keys::differ_by_keys;
+use crate::names::{Keyed, add_name, add_names, are_names};
 use std::alloc::{AllocError, Global};
 use std::collections::BTreeSet;
 use vms_kinds::{Item, Kind};
@@ -190,7 +190,7 @@ fn default_fits(least: Option<u32>, field: &Field) -> bool
 
 // Adds the names of a field, and returns whether all are new.
 fn add_field_names<'a>(
-    names: &mut BTreeSet<Ended<'a>>,
+    names: &mut BTreeSet<Keyed<'a>>,
     field: &'a Field,
 ) -> Result<bool, AllocError>
     ensures new { IfOk result (λ are_new.
@@ -204,11 +204,11 @@ fn add_field_names<'a>(
     Ok(is_new && are_new)
 }
 
-// Returns whether the names of a field are new. They are if all names differ by their endings;
+// Returns whether the names of a field are new. They are if all names differ by their keys;
 // otherwise they are looked up and added.
 fn are_new_names<'a>(
     differ: bool,
-    names: &mut BTreeSet<Ended<'a>>,
+    names: &mut BTreeSet<Keyed<'a>>,
     field: &'a Field,
 ) -> Result<bool, AllocError>
     ensures new { IfOk result (λ are_new. are_new
@@ -240,7 +240,7 @@ pub(crate) fn check_fields(
         usable,
         capacities: capacities.as_slice(),
     };
-    let differ = differ_at_ends(alloc, fields)?;
+    let differ = differ_by_keys(alloc, fields)?;
     let mut names = BTreeSet::new(alloc);
     for (number, field) in fields.iter().enumerate() {
         let are_new = are_new_names(differ, &mut names, field)?;

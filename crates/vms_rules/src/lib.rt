@@ -9,10 +9,10 @@
 mod capacities;
 mod descs;
 mod devices;
-mod endings;
 mod fault;
 mod fields;
 mod formulas;
+mod keys;
 mod names;
 mod sets;
 mod structs;

@@ -4,7 +4,7 @@ ghost use Rattle.std.specs.List.{list_all};
 ghost use Rattle.std.specs.Str.{bytes_eq};
 ghost use Rattle.vms_spec.specs.Names.{is_name, is_sub_name};
 ghost use Rattle.vms_spec.specs.Streams.{is_one_of};
-ghost use Rattle.vms_rules.specs.NameSets.{byte_from_end, ending, has_name, with_name, are_new_to};
+ghost use Rattle.vms_rules.specs.NameSets.{key, has_name, with_name, are_new_to};
 
 use std::alloc::AllocError;
 use std::collections::BTreeSet;
@@ -38,45 +38,36 @@ fn has_front(device: &[u8], name: &[u8]) -> bool
     &name[..device.len()] == device && name[device.len()] == b'/'
 }
 
-// A name after the number of its last bytes, by which most names of a description differ.
-pub(crate) type Ended<'a> = (u32, &'a str);
+// A name after its key, by which most names of a description differ.
+pub(crate) type Keyed<'a> = (u32, &'a str);
 
-fn byte_from_end(name: &[u8], place: usize) -> u8
-    ensures { result ≡ byte_from_end name.now place }
+// Returns a number of 32 bits from all bytes of a name.
+#[tactic(auto, unfolding(crate::specs::NameSets::key))]
+pub(crate) fn key(name: &[u8]) -> u32
+    ensures { result ≡ key name.now }
 {
-    if place < name.len() {
-        name[name.len() - 1 - place]
-    } else {
-        0
+    let mut key = 0;
+    for place in (0..name.len()).rev() {
+        key = ((name[place] as u64 + 31 * key as u64) % 0x1_0000_0000) as u32;
     }
-}
-
-// Returns the last four bytes of a name as one number.
-#[tactic(auto, unfolding(crate::specs::NameSets::ending))]
-pub(crate) fn ending(name: &[u8]) -> u32
-    ensures { result ≡ ending name.now }
-{
-    byte_from_end(name, 0) as u32
-        + 0x100 * byte_from_end(name, 1) as u32
-        + 0x10000 * byte_from_end(name, 2) as u32
-        + 0x1000000 * byte_from_end(name, 3) as u32
+    key
 }
 
 // Adds a name to a set of names, and returns whether it is new.
 pub(crate) fn add_name<'a>(
-    names: &mut BTreeSet<Ended<'a>>,
+    names: &mut BTreeSet<Keyed<'a>>,
     name: &'a str,
 ) -> Result<bool, AllocError>
     ensures new { IfOk result (λ is_new. is_new ≡ not (has_name names.old name.now)) }
     ensures added { OnOk result
         ((n : List ℕ) → has_name names.new n ≡ with_name (has_name names.old) name.now n) }
 {
-    Ok(names.insert((ending(name.as_bytes()), name))?)
+    Ok(names.insert((key(name.as_bytes()), name))?)
 }
 
 // Adds names to a set of names, and returns whether all are new.
 pub(crate) fn add_names<'a>(
-    names: &mut BTreeSet<Ended<'a>>,
+    names: &mut BTreeSet<Keyed<'a>>,
     list: &'a [Text],
 ) -> Result<bool, AllocError>
     ensures new { IfOk result (λ are_new. are_new ≡ are_new_to (has_name names.old) list.now) }

@@ -1,4 +1,5 @@
 pub mod Bounds
+pub mod Descriptions
 pub mod EntryLong
 pub mod FieldNeeds
 pub mod Fits

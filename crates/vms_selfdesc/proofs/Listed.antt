@@ -1,7 +1,7 @@
 -- Entries of elements and fields, written one after the other.
-use Rattle.std.proofs.Common.{◌≡◌, ℕ, suc, ◌+◌, ◌*◌, ◌-◌, ◌<◌, ◌≤◌, List, ◌∷◌, ◌++◌, length, String, string_bytes, refl, subst, length-append, append_assoc, get_or, map, drop, ℤ, sym, ap, ◌∙◌, arith, Bool, true, []}
+use Rattle.std.proofs.Common.{◌≡◌, ℕ, suc, ◌+◌, ◌*◌, ◌-◌, ◌<◌, ◌≤◌, List, ◌∷◌, ◌++◌, length, string_bytes, refl, subst, length-append, append_assoc}
+use Rattle.std.proofs.Common.{get_or, map, drop, ℤ, sym, ap, ◌∙◌, arith, Bool, true, []}
 use Rattle.std.proofs.lemmas.List.{drop_more, drop_all, append-nil, map-append}
-use Rattle.std.specs.declared.alloc.Global.{Global}
 use Rattle.serde_json.specs.Data.{Data}
 use Rattle.serde_json.specs.Written.{compact_text, comma_if}
 use Rattle.vms_spec.specs.declared.Part.{Part}
@@ -16,7 +16,8 @@ use Rattle.vms_selfdesc.specs.Drafts.{texts, after, AreSound, Adds}
 use Rattle.vms_selfdesc.specs.Listing.{Lists, element_path, element_entries, field_list, part_list}
 use Rattle.vms_selfdesc.specs.Tree.{entry_tree}
 use Rattle.vms_selfdesc.specs.declared.draft.Draft.{Draft}
-use Rattle.vms_selfdesc.proofs.Following.{further}
+use Rattle.vms_selfdesc.specs.declared.path.Path.{Path}
+use Rattle.vms_selfdesc.proofs.Following.{further, same, unchanged}
 use Rattle.vms_selfdesc.proofs.OfElements.{of_append, of_desc}
 use Rattle.vms_selfdesc.proofs.Structures.{cells_are}
 
@@ -55,21 +56,19 @@ sound_append (d ∷ ds) es p q = (p.0, sound_append ds es p.1 q)
 
 pub adds_further : (a b c : Draft) (ds es : List Data) → Adds a b ds → Adds b c es → Adds a c (ds ++ es)
 adds_further a b c ds es p q = record {
-  text =
-      further a.text b.text c.text _ _ p.text q.text
-      ∙ ap (λ (l : Bool). string_bytes a.text ++ (texts a.later ds ++ texts l es)) p.later
-      ∙ ap (λ (t : List ℕ). string_bytes a.text ++ t) (sym (texts_append a.later ds es));
+  text = same a.text c.text (further a.text b.text c.text _ _ p.text q.text)
+      (ap (λ (l : Bool). texts a.later ds ++ texts l es) p.later ∙ sym (texts_append a.later ds es));
   later = q.later ∙ ap (λ (l : Bool). after l es) p.later ∙ sym (after_append a.later ds es);
   sound = sound_append ds es p.sound q.sound;
   path = q.path ∙ p.path;
 }
 
 pub adds_none : (a : Draft) → Adds a a []
-adds_none a = record { text = sym (append-nil (string_bytes a.text)); later = refl; sound = tt; path = refl }
+adds_none a = record { text = unchanged a.text; later = refl; sound = tt; path = refl }
 
 -- what was written under a path that was gone into and left again
-pub leave_path : (old : Draft) (inside left : String Global) (new : Draft) (ds : List Data) → Adds (record { text = old.text; path = inside; later = old.later }) new ds
-    → string_bytes left ≡ string_bytes old.path → Adds old (record { text = new.text; path = left; later = new.later }) ds
+pub leave_path : (old : Draft) (inside left : Path) (new : Draft) (ds : List Data) → Adds (record { text = old.text; path = inside; later = old.later }) new ds
+    → string_bytes left.text ≡ string_bytes old.path.text → Adds old (record { text = new.text; path = left; later = new.later }) ds
 leave_path old inside left new ds adds back = record { text = adds.text; later = adds.later; sound = adds.sound; path = back }
 
 pub leaves_rest : (old now new : Draft) (whole left part rest : List Entry) → left ≡ part ++ rest → Leaves old now whole left → Lists now new part → Leaves old new whole rest

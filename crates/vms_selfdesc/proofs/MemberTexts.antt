@@ -1,7 +1,6 @@
 -- The texts of members and entries, piece by piece.
-use Rattle.std.proofs.Common.{◌≡◌, ℕ, true, List, [], ◌∷◌, ◌++◌, String, string_bytes, codes, decimal, append_assoc, append-nil, sym, ap, ◌∙◌}
+use Rattle.std.proofs.Common.{◌≡◌, ℕ, true, List, [], ◌∷◌, ◌++◌, string_bytes, codes, decimal, append_assoc, append-nil, sym, ap, ◌∙◌}
 use Rattle.std.specs.Fmt.{digits}
-use Rattle.std.specs.declared.alloc.Global.{Global}
 use Rattle.json.specs.Print.{escape_byte, quoted}
 use Rattle.serde_json.specs.Data.{Data, string, object, Members, no_members, member}
 use Rattle.serde_json.specs.Written.{compact_text, members_text, comma_if}
@@ -11,7 +10,8 @@ use Rattle.vms_selfdesc.specs.Drafts.{IsPlain, IsSound, Extends, Puts, Adds, Beg
 use Rattle.vms_words.specs.Words.{kind_word}
 use Rattle.vms_selfdesc.specs.Tree.{natural}
 use Rattle.vms_selfdesc.specs.declared.draft.Draft.{Draft}
-use Rattle.vms_selfdesc.proofs.Following.{further}
+use Rattle.vms_selfdesc.specs.declared.text.Text.{Text}
+use Rattle.vms_selfdesc.proofs.Following.{further, same}
 use Rattle.vms_selfdesc.proofs.Plain.{plain_escape, name_plain, word_plain}
 
 pub quoted_plain : (s : List ℕ) → IsPlain s → 34 ∷ (s ++ 34 ∷ []) ≡ quoted s
@@ -22,9 +22,10 @@ key_text k v p =
     ap (λ (s : List ℕ). 44 ∷ 34 ∷ s) (append_assoc k (34 ∷ 58 ∷ []) v ∙ sym (append_assoc k (34 ∷ []) (58 ∷ v)))
     ∙ ap (λ (q : List ℕ). 44 ∷ (q ++ 58 ∷ v)) (quoted_plain k p)
 
-pub puts : (a b c : String Global) (k v : List ℕ) (d : Data) → IsPlain k → Extends a b (codes ",\"" ++ (k ++ codes "\":")) → Extends b c v → v ≡ compact_text d → IsSound d → Puts a c k d
+pub puts : (a b c : Text) (k v : List ℕ) (d : Data) → IsPlain k → Extends a b (codes ",\"" ++ (k ++ codes "\":")) → Extends b c v → v ≡ compact_text d
+    → IsSound d → Puts a c k d
 puts a b c k v d p key value is sound = record {
-  text = further a b c _ _ key value ∙ ap (λ (s : List ℕ). string_bytes a ++ s) (key_text k v p ∙ ap (λ (s : List ℕ). 44 ∷ (quoted k ++ 58 ∷ s)) is);
+  text = same a c (further a b c _ _ key value) (key_text k v p ∙ ap (λ (s : List ℕ). 44 ∷ (quoted k ++ 58 ∷ s)) is);
   sound = sound;
 }
 
@@ -58,13 +59,13 @@ size_text size type ms s e =
     ∙ sym (member_more (codes "size") (natural size) (member (codes "type") (string type) ms))
 
 -- what was begun, the path, and the rest of an entry
-pub entry_adds : (a b c e : Draft) (d : Data) (size : ℕ) (type : List ℕ) (ms : Members) (rest : List ℕ) → IsPlain (string_bytes a.path) → Begins a b (codes "{\"name\":\"")
-    → Extends b.text c.text (string_bytes b.path) → Extends c.text e.text (34 ∷ rest) → members_text true (size_members size type ms) ≡ rest
-    → d ≡ object (member (codes "name") (string (string_bytes a.path)) (size_members size type ms)) → IsSound d → e.later ≡ true → string_bytes e.path ≡ string_bytes a.path → Adds a e (d ∷ [])
-entry_adds a b c e d size type ms rest p begun path more is same sound later kept = record {
-  text =
-      further a.text c.text e.text _ _ (further a.text b.text c.text _ _ begun.text path) more
-      ∙ ap (λ (s : List ℕ). string_bytes a.text ++ s) pieces;
+pub entry_adds : (a b c e : Draft) (d : Data) (size : ℕ) (type : List ℕ) (ms : Members) (rest : List ℕ) → IsPlain (string_bytes a.path.text)
+    → Begins a b (codes "{\"name\":\"")
+    → Extends b.text c.text (string_bytes b.path.text) → Extends c.text e.text (34 ∷ rest) → members_text true (size_members size type ms) ≡ rest
+    → d ≡ object (member (codes "name") (string (string_bytes a.path.text)) (size_members size type ms)) → IsSound d → e.later ≡ true
+    → string_bytes e.path.text ≡ string_bytes a.path.text → Adds a e (d ∷ [])
+entry_adds a b c e d size type ms rest p begun path more is equal sound later kept = record {
+  text = same a.text e.text (further a.text c.text e.text _ _ (further a.text b.text c.text _ _ begun.text path) more) pieces;
   later = later;
   sound = (sound, tt);
   path = kept;
@@ -73,14 +74,14 @@ entry_adds a b c e d size type ms rest p begun path more is same sound later kep
     front : List ℕ
     front = codes "{\"name\":\""
 
-    pieces : ((comma_if a.later ++ front) ++ string_bytes b.path) ++ 34 ∷ rest ≡ comma_if a.later ++ (compact_text d ++ [])
+    pieces : ((comma_if a.later ++ front) ++ string_bytes b.path.text) ++ 34 ∷ rest ≡ comma_if a.later ++ (compact_text d ++ [])
     pieces =
-        append_assoc (comma_if a.later ++ front) (string_bytes b.path) (34 ∷ rest)
-        ∙ append_assoc (comma_if a.later) front (string_bytes b.path ++ 34 ∷ rest)
+        append_assoc (comma_if a.later ++ front) (string_bytes b.path.text) (34 ∷ rest)
+        ∙ append_assoc (comma_if a.later) front (string_bytes b.path.text ++ 34 ∷ rest)
         ∙ ap (λ (s : List ℕ). comma_if a.later ++ (front ++ (s ++ 34 ∷ rest))) begun.keeps.path
-        ∙ ap (λ (s : List ℕ). comma_if a.later ++ s) (entry_front (string_bytes a.path) rest p)
-        ∙ ap (λ (s : List ℕ). comma_if a.later ++ (123 ∷ (quoted (codes "name") ++ 58 ∷ (quoted (string_bytes a.path) ++ s)))) (sym is)
-        ∙ ap (λ (x : Data). comma_if a.later ++ compact_text x) (sym same)
+        ∙ ap (λ (s : List ℕ). comma_if a.later ++ s) (entry_front (string_bytes a.path.text) rest p)
+        ∙ ap (λ (s : List ℕ). comma_if a.later ++ (123 ∷ (quoted (codes "name") ++ 58 ∷ (quoted (string_bytes a.path.text) ++ s)))) (sym is)
+        ∙ ap (λ (x : Data). comma_if a.later ++ compact_text x) (sym equal)
         ∙ ap (λ (s : List ℕ). comma_if a.later ++ s) (sym (append-nil (compact_text d)))
 
 pub tail_text : (kind : Kind) → cell_tail kind ≡ 34 ∷ members_text true (size_members (width kind) (kind_word kind) no_members)

@@ -1,17 +1,27 @@
--- A path that was gone into, and left again.
-use Rattle.std.proofs.Common.{◌≡◌, ℕ, ◌≤◌, List, ◌++◌, length, length-append, take, String, string_bytes, string_len, sym, ap, ◌∙◌, subst, arith}
+-- Paths that are gone into and left again, and how long they get.
+use Rattle.std.proofs.Common.{◌≡◌, ℕ, ◌+◌, ◌*◌, ◌<◌, ◌≤◌, ◌^◌, List, [], ◌∷◌, ◌++◌, length, length-append, take, decimal, String, string_bytes, sym}
+use Rattle.std.proofs.Common.{ap, ◌∙◌, subst, arith, true}
 use Rattle.std.specs.Str.{IsUtf8}
 use Rattle.std.proofs.lemmas.Str.{IsUtf8-string_bytes}
 use Rattle.std.proofs.Math.Seq.{take-append_seam}
+use Rattle.std.proofs.lemmas.Fmt.{length-decimal-le}
+use Rattle.vms_kinds.specs.declared.Item.{Item}
+use Rattle.vms_kinds.specs.declared.Item.TheVariants.{Num, Equal, Unused, Struct}
+use Rattle.vms_spec.specs.declared.Part.{Part}
+use Rattle.vms_spec.specs.declared.Part.TheVariants as parts
+use Rattle.vms_spec.specs.Sets.{Set}
+use Rattle.vms_desc.specs.Formed.{is_well_formed}
+use Rattle.vms_desc.specs.Parts.{HasPart}
+use Rattle.vms_desc.proofs.Bounds.{few_structs}
+use Rattle.vms_desc.proofs.Ranks.{item_rank, part_rank}
+use Rattle.vms_selfdesc.specs.Listing.{element_path}
+use Rattle.vms_selfdesc.specs.Needs.{item_levels, part_levels}
 
 -- the first bytes of a path are the path before it
 pub record Enters {Z : Type 0} (old now : String Z) (kept : ℕ) : Type 0 where
   pub within : kept ≤ length (string_bytes now)
   pub text : IsUtf8 (take kept (string_bytes now))
   pub back : take kept (string_bytes now) ≡ string_bytes old
-
-pub path_long : {Z : Type 0} (path : String Z) → string_len path ≡ length (string_bytes path)
-path_long path = path.bytes.ok.0
 
 pub enters : {Z : Type 0} (old now : String Z) (kept : ℕ) (more : List ℕ) → kept ≡ length (string_bytes old) → string_bytes now ≡ string_bytes old ++ more → Enters old now kept
 enters old now kept more is e =
@@ -21,3 +31,28 @@ enters old now kept more is e =
       text = subst IsUtf8 (sym back) (IsUtf8-string_bytes old);
       back = back;
     }
+
+-- ---- lengths
+
+pub index_long : (path : List ℕ) (i : ℕ) → i < 2 ^ 32 → length (element_path path i) ≤ length path + 12
+index_long path i lt =
+    let digits = length-decimal-le 10 i (omega arith) (omega arith) (omega arith) in
+    omega (arith, length-append path (91 ∷ (decimal i ++ 93 ∷ [])), length-append (decimal i) (93 ∷ []), digits)
+
+pub item_levels_are : (item : Item) → item_rank item ≡ 5 * item_levels item
+item_levels_are (Struct j) = omega arith
+item_levels_are (Num kind) = omega arith
+item_levels_are (Equal kind z) = omega arith
+item_levels_are (Unused n) = omega arith
+
+pub levels_are : (set : Set) (part : Part) → part_rank set part ≡ 5 * part_levels set part
+levels_are set parts.Set = omega arith
+levels_are set (parts.Struct j) = omega arith
+levels_are set (parts.Device i) = omega arith
+levels_are set (parts.Sub i j) = omega arith
+
+pub few_levels : (set : Set) → is_well_formed set ≡ true → (part : Part) → HasPart set part → part_levels set part ≤ 64
+few_levels set well parts.Set h = absurd h
+few_levels set well (parts.Struct j) h = omega (arith, h, few_structs set well)
+few_levels set well (parts.Device i) h = few_structs set well
+few_levels set well (parts.Sub i j) h = few_structs set well

@@ -11,14 +11,14 @@ use Rattle.vms_desc.specs.Formed.{is_well_formed}
 use Rattle.vms_desc.specs.Parts.{HasPart, desc_at, sub_at}
 use Rattle.vms_desc.proofs.Clean.{device_clean, sub_clean, field_sound}
 use Rattle.vms_selfdesc.specs.Drafts.{IsPlain}
-use Rattle.vms_selfdesc.proofs.Plain.{name_short, sub_name_short}
+use Rattle.vms_selfdesc.proofs.Plain.{IsShort, name_short, sub_name_short}
 
 module _ (set : Set) (well : is_well_formed set ≡ true) where
-  pub field_plain : (part : Part) (k : ℕ) → HasPart set part → k < length (desc_at set part).fields → IsPlain (field_at set part k).name
-  field_plain part k h lt =
+  pub field_name : (part : Part) (k : ℕ) → HasPart set part → k < length (desc_at set part).fields → IsShort 32 (field_at set part k).name
+  field_name part k h lt =
       let f = field_at set part k in
       let rules = field_sound set well part h k lt in
-      (name_short 32 f.name (and_parts (is_name 32 f.name) (list_all (is_name 32) f.former) rules.0).0).plain
+      name_short 32 f.name (and_parts (is_name 32 f.name) (list_all (is_name 32) f.former) rules.0).0
 
   pub device_plain : (i : ℕ) → i < length set.devices → IsPlain (device_at set i).desc.name
   device_plain i lt =

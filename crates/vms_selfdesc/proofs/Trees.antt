@@ -1,7 +1,7 @@
 -- Trees that are written one after the other.
-use Rattle.std.proofs.Common.{◌≡◌, ℕ, Bool, true, false, ◌+◌, ◌<◌, ◌≤◌, List, [], ◌∷◌, ◌++◌, length, append_assoc, get_or, drop, codes, None, String, string_bytes, refl, sym, ap, subst, ◌∙◌}
+use Rattle.std.proofs.Common.{◌≡◌, ℕ, Bool, true, false, ◌+◌, ◌<◌, ◌≤◌, List, [], ◌∷◌, ◌++◌, length, append_assoc, get_or, drop, codes, None}
+use Rattle.std.proofs.Common.{string_bytes, refl, sym, ap, subst, ◌∙◌}
 use Rattle.std.proofs.lemmas.List.{drop_more, drop_all, append-nil}
-use Rattle.std.specs.declared.alloc.Global.{Global}
 use Rattle.json.specs.Print.{escape_byte, quoted}
 use Rattle.serde_json.specs.Data.{Data, string, boolean, array, object, Members, no_members, member, put}
 use Rattle.serde_json.specs.View.{items_of}
@@ -16,7 +16,8 @@ use Rattle.vms_desc.specs.Parts.{sub_at}
 use Rattle.vms_desc.proofs.AskLaws.{sub_next, sub_first}
 use Rattle.vms_selfdesc.specs.Drafts.{IsSound, Extends, Begins, Adds, Lays, member_text, texts}
 use Rattle.vms_selfdesc.specs.declared.draft.Draft.{Draft}
-use Rattle.vms_selfdesc.proofs.Following.{further}
+use Rattle.vms_selfdesc.specs.declared.text.Text.{Text}
+use Rattle.vms_selfdesc.proofs.Following.{further, same}
 use Rattle.vms_selfdesc.proofs.Listed.{adds_further, adds_none}
 use Rattle.vms_selfdesc.proofs.MemberTexts.{member_last}
 use Rattle.vms_selfdesc.proofs.ReadBack.{array_sound, whole_sound}
@@ -50,12 +51,12 @@ items_texts later (d ∷ ds) =
     ∙ ap (λ (t : List ℕ). comma_if later ++ t) (sym (append_assoc (compact_text d) (texts true ds) (93 ∷ [])))
     ∙ sym (append_assoc (comma_if later) (compact_text d ++ texts true ds) (93 ∷ []))
 
-pub lays : (a : Draft) (s : String Global) (b c : Draft) (ds : List Data) → Extends a.text s (91 ∷ []) → Adds (record { text = s; path = a.path; later = false }) b ds → Extends b.text c.text (93 ∷ [])
-    → string_bytes c.path ≡ string_bytes b.path → Lays a c (array (items_of ds))
+pub lays : (a : Draft) (s : Text) (b c : Draft) (ds : List Data) → Extends a.text s (91 ∷ []) → Adds (record { text = s; path = a.path; later = false }) b ds
+    → Extends b.text c.text (93 ∷ [])
+    → string_bytes c.path.text ≡ string_bytes b.path.text → Lays a c (array (items_of ds))
 lays a s b c ds opens adds close path = record {
-  text =
-      further a.text s c.text _ _ opens (further s b.text c.text _ _ adds.text close)
-      ∙ ap (λ (t : List ℕ). string_bytes a.text ++ 91 ∷ t) (sym (items_texts false ds));
+  text = same a.text c.text (further a.text s c.text _ _ opens (further s b.text c.text _ _ adds.text close))
+      (ap (λ (t : List ℕ). 91 ∷ t) (sym (items_texts false ds)));
   sound = array_sound ds adds.sound;
   path = path ∙ adds.path;
 }
@@ -66,9 +67,9 @@ front_text s = refl
 
 -- an object that begins with fields
 pub fields_adds : (a b l e : Draft) (d list : Data) (ms : Members) (rest : List ℕ) → Begins a b (codes "{\"fields\":") → Lays b l list → Extends l.text e.text rest → members_text true ms ≡ rest
-    → d ≡ object (member (codes "fields") list ms) → IsSound d → e.later ≡ true → string_bytes e.path ≡ string_bytes l.path → Adds a e (d ∷ [])
-fields_adds a b l e d list ms rest begun lays more is same sound later path = record {
-  text = further a.text l.text e.text _ _ (further a.text b.text l.text _ _ begun.text lays.text) more ∙ ap (λ (s : List ℕ). string_bytes a.text ++ s) pieces;
+    → d ≡ object (member (codes "fields") list ms) → IsSound d → e.later ≡ true → string_bytes e.path.text ≡ string_bytes l.path.text → Adds a e (d ∷ [])
+fields_adds a b l e d list ms rest begun lays more is equal sound later path = record {
+  text = same a.text e.text (further a.text l.text e.text _ _ (further a.text b.text l.text _ _ begun.text lays.text) more) pieces;
   later = later;
   sound = (sound, tt);
   path = path ∙ lays.path ∙ begun.keeps.path;
@@ -80,7 +81,7 @@ fields_adds a b l e d list ms rest begun lays more is same sound later path = re
         ∙ append_assoc (comma_if a.later) (codes "{\"fields\":") (compact_text list ++ rest)
         ∙ ap (λ (s : List ℕ). comma_if a.later ++ s) (front_text (compact_text list ++ rest))
         ∙ ap (λ (s : List ℕ). comma_if a.later ++ (123 ∷ (quoted (codes "fields") ++ 58 ∷ (compact_text list ++ s)))) (sym is)
-        ∙ ap (λ (x : Data). comma_if a.later ++ compact_text x) (sym same)
+        ∙ ap (λ (x : Data). comma_if a.later ++ compact_text x) (sym equal)
         ∙ ap (λ (s : List ℕ). comma_if a.later ++ s) (sym (append-nil (compact_text d)))
 
 -- the members of a subsection after its fields
@@ -117,14 +118,16 @@ device_text instance name subs version =
     ∙ sym (append_assoc i n rest)
 
 -- the whole
-pub whole_lays : (a : Draft) (s : String Global) (b c : Draft) (ds : List Data) → Extends a.text s (codes "{\"devices\":[") → Adds (record { text = s; path = a.path; later = false }) b ds
-    → Extends b.text c.text (codes "]}") → string_bytes c.path ≡ string_bytes b.path → Lays a c (object (put (codes "devices") (array (items_of ds)) no_members))
+pub whole_lays : (a : Draft) (s : Text) (b c : Draft) (ds : List Data)
+    → Extends a.text s (codes "{\"devices\":[") → Adds (record { text = s; path = a.path; later = false }) b ds
+    → Extends b.text c.text (codes "]}") → string_bytes c.path.text ≡ string_bytes b.path.text
+    → Lays a c (object (put (codes "devices") (array (items_of ds)) no_members))
 unfolding escape_byte
 whole_lays a s b c ds opens adds close path = record {
   text =
-      further a.text s c.text _ _ opens (further s b.text c.text _ _ adds.text close)
-      ∙ ap (λ (t : List ℕ). string_bytes a.text ++ (codes "{\"devices\":[" ++ t))
-      (sym (append_assoc (texts false ds) (93 ∷ []) (125 ∷ [])) ∙ ap (λ (t : List ℕ). t ++ 125 ∷ []) (sym (items_texts false ds)));
+      same a.text c.text (further a.text s c.text _ _ opens (further s b.text c.text _ _ adds.text close))
+      (ap (λ (t : List ℕ). codes "{\"devices\":[" ++ t)
+      (sym (append_assoc (texts false ds) (93 ∷ []) (125 ∷ [])) ∙ ap (λ (t : List ℕ). t ++ 125 ∷ []) (sym (items_texts false ds))));
   sound = whole_sound ds (array_sound ds adds.sound);
   path = path ∙ adds.path;
 }

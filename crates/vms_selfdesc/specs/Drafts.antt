@@ -1,6 +1,5 @@
 -- What the calls that write a description append to its text.
-use Rattle.std.specs.Prelude.{◌≡◌, ℕ, Bool, true, List, [], ◌∷◌, ◌++◌, Some, String, string_bytes, codes, decimal}
-use Rattle.std.specs.declared.alloc.Global.{Global}
+use Rattle.std.specs.Prelude.{◌≡◌, ℕ, ◌+◌, ◌≤◌, Bool, true, false, List, [], ◌∷◌, ◌++◌, Some, length, string_bytes, string_capacity, codes, decimal}
 use Rattle.json.specs.Print.{escape_byte, quoted}
 use Rattle.json.specs.Tree.{HasNumbers}
 use Rattle.serde_json.specs.Data.{Data, string, boolean}
@@ -11,6 +10,7 @@ use Rattle.vms_kinds.specs.Codes.{width}
 use Rattle.vms_words.specs.Words.{kind_word}
 use Rattle.vms_selfdesc.specs.Tree.{natural}
 use Rattle.vms_selfdesc.specs.declared.draft.Draft.{Draft}
+use Rattle.vms_selfdesc.specs.declared.text.Text.{Text}
 
 -- The text has no byte that JSON escapes.
 abbrev pub IsPlain : List ℕ → Type 0
@@ -53,38 +53,53 @@ absent_tail kind = codes "\",\"size\":0,\"type\":\"" ++ (kind_word kind ++ codes
 
 -- ---- what a call appends
 
--- The text has grown by these bytes.
-abbrev pub Extends : String Global → String Global → List ℕ → Type 0
-Extends old new bytes = string_bytes new ≡ string_bytes old ++ bytes
+-- Nothing has been written or is missing, and there is room for at least this many bytes.
+pub record IsEmpty (t : Text) (capacity : ℕ) : Type 0 where
+  pub whole : t.whole ≡ true
+  pub bytes : string_bytes t.written ≡ []
+  pub room : capacity ≤ string_capacity t.written
+
+-- These bytes have been appended. If memory wasn't enough, the new text isn't whole. It was enough if the bytes fit in
+-- the capacity that the text had, which never shrinks.
+pub record Extends (old new : Text) (bytes : List ℕ) : Type 0 where
+  pub whole : new.whole ≡ true → (old.whole ≡ true) × (string_bytes new.written ≡ string_bytes old.written ++ bytes)
+  pub fits : old.whole ≡ true → length (string_bytes old.written) + length bytes ≤ string_capacity old.written → new.whole ≡ true
+  pub room : string_capacity old.written ≤ string_capacity new.written
 
 -- A tree has been appended.
-pub record Spells (old new : String Global) (d : Data) : Type 0 where
+pub record Spells (old new : Text) (d : Data) : Type 0 where
   pub text : Extends old new (compact_text d)
   pub sound : IsSound d
 
 -- A member of an object has been appended.
-pub record Puts (old new : String Global) (k : List ℕ) (d : Data) : Type 0 where
+pub record Puts (old new : Text) (k : List ℕ) (d : Data) : Type 0 where
   pub text : Extends old new (member_text k d)
   pub sound : IsSound d
 
 -- The members of an entry after its path have been appended.
-pub record PutsSize (old new : String Global) (size : ℕ) (type : List ℕ) : Type 0 where
+pub record PutsSize (old new : Text) (size : ℕ) (type : List ℕ) : Type 0 where
   pub text : Extends old new (member_text (codes "size") (natural size) ++ member_text (codes "type") (string type))
   pub sound : IsSound (natural size)
 
 -- The members of a subsection after its fields have been appended.
-pub record PutsSub (old new : String Global) (name : List ℕ) (sent : Bool) (version : ℕ) : Type 0 where
+pub record PutsSub (old new : Text) (name : List ℕ) (sent : Bool) (version : ℕ) : Type 0 where
   pub text : Extends old new (member_text (codes "name") (string name) ++ (member_text (codes "sent") (boolean sent) ++ member_text (codes "version") (natural version)))
   pub sound : IsSound (natural version)
 
 -- The members of a device between its fields and its subsections have been appended.
-pub record PutsName (old new : String Global) (instance : ℕ) (name : List ℕ) : Type 0 where
+pub record PutsName (old new : Text) (instance : ℕ) (name : List ℕ) : Type 0 where
   pub text : Extends old new (member_text (codes "instance_id") (natural instance) ++ member_text (codes "name") (string name))
   pub sound : IsSound (natural instance)
 
+-- The draft is empty, and its text has room for at least this many bytes.
+pub record IsNew (d : Draft) (capacity : ℕ) : Type 0 where
+  pub text : IsEmpty d.text capacity
+  pub path : string_bytes d.path.text ≡ []
+  pub later : d.later ≡ false
+
 -- The path is as before, and so is whether a comma comes next.
 pub record Keeps (old new : Draft) : Type 0 where
-  pub path : string_bytes new.path ≡ string_bytes old.path
+  pub path : string_bytes new.path.text ≡ string_bytes old.path.text
   pub later : new.later ≡ old.later
 
 -- The beginning of a tree in an array has been appended.
@@ -97,10 +112,10 @@ pub record Adds (old new : Draft) (ds : List Data) : Type 0 where
   pub text : Extends old.text new.text (texts old.later ds)
   pub later : new.later ≡ after old.later ds
   pub sound : AreSound ds
-  pub path : string_bytes new.path ≡ string_bytes old.path
+  pub path : string_bytes new.path.text ≡ string_bytes old.path.text
 
 -- An array has been appended, and the path is as before.
 pub record Lays (old new : Draft) (d : Data) : Type 0 where
   pub text : Extends old.text new.text (compact_text d)
   pub sound : IsSound d
-  pub path : string_bytes new.path ≡ string_bytes old.path
+  pub path : string_bytes new.path.text ≡ string_bytes old.path.text

@@ -91,24 +91,24 @@ AreElements l f cell n = HasElements (set_in l) f cell n (numbers_in l)
 
 -- The entries of one element.
 abbrev pub item_at : Lister → Field → Place → Draft → List Entry
-item_at l f place draft = item_list (set_in l) f place.sent (numbers_in l) (string_bytes draft.path) place.cell
+item_at l f place draft = item_list (set_in l) f place.sent (numbers_in l) (string_bytes draft.path.text) place.cell
 
 -- The entries of elements.
 abbrev pub elements_at : Lister → Field → Place → ℕ → Draft → List Entry
-elements_at l f place n draft = elements_list (set_in l) f place.sent (numbers_in l) (string_bytes draft.path) place.cell n
+elements_at l f place n draft = elements_list (set_in l) f place.sent (numbers_in l) (string_bytes draft.path.text) place.cell n
 
 -- The entries of a field's elements under its path.
 abbrev pub run_at : Lister → Field → Place → ℕ → Draft → List Entry
 run_at l f place n draft =
     let set = set_in l in
-    array_entries (item_list set f place.sent (numbers_in l)) f.count n (string_bytes draft.path) place.cell
+    array_entries (item_list set f place.sent (numbers_in l)) f.count n (string_bytes draft.path.text) place.cell
     (item_size (struct_cells set) f.item)
 
 -- The entries of a field of a part.
 abbrev pub field_within : Lister → Part → Place → At → Draft → List Entry
 field_within l part within at draft =
-    field_list (set_in l) part within.cell at.field within.sent (numbers_in l) (string_bytes draft.path) at.cell
+    field_list (set_in l) part within.cell at.field within.sent (numbers_in l) (string_bytes draft.path.text) at.cell
 
 -- The entries of all fields of a part.
 abbrev pub part_at : Lister → Part → Place → Draft → List Entry
-part_at l part place draft = part_list (set_in l) part place.sent (numbers_in l) (string_bytes draft.path) place.cell
+part_at l part place draft = part_list (set_in l) part place.sent (numbers_in l) (string_bytes draft.path.text) place.cell

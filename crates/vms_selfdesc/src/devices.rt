@@ -1,5 +1,5 @@
 // The descriptions of devices and their subsections.
-ghost use Rattle.std.specs.Prelude.{◌≡◌, ◌<◌, [], ◌∷◌, None, length, get_or, OnOk, string_bytes};
+ghost use Rattle.std.specs.Prelude.{◌≡◌, ◌<◌, [], ◌∷◌, None, length, get_or, string_bytes};
 ghost use Rattle.serde_json.specs.Data.{array};
 ghost use Rattle.serde_json.specs.View.{items_of};
 ghost use Rattle.vms_spec.specs.Images.{own_cells};
@@ -14,126 +14,113 @@ ghost use Rattle.vms_selfdesc.specs.Tree.{entry_tree, list_tree, sub_tree, sub_t
 
 use crate::draft::{Draft, begin, put_flag, put_natural, put_text};
 use crate::fields::{Lister, Place, list_part};
-use std::alloc::AllocError;
+use crate::text::Text;
 use vms_desc::{Desc, Device, Part};
 
 // Writes the entries of the fields of a part.
-fn write_fields(
-    lister: &Lister,
-    part: Part,
-    place: Place,
-    draft: &mut Draft,
-) -> Result<(), AllocError>
+fn write_fields(lister: &Lister, part: Part, place: Place, draft: &mut Draft)
     requires place { IsPlace lister.now part place.cell }
-    requires no_path { string_bytes draft.old.path ≡ [] }
+    requires no_path { string_bytes draft.old.path.text ≡ [] }
     ensures { let numbers = numbers_in lister.now in
         let entries = part_list (set_in lister.now) part place.sent numbers [] place.cell in
-        OnOk result (Lays draft.old draft.new (list_tree entry_tree entries)) }
+        Lays draft.old draft.new (list_tree entry_tree entries) }
 {
-    draft.text.push_str("[")?;
+    draft.text.push("[");
     draft.later = false;
-    list_part(lister, part, place, draft)?;
-    draft.text.push_str("]")
+    list_part(lister, part, place, draft);
+    draft.text.push("]");
 }
 
 // Appends the members of a subsection after its fields.
-fn put_sub_head(text: &mut String, desc: &Desc, sent: bool) -> Result<(), AllocError>
+fn put_sub_head(text: &mut Text, desc: &Desc, sent: bool)
     requires { IsPlain desc.now.name }
-    ensures { OnOk result (PutsSub text.old text.new desc.now.name sent desc.now.version) }
+    ensures { PutsSub text.old text.new desc.now.name sent desc.now.version }
 {
-    put_text(text, "name", desc.name.as_str())?;
-    put_flag(text, "sent", sent)?;
-    put_natural(text, "version", desc.version as u64)
+    put_text(text, "name", desc.name.as_str());
+    put_flag(text, "sent", sent);
+    put_natural(text, "version", desc.version as u64);
 }
 
 // Writes a subsection, whether or not it is in the stream.
-fn write_sub(lister: &Lister, device: u32, sub: u32, draft: &mut Draft) -> Result<(), AllocError>
+fn write_sub(lister: &Lister, device: u32, sub: u32, draft: &mut Draft)
     requires device { IsOfDevice (set_in lister.now) device (state_of lister.now.image.now) }
     requires is_sub { sub < length (device_at (set_in lister.now) device).subs }
-    requires no_path { string_bytes draft.old.path ≡ [] }
+    requires no_path { string_bytes draft.old.path.text ≡ [] }
     ensures { let set = set_in lister.now in
         let image = state_of lister.now.image.now in
         let at = first_cell set (parts.Sub device sub) in
         let s = sub_at (device_at set device) sub in
         let tree = sub_tree set image.numbers at s (get_or image.came sub None) in
-        OnOk result (Adds draft.old draft.new (tree ∷ [])) }
+        Adds draft.old draft.new (tree ∷ []) }
 {
     let part = Part::Sub(device, sub);
     let sent = lister.image.came(sub).is_some();
     let cell = lister.set.first_cell(part);
-    begin(draft, "{\"fields\":")?;
-    write_fields(lister, part, Place { sent, cell }, draft)?;
-    put_sub_head(&mut draft.text, lister.set.desc(part), sent)?;
-    draft.text.push_str("}")?;
+    begin(draft, "{\"fields\":");
+    write_fields(lister, part, Place { sent, cell }, draft);
+    put_sub_head(&mut draft.text, lister.set.desc(part), sent);
+    draft.text.push("}");
     draft.later = true;
-    Ok(())
 }
 
 // Writes the subsections, one after the other.
-fn write_each(lister: &Lister, device: u32, draft: &mut Draft) -> Result<(), AllocError>
+fn write_each(lister: &Lister, device: u32, draft: &mut Draft)
     requires device { IsOfDevice (set_in lister.now) device (state_of lister.now.image.now) }
-    requires no_path { string_bytes draft.old.path ≡ [] }
+    requires no_path { string_bytes draft.old.path.text ≡ [] }
     ensures { let set = set_in lister.now in
         let image = state_of lister.now.image.now in
         let d = device_at set device in
         let trees = sub_trees set image.numbers (own_cells set d) d.subs image.came in
-        OnOk result (Adds draft.old draft.new trees) }
+        Adds draft.old draft.new trees }
 {
     for sub in 0..lister.set.sub_count(device) {
-        write_sub(lister, device, sub, draft)?;
+        write_sub(lister, device, sub, draft);
     }
-    Ok(())
 }
 
-fn write_subs(lister: &Lister, device: u32, draft: &mut Draft) -> Result<(), AllocError>
+fn write_subs(lister: &Lister, device: u32, draft: &mut Draft)
     requires device { IsOfDevice (set_in lister.now) device (state_of lister.now.image.now) }
-    requires no_path { string_bytes draft.old.path ≡ [] }
+    requires no_path { string_bytes draft.old.path.text ≡ [] }
     ensures { let set = set_in lister.now in
         let image = state_of lister.now.image.now in
         let d = device_at set device in
         let trees = sub_trees set image.numbers (own_cells set d) d.subs image.came in
-        OnOk result (Lays draft.old draft.new (array (items_of trees))) }
+        Lays draft.old draft.new (array (items_of trees)) }
 {
-    draft.text.push_str("[")?;
+    draft.text.push("[");
     draft.later = false;
-    write_each(lister, device, draft)?;
-    draft.text.push_str("]")
+    write_each(lister, device, draft);
+    draft.text.push("]");
 }
 
 // Appends the members of a device between its fields and its subsections.
-fn put_name(text: &mut String, device: &Device) -> Result<(), AllocError>
+fn put_name(text: &mut Text, device: &Device)
     requires { IsPlain device.now.desc.name }
-    ensures { OnOk result (PutsName text.old text.new device.now.instance device.now.desc.name) }
+    ensures { PutsName text.old text.new device.now.instance device.now.desc.name }
 {
-    put_natural(text, "instance_id", device.instance as u64)?;
-    put_text(text, "name", device.desc.name.as_str())?;
-    Ok(())
+    put_natural(text, "instance_id", device.instance as u64);
+    put_text(text, "name", device.desc.name.as_str());
 }
 
 // Writes a device with its subsections.
-pub(crate) fn write_device(
-    lister: &Lister,
-    device: u32,
-    draft: &mut Draft,
-) -> Result<(), AllocError>
+pub(crate) fn write_device(lister: &Lister, device: u32, draft: &mut Draft)
     requires device { IsOfDevice (set_in lister.now) device (state_of lister.now.image.now) }
-    requires no_path { string_bytes draft.old.path ≡ [] }
+    requires no_path { string_bytes draft.old.path.text ≡ [] }
     ensures { let set = set_in lister.now in
         let tree = device_tree set (device_at set device) (state_of lister.now.image.now) in
-        OnOk result (Adds draft.old draft.new (tree ∷ [])) }
+        Adds draft.old draft.new (tree ∷ []) }
 {
     let described = lister.set.device(device);
     let place = Place {
         sent: true,
         cell: 0,
     };
-    begin(draft, "{\"fields\":")?;
-    write_fields(lister, Part::Device(device), place, draft)?;
-    put_name(&mut draft.text, described)?;
-    draft.text.push_str(",\"subsections\":")?;
-    write_subs(lister, device, draft)?;
-    put_natural(&mut draft.text, "version", described.desc.version as u64)?;
-    draft.text.push_str("}")?;
+    begin(draft, "{\"fields\":");
+    write_fields(lister, Part::Device(device), place, draft);
+    put_name(&mut draft.text, described);
+    draft.text.push(",\"subsections\":");
+    write_subs(lister, device, draft);
+    put_natural(&mut draft.text, "version", described.desc.version as u64);
+    draft.text.push("}");
     draft.later = true;
-    Ok(())
 }

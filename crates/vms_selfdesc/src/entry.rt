@@ -1,12 +1,12 @@
 // The entries of elements.
-ghost use Rattle.std.specs.Prelude.{◌≡◌, [], ◌∷◌, true, false, pos, codes, OnOk, string_bytes};
+ghost use Rattle.std.specs.Prelude.{◌≡◌, [], ◌∷◌, true, false, pos, codes, string_bytes};
 ghost use Rattle.vms_selfdesc.specs.Drafts.{Begins, IsPlain, PutsSize, cell_tail, absent_tail};
 ghost use Rattle.vms_selfdesc.specs.Entries.{cell_entry, sent_entry};
 ghost use Rattle.vms_selfdesc.specs.Listing.{Lists};
 ghost use Rattle.vms_selfdesc.specs.Needs.{IsWide};
 
 use crate::draft::{Draft, put_integer, put_natural, put_text};
-use std::alloc::AllocError;
+use crate::text::Text;
 use vms_kinds::Kind;
 
 // Returns what follows the path of a cell that is in the stream.
@@ -49,87 +49,79 @@ fn absent_tail(kind: Kind) -> &'static str
 
 // Begins an entry up to its path, with a comma if it isn't the first.
 #[inline(always)]
-fn begin_entry(draft: &mut Draft) -> Result<(), AllocError>
-    ensures { OnOk result (Begins draft.old draft.new (codes "{\"name\":\"")) }
+fn begin_entry(draft: &mut Draft)
+    ensures { Begins draft.old draft.new (codes "{\"name\":\"") }
 {
     if draft.later {
-        draft.text.push_str(",{\"name\":\"")
+        draft.text.push(",{\"name\":\"");
     } else {
-        draft.text.push_str("{\"name\":\"")
+        draft.text.push("{\"name\":\"");
     }
 }
 
 // Writes a cell that is in the stream.
 #[inline(always)]
-fn write_present(draft: &mut Draft, kind: Kind) -> Result<(), AllocError>
-    requires { IsPlain (string_bytes draft.old.path) }
-    ensures { let entry = cell_entry true (string_bytes draft.old.path) kind (pos 0) in
-        OnOk result (Lists draft.old draft.new (entry ∷ [])) }
+fn write_present(draft: &mut Draft, kind: Kind)
+    requires { IsPlain (string_bytes draft.old.path.text) }
+    ensures { let entry = cell_entry true (string_bytes draft.old.path.text) kind (pos 0) in
+        Lists draft.old draft.new (entry ∷ []) }
 {
-    begin_entry(draft)?;
-    draft.text.push_str(draft.path.as_str())?;
-    draft.text.push_str(cell_tail(kind))?;
+    begin_entry(draft);
+    draft.text.push(draft.path.as_str());
+    draft.text.push(cell_tail(kind));
     draft.later = true;
-    Ok(())
 }
 
 // Appends the members of an entry after its path.
-fn put_size(text: &mut String, size: u64, word: &str) -> Result<(), AllocError>
+fn put_size(text: &mut Text, size: u64, word: &str)
     requires { IsPlain word.now }
-    ensures { OnOk result (PutsSize text.old text.new size word.now) }
+    ensures { PutsSize text.old text.new size word.now }
 {
-    put_natural(text, "size", size)?;
-    put_text(text, "type", word)
+    put_natural(text, "size", size);
+    put_text(text, "type", word);
 }
 
 // Writes something that is in the stream.
-pub(crate) fn write_sent(draft: &mut Draft, size: u64, word: &str) -> Result<(), AllocError>
-    requires path { IsPlain (string_bytes draft.old.path) }
+pub(crate) fn write_sent(draft: &mut Draft, size: u64, word: &str)
+    requires path { IsPlain (string_bytes draft.old.path.text) }
     requires word { IsPlain word.now }
-    ensures { let entry = sent_entry (string_bytes draft.old.path) size word.now in
-        OnOk result (Lists draft.old draft.new (entry ∷ [])) }
+    ensures { let entry = sent_entry (string_bytes draft.old.path.text) size word.now in
+        Lists draft.old draft.new (entry ∷ []) }
 {
-    begin_entry(draft)?;
-    draft.text.push_str(draft.path.as_str())?;
-    draft.text.push_str("\"")?;
-    put_size(&mut draft.text, size, word)?;
-    draft.text.push_str("}")?;
+    begin_entry(draft);
+    draft.text.push(draft.path.as_str());
+    draft.text.push("\"");
+    put_size(&mut draft.text, size, word);
+    draft.text.push("}");
     draft.later = true;
-    Ok(())
 }
 
 // Writes a cell that isn't in the stream, with its default.
-fn write_absent(draft: &mut Draft, kind: Kind, default: i128) -> Result<(), AllocError>
-    requires path { IsPlain (string_bytes draft.old.path) }
+fn write_absent(draft: &mut Draft, kind: Kind, default: i128)
+    requires path { IsPlain (string_bytes draft.old.path.text) }
     requires wide { IsWide default }
-    ensures { let entry = cell_entry false (string_bytes draft.old.path) kind default in
-        OnOk result (Lists draft.old draft.new (entry ∷ [])) }
+    ensures { let entry = cell_entry false (string_bytes draft.old.path.text) kind default in
+        Lists draft.old draft.new (entry ∷ []) }
 {
-    begin_entry(draft)?;
-    draft.text.push_str(draft.path.as_str())?;
-    draft.text.push_str(absent_tail(kind))?;
-    put_integer(&mut draft.text, default)?;
-    draft.text.push_str("}")?;
+    begin_entry(draft);
+    draft.text.push(draft.path.as_str());
+    draft.text.push(absent_tail(kind));
+    put_integer(&mut draft.text, default);
+    draft.text.push("}");
     draft.later = true;
-    Ok(())
 }
 
 // Writes a cell. If it isn't in the stream, its default follows.
 #[inline(always)]
-pub(crate) fn write_cell(
-    draft: &mut Draft,
-    sent: bool,
-    kind: Kind,
-    default: i128,
-) -> Result<(), AllocError>
-    requires path { IsPlain (string_bytes draft.old.path) }
+pub(crate) fn write_cell(draft: &mut Draft, sent: bool, kind: Kind, default: i128)
+    requires path { IsPlain (string_bytes draft.old.path.text) }
     requires wide { IsWide default }
-    ensures { let entry = cell_entry sent (string_bytes draft.old.path) kind default in
-        OnOk result (Lists draft.old draft.new (entry ∷ [])) }
+    ensures { let entry = cell_entry sent (string_bytes draft.old.path.text) kind default in
+        Lists draft.old draft.new (entry ∷ []) }
 {
     if sent {
-        write_present(draft, kind)
+        write_present(draft, kind);
     } else {
-        write_absent(draft, kind, default)
+        write_absent(draft, kind, default);
     }
 }

@@ -1,20 +1,18 @@
 // The entries of the fields of a part, with arrays and structures expanded.
-ghost use Rattle.std.specs.Prelude.{◌≡◌, ◌<◌, ◌≤◌, ◌+◌, ◌*◌, length, take, OnOk, string_bytes};
-ghost use Rattle.std.specs.Str.{IsUtf8};
+ghost use Rattle.std.specs.Prelude.{◌≡◌, ◌<◌, ◌≤◌, ◌+◌, ◌*◌, length, string_bytes};
 ghost use Rattle.vms_spec.specs.Layout.{capacity_of, item_size, struct_cells};
 ghost use Rattle.vms_parts.specs.Views.{field_of};
 ghost use Rattle.vms_desc.specs.Asks.{field_at};
 ghost use Rattle.vms_desc.specs.Parts.{desc_at};
 ghost use Rattle.vms_selfdesc.specs.Drafts.{IsPlain};
 ghost use Rattle.vms_selfdesc.specs.Entries.{listed_if, sent_entry};
-ghost use Rattle.vms_selfdesc.specs.Listing.{Lists, element_path, is_field_sent, set_in, numbers_in};
+ghost use Rattle.vms_selfdesc.specs.Listing.{Lists, is_field_sent, set_in, numbers_in};
 ghost use Rattle.vms_selfdesc.specs.Listing.{IsPlace, AreElements};
+ghost use Rattle.vms_selfdesc.specs.Needs.{CanGrow, item_levels, part_levels};
 ghost use Rattle.vms_selfdesc.specs.Listing.{item_at, elements_at, run_at, field_within, part_at};
 
 use crate::draft::Draft;
 use crate::entry::{write_cell, write_sent};
-use itoa::Buffer;
-use std::alloc::AllocError;
 use vms_desc::{Count, DescSet, Field, Part};
 use vms_image::Image;
 use vms_kinds::Item;
@@ -40,38 +38,15 @@ struct At {
     cell: u32,
 }
 
-// Extends the path to element `number` of an array.
-fn enter_element(path: &mut String, number: u32) -> Result<(), AllocError>
-    ensures { OnOk result (string_bytes path.new ≡ element_path (string_bytes path.old) number) }
-{
-    let mut digits = Buffer::new();
-    path.push_str("[")?;
-    path.push_str(digits.format(number))?;
-    path.push_str("]")
-}
-
-// Cuts the path to its first bytes.
-fn leave(path: &mut String, kept: usize)
-    requires within { kept ≤ length (string_bytes path.old) }
-    requires text { IsUtf8 (take kept (string_bytes path.old)) }
-    ensures { string_bytes path.new ≡ take kept (string_bytes path.old) }
-{
-    path.truncate(kept);
-}
-
 // Lists one element of a field. The cycle of calls closes at `list_part`.
 #[cycle(list)]
 #[inline(always)]
-fn list_item(
-    lister: &Lister,
-    field: &Field,
-    place: Place,
-    draft: &mut Draft,
-) -> Result<(), AllocError>
+fn list_item(lister: &Lister, field: &Field, place: Place, draft: &mut Draft)
     requires cells { AreElements lister.now (field_of field.now) place.cell 1 }
-    requires path { IsPlain (string_bytes draft.old.path) }
+    requires path { IsPlain (string_bytes draft.old.path.text) }
+    requires deep { CanGrow draft.old.path 0 (item_levels field.now.item) }
     ensures { let entries = item_at lister.now (field_of field.now) place draft.old in
-        OnOk result (Lists draft.old draft.new entries) }
+        Lists draft.old draft.new entries }
 {
     match field.item {
         Item::Num(kind) => write_cell(draft, place.sent, kind, field.default),
@@ -79,51 +54,43 @@ fn list_item(
         Item::Unused { bytes } => list_sent(draft, place.sent, bytes as u64, "unused"),
         Item::Struct(number) => {
             let kept = draft.path.len();
-            draft.path.push_str(".")?;
-            list_part(lister, Part::Struct(number), place, draft)?;
-            leave(&mut draft.path, kept);
-            Ok(())
+            draft.path.enter(".");
+            list_part(lister, Part::Struct(number), place, draft);
+            draft.path.leave(kept);
         }
     }
 }
 
 // Lists something without a cell, if it is in the stream.
-fn list_sent(draft: &mut Draft, sent: bool, size: u64, word: &str) -> Result<(), AllocError>
-    requires path { IsPlain (string_bytes draft.old.path) }
+fn list_sent(draft: &mut Draft, sent: bool, size: u64, word: &str)
+    requires path { IsPlain (string_bytes draft.old.path.text) }
     requires word { IsPlain word.now }
-    ensures { let entry = sent_entry (string_bytes draft.old.path) size word.now in
-        OnOk result (Lists draft.old draft.new (listed_if sent entry)) }
+    ensures { let entry = sent_entry (string_bytes draft.old.path.text) size word.now in
+        Lists draft.old draft.new (listed_if sent entry) }
 {
     if sent {
-        write_sent(draft, size, word)?;
+        write_sent(draft, size, word);
     }
-    Ok(())
 }
 
 // Lists elements one after the other, as many as are printed.
 #[cycle(list)]
-fn list_elements(
-    lister: &Lister,
-    field: &Field,
-    place: Place,
-    count: u32,
-    draft: &mut Draft,
-) -> Result<(), AllocError>
+fn list_elements(lister: &Lister, field: &Field, place: Place, count: u32, draft: &mut Draft)
     requires cells { AreElements lister.now (field_of field.now) place.cell count }
-    requires path { IsPlain (string_bytes draft.old.path) }
+    requires path { IsPlain (string_bytes draft.old.path.text) }
+    requires deep { CanGrow draft.old.path 12 (item_levels field.now.item) }
     ensures { let entries = elements_at lister.now (field_of field.now) place count draft.old in
-        OnOk result (Lists draft.old draft.new entries) }
+        Lists draft.old draft.new entries }
 {
     let size = lister.set.item_cells(field.item);
     let kept = draft.path.len();
     let mut cell = place.cell;
     for number in 0..count {
-        enter_element(&mut draft.path, number)?;
-        list_item(lister, field, Place { cell, ..place }, draft)?;
-        leave(&mut draft.path, kept);
+        draft.path.enter_element(number);
+        list_item(lister, field, Place { cell, ..place }, draft);
+        draft.path.leave(kept);
         cell += size;
     }
-    Ok(())
 }
 
 // Checks whether a field of a part is in the stream.
@@ -143,52 +110,41 @@ fn is_sent(lister: &Lister, part: Part, within: Place, field: u32) -> bool
 
 // Lists one field of a part.
 #[cycle(list)]
-fn list_field(
-    lister: &Lister,
-    part: Part,
-    within: Place,
-    at: At,
-    draft: &mut Draft,
-) -> Result<(), AllocError>
+fn list_field(lister: &Lister, part: Part, within: Place, at: At, draft: &mut Draft)
     requires place { IsPlace lister.now part within.cell }
     requires field { at.field < length (desc_at (set_in lister.now) part).fields }
     requires room { let set = set_in lister.now in
         let f = field_at set part at.field in
         let cells = capacity_of f.count * item_size (struct_cells set) f.item in
         at.cell + cells ≤ length (numbers_in lister.now) }
-    requires path { IsPlain (string_bytes draft.old.path) }
+    requires path { IsPlain (string_bytes draft.old.path.text) }
+    requires deep { CanGrow draft.old.path 44 (part_levels (set_in lister.now) part) }
     ensures { let entries = field_within lister.now part within at draft.old in
-        OnOk result (Lists draft.old draft.new entries) }
+        Lists draft.old draft.new entries }
 {
     let set = lister.set;
     let field = &set.desc(part).fields.as_slice()[at.field as usize];
     let sent = is_sent(lister, part, within, at.field);
     let count = set.elements(part, within.cell, at.field, lister.image);
     let kept = draft.path.len();
-    draft.path.push_str(field.name.as_str())?;
+    draft.path.enter(field.name.as_str());
     let place = Place {
         sent,
         cell: at.cell,
     };
-    list_run(lister, field, place, count, draft)?;
-    leave(&mut draft.path, kept);
-    Ok(())
+    list_run(lister, field, place, count, draft);
+    draft.path.leave(kept);
 }
 
 // Lists the elements of a field under its path, of which an array has `count`.
 #[cycle(list)]
-fn list_run(
-    lister: &Lister,
-    field: &Field,
-    place: Place,
-    count: u32,
-    draft: &mut Draft,
-) -> Result<(), AllocError>
+fn list_run(lister: &Lister, field: &Field, place: Place, count: u32, draft: &mut Draft)
     requires one { AreElements lister.now (field_of field.now) place.cell 1 }
     requires all { AreElements lister.now (field_of field.now) place.cell count }
-    requires path { IsPlain (string_bytes draft.old.path) }
+    requires path { IsPlain (string_bytes draft.old.path.text) }
+    requires deep { CanGrow draft.old.path 12 (item_levels field.now.item) }
     ensures { let entries = run_at lister.now (field_of field.now) place count draft.old in
-        OnOk result (Lists draft.old draft.new entries) }
+        Lists draft.old draft.new entries }
 {
     match field.count {
         Count::One => list_item(lister, field, place, draft),
@@ -198,21 +154,16 @@ fn list_run(
 
 // Lists the fields of a part, or of one element of a structure.
 #[cycle(list)]
-pub(crate) fn list_part(
-    lister: &Lister,
-    part: Part,
-    place: Place,
-    draft: &mut Draft,
-) -> Result<(), AllocError>
+pub(crate) fn list_part(lister: &Lister, part: Part, place: Place, draft: &mut Draft)
     requires place { IsPlace lister.now part place.cell }
-    requires path { IsPlain (string_bytes draft.old.path) }
+    requires path { IsPlain (string_bytes draft.old.path.text) }
+    requires deep { CanGrow draft.old.path 44 (part_levels (set_in lister.now) part) }
     ensures { let entries = part_at lister.now part place draft.old in
-        OnOk result (Lists draft.old draft.new entries) }
+        Lists draft.old draft.new entries }
 {
     let mut cell = place.cell;
     for field in 0..lister.set.field_count(part) {
-        list_field(lister, part, place, At { field, cell }, draft)?;
+        list_field(lister, part, place, At { field, cell }, draft);
         cell += lister.set.field_cells(part, field);
     }
-    Ok(())
 }

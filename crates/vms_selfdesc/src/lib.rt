@@ -6,8 +6,12 @@ mod draft;
 mod entry;
 mod fields;
 mod laws;
+mod path;
+mod room;
+mod text;
 mod tree;
 
 pub use laws::{clock_law, shipped_law, short_law};
+pub use room::DescriptionRoom;
 pub use tree::describe;
 pub use vms_io::NoMemory;

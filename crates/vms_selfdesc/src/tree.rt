@@ -1,5 +1,5 @@
 // The self-description of a set's images.
-ghost use Rattle.std.specs.Prelude.{◌≡◌, ◌<◌, [], false, Some, map, length, IfOk, OnOk, string_bytes};
+ghost use Rattle.std.specs.Prelude.{◌≡◌, ◌<◌, [], false, Some, map, length, IfOk, string_bytes};
 ghost use Rattle.serde_json.specs.Read.{read};
 ghost use Rattle.vms_spec.specs.Streams.{AreReady, longest_text};
 ghost use Rattle.vms_desc.specs.Described.{described};
@@ -10,7 +10,7 @@ ghost use Rattle.vms_selfdesc.specs.Tree.{device_trees, described_tree, describe
 use crate::devices::write_device;
 use crate::draft::Draft;
 use crate::fields::Lister;
-use std::alloc::{AllocError, Global};
+use std::alloc::Global;
 use vms_desc::DescSet;
 use vms_image::Image;
 use vms_io::NoMemory;
@@ -43,15 +43,10 @@ pub fn describe(alloc: Global, set: &DescSet, images: &[Image]) -> Result<String
         IfOk result (λ s. read (string_bytes s) ≡ Some tree) }
     ensures short { IfOk result (λ s. length (string_bytes s) < longest_text) }
 {
-    let room = String::with_capacity(alloc, room_for(images))?;
-    let mut draft = Draft {
-        text: room,
-        path: String::new(alloc),
-        later: false,
-    };
-    write_tree(set, images, &mut draft)?;
+    let mut draft = Draft::with_capacity(alloc, room_for(images))?;
+    write_tree(set, images, &mut draft);
     let Draft { text, .. } = draft;
-    Ok(text)
+    text.finish()
 }
 
 // Returns a room that most texts of these images fit in. A text that grows is copied, and leaves holes in memory.
@@ -63,27 +58,26 @@ fn room_for(images: &[Image]) -> usize {
     room
 }
 
-fn write_tree(set: &DescSet, images: &[Image], draft: &mut Draft) -> Result<(), AllocError>
+pub(crate) fn write_tree(set: &DescSet, images: &[Image], draft: &mut Draft)
     requires ready { AreReady (described set.now) (map state_of images.now) }
-    requires no_path { string_bytes draft.old.path ≡ [] }
+    requires no_path { string_bytes draft.old.path.text ≡ [] }
     requires first { draft.old.later ≡ false }
     ensures { let tree = described_tree (described set.now) (map state_of images.now) in
-        OnOk result (Lays draft.old draft.new tree) }
+        Lays draft.old draft.new tree }
 {
-    draft.text.push_str("{\"devices\":[")?;
-    write_devices(set, images, draft)?;
-    draft.text.push_str("]}")
+    draft.text.push("{\"devices\":[");
+    write_devices(set, images, draft);
+    draft.text.push("]}");
 }
 
-fn write_devices(set: &DescSet, images: &[Image], draft: &mut Draft) -> Result<(), AllocError>
+fn write_devices(set: &DescSet, images: &[Image], draft: &mut Draft)
     requires ready { AreReady (described set.now) (map state_of images.now) }
-    requires no_path { string_bytes draft.old.path ≡ [] }
+    requires no_path { string_bytes draft.old.path.text ≡ [] }
     ensures { let states = map state_of images.now in
         let trees = device_trees (described set.now) (described set.now).devices states in
-        OnOk result (Adds draft.old draft.new trees) }
+        Adds draft.old draft.new trees }
 {
     for (device, image) in images.iter().enumerate() {
-        write_device(&Lister { set, image }, device as u32, draft)?;
+        write_device(&Lister { set, image }, device as u32, draft);
     }
-    Ok(())
 }

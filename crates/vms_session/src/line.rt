@@ -1,5 +1,7 @@
 // One line of a session.
 ghost use Rattle.std.specs.Prelude.{◌≡◌, ℕ, List, [], ◌∷◌, Some};
+ghost use Rattle.vms_board.specs.Isa.{isa};
+ghost use Rattle.vms_board_streams.specs.Sets.{AreOf};
 ghost use Rattle.vms_io.specs.Shelves.{Held};
 ghost use Rattle.vms_io.specs.Told.{outlet, stock};
 ghost use Rattle.vms_script.specs.Grammar.{IsLine};
@@ -12,8 +14,8 @@ ghost use Rattle.vms_session.specs.Playing.{Goes, LinesEnd, WritesText, session_
 use crate::mark::saved_mark;
 use crate::shelf::{restore, save};
 use dev_board::Answer;
-use std::alloc::Global;
 use vms_board::Board;
+use vms_board_streams::KeptSets;
 use vms_io::{Shelf, Sink, write_all_of};
 use vms_script::{Line, SessionLine, print_answer};
 
@@ -29,19 +31,20 @@ pub enum PlayFault {
     NoMemory,
 }
 
-/// Runs `line` of a session and appends its text to `out`.
+/// Runs `line` of a session and appends its text to `out`. The set of a save is kept in `sets`.
 ///
 /// # Errors
 ///
 /// The errors of [`play`](crate::play).
 pub(crate) fn play_line<K: Sink, H: Shelf>(
-    alloc: Global,
     line: &Line,
     board: &mut Board,
+    sets: &mut KeptSets,
     out: &mut K,
     shelf: &mut H,
 ) -> Result<(), PlayFault>
-    requires { IsLine (Some board.old.state.level) (line_view line.now) }
+    requires line { IsLine (Some board.old.state.level) (line_view line.now) }
+    requires sets { AreOf isa sets.old }
     ensures content { (held : Held) (text : List ℕ) (new : Session) → H.held shelf.old ≡ Some held
         → Does (line_view line.now) (session_of board.old.state held) text new
         → LinesEnd (part_of (line_view line.now) text new ∷ []) new
@@ -50,22 +53,24 @@ pub(crate) fn play_line<K: Sink, H: Shelf>(
     ensures goes { Goes (outlet K.Sink out.old) (outlet K.Sink out.new)
         (stock H.Shelf shelf.old) (stock H.Shelf shelf.new) result }
     ensures level { board.new.state.level ≡ board.old.state.level }
+    ensures sets { AreOf isa sets.new }
 {
     match line {
         Line::Event(event) => write_answer(&board.event(*event), out),
-        Line::Session(line) => play_session(alloc, line, board, out, shelf),
+        Line::Session(line) => play_session(line, board, sets, out, shelf),
     }
 }
 
 // Runs a line that only a session has and appends its text.
 fn play_session<K: Sink, H: Shelf>(
-    alloc: Global,
     line: &SessionLine,
     board: &mut Board,
+    sets: &mut KeptSets,
     out: &mut K,
     shelf: &mut H,
 ) -> Result<(), PlayFault>
-    requires { IsLine (Some board.old.state.level) (session_view line.now) }
+    requires line { IsLine (Some board.old.state.level) (session_view line.now) }
+    requires sets { AreOf isa sets.old }
     ensures content { (held : Held) (text : List ℕ) (new : Session) → H.held shelf.old ≡ Some held
         → Does (session_view line.now) (session_of board.old.state held) text new
         → LinesEnd (part_of (session_view line.now) text new ∷ []) new
@@ -74,14 +79,15 @@ fn play_session<K: Sink, H: Shelf>(
     ensures goes { Goes (outlet K.Sink out.old) (outlet K.Sink out.new)
         (stock H.Shelf shelf.old) (stock H.Shelf shelf.new) result }
     ensures level { board.new.state.level ≡ board.old.state.level }
+    ensures sets { AreOf isa sets.new }
 {
     match line {
         SessionLine::Save { set, name } => {
-            let count = save(alloc, board, *set, name.as_str(), shelf)?;
+            let count = save(board, *set, name.as_str(), sets, shelf)?;
             write(&saved_mark(count), out)
         }
         SessionLine::Restore { name } => {
-            let mark = restore(alloc, board, name.as_str(), shelf)?;
+            let mark = restore(sets.alloc(), board, name.as_str(), shelf)?;
             write(&mark, out)
         }
     }

@@ -12,11 +12,14 @@ ghost use Rattle.vms_session.specs.Playing.{Goes, LinesEnd, session_of};
 
 use crate::line::{PlayFault, play_line};
 use std::alloc::Global;
-use vms_board::Board;
+use vms_board::{Board, Devices};
+use vms_board_streams::KeptSets;
 use vms_io::{Shelf, Sink};
 use vms_script::Line;
 
 /// Plays `lines` on `board` and `shelf`, and appends their trace to `out`.
+///
+/// Each set that lines save under is made once.
 ///
 /// # Requires
 ///
@@ -48,8 +51,9 @@ pub fn play<K: Sink, H: Shelf>(
     ensures sound { IsSound board.new.state }
     ensures level { board.new.state.level ≡ board.old.state.level }
 {
+    let mut sets = KeptSets::new::<Devices>(alloc);
     for line in lines {
-        match play_line(alloc, line, board, out, shelf) {
+        match play_line(line, board, &mut sets, out, shelf) {
             Ok(()) => {}
             Err(fault) => {
                 board.is_sound();

@@ -12,19 +12,20 @@ use vms_board::{Machine, MachineBoard};
 use vms_io::{Sink, WriteFault};
 use vms_script::print_answer;
 
-/// Runs `events` on `board`, one after the other.
+/// Runs `events` on the `devices` of a board, one after the other.
 ///
 /// # Requires
 ///
-/// The numbers of each event are in their ranges.
-pub fn run_events<M: Machine>(board: &mut MachineBoard<M>, events: &[Event])
-    requires { AreEvents events.now }
-    ensures state { board.new.state ≡ after_events M.family events.now board.old.state }
-    ensures number { M.family.number board.new.state ≡ M.family.number board.old.state }
-    ensures taken { board.new.taken ≡ board.old.taken }
+/// The devices are sound, and the numbers of each event are in their ranges.
+pub fn run_events<M: Machine>(devices: &mut M, events: &[Event])
+    requires sound { M.is_sound devices.old }
+    requires events { AreEvents events.now }
+    ensures state { devices.new ≡ after_events M.family events.now devices.old }
+    ensures number { M.family.number devices.new ≡ M.family.number devices.old }
+    ensures sound { M.is_sound devices.new }
 {
     for event in events {
-        board.event(*event);
+        devices.event(*event);
     }
 }
 

@@ -3,6 +3,7 @@ ghost use Rattle.std.specs.Prelude.{◌≡◌, ◌≤◌, List, ℕ, Some, lengt
 ghost use Rattle.dev_board.specs.Saved.{MaySaveUnder};
 ghost use Rattle.vms_board.specs.Isa.{isa};
 ghost use Rattle.vms_board.specs.Saving.{saved_stream};
+ghost use Rattle.vms_board_streams.specs.Sets.{AreOf};
 ghost use Rattle.vms_io.specs.Shelves.{Held};
 ghost use Rattle.vms_io.specs.Told.{stock};
 ghost use Rattle.vms_commands.specs.Fetching.{longest_file};
@@ -14,29 +15,31 @@ use crate::line::PlayFault;
 use crate::mark::{mark, refused_mark, restored_mark};
 use std::alloc::Global;
 use vms_board::Board;
-use vms_board_streams::{restore_from, stream_of};
+use vms_board_streams::{KeptSets, restore_from, stream_by};
 use vms_commands::{LONGEST_FILE, NoteLine};
 use vms_io::{FetchFault, Shelf, StoreFault};
 
-/// Stores the stream of `board` under the set `set` as `name`. Returns the number of its bytes.
+/// Stores the stream of `board` under the set `set` as `name`, and keeps the set in `sets`. Returns
+/// the number of its bytes.
 ///
 /// # Errors
 ///
 /// - [`PlayFault::ShelfFault`]: `shelf` failed.
 /// - [`PlayFault::NoMemory`]: out of memory. Nothing has been stored.
 pub(crate) fn save<H: Shelf>(
-    alloc: Global,
     board: &Board,
     set: u8,
     name: &str,
+    sets: &mut KeptSets,
     shelf: &mut H,
 ) -> Result<u64, PlayFault>
-    requires { MaySaveUnder board.now.state.level set }
-    ensures { SavesUnder name.now (saved_stream isa set board.now.state) (stock H.Shelf shelf.old)
-        (stock H.Shelf shelf.new) result }
+    requires may { MaySaveUnder board.now.state.level set }
+    requires sets { AreOf isa sets.old }
+    ensures saves { SavesUnder name.now (saved_stream isa set board.now.state)
+        (stock H.Shelf shelf.old) (stock H.Shelf shelf.new) result }
+    ensures sets { AreOf isa sets.new }
 {
-    board.is_sound();
-    let Ok(stream) = stream_of(alloc, board, set) else {
+    let Ok(stream) = stream_by(sets.alloc(), board, set, sets) else {
         return Err(PlayFault::NoMemory);
     };
     match shelf.store(name, &stream) {
@@ -65,7 +68,7 @@ pub(crate) fn restore<H: Shelf>(
     ensures level { board.new.state.level ≡ board.old.state.level }
 {
     match shelf.fetch(alloc, name, LONGEST_FILE) {
-        Ok(stream) => Ok(load(alloc, board, stream)),
+        Ok(stream) => Ok(load(board, stream)),
         Err(FetchFault::NotThere) => Ok(mark(b"missing\n")),
         Err(FetchFault::TooLarge) => Ok(mark(b"too large\n")),
         Err(FetchFault::Failed) => Err(PlayFault::ShelfFault),
@@ -74,7 +77,7 @@ pub(crate) fn restore<H: Shelf>(
 }
 
 // Restores a board from a stream, if it restores one. Returns the line about it.
-fn load(alloc: Global, board: &mut Board, stream: Vec<u8>) -> NoteLine
+fn load(board: &mut Board, stream: Vec<u8>) -> NoteLine
     requires { length stream.items ≤ longest_file }
     ensures text { (held : Held) (text : List ℕ) (new : Session)
         → LoadsBytes stream.items (session_of board.old.state held) text new → result.items ≡ text }
@@ -83,7 +86,7 @@ fn load(alloc: Global, board: &mut Board, stream: Vec<u8>) -> NoteLine
         → board.new.state ≡ new.board }
     ensures level { board.new.state.level ≡ board.old.state.level }
 {
-    match restore_from(alloc, board, stream) {
+    match restore_from(board, stream) {
         Ok(()) => restored_mark(board.taken()),
         Err(refusal) => refused_mark(board.set(), &refusal),
     }

@@ -1,3 +1,2 @@
 -- In the fields of a part the judge reads as the structural reader takes.
 pub mod Body
-pub mod Takes

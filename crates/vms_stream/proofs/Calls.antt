@@ -1,3 +1,2 @@
 -- What a cursor sees, and what the judge says.
-pub mod Seen
 pub mod Judged

@@ -8,9 +8,11 @@ use Rattle.vms_stream.specs.Faults.{IsWhole, Why, Fails, Cut, Wrong}
 use Rattle.vms_stream.specs.StreamLaws.{FurtherLaw}
 
 whole_on : (set : Set) (u : List Piece) (rest more : List ℕ) (x : Piece) → IsWhole set u rest x → IsWhole set u (rest ++ more) x
-whole_on set u rest more x w = record { may = w.may; more = w.more ++ more; there = ap (λ (l : List ℕ). l ++ more) w.there ∙ append_assoc (spell x) w.more more }
+whole_on set u rest more x w =
+    record { may = w.may; more = w.more ++ more; there = ap (λ (l : List ℕ). l ++ more) w.there ∙ append_assoc (spell x) w.more more }
 
-why_on : (set : Set) (names : List (List ℕ)) (u : List Piece) (rest more : List ℕ) (section : Option ℕ) (reason : Reason) (size : ℕ) → (reason ≡ reasons.Truncated → ⊥)
+why_on : (set : Set) (names : List (List ℕ)) (u : List Piece) (rest more : List ℕ) (section : Option ℕ) (reason : Reason) (size : ℕ)
+    → (reason ≡ reasons.Truncated → ⊥)
     → Why set names u rest section reason size → Why set names u (rest ++ more) section reason size
 why_on set names u rest more _ _ _ other (Fails h) = Fails h
 why_on set names u rest more _ _ _ other (Cut h owes none) = absurd (other refl)

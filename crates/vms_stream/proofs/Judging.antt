@@ -1,5 +1,3 @@
 -- The judge refuses exactly the inputs that have a fault, and likewise for those that it accepts.
 pub mod Verdicts
 pub mod Mirrors
-pub mod Once
-pub mod Onward

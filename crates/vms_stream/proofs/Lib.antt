@@ -6,5 +6,4 @@ pub mod Rows
 pub mod Calls
 pub mod Stated
 pub mod Further
-pub mod SetParts
 pub mod WrittenBytes

@@ -1,39 +1,45 @@
 -- The laws as they are stated.
-use Rattle.std.proofs.Common.{length, Option, Some, None, IfSome, arith, suc, ◌≡◌, ◌≤◌, true, ℕ, List, ◌++◌, refl, sym, ap, ◌∙◌, subst}
+use Rattle.std.proofs.Common.{get_or, ◌+◌, take, length, Option, Some, None, IfSome, arith, suc, ◌≡◌, ◌≤◌, true, ℕ, List, ◌++◌, refl, sym, ap, ◌∙◌, subst, drop}
+use Rattle.std.proofs.Common.{false}
 use Rattle.vms_spec.specs.declared.TheConstants.{LONGEST_NAME}
-use Rattle.vms_spec.specs.Units.{Piece}
+use Rattle.vms_spec.specs.Units.{Piece, spell, spelled}
 use Rattle.vms_stream.specs.Dues.{Due}
-use Rattle.vms_stream.specs.Finding.{Found, Whole, unit_at}
-use Rattle.vms_stream.specs.Laws.{IsThere, FoundLaw}
+use Rattle.vms_stream.specs.Finding.{Whole, unit_at}
+use Rattle.vms_stream.specs.Laws.{IsThere, FoundLaw, Ends}
 use Rattle.vms_stream.proofs.Finding.There.{only}
 use Rattle.vms_stream.proofs.Finding.Shown.{Shows, shows}
 use Rattle.vms_spec.specs.declared.Reason.{Reason}
-use Rattle.vms_spec.specs.Images.{Image}
 use Rattle.vms_spec.specs.Streams.{is_one_of, longest_text, IsConfiguration, IsTrailer, optional, configuration, trailer, written}
-use Rattle.vms_spec.specs.Units.{spelled}
 use Rattle.vms_spec.specs.Readings.{Reading, Accepted, Refused}
 use Rattle.vms_spec.proofs.WellFormedLaws.{well_good}
-use Rattle.vms_stream.specs.SoFar.{images, machine}
-use Rattle.vms_stream.specs.Judge.{judge, reading}
-use Rattle.vms_stream.specs.Laws.{Ends}
-use Rattle.vms_stream.specs.State.{State, by_state, at_start}
+use Rattle.vms_stream.specs.SoFar.{Tail, Unknown, Footed, Bare, images, machine}
+use Rattle.vms_stream.specs.Judge.{judge, reading, by_units}
+use Rattle.vms_stream.specs.State.{State, between, by_state, at_start}
 use Rattle.vms_stream.specs.Streams.{Takes}
-use Rattle.vms_stream.specs.StreamLaws.{ToldLaw, AcceptedLaw, TakenLaw, LocalLaw, UnitsLaw, StreamLaw, GoesOn, FrontLaw, OneStreamLaw, Answer, Taken, Faulty, EitherLaw, NeverBothLaw, OneFaultLaw, SectionLaw, WrittenLaw, WholeLaw, AreOneFault}
-use Rattle.vms_stream.proofs.Finding.Advancing.{advances}
+use Rattle.vms_stream.specs.StreamLaws.{SectionReadLaw, BeginsSection, SectionFoundLaw, ToldLaw, AcceptedLaw, TakenLaw, LocalLaw, UnitsLaw, StreamLaw, GoesOn}
+use Rattle.vms_stream.specs.StreamLaws.{FrontLaw, OneStreamLaw, Answer, Taken, Faulty, EitherLaw, NeverBothLaw, OneFaultLaw, SectionLaw, WrittenLaw, WholeLaw}
+use Rattle.vms_stream.specs.StreamLaws.{AreOneFault}
+use Rattle.vms_stream.proofs.Finding.Advancing.{advances, due_solid}
 use Rattle.vms_stream.proofs.Judging.Mirrors.{solid, state_accepts, state_refuses}
-use Rattle.vms_stream.proofs.Judging.Once.{local, told_from, Answer as Told, either, Well, Ill}
-use Rattle.vms_stream.proofs.Streams.StreamFound.{found}
-use Rattle.vms_stream.proofs.Streams.StreamRead.{read}
+use Rattle.vms_stream.proofs.Streams.StreamFound.{found, section_found}
+use Rattle.vms_stream.proofs.Streams.StreamRead.{read, free_is, section_on}
+use Rattle.vms_stream.proofs.Streams.Steps.{Run, Goes, Opening, Closes, Opens, Names, settled, free_opens}
+use Rattle.vms_stream.proofs.Streams.Inside.{Agrees}
+use Rattle.vms_bodies.specs.Whole.{reading_on}
+use Rattle.std.proofs.lemmas.Option.{slice_get_within}
 use Rattle.vms_stream.proofs.Streams.Written.{written_section_is, written_is_stream}
-use Rattle.vms_stream.proofs.Streams.Onward.{begins}
-use Rattle.vms_stream.proofs.Judging.Verdicts.{cut_is}
+use Rattle.vms_stream.proofs.Judging.Verdicts.{cut_is, told_from, Says, says, units_mirror}
+use Rattle.vms_kinds.specs.Bytes.{IsBytes}
+use Rattle.vms_kinds.proofs.ByteLemmas.{bytes_rest}
+use Rattle.vms_bodies.proofs.BodyOnly.{front_take}
+use Rattle.std.proofs.lemmas.List.{take-append-drop}
 
-shown : (d : Due) (rest : List ℕ) (f : Found) (x : Piece) (n : ℕ) → Shows d rest f → f ≡ Whole x n → IsThere d rest x n
-shown d rest f x n s e = subst (Shows d rest) e s
+shown : (d : Due) (rest : List ℕ) (x : Piece) (n : ℕ) → IsBytes rest → unit_at d rest ≡ Whole x n → IsThere d rest x n
+shown d rest x n ok e = subst (Shows d rest) e (shows d rest ok)
 
 pub found_holds : FoundLaw
 found_holds d rest ok = record {
-  found = λ x n e. shown d rest (unit_at d rest) x n (shows d rest ok) e;
+  found = λ x n e. shown d rest x n ok e;
   only = λ x more m e. ap (unit_at d) e ∙ only d x more m;
   cut = λ c x more m e. let w = sym c ∙ ap (unit_at d) e ∙ only d x more m in cc;
   none = λ never. cut_is d rest (unit_at d rest) (shows d rest ok) never;
@@ -41,10 +47,14 @@ found_holds d rest ok = record {
 
 pub told_holds : ToldLaw
 unfolding reading
-told_holds set names input = told_from (judge (by_state set names)) (advances (by_state set names) (λ s. solid set s s.spot)) (suc (length input)) (at_start set) 0 input (omega arith)
+told_holds set names input =
+    told_from (judge (by_state set names)) (advances (by_state set names) (λ s. solid set s s.spot)) (suc (length input)) (at_start set) 0 input (omega arith)
 
 pub local_holds : LocalLaw
-local_holds d r t x n ok e same = local d r t x n ok e same
+local_holds d r t x n ok e same =
+    let w = shown d r x n ok e in
+    let s : spell x ≡ take n t = sym (front_take n (spell x) (drop n r) r w.there w.long) ∙ same in
+    ap (unit_at d) (sym (take-append-drop n t) ∙ ap (λ (l : List ℕ). l ++ drop n t) (sym s)) ∙ only d x (drop n t) w.may ∙ ap (Whole x) w.long
 
 pub accepted_holds : AcceptedLaw
 accepted_holds set names well heads input n end ok h = found set names (well_good set well heads) input n end ok h
@@ -59,24 +69,27 @@ taken_holds set names well heads input n machine images t =
 pub units_hold : UnitsLaw
 units_hold set names well heads input n u ok e =
     let a = (state_accepts set names).ends input n u ok e in
-    let t = found set names (well_good set well heads) input n a.0 ok a.1 in
-    subst (λ (m : Option (List ℕ)). Takes set names input n m (images set u)) a.2.machine_is (subst (λ (l : List Image). Takes set names input n a.0.machine l) a.2.images_are t)
+    subst (λ (s : State). Takes set names input n s.machine s.images) a.2 (found set names (well_good set well heads) input n a.0 ok a.1)
 
 pub stream_holds : StreamLaw
 stream_holds set names well heads input n named states ok t =
     let r = read set names (well_good set well heads) input n named states t in
     let a = (state_accepts set names).accepted input n r.end ok r.is in
-    (a.0, a.1, sym a.2.machine_is ∙ r.machine_is, sym a.2.images_are ∙ r.images_are)
+    (a.0, a.1, ap (λ (s : State). s.machine) (sym a.2) ∙ r.machine_is, ap (λ (s : State). s.images) (sym a.2) ∙ r.images_are)
 
 pub front_holds : FrontLaw
-front_holds set names well heads u rest ok front sound = by (either set names (spelled u ++ rest) ok)
+front_holds set names well heads u rest ok front sound =
+    let g = by_units set names in
+    let t = told_from (judge g) (advances g (due_solid set)) (suc (length rest)) u (length (spelled u)) rest (omega arith) in
+    by t.0 (says set names g (due_solid set) (λ u s. s ≡ u) (units_mirror set names) (suc (length rest)) u u (length (spelled u))
+    (spelled u ++ rest) rest t.0 refl (bytes_rest (spelled u) rest ok) front refl refl t.1)
   where
-    by : Told set names (spelled u ++ rest) → GoesOn set names (spelled u ++ rest) u
-    by (Well n v w) =
-        let b = begins set names u rest n v ok front w in
-        let ends = subst (Ends set names (spelled u ++ rest) n) b.1 w in
-        record { taken = n; more = b.0; ends = ends; takes = units_hold set names well heads (spelled u ++ rest) n (b.0 ++ u) ok ends }
-    by (Ill place section reason size f) = absurd (sound place section reason size f)
+    by : (x : Reading (List Piece)) → Says set names (by_units set names) (due_solid set) (λ u s. s ≡ u) (units_mirror set names) u (spelled u ++ rest) x
+        → GoesOn set names (spelled u ++ rest) u
+    by (Accepted n end) w =
+        let ends = subst (Ends set names (spelled u ++ rest) n) w.is w.ends in
+        record { taken = n; more = w.more; ends = ends; takes = units_hold set names well heads (spelled u ++ rest) n (w.more ++ u) ok ends }
+    by (Refused place section reason size) f = absurd (sound place section reason size f)
 
 -- ---- streams and faults
 
@@ -107,22 +120,58 @@ never_both_holds set names well heads input ok n machine images place section re
     let e = sym r.is ∙ (state_refuses set names).faulty input place section reason size ok f in
     cc
 
-abbrev refusal : ℕ → Option ℕ → Reason → ℕ → Reading State
-refusal place section reason size = Refused place section reason size
-
-same_refusal : (place other_place : ℕ) (section other_section : Option ℕ) (reason other_reason : Reason) (size other_size : ℕ)
-    → Some (refusal place section reason size) ≡ Some (refusal other_place other_section other_reason other_size) → AreOneFault place other_place section other_section reason other_reason size other_size
-same_refusal place other_place section other_section reason other_reason size other_size e =
-    let a : place ≡ other_place = cc in
-    let b : section ≡ other_section = cc in
-    let c : reason ≡ other_reason = cc in
-    let d : size ≡ other_size = cc in
-    record { places = a; sections = b; reasons = c; sizes = d }
+same_refusal : {place other_place : ℕ} {section other_section : Option ℕ} {reason other_reason : Reason} {size other_size : ℕ} (x y : Reading State)
+    → Some x ≡ Some y
+    → x ≡ Refused place section reason size → y ≡ Refused other_place other_section other_reason other_size
+    → AreOneFault place other_place section other_section reason other_reason size other_size
+same_refusal x y e f g = record { places = cc; sections = cc; reasons = cc; sizes = cc }
 
 pub one_fault_holds : OneFaultLaw
 one_fault_holds set names input ok place other_place section other_section reason other_reason size other_size f g =
-    same_refusal place other_place section other_section reason other_reason size other_size
-    (sym ((state_refuses set names).faulty input place section reason size ok f) ∙ (state_refuses set names).faulty input other_place other_section other_reason other_size ok g)
+    same_refusal _ _ (sym ((state_refuses set names).faulty input place section reason size ok f) ∙
+    (state_refuses set names).faulty input other_place other_section other_reason other_size ok g) refl refl
+
+-- ---- a section at the front of the rest, whatever follows it
+
+may_foot : (t : Tail) → (t ≡ Bare → ⊥) → Agrees t true
+may_foot Unknown h = tt
+may_foot Footed h = refl
+may_foot Bare h = absurd (h refl)
+
+pub section_read_holds : SectionReadLaw
+section_read_holds set names well heads k d image there machine images came tail first after room new foots id place bytes rest is =
+    let s = between machine images came tail first after in
+    let r = section_on set names (well_good set well heads) k d image there s (settled set s) refl (free_is set names first after s refl) room new true
+    (may_foot tail foots) place id bytes rest is in
+    r.reads ∙ ap (λ (x : State). reading_on (judge (by_state set names)) x (place + length bytes) rest) (r.at refl)
+
+pub section_found_holds : SectionFoundLaw
+section_found_holds set names well heads machine images came tail first after images_long came_long place rest n end ok h four =
+    let r : Run = record { set = set; names = names; taken = n; end = end } in
+    let goes : Goes r (between machine images came tail first after) place rest = record { is = h } in
+    by (free_opens first after refl ok came_long goes)
+  where
+    by : Opening (record { set = set; names = names; taken = n; end = end }) first (between machine images came tail false false) place rest
+        → BeginsSection set came rest
+    by (Closes more e all goes) = let f = sym four ∙ ap (λ (l : List ℕ). get_or l 0 0) e in cc
+    by (Names name more is e one le goes) = let f = sym four ∙ ap (λ (l : List ℕ). get_or l 0 0) e in cc
+    by (Opens k id v d more f e there new version goes) =
+        let inside = slice_get_within set.devices k d there in
+        let q = section_found (record { set = set; names = names; taken = n; end = end }) (well_good set well heads)
+        (between machine images came tail false false) place k id v d more there (omega (arith, inside, images_long)) came_long ok f e version goes in
+        record {
+          number = k;
+          device = d;
+          there = there;
+          new = new;
+          id = q.id;
+          image = q.image;
+          footed = q.footed;
+          bytes = q.bytes;
+          after = q.after;
+          is = q.is;
+          spelled = q.spelled;
+        }
 
 -- ---- what the writer gives
 
@@ -140,7 +189,8 @@ written_holds set names few machine text images configured described ready rest 
   all = all;
 }
 
-configured : (names : List (List ℕ)) (machine : Option (List ℕ)) → IfSome machine (λ name. (is_one_of names name ≡ true) × (length name ≤ LONGEST_NAME)) → IsConfiguration names machine (optional configuration machine)
+configured : (names : List (List ℕ)) (machine : Option (List ℕ)) → IfSome machine (λ name. (is_one_of names name ≡ true) × (length name ≤ LONGEST_NAME))
+    → IsConfiguration names machine (optional configuration machine)
 configured names None h = refl
 configured names (Some name) h = (h.0, h.1, refl)
 

@@ -1,8 +1,10 @@
--- What a well-formed set writes is bytes.
-use Rattle.std.proofs.Common.{◌≡◌, ℕ, zero, suc, ◌+◌, ◌<◌, ◌≤◌, ◌&&◌, nat_le, List, [], ◌∷◌, ◌++◌, length, length-append, get_or, take, drop, ℤ, pos, Bool, true, Option, Some, None, IfSome, nat_lt, refl, subst, arith}
+-- What a well-formed set writes is bytes. What holds of each part of a set: of the description of each device and subsection.
+use Rattle.std.proofs.Common.{◌≡◌, ℕ, suc, List, [], ◌∷◌, Some, refl, zero, ◌+◌, ◌<◌, ◌≤◌, ◌&&◌, nat_le, ◌++◌, length, length-append, get_or, take, drop, ℤ}
+use Rattle.std.proofs.Common.{pos, Bool, true, Option, None, IfSome, nat_lt, subst, arith}
+use Rattle.std.specs.List.{slice_get, list_all}
+use Rattle.vms_spec.specs.Sets.{Desc, Sub, Device, Set}
 use Rattle.std.specs.Int.{byte_at, bytes_high_first}
 use Rattle.std.specs.Prelude.{replicate}
-use Rattle.std.specs.List.{list_all}
 use Rattle.std.specs.Str.{bytes_eq}
 use Rattle.std.proofs.lemmas.Bool.{and_parts, ltb-true, leb-true}
 use Rattle.std.proofs.lemmas.List.{take-append-drop}
@@ -13,14 +15,35 @@ use Rattle.vms_kinds.specs.Bytes.{IsBytes}
 use Rattle.vms_spec.specs.Names.{is_name, is_name_byte, is_sub_name}
 use Rattle.vms_spec.specs.Images.{Image, zeroed, own_cells, own_slots, sub_slots}
 use Rattle.vms_spec.specs.Layout.{Slot, Number, Constant, Filler, Rule, desc_cells, struct_cells}
-use Rattle.vms_spec.specs.Sets.{Sub, Device, Set}
-use Rattle.vms_spec.specs.Streams.{be32, optional, configuration, section_head, sub_head, foot, trailer, end_mark, stream_head, is_one_of, written, written_section, written_sections, written_subs}
+use Rattle.vms_spec.specs.Streams.{be32, optional, configuration, section_head, sub_head, foot, trailer, end_mark, stream_head, is_one_of, written}
+use Rattle.vms_spec.specs.Streams.{written_section, written_sections, written_subs}
 use Rattle.vms_spec.specs.WellFormed.{WellFormed, failing, first_fault, here, set_rules}
 use Rattle.vms_spec.proofs.Faultless.{AllTrue, all_true, every_one, or_else_none}
-use Rattle.vms_spec.specs.declared.Part.TheVariants as parts
-use Rattle.vms_stream.proofs.SetParts.{AllSubs, AllParts, EachPart, all_parts}
 use Rattle.vms_spec.proofs.NameBytes.{name_byte_low}
 use Rattle.vms_spec.proofs.WellFormedLaws.{device_parts, sub_clean}
+use Rattle.vms_spec.specs.declared.Part.TheVariants as parts
+
+abbrev pub AllSubs : (Desc → Type 0) → List Sub → Type 0
+AllSubs P [] = Unit {0}
+AllSubs P (s ∷ subs) = P s.desc × AllSubs P subs
+
+abbrev pub AllParts : (Desc → Type 0) → List Device → Type 0
+AllParts P [] = Unit {0}
+AllParts P (d ∷ devices) = P d.desc × AllSubs P d.subs × AllParts P devices
+
+abbrev pub EachSub : (Desc → Type 0) → List Sub → Type 0
+EachSub P subs = (j : ℕ) (s : Sub) → slice_get subs j ≡ Some s → P s.desc
+
+abbrev pub EachPart : (Desc → Type 0) → List Device → Type 0
+EachPart P devices = (k : ℕ) (d : Device) → slice_get devices k ≡ Some d → P d.desc × EachSub P d.subs
+
+all_subs : (P : Desc → Type 0) (subs : List Sub) → EachSub P subs → AllSubs P subs
+all_subs P [] h = tt
+all_subs P (s ∷ subs) h = (h 0 s refl, all_subs P subs (λ j. h (suc j)))
+
+pub all_parts : (P : Desc → Type 0) (devices : List Device) → EachPart P devices → AllParts P devices
+all_parts P [] h = tt
+all_parts P (d ∷ devices) h = let r = h 0 d refl in (r.0, all_subs P d.subs r.1, all_parts P devices (λ k. h (suc k)))
 
 -- ---- bytes
 
@@ -108,14 +131,16 @@ pub foot_bytes : (id : ℕ) → AreBytes (foot id)
 foot_bytes id = (omega arith, be32_bytes id)
 
 module _ (set : Set) where
-  subs-bytes : (d : Device) (image : Image) (at : ℕ) (subs : List Sub) (came : List (Option ℕ)) → AreNamedSubs subs → AreBytes (written_subs set d image at subs came)
+  subs-bytes : (d : Device) (image : Image) (at : ℕ) (subs : List Sub) (came : List (Option ℕ)) → AreNamedSubs subs
+      → AreBytes (written_subs set d image at subs came)
   subs-bytes d image at [] came named = tt
   subs-bytes d image at (s ∷ subs) [] named = tt
   subs-bytes d image at (s ∷ subs) (None ∷ came) named = subs-bytes d image (at + length (desc_cells (struct_cells set) s.desc)) subs came named.1
   subs-bytes d image at (s ∷ subs) (Some v ∷ came) named =
       let next = at + length (desc_cells (struct_cells set) s.desc) in
       bytes_append (sub_head s.desc.name v ++ zeroed image.numbers (sub_slots set s v image.numbers at)) (written_subs set d image next subs came)
-      (bytes_append (sub_head s.desc.name v) (zeroed image.numbers (sub_slots set s v image.numbers at)) (sub-head-bytes s.desc.name v named.0.octets named.0.short)
+      (bytes_append (sub_head s.desc.name v) (zeroed image.numbers (sub_slots set s v image.numbers at))
+      (sub-head-bytes s.desc.name v named.0.octets named.0.short)
       (zeroed-bytes image.numbers (sub_slots set s v image.numbers at)))
       (subs-bytes d image next subs came named.1)
 
@@ -126,7 +151,8 @@ module _ (set : Set) where
       let after : List ℕ = written_subs set d image (own_cells set d) d.subs image.came in
       bytes_append (head ++ body ++ after) (foot id)
       (bytes_append (head ++ body) after
-      (bytes_append head body (head_bytes id d.instance image.version d.desc.name named.octets named.short) (zeroed-bytes image.numbers (own_slots set d image.version image.numbers)))
+      (bytes_append head body (head_bytes id d.instance image.version d.desc.name named.octets named.short)
+      (zeroed-bytes image.numbers (own_slots set d image.version image.numbers)))
       (subs-bytes d image (own_cells set d) d.subs image.came subs))
       (foot_bytes id)
 
@@ -145,7 +171,8 @@ module _ (set : Set) where
   text-bytes None p = tt
   text-bytes (Some text) p = (omega arith, bytes_append (be32 (length text)) text (be32_bytes (length text)) p)
 
-  written-bytes : (machine : Option (List ℕ)) (images : List Image) (text : Option (List ℕ)) → AreNamed set.devices → IfSome machine AreBytes → IfSome text AreBytes
+  written-bytes : (machine : Option (List ℕ)) (images : List Image) (text : Option (List ℕ)) → AreNamed set.devices → IfSome machine AreBytes
+      → IfSome text AreBytes
       → AreBytes (written set machine images text)
   written-bytes machine images text named p q =
       let sections : List ℕ = written_sections set 0 set.devices images in
@@ -161,7 +188,8 @@ module _ (set : Set) where
 
 every_bytes : (name : List ℕ) → list_all is_name_byte name ≡ true → AreBytes name
 every_bytes [] e = tt
-every_bytes (b ∷ name) e = let p = and_parts (is_name_byte b) (list_all is_name_byte name) e in let low = name_byte_low b p.0 in (omega (arith, low), every_bytes name p.1)
+every_bytes (b ∷ name) e =
+    let p = and_parts (is_name_byte b) (list_all is_name_byte name) e in let low = name_byte_low b p.0 in (omega (arith, low), every_bytes name p.1)
 
 pub is_named : (most : ℕ) (name : List ℕ) → most < 256 → is_name most name ≡ true → IsNamed name
 is_named most name lt e =

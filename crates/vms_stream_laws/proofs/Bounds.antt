@@ -3,7 +3,7 @@ use Rattle.std.proofs.Common.{◌≡◌, ℕ, zero, suc, ◌+◌, ◌*◌, ◌�
 use Rattle.std.specs.List.{slice_get}
 use Rattle.std.proofs.Math.Nat.{mul-le-mul_right}
 use Rattle.vms_kinds.specs.declared.Item.{Item}
-use Rattle.vms_kinds.specs.declared.Item.TheVariants.{Num, Equal, Unused, Struct}
+use Rattle.vms_kinds.specs.declared.Item.TheVariants.{Struct}
 use Rattle.vms_spec.specs.Images.{Image, own_cells, sub_place}
 use Rattle.vms_spec.specs.Layout.{Slot, Rule, Meaning, no_meaning, no_desc, all_hold, capacity_of, counted, desc_slots, elements_of, field_cells, field_slots, first, item_size, item_slots, meaning, meanings, no_parent, numbers_of, slots_from, times}
 use Rattle.vms_spec.specs.Sets.{Desc, Device, Field, Set, Sub}
@@ -22,14 +22,12 @@ AreWithin b ms = (j : ℕ) → IsWithin b (get_or ms j no_meaning)
 times_within : (n b : ℕ) (part : ℕ → List Slot) → ((at : ℕ) → length (part at) ≤ b) → (at step : ℕ) → length (times n part at step) ≤ n * b
 times_within zero b part h at step = omega arith
 times_within (suc n) b part h at step =
-    let once : length (part at) ≤ b = h at in
-    let others : length (times n part (at + step) step) ≤ n * b = times_within n b part h (at + step) step in
     let more : suc n * b ≡ b + n * b = grind arith in
-    omega (arith, once, others, more, length-append (part at) (times n part (at + step) step))
+    omega (arith, h at, times_within n b part h (at + step) step, length-append (part at) (times n part (at + step) step))
 
 module _ (ms : List Meaning) (b : ℕ) (within : AreWithin b ms) where
   item_within : (item : Item) (caps : List ℕ) (numbers : List ℤ) (at : ℕ) → length (item_slots ms item caps numbers at) ≤ suc b
-  item_within (Struct j) caps numbers at = let h : length ((get_or ms j no_meaning).slots numbers at) ≤ b = within j numbers at in omega (arith, h)
+  item_within (Struct j) caps numbers at = omega (arith, within j numbers at)
   item_within _ caps numbers at = omega arith
 
   if_within : (there : Bool) (xs : List Slot) (n : ℕ) → length xs ≤ n → length (if there then xs else []) ≤ n
@@ -44,7 +42,7 @@ module _ (ms : List Meaning) (b : ℕ) (within : AreWithin b ms) where
       let n = elements_of f.count own in
       let all : length (times n part at step) ≤ n * suc b = times_within n (suc b) part (item_within f.item (counted i fields) numbers) at step in
       let few : n * suc b ≤ capacity_of f.count * suc b = mul-le-mul_right {m = n} {n = capacity_of f.count} (suc b) (elements_fit f.count own) in
-      if_within (is_there f.test f.since v own no_parent) (times n part at step) (capacity_of f.count * suc b) (omega (arith, all, few))
+      if_within (is_there f.test f.since v own no_parent) (times n part at step) (capacity_of f.count * suc b) (omega arith)
 
   abbrev most_of : List Field → ℕ
   most_of [] = 0
@@ -56,13 +54,13 @@ module _ (ms : List Meaning) (b : ℕ) (within : AreWithin b ms) where
       let next = at + length (field_cells (map (λ (m : Meaning). m.cells) ms) fields i f) in
       let one = field_within fields v own numbers i at f in
       let others = fields_within fields v own numbers (suc i) next fs in
-      omega (arith, one, others, length-append (field_slots ms fields v own numbers i at f) (slots_from ms fields v own numbers (suc i) next fs))
+      omega (arith, length-append (field_slots ms fields v own numbers i at f) (slots_from ms fields v own numbers (suc i) next fs))
 
   desc_within : (d : Desc) (v : ℕ) (numbers : List ℤ) (at : ℕ) → length (desc_slots ms d v numbers at) ≤ most_of d.fields + 1
   desc_within d v numbers at =
       let own = numbers_of (map (λ (m : Meaning). m.cells) ms) d numbers at in
       let all = fields_within d.fields v own numbers 0 at d.fields in
-      omega (arith, all, length-append (slots_from ms d.fields v own numbers 0 at d.fields) (Rule (all_hold d.validate v own) ∷ []))
+      omega (arith, length-append (slots_from ms d.fields v own numbers 0 at d.fields) (Rule (all_hold d.validate v own) ∷ []))
 
 structs_within : (ds : List Desc) (k : ℕ) → (b : ℕ) × AreWithin b (meanings ds k)
 unfolding first
@@ -71,11 +69,10 @@ structs_within ds (suc k) =
     let r = structs_within ds k in
     let d = get_or ds k no_desc in
     let ms = meanings ds k in
-    let last = most_of ms r.0 r.1 d.fields + 1 in
-    let most = r.0 + last in (
+    let most = r.0 + (most_of ms r.0 r.1 d.fields + 1) in (
       most,
-      one_more (IsWithin most) no_meaning (λ numbers at. omega arith) ms (λ j numbers at. let h = r.1 j numbers at in omega (arith, h)) (meaning ms d)
-          (λ numbers at. let h = desc_within ms r.0 r.1 d d.version numbers at in omega (arith, h)),
+      one_more (IsWithin most) no_meaning (λ numbers at. omega arith) ms (λ j numbers at. omega (arith, r.1 j numbers at)) (meaning ms d)
+          (λ numbers at. omega (arith, desc_within ms r.0 r.1 d d.version numbers at)),
     )
 
 -- the most slots of the part

@@ -24,7 +24,7 @@ use Rattle.vms_spec.proofs.WellFormedLaws.{beyond as is_beyond, device_parts, we
 use Rattle.vms_bodies.proofs.ComeLaws.{none_missing}
 use Rattle.vms_bodies.proofs.ConstantLaws.{own_constants, part_constants}
 use Rattle.vms_bodies.proofs.SectionLaws.{AreConstants}
-use Rattle.vms_stream.specs.Dues.{Due, AVersion, Between, AfterFields, May, AtMagic, AtVersion, AtConfiguration, AtLongName, AtStart, AtHead, AtEnd, AtMark, AtNumber, AtConstant, AtFiller, AtSubHead, AtFoot, AtOther, AtNext, AtDescription, AtLongText, AtTrailing, due, due_field, fits_four, holds, is_foot}
+use Rattle.vms_stream.specs.Dues.{Due, AVersion, Between, AfterFields, May, AtMagic, AtVersion, AtHead, AtEnd, AtNumber, AtConstant, AtFiller, AtFoot, AtNext, due, due_field, fits_four, holds, is_foot}
 use Rattle.vms_stream.specs.Faults.{Front}
 use Rattle.vms_stream.specs.Judge.{owes}
 use Rattle.vms_stream.specs.SoFar.{Tail, Unknown, Footed, Bare, known, passed, skipped, tail}
@@ -112,7 +112,7 @@ module _ (set : Set) (names : List (List ℕ)) (well : WellFormed set) (heads : 
 
   -- more slots than there are aren't passed
   never_past : (u : List Piece) (most : ℕ) → length (slots set u) ≤ most → most ≤ passed set u + 0 → skipped (left u) < length (left u) → ⊥
-  never_past u most fits far lt = omega (arith, fits, far, lt, length-drop (passed set u) (slots set u))
+  never_past u most fits far lt = omega (arith, length-drop (passed set u) (slots set u))
 
   abbrev Fits : List Piece → ℕ → Type 0
   Fits u most = (i : Image) → length (part_slots set (device set u) i (part set u)) ≤ most
@@ -125,18 +125,18 @@ module _ (set : Set) (names : List (List ℕ)) (well : WellFormed set) (heads : 
   fields_on : (fuel : ℕ) (u : List Piece) (k most : ℕ) → Fine u → opened set u ≡ Some k → due set u ≡ due_field (tail set u) (Some k) (left u) → Fits u most → most ≤ passed set u + fuel
       → Behind k (come set u) → Goes u
   fields_on zero u k most front opened_so is fits far next =
-      let constants = constants_left (passed set u) (slots set u) (constants_of (opened set u) (image set u) (part set u)) in
-      one_field u k front is (next_of (tail set u) k (left u) constants)
+      one_field u k front is
+      (next_of (tail set u) k (left u) (constants_left (passed set u) (slots set u) (constants_of (opened set u) (image set u) (part set u))))
       (λ c kind lt f. absurd (never_past u most (fits (image set u)) far lt))
       (λ kind z lt f. absurd (never_past u most (fits (image set u)) far lt))
       (λ n lt f. absurd (never_past u most (fits (image set u)) far lt))
       (λ e. next u front e refl)
   fields_on (suc fuel) u k most front opened_so is fits far next =
-      let constants = constants_left (passed set u) (slots set u) (constants_of (opened set u) (image set u) (part set u)) in
-      let far' : most ≤ suc (passed set u + skipped (left u)) + fuel = omega (arith, far) in
+      let far' : most ≤ suc (passed set u + skipped (left u)) + fuel = omega arith in
       let field : (x : Piece) → opened set (x ∷ u) ≡ Some k → due_field (tail set (x ∷ u)) (opened set (x ∷ u)) (left (x ∷ u)) ≡ due_field (tail set (x ∷ u)) (Some k) (left (x ∷ u)) =
       λ x e. ap (λ (o : Option ℕ). due_field (tail set (x ∷ u)) o (left (x ∷ u))) e in
-      one_field u k front is (next_of (tail set u) k (left u) constants)
+      one_field u k front is
+      (next_of (tail set u) k (left u) (constants_left (passed set u) (slots set u) (constants_of (opened set u) (image set u) (part set u))))
       (λ c kind lt f. fields_on fuel (Number c kind (pos 0) ∷ u) k most f opened_so (field (Number c kind (pos 0)) opened_so) fits far' next)
       (λ kind z lt f. fields_on fuel (Constant kind z ∷ u) k most f opened_so (field (Constant kind z) opened_so) fits far' next)
       (λ n lt f. fields_on fuel (Filler (replicate n 0) ∷ u) k most f opened_so (field (Filler (replicate n 0)) opened_so) fits far' next)
@@ -199,15 +199,13 @@ module _ (set : Set) (names : List (List ℕ)) (well : WellFormed set) (heads : 
   -- a section of a device that has not come
   section_on : (u : List Piece) (k : ℕ) (d : Device) → slice_get set.devices k ≡ Some d → slice_get (come set u) k ≡ Some false → Fine u → Opens u → Open (slice_set (come set u) k true) → Goes u
   section_on u k d there new front opens next =
-      let name = d.desc.name in
       let v = d.desc.version in
-      let x = Head 0 name d.instance v in
+      let x = Head 0 d.desc.name d.instance v in
       let tops = (well_good set well heads).instance k d there in
       let named = (well_good set well heads).distinct k d there in
-      let low = leb-true d.desc.minimum v (device_parts set well k d there).0.own.1.1.0 in
-      on u x front (opens.head 0 name d.instance v (omega arith) tops.0 tops.1)
-      (head_passes set names (due set u) (known set u) 0 name d.instance v k d named there new (low, omega arith))
-      (let named = (parts_named set well k d there).0 in head_bytes 0 d.instance v name named.octets named.short)
+      on u x front (opens.head 0 d.desc.name d.instance v (omega arith) tops.0 tops.1)
+      (head_passes set names (due set u) (known set u) 0 d.desc.name d.instance v k d named there new (leb-true d.desc.minimum v (device_parts set well k d there).0.own.1.1.0, omega arith))
+      (let named = (parts_named set well k d there).0 in head_bytes 0 d.instance v d.desc.name named.octets named.short)
       (λ f. part_on (x ∷ u) k f named (ap (λ (o : Option ℕ). due_field (tail set (x ∷ u)) o (left (x ∷ u))) named)
       (λ w g is same. close_on w k (tail set w) g is (λ y h may came. next y h may (came ∙ same ∙ ap (mark_come (come set u)) named))))
 
@@ -231,20 +229,19 @@ module _ (set : Set) (names : List (List ℕ)) (well : WellFormed set) (heads : 
     where
       by : Waits (come set u) → Goes u
       by (NoneWaits all) = end_on u front opens all
-      by (OneWaits k e less) = absurd (omega (arith, few, less))
+      by (OneWaits k e less) = absurd (omega arith)
   devices_on (suc n) u front opens few = by (waits (come set u)) (λ w f may le. devices_on n w f may le)
     where
       there : (k : ℕ) → slice_get (come set u) k ≡ Some false → (o : Option Device) → slice_get set.devices k ≡ o → ((d : Device) → slice_get set.devices k ≡ Some d → Goes u) → Goes u
       there k e (Some d) f go = go d f
       there k e None f go =
-          let lt : k < length (come set u) = slice_get_within (come set u) k false e in
-          absurd (is_beyond set.devices k (omega (arith, lt, come_long u)) f)
+          absurd (is_beyond set.devices k (omega (arith, slice_get_within (come set u) k false e, come_long u)) f)
 
       by : Waits (come set u) → ((w : List Piece) → Fine w → Opens w → waiting (come set w) ≤ n → Goes w) → Goes u
       by (NoneWaits all) again = end_on u front opens all
       by (OneWaits k e less) again =
           there k e (slice_get set.devices k) refl
-          (λ d at. section_on u k d at e front opens (λ w f may came. again w f may (subst (λ (c : List Bool). waiting c ≤ n) (sym came) (omega (arith, few, less)))))
+          (λ d at. section_on u k d at e front opens (λ w f may came. again w f may (subst (λ (c : List Bool). waiting c ≤ n) (sym came) (omega arith))))
 
   sections_on : (u : List Piece) → Fine u → Opens u → Goes u
   sections_on u front opens = devices_on (waiting (come set u)) u front opens (omega arith)

@@ -6,9 +6,9 @@ use Rattle.std.specs.Option.{option_map}
 use Rattle.std.proofs.lemmas.List.{drop-map, length-map, map-append}
 use Rattle.std.proofs.lemmas.Option.{slice_get-map}
 use Rattle.vms_kinds.specs.declared.Item.{Item}
-use Rattle.vms_kinds.specs.declared.Item.TheVariants.{Num, Equal, Unused, Struct}
+use Rattle.vms_kinds.specs.declared.Item.TheVariants.{Struct}
 use Rattle.vms_spec.specs.Images.{Image, default_image, own_cells, sub_place}
-use Rattle.vms_spec.specs.Layout.{Cell, Slot, Number, Constant, Filler, Rule, Meaning, no_meaning, no_desc, all_hold, counted, desc_cells, desc_slots, device_cells, elements_of, field_cells, field_slots, first, item_size, item_slots, meaning, meanings, no_parent, numbers_of, slots_from, struct_cells, times}
+use Rattle.vms_spec.specs.Layout.{Cell, Slot, Filler, Rule, Meaning, no_meaning, no_desc, all_hold, counted, desc_cells, desc_slots, device_cells, elements_of, field_cells, field_slots, first, item_size, item_slots, meaning, meanings, no_parent, numbers_of, slots_from, struct_cells, times}
 use Rattle.vms_spec.specs.Sets.{Desc, Device, Field, Set, Sub}
 use Rattle.vms_spec.specs.SoFar.{fresh, part_slots, slots_of_sub, subs_of}
 use Rattle.vms_spec.specs.Tests.{is_there}

@@ -4,7 +4,7 @@ use Rattle.std.specs.List.{slice_get}
 use Rattle.std.proofs.lemmas.Bool.{le-ltb, ltb-false}
 use Rattle.vms_kinds.specs.Codes.{InRange}
 use Rattle.vms_kinds.specs.declared.Kind.{Kind}
-use Rattle.vms_kinds.specs.declared.Kind.TheVariants.{U8, U16, U32, U64, I8, I16, I32, I64, Bool as Truth, Timer}
+use Rattle.vms_kinds.specs.declared.Kind.TheVariants.{U8, Bool as Truth}
 use Rattle.vms_spec.specs.declared.Reason.TheVariants as reasons
 use Rattle.vms_spec.specs.Layout.{Slot, Number as NumberSlot, Constant as ConstantSlot, Filler as FillerSlot, Rule as RuleSlot}
 use Rattle.vms_spec.specs.Lookup.{raw}
@@ -27,7 +27,7 @@ zero_in U8 = (omega arith, omega arith)
 zero_in _ = (omega arith, omega arith)
 
 pub raw_in : (kind : Kind) (z : ℤ) → InRange kind z → InRange (raw kind) z
-raw_in Truth (pos n) r = let few : n ≤ 1 = ltb-false 1 n (is_below (pos n) 1 r.1) in (r.0, not_above (pos n) 255 (le-ltb 255 n (omega (arith, few))))
+raw_in Truth (pos n) r = (r.0, not_above (pos n) 255 (le-ltb 255 n (omega (arith, ltb-false 1 n (is_below (pos n) 1 r.1)))))
 raw_in Truth (negsuc n) r = (r.0, not_above (negsuc n) 255 refl)
 raw_in kind z r = r
 
@@ -67,9 +67,9 @@ pub data Next (t : Tail) (k : ℕ) (left : List Slot) : Type 0 where
 skips : (t : Tail) (k : ℕ) (slot : Slot) (left : List Slot) → due_field t (Some k) (slot ∷ left) ≡ due_field t (Some k) left → skipped (slot ∷ left) ≡ suc (skipped left)
     → Next t k left → Next t k (slot ∷ left)
 skips t k slot left same more (AllPassed e) = AllPassed (same ∙ e)
-skips t k slot left same more (ANumber c kind capacities e lt) = ANumber c kind capacities (same ∙ e) (omega (arith, more, lt))
-skips t k slot left same more (AConstant kind z r e lt) = AConstant kind z r (same ∙ e) (omega (arith, more, lt))
-skips t k slot left same more (AFiller n e lt) = AFiller n (same ∙ e) (omega (arith, more, lt))
+skips t k slot left same more (ANumber c kind capacities e lt) = ANumber c kind capacities (same ∙ e) (omega arith)
+skips t k slot left same more (AConstant kind z r e lt) = AConstant kind z r (same ∙ e) (omega arith)
+skips t k slot left same more (AFiller n e lt) = AFiller n (same ∙ e) (omega arith)
 
 pub next_of : (t : Tail) (k : ℕ) (left : List Slot) → AreConstants left → Next t k left
 next_of t k [] a = AllPassed refl

@@ -14,8 +14,7 @@ use Rattle.vms_desc.proofs.AskLaws.{few_cells}
 use Rattle.vms_desc.proofs.Bounds.{few_devices, fit_of}
 use Rattle.vms_desc.proofs.Clean.{few_subs}
 use Rattle.vms_values_laws.specs.Laws.{device_lines, most_lines}
-use Rattle.vms_values_laws.proofs.FewLines.{line_holds}
-use Rattle.vms_values_laws.proofs.Stated.{read_holds}
+use Rattle.vms_values_laws.proofs.Stated.{line_holds, read_holds}
 use Rattle.vms_values.specs.Reading.{ReadsBy, MeansAs}
 use Rattle.vms_values.specs.declared.fault.Values.{Values as Given}
 use Rattle.vms_values.specs.declared.fault.LineFault.TheVariants as faults

@@ -1,24 +1,243 @@
--- A text in which no line is bad says a state; the second pass finds its first bad part, or the state is ready.
-use Rattle.std.proofs.Common.{◌≡◌, ℕ, zero, suc, ◌+◌, ◌≤◌, List, [], ◌∷◌, length, Option, Some, None, refl, sym, ap, ◌∙◌, subst, arith}
-use Rattle.std.specs.List.{slice_get}
-use Rattle.std.proofs.lemmas.Bool.{leb-true}
-use Rattle.vms_spec.specs.declared.ValuesReason.{ValuesReason}
-use Rattle.vms_spec.specs.Sets.{Sub, Device, Set}
-use Rattle.vms_spec.specs.Images.{Image}
-use Rattle.vms_spec.specs.Spelling.{first_line}
-use Rattle.vms_spec.specs.Streams.{IsReady, AreReady}
-use Rattle.vms_spec.specs.ValuesReading.{BadLine, ReadDevice, ValuesRead, Values, Bad, machine_named, answer_of, or_bad}
-use Rattle.vms_spec.specs.WellFormed.{WellFormed}
-use Rattle.vms_spec.specs.Good.{IsGood}
-use Rattle.vms_spec.proofs.WellFormedLaws.{device_parts, sub_clean}
-use Rattle.vms_elements.specs.Entries.{Entry, device_entries, devices_entries, entries, part_reason}
-use Rattle.vms_elements.specs.Reading.{IsMachineOf, AreShaped, AreFine, AllUnsaid, Says}
+-- A text that was accepted is the one of its machine and images.
+use Rattle.vms_values_laws.proofs.Facade.{◌≡◌, ℕ, suc, ◌+◌, ◌<◌, Bool, true, false, ◌==◌, List, [], ◌∷◌, ◌++◌, length, get_or, map, Option, Some, None, ℤ, pos}
+use Rattle.vms_values_laws.proofs.Facade.{refl, sym, ap, ◌∙◌, arith, codes, zero, ◌≤◌, AllByRecursion, slice_get, eqb-true, leb-true, ext_get_or, Sub, Device}
+use Rattle.vms_values_laws.proofs.Facade.{Set, desc_cells, struct_cells, Image, own_cells, version_text, Element, elements_in, printed, sub_line, Entry}
+use Rattle.vms_values_laws.proofs.Facade.{OfMachine, OfSub, OfNumber, number_entries, subs_entries, devices_entries, entry_line, device_entries, entries}
+use Rattle.vms_values_laws.proofs.Facade.{part_reason, is_of_cell, has_line, IsShaped, AreShaped, AreUnsaid, AllUnsaid, IsAtVersion, AreAtVersions, IsMachineOf}
+use Rattle.vms_values_laws.proofs.Facade.{AreFine, Says, Demand, ForSection, ForNumber, demand_of, Taken, lines_of, Follows, Along, either_of, ValuesReason}
+use Rattle.vms_values_laws.proofs.Facade.{first_line, IsReady, AreReady, BadLine, ReadDevice, ValuesRead, Values, Bad, machine_named, answer_of, or_bad}
+use Rattle.vms_values_laws.proofs.Facade.{WellFormed, IsGood, device_parts, sub_clean}
+use Rattle.vms_values_laws.proofs.Numbers.{AreShort, of_numbers, cancel, number_same}
+use Rattle.vms_values_laws.proofs.DevicesCome.{AllShort}
 use Rattle.vms_values_laws.proofs.SecondPass.{as_bad, parts_from}
 use Rattle.vms_values_laws.proofs.AllCome.{images_of, short_are}
-use Rattle.vms_values_laws.proofs.BadLines.{fine_text}
-use Rattle.vms_values_laws.proofs.FirstPass.{NoneBad}
-use Rattle.vms_values_laws.proofs.CleanSets.{named_is}
+use Rattle.vms_values_laws.proofs.BadLines.{fine_text, NoneBad}
+use Rattle.vms_values_laws.proofs.Meeting.{named_is}
 use Rattle.vms_values_laws.proofs.ReadyParts.{AreGood, fine_both, good_both, device_ready}
+use Rattle.vms_values_laws.proofs.SaidLaws.{all_both}
+
+-- ---- Two states with the same lines, and with defaults where there is no line, are the same.
+
+-- the same is required, with the same line, one after the other
+abbrev pub Match : List Entry → List Entry → Type 0
+Match [] [] = Unit {0}
+Match (e ∷ es) (f ∷ fs) = (demand_of e ≡ demand_of f) × (entry_line e ≡ entry_line f) × Match es fs
+Match _ _ = ⊥
+
+-- what was taken along one state, and was demanded of the other, which has its lines
+pub matched : (taken : List Taken) (es fs : List Entry) → Follows taken (λ l. l ≡ []) es → Along taken (λ l. l ≡ []) es → Follows taken (λ l. l ≡ []) fs
+    → lines_of taken ≡ map entry_line fs → Match es fs
+matched [] es fs f a g l = rw (f, g) tt
+matched (t ∷ taken) [] fs f a g l = absurd f
+matched (t ∷ taken) (e ∷ es) [] f a g l = absurd g
+matched (t ∷ taken) (e ∷ es) (x ∷ fs) f a g l =
+    let line : t.line ≡ entry_line x = cc in
+    let lines : lines_of taken ≡ map entry_line fs = cc in
+    (f.0 ∙ sym g.0, a.0 ∙ line, matched taken es fs (f.1 a.0) a.1 (g.1 (sym line)) lines)
+
+-- ---- sections
+
+abbrev for_section : Demand → Bool
+for_section (ForSection d) = true
+for_section _ = false
+
+-- none of them is a section
+abbrev IsInside : Entry → Type 0
+IsInside e = for_section (demand_of e) ≡ false
+
+abbrev AreInside : List Entry → Type 0
+AreInside = AllByRecursion IsInside
+
+-- the first of them is a section, if there is one
+abbrev BeginsNew : List Entry → Type 0
+BeginsNew [] = Unit {0}
+BeginsNew (e ∷ es) = for_section (demand_of e) ≡ true
+
+other : (e f : Entry) → for_section (demand_of e) ≡ false → for_section (demand_of f) ≡ true → demand_of e ≡ demand_of f → ⊥
+other e f a b c = let g = sym a ∙ ap for_section c ∙ b in cc
+
+record Parted (es fs es' fs' : List Entry) : Type 0 where
+  inside : Match es es'
+  rest : Match fs fs'
+
+parted : (es fs es' fs' : List Entry) → AreInside es → AreInside es' → BeginsNew fs → BeginsNew fs' → Match (es ++ fs) (es' ++ fs') → Parted es fs es' fs'
+parted [] fs [] fs' i i' n n' m = record { inside = tt; rest = m }
+parted [] (f ∷ fs) (e' ∷ es') fs' i i' n n' m = absurd (other e' f i'.0 n (sym m.0))
+parted (e ∷ es) fs [] (f' ∷ fs') i i' n n' m = absurd (other e f' i.0 n' m.0)
+parted (e ∷ es) fs (e' ∷ es') fs' i i' n n' m = let p = parted es fs es' fs' i.1 i'.1 n n' m.2 in record { inside = (m.0, m.1, p.inside); rest = p.rest }
+parted _ _ _ _ i i' n n' m = absurd m
+
+-- the entries of a device after its section's
+abbrev pub inside_of : Set → Device → Image → List Entry
+inside_of set d image = number_entries set d.desc image.numbers 0 ++ subs_entries set d image 0 (own_cells set d) d.subs image.came
+
+-- for entries that all satisfy it
+module _ (P : Entry → Type 0) (set : Set) (d : Device) (image : Image) (number : (x : Element) → P (OfNumber x image.numbers))
+    (sub : (j at : ℕ) (s : Sub) (o : Option ℕ) → IsAtVersion s o → P (OfSub d image j s at o)) where
+  numbers_all : (xs : List Element) → AllByRecursion P (of_numbers image.numbers xs)
+  numbers_all [] = tt
+  numbers_all (x ∷ xs) = (number x, numbers_all xs)
+
+  subs_all : (j at : ℕ) (subs : List Sub) (came : List (Option ℕ)) → AreAtVersions subs came → AllByRecursion P (subs_entries set d image j at subs came)
+  subs_all j at (s ∷ subs) (o ∷ came) h =
+      let next = at + length (desc_cells (struct_cells set) s.desc) in (
+        sub j at s o h.0,
+        all_both P (number_entries set s.desc image.numbers at) _
+            (numbers_all (printed (elements_in set s.desc s.desc.version image.numbers at))) (subs_all (suc j) next subs came h.1),
+      )
+  subs_all j at _ _ h = tt
+
+  device_all : AreAtVersions d.subs image.came → AllByRecursion P (inside_of set d image)
+  device_all h =
+      all_both P (number_entries set d.desc image.numbers 0) _ (numbers_all (printed (elements_in set d.desc d.desc.version image.numbers 0)))
+      (subs_all 0 (own_cells set d) d.subs image.came h)
+
+-- ---- numbers
+
+abbrev of_demand : ℕ → Demand → Bool
+of_demand c (ForNumber x) = x.cell == c
+of_demand c _ = false
+
+by_demand : (c : ℕ) (e : Entry) → is_of_cell c e ≡ of_demand c (demand_of e)
+by_demand c (OfMachine name) = refl
+by_demand c _ = refl
+
+line_same : (es fs : List Entry) → Match es fs → (c : ℕ) → has_line es c ≡ has_line fs c
+line_same [] [] m c = refl
+line_same (e ∷ es) (f ∷ fs) m c =
+    rw (by_demand c e ∙ ap (of_demand c) m.0 ∙ sym (by_demand c f), line_same es fs m.2 c) refl
+line_same _ _ m c = absurd m
+
+-- the numbers of entries are those of this state
+abbrev IsOf : List ℤ → Entry → Type 0
+IsOf n (OfNumber x m) = m ≡ n
+IsOf n _ = Unit {0}
+
+abbrev AreOf : List ℤ → List Entry → Type 0
+AreOf n = AllByRecursion (IsOf n)
+
+module _ (n m : List ℤ) (short : AreShort n) (short' : AreShort m) where
+  one_number : (x : Element) (k : List ℤ) (f : Entry) (c : ℕ) → k ≡ n → IsOf m f → ForNumber x ≡ demand_of f → entry_line (OfNumber x k) ≡ entry_line f
+      → x.cell ≡ c → get_or n c (pos 0) ≡ get_or m c (pos 0)
+  one_number x k (OfNumber y l) c is of demand line at =
+      let same : y ≡ x = cc in
+      rw (← at) (number_same x.name _ _ (short x.cell) (short' x.cell) (rw (is, of, same) at line))
+  one_number x k _ c is of demand line at = absurd (cc)
+
+  agree : (es fs : List Entry) → AreOf n es → AreOf m fs → Match es fs → (c : ℕ) → has_line es c ≡ true → get_or n c (pos 0) ≡ get_or m c (pos 0)
+  agree [] fs a b h c e = cc
+  agree (x ∷ es) [] a b h c e = absurd h
+  agree (OfNumber x k ∷ es) (f ∷ fs) a b h c e =
+      either_of (x.cell == c) _ e (λ t. one_number x k f c a.0 b.0 h.0 h.1 (eqb-true x.cell c t)) (λ g. agree es fs a.1 b.1 h.2 c g)
+  agree (_ ∷ es) (f ∷ fs) a b h c e = agree es fs a.1 b.1 h.2 c e
+
+-- ---- subsections
+
+abbrev came_with : Entry → List (Option ℕ) → List (Option ℕ)
+came_with (OfSub d image j s at o) came = o ∷ came
+came_with _ came = came
+
+abbrev came_of : List Entry → List (Option ℕ)
+came_of [] = []
+came_of (e ∷ es) = came_with e (came_of es)
+
+abbrev IsAt : Entry → Type 0
+IsAt (OfSub d image j s at o) = IsAtVersion s o
+IsAt _ = Unit {0}
+
+abbrev AreAt : List Entry → Type 0
+AreAt = AllByRecursion IsAt
+
+numbers_came : (n : List ℤ) (xs : List Element) (es : List Entry) → came_of (of_numbers n xs ++ es) ≡ came_of es
+numbers_came n [] es = refl
+numbers_came n (x ∷ xs) es = numbers_came n xs es
+
+not_both : (s : Sub) (v : ℕ) → sub_line s None ≡ sub_line s (Some v) → ⊥
+not_both s v e =
+    let f = cancel (codes " ") (version_text None) (version_text (Some v))
+    (cancel s.desc.name (codes " " ++ version_text None) (codes " " ++ version_text (Some v)) (cancel (codes "sub ") _ _ e)) in
+    cc
+
+one_came : (s t : Sub) (o p : Option ℕ) → s ≡ t → IsAtVersion s o → IsAtVersion t p → sub_line s o ≡ sub_line t p → o ≡ p
+one_came s t None None same a b e = refl
+one_came s t (Some v) (Some w) same a b e = rw (a, b, same) refl
+one_came s t None (Some w) same a b e = absurd (not_both t w (rw same at e))
+one_came s t (Some v) None same a b e = absurd (not_both t v (sym (rw same at e)))
+
+came_one : (e f : Entry) (came : List (Option ℕ)) → IsAt e → IsAt f → demand_of e ≡ demand_of f → entry_line e ≡ entry_line f
+    → came_with e came ≡ came_with f came
+came_one (OfSub d image j s at o) (OfSub d' image' j' t at' p) came a b h l = let same : s ≡ t = cc in rw (one_came s t o p same a b l) refl
+came_one (OfSub d image j s at o) _ came a b h l = absurd (cc)
+came_one _ (OfSub d image j s at o) came a b h l = absurd (cc)
+came_one _ _ came a b h l = refl
+
+came_same : (es fs : List Entry) → AreAt es → AreAt fs → Match es fs → came_of es ≡ came_of fs
+came_same [] [] a b m = refl
+came_same (e ∷ es) (f ∷ fs) a b m = ap (came_with e) (came_same es fs a.1 b.1 m.2) ∙ came_one e f (came_of fs) a.0 b.0 m.0 m.1
+came_same _ _ a b m = absurd m
+
+-- ---- a device
+
+module _ (set : Set) (d : Device) (image : Image) where
+  subs_came : (j at : ℕ) (subs : List Sub) (came : List (Option ℕ)) → length came ≡ length subs → came_of (subs_entries set d image j at subs came) ≡ came
+  subs_came j at [] [] long = refl
+  subs_came j at (s ∷ subs) (o ∷ came) long =
+      let next = at + length (desc_cells (struct_cells set) s.desc) in
+      ap (λ (l : List (Option ℕ)). o ∷ l)
+      (numbers_came image.numbers (printed (elements_in set s.desc s.desc.version image.numbers at)) _ ∙ subs_came (suc j) next subs came (omega (arith, long)))
+  subs_came j at _ _ long = absurd (omega (arith, long))
+
+  whole_inside : AreAtVersions d.subs image.came → AreInside (inside_of set d image)
+  whole_inside = device_all IsInside set d image (λ x. refl) (λ j at s o h. refl)
+
+  whole_of : AreAtVersions d.subs image.came → AreOf image.numbers (inside_of set d image)
+  whole_of = device_all (IsOf image.numbers) set d image (λ x. refl) (λ j at s o h. tt)
+
+  whole_at : AreAtVersions d.subs image.came → AreAt (inside_of set d image)
+  whole_at = device_all IsAt set d image (λ x. tt) (λ j at s o h. h)
+
+  whole_came : length image.came ≡ length d.subs → came_of (inside_of set d image) ≡ image.came
+  whole_came long =
+      numbers_came image.numbers (printed (elements_in set d.desc d.desc.version image.numbers 0)) _ ∙ subs_came 0 (own_cells set d) d.subs image.came long
+
+same_image : (i j : Image) → i.version ≡ j.version → i.came ≡ j.came → i.numbers ≡ j.numbers → i ≡ j
+same_image i j e f g = let same : i ≡ record { version = j.version; came = j.came; numbers = j.numbers } = rw (← e, ← f, ← g) refl in same
+
+device_same : (set : Set) (d : Device) (image image' : Image) → IsShaped set d image → IsShaped set d image' → AreShort image.numbers → AreShort image'.numbers
+    → AreUnsaid set d image → AreUnsaid set d image' → Match (inside_of set d image) (inside_of set d image') → image ≡ image'
+device_same set d image image' a b short short' u u' m =
+    let es = inside_of set d image in
+    let fs = inside_of set d image' in
+    let long : length image.numbers ≡ length image'.numbers = a.cells ∙ sym b.cells in
+    same_image image image' (a.version ∙ sym b.version)
+    (sym (whole_came set d image a.subs) ∙ came_same es fs (whole_at set d image a.versions) (whole_at set d image' b.versions) m
+    ∙ whole_came set d image' b.subs) (ext_get_or (pos 0) image.numbers image'.numbers long (λ c lt. by_line c lt (omega (arith, long)) (has_line es c) refl))
+  where
+    by_line : (c : ℕ) → c < length image.numbers → c < length image'.numbers → (t : Bool) → has_line (inside_of set d image) c ≡ t
+        → get_or image.numbers c (pos 0) ≡ get_or image'.numbers c (pos 0)
+    by_line c lt lt' true t = agree image.numbers image'.numbers short short' _ _ (whole_of set d image a.versions) (whole_of set d image' b.versions) m c t
+    by_line c lt lt' false t = u c lt t ∙ sym (u' c lt' (sym (line_same (inside_of set d image) (inside_of set d image') m c) ∙ t))
+
+-- ---- all of them
+
+begins_new : (set : Set) (devices : List Device) (images : List Image) → BeginsNew (devices_entries set devices images)
+begins_new set (d ∷ devices) (image ∷ images) = refl
+begins_new set _ _ = tt
+
+pub devices_same : (set : Set) (devices : List Device) (images images' : List Image) → AreShaped set devices images → AreShaped set devices images'
+    → AllShort images → AllShort images' → AllUnsaid set devices images → AllUnsaid set devices images'
+    → Match (devices_entries set devices images) (devices_entries set devices images') → images ≡ images'
+devices_same set [] [] [] a b s s' u u' m = refl
+devices_same set [] (i ∷ images) images' a b s s' u u' m = absurd a
+devices_same set [] [] (i ∷ images') a b s s' u u' m = absurd b
+devices_same set (d ∷ devices) [] images' a b s s' u u' m = absurd a
+devices_same set (d ∷ devices) (i ∷ images) [] a b s s' u u' m = absurd b
+devices_same set (d ∷ devices) (i ∷ images) (j ∷ images') a b s s' u u' m =
+    let p = parted (inside_of set d i) (devices_entries set devices images) (inside_of set d j) (devices_entries set devices images')
+    (whole_inside set d i a.0.versions) (whole_inside set d j b.0.versions) (begins_new set devices images) (begins_new set devices images') m.2 in
+    rw (device_same set d i j a.0 b.0 s.0 s'.0 u.0 u'.0 p.inside, devices_same set devices images images' a.1 b.1 s.1 s'.1 u.1 u'.1 p.rest) refl
+
+-- ---- A text in which no line is bad says a state; the second pass finds its first bad part, or the state is ready.
 
 -- ---- what a text says
 
@@ -42,7 +261,8 @@ answer_same : (machine : Option (List ℕ)) (read : List ReadDevice) (o : Option
 answer_same machine read (Some b) = refl
 answer_same machine read None = refl
 
-pub none_answers : (set : Set) (text : List ℕ) (v : ValuesRead) (n : NoneBad set text v) → v ≡ answer_by n.machine (images_of n.all.devices) (parts_from set 1 (entries set n.machine (images_of n.all.devices)))
+pub none_answers : (set : Set) (text : List ℕ) (v : ValuesRead) (n : NoneBad set text v)
+    → v ≡ answer_by n.machine (images_of n.all.devices) (parts_from set 1 (entries set n.machine (images_of n.all.devices)))
 none_answers set text v n =
     n.is ∙ answer_same n.machine n.all.devices _ ∙ ap (λ (o : Option BadLine). answer_by n.machine (images_of n.all.devices) o) n.first.judged
 
@@ -51,7 +271,8 @@ pub none_good : (set : Set) (line : ℕ) (es : List Entry) → parts_from set li
 none_good set line [] h = tt
 none_good set line (e ∷ es) h = go (part_reason set e) refl h (λ g. none_good set (suc line) es g)
   where
-    go : (o : Option ValuesReason) → part_reason set e ≡ o → or_bad (as_bad line o) (parts_from set (suc line) es) ≡ None → (parts_from set (suc line) es ≡ None → AreGood set es) → (part_reason set e ≡ None) × AreGood set es
+    go : (o : Option ValuesReason) → part_reason set e ≡ o → or_bad (as_bad line o) (parts_from set (suc line) es) ≡ None
+        → (parts_from set (suc line) es ≡ None → AreGood set es) → (part_reason set e ≡ None) × AreGood set es
     go None is h more = (is, more h)
     go (Some reason) is h more = cc
 
@@ -69,8 +290,10 @@ module _ (set : Set) (well : WellFormed set) (good : IsGood set) where
     one_each : length images ≡ length devices
     ready : (k : ℕ) (d : Device) (image : Image) → slice_get devices k ≡ Some d → slice_get images k ≡ Some image → IsReady set d image
 
-  ready_from : (i : ℕ) (devices : List Device) (images : List Image) → ((k : ℕ) (d : Device) → slice_get devices k ≡ Some d → slice_get set.devices (i + k) ≡ Some d)
-      → AreShaped set devices images → AllUnsaid set devices images → AreFine (devices_entries set devices images) → AreGood set (devices_entries set devices images) → ReadyFrom devices images
+  ready_from : (i : ℕ) (devices : List Device) (images : List Image)
+      → ((k : ℕ) (d : Device) → slice_get devices k ≡ Some d → slice_get set.devices (i + k) ≡ Some d)
+      → AreShaped set devices images → AllUnsaid set devices images → AreFine (devices_entries set devices images)
+      → AreGood set (devices_entries set devices images) → ReadyFrom devices images
   ready_from i [] [] from shaped unsaid fine goods = record { one_each = refl; ready = λ k d image e f. cc }
   ready_from i [] (image ∷ images) from shaped unsaid fine goods = absurd shaped
   ready_from i (d ∷ devices) [] from shaped unsaid fine goods = absurd shaped
@@ -78,19 +301,21 @@ module _ (set : Set) (well : WellFormed set) (good : IsGood set) where
       let f = fine_both (device_entries set d image) (devices_entries set devices images) fine in
       let g = good_both set (device_entries set d image) (devices_entries set devices images) goods in
       let here : slice_get set.devices (i + 0) ≡ Some d = from 0 d refl in
-      let mine = device_ready set d image (short_are image.numbers shaped.0.short) shaped.0 unsaid.0 f.0 g.0 (good.defaults (i + 0) d here) (low (i + 0) d here) (lows (i + 0) d here) in
+      let mine =
+      device_ready set d image (short_are image.numbers shaped.0.short) shaped.0 unsaid.0 f.0 g.0 (good.defaults (i + 0) d here) (low (i + 0) d here)
+      (lows (i + 0) d here) in
       let others = ready_from (suc i) devices images (λ k d e. next k d (from (suc k) d e)) shaped.1 unsaid.1 f.1 g.1 in
       record { one_each = ap suc others.one_each; ready = λ k e j a b. place k e j a b mine others.ready }
     where
       next : (k : ℕ) (d : Device) → slice_get set.devices (i + suc k) ≡ Some d → slice_get set.devices (suc i + k) ≡ Some d
-      next k d e = let same : suc i + k ≡ i + suc k = omega arith in ap (λ (m : ℕ). slice_get set.devices m) same ∙ e
+      next k d e = let same : suc i + k ≡ i + suc k = omega arith in rw same e
 
       place : (k : ℕ) (e : Device) (j : Image) → slice_get (d ∷ devices) k ≡ Some e → slice_get (image ∷ images) k ≡ Some j → IsReady set d image
           → ((k : ℕ) (d : Device) (image : Image) → slice_get devices k ≡ Some d → slice_get images k ≡ Some image → IsReady set d image) → IsReady set e j
       place zero e j a b mine others =
           let device : d ≡ e = cc in
           let state : image ≡ j = cc in
-          subst (λ (x : Device). IsReady set x j) device (subst (λ (x : Image). IsReady set d x) state mine)
+          rw (← device, ← state) mine
       place (suc k) e j a b mine others = others k e j a b
 
   machine_good : (machine : Option (List ℕ)) (images : List Image) → AreFine (entries set machine images) → AreGood set (entries set machine images)
@@ -98,10 +323,11 @@ module _ (set : Set) (well : WellFormed set) (good : IsGood set) where
   machine_good None images f g = (f, g)
   machine_good (Some name) images f g = (f.1, g.1)
 
-  pub says_ready : (text : List ℕ) (machine : Option (List ℕ)) (images : List Image) → Says set text machine images → AreGood set (entries set machine images) → AreReady set images
+  pub says_ready : (text : List ℕ) (machine : Option (List ℕ)) (images : List Image) → Says set text machine images → AreGood set (entries set machine images)
+      → AreReady set images
   says_ready text machine images s g =
       let p = machine_good machine images s.fine g in
       let from : (k : ℕ) (d : Device) → slice_get set.devices k ≡ Some d → slice_get set.devices (0 + k) ≡ Some d =
-      λ k d e. let same : 0 + k ≡ k = omega arith in ap (λ (m : ℕ). slice_get set.devices m) same ∙ e in
+      λ k d e. let same : 0 + k ≡ k = omega arith in rw same e in
       let all = ready_from 0 set.devices images from s.shaped s.unsaid p.0 p.1 in
       record { one_each = all.one_each; ready = all.ready }

@@ -1,19 +1,19 @@
--- What the first pass finds in a whole text.
-use Rattle.std.proofs.Common.{◌≡◌, ℕ, suc, ◌+◌, List, [], ◌∷◌, ◌++◌, length, map, Option, Some, None, refl, sym, ap, ◌∙◌, subst, arith, append-nil, codes}
-use Rattle.vms_spec.specs.declared.ValuesReason.{ValuesReason}
-use Rattle.vms_spec.specs.declared.ValuesReason.TheVariants as reasons
-use Rattle.vms_spec.specs.Sets.{Set}
-use Rattle.vms_spec.specs.Images.{Image}
-use Rattle.vms_spec.specs.Spelling.{first_line}
-use Rattle.vms_spec.specs.ValuesReading.{BadLine, ReadAll, machine_named, judge_devices}
-use Rattle.vms_elements.specs.Lines.{text_of}
-use Rattle.vms_elements.specs.Entries.{Entry, entries, devices_entries, entry_line, front_reason}
-use Rattle.vms_elements.specs.Reading.{AreShaped, AllUnsaid, AreFine, IsBadLine}
-use Rattle.vms_values_laws.specs.Taken.{Demand, ForMachine, reason_for, Taken, lines_of, AreFineTaken, Follows, Along, Begins, Moved}
-use Rattle.vms_values_laws.proofs.Following.{reason_same, moved_then}
+-- The first bad line of a text.
+use Rattle.vms_values_laws.proofs.Facade.{◌≡◌, ℕ, suc, ◌+◌, List, [], ◌∷◌, ◌++◌, length, map, Option, Some, None, refl, sym, ap, ◌∙◌, arith, append-nil, codes}
+use Rattle.vms_values_laws.proofs.Facade.{◌⊎◌, inl, inr, Bool, true, false, ◌&&◌, drop, Ok, Err, Result, if◌then◌else◌, same_Some, bytes_eq-Decides}
+use Rattle.vms_values_laws.proofs.Facade.{ValuesReason, Set, Image, first_line, begins_with, BadLine, ReadAll, machine_named, judge_devices, read_devices}
+use Rattle.vms_values_laws.proofs.Facade.{rest_of, after_machine, ended, judged, answer_of, ValuesRead, Bad, values_read, text_of, Entry, entries}
+use Rattle.vms_values_laws.proofs.Facade.{devices_entries, entry_line, front_reason, AreShaped, AllUnsaid, AreFine, IsBadLine, Demand, ForMachine, reason_for}
+use Rattle.vms_values_laws.proofs.Facade.{Taken, lines_of, AreFineTaken, Follows, Along, Begins, Moved, is_one_of, AreSound, begun}
+use Rattle.vms_values_laws.proofs.Numbers.{reason_same, moved_then, moved_none, moved_one}
 use Rattle.vms_values_laws.proofs.SecondPass.{parts_from, devices_judged}
 use Rattle.vms_values_laws.proofs.DevicesCome.{AllShort}
-use Rattle.vms_values_laws.proofs.AllCome.{images_of, AllRead, AllStop}
+use Rattle.vms_values_laws.proofs.AllCome.{images_of, AllRead, AllStop, AreGoodDevices, AllCome, devices_come, all_short, AllWent}
+use Rattle.vms_values_laws.proofs.SubsCome.{line_taken}
+use Rattle.vms_values_laws.proofs.Meeting.{Ends}
+use Rattle.vms_spec.specs.declared.ValuesReason.TheVariants as reasons
+
+-- ---- What the first pass finds in a whole text.
 
 -- ---- entries that follow what was taken and have its lines
 
@@ -37,7 +37,11 @@ split (t ∷ taken) P Q (e ∷ es) fine f a =
       is = ap (λ (l : List Entry). e ∷ l) s.is;
       lines = ap (λ (l : List ℕ). l ∷ map entry_line s.before) a.0 ∙ ap (λ (l : List (List ℕ)). t.line ∷ l) s.lines;
       long = ap suc s.long;
-      fine = (reason_same e (Some (entry_line e, [])) ∙ ap (λ (x : Demand). reason_for x (Some (entry_line e, []))) f.0 ∙ ap (λ (l : List ℕ). reason_for t.demand (Some (l, []))) a.0 ∙ fine.0, s.fine);
+      fine = (
+        reason_same e (Some (entry_line e, [])) ∙ ap (λ (x : Demand). reason_for x (Some (entry_line e, []))) f.0 ∙ ap
+            (λ (l : List ℕ). reason_for t.demand (Some (l, []))) a.0 ∙ fine.0,
+        s.fine,
+      );
       rest = s.rest;
     }
 
@@ -49,7 +53,8 @@ pub record FirstBad (set : Set) (text : List ℕ) (line : ℕ) (reason : ValuesR
   pub taken : List Taken
   pub rest : List ℕ
   pub named : machine ≡ machine_named set.machines (first_line text)
-  pub follows : (images : List Image) → AreShaped set set.devices images → AllShort images → Follows taken (λ es. front_reason es rest ≡ Some reason) (entries set machine images)
+  pub follows : (images : List Image) → AreShaped set set.devices images → AllShort images
+      → Follows taken (λ es. front_reason es rest ≡ Some reason) (entries set machine images)
   pub moved : Moved 1 text taken line rest
   pub is_bad : IsBadLine set text line reason
 
@@ -74,17 +79,20 @@ fine_text set text machine all f e =
     let es = entries set machine (images_of all.devices) in
     let s = split f.taken P P es f.moved.fine (f.follows (images_of all.devices) f.shaped f.short) f.along in
     let whole : es ≡ s.before = s.is ∙ ap (λ (l : List Entry). s.before ++ l) s.rest ∙ append-nil s.before in (
-      subst (λ (l : List Entry). AreFine l) (sym whole) s.fine,
-      f.moved.texts ∙ ap (λ (l : List ℕ). text_of (lines_of f.taken) ++ l) e ∙ append-nil (text_of (lines_of f.taken)) ∙ ap text_of (sym s.lines) ∙ ap (λ (l : List Entry). text_of (map entry_line l)) (sym whole),
+      rw whole s.fine,
+      f.moved.texts ∙ ap (λ (l : List ℕ). text_of (lines_of f.taken) ++ l) e ∙ append-nil (text_of (lines_of f.taken)) ∙ ap text_of (sym s.lines) ∙ ap
+          (λ (l : List Entry). text_of (map entry_line l)) (sym whole),
     )
 
 -- ---- both, of a whole text
 
-front_of : (demand : Demand) (rest : List ℕ) (reason : ValuesReason) (es : List Entry) → reason_for demand (first_line rest) ≡ Some reason → Begins demand es → front_reason es rest ≡ Some reason
+front_of : (demand : Demand) (rest : List ℕ) (reason : ValuesReason) (es : List Entry) → reason_for demand (first_line rest) ≡ Some reason → Begins demand es
+    → front_reason es rest ≡ Some reason
 front_of demand rest reason es wrong b =
-    ap (λ (l : List Entry). front_reason l rest) b.is ∙ reason_same b.first (first_line rest) ∙ ap (λ (x : Demand). reason_for x (first_line rest)) b.demands ∙ wrong
+    rw (b.is) (reason_same b.first (first_line rest) ∙ rw (b.demands) wrong)
 
-pub follows_ends : (taken : List Taken) (P Q : List Entry → Type 0) (es : List Entry) → Follows taken P es → ((xs : List Entry) → P xs → Q xs) → Follows taken Q es
+pub follows_ends : (taken : List Taken) (P Q : List Entry → Type 0) (es : List Entry) → Follows taken P es → ((xs : List Entry) → P xs → Q xs)
+    → Follows taken Q es
 follows_ends [] P Q es f h = h es f
 follows_ends (t ∷ taken) P Q [] f h = absurd f
 follows_ends (t ∷ taken) P Q (e ∷ es) f h = (f.0, λ x. follows_ends taken P Q es (f.1 x) h)
@@ -104,34 +112,34 @@ pub record Headed (set : Set) (text : List ℕ) (machine : Option (List ℕ)) (l
   pub named : machine ≡ machine_named set.machines (first_line text)
   pub moved : Moved 1 text (machine_taken machine) line after
 
-follows_machine : (set : Set) (machine : Option (List ℕ)) (images : List Image) (taken : List Taken) (P : List Entry → Type 0) → Follows taken P (devices_entries set set.devices images)
-    → Follows (machine_taken machine ++ taken) P (entries set machine images)
+follows_machine : (set : Set) (machine : Option (List ℕ)) (images : List Image) (taken : List Taken) (P : List Entry → Type 0)
+    → Follows taken P (devices_entries set set.devices images) → Follows (machine_taken machine ++ taken) P (entries set machine images)
 follows_machine set None images taken P f = f
 follows_machine set (Some name) images taken P f = (refl, λ e. f)
 
-along_machine : (set : Set) (machine : Option (List ℕ)) (images : List Image) (taken : List Taken) (P : List Entry → Type 0) → Along taken P (devices_entries set set.devices images)
-    → Along (machine_taken machine ++ taken) P (entries set machine images)
+along_machine : (set : Set) (machine : Option (List ℕ)) (images : List Image) (taken : List Taken) (P : List Entry → Type 0)
+    → Along taken P (devices_entries set set.devices images) → Along (machine_taken machine ++ taken) P (entries set machine images)
 along_machine set None images taken P f = f
 along_machine set (Some name) images taken P f = (refl, f)
 
 -- the machine is no part
 parts_machine : (set : Set) (machine : Option (List ℕ)) (line : ℕ) (images : List Image) → line ≡ 1 + length (machine_taken machine)
     → parts_from set line (devices_entries set set.devices images) ≡ parts_from set 1 (entries set machine images)
-parts_machine set None line images e = ap (λ (l : ℕ). parts_from set l (devices_entries set set.devices images)) e
-parts_machine set (Some name) line images e = ap (λ (l : ℕ). parts_from set l (devices_entries set set.devices images)) e
+parts_machine set None line images e = rw e refl
+parts_machine set (Some name) line images e = rw e refl
 
 module _ (set : Set) (text : List ℕ) (machine : Option (List ℕ)) (line : ℕ) (after : List ℕ) (head : Headed set text machine line after) where
   -- a line that is bad after what was taken, if these entries are to come
-  first_bad : (images : List Image) (taken : List Taken) (at : ℕ) (rest : List ℕ) (reason : ValuesReason) (Q : List Entry → Type 0) → AreShaped set set.devices images → AllShort images
-      → ((images : List Image) → AreShaped set set.devices images → AllShort images → Follows taken Q (devices_entries set set.devices images)) → Along taken Q (devices_entries set set.devices images)
-      → Moved line after taken at rest → ((es : List Entry) → Q es → front_reason es rest ≡ Some reason) → FirstBad set text at reason
-  first_bad images taken at rest reason Q shaped short follows along moved bad =
+  first_bad : {images : List Image} {at : ℕ} {rest : List ℕ} {Q : List Entry → Type 0} (reason : ValuesReason)
+      → AllWent set set.devices line after images at rest Q → ((es : List Entry) → Q es → front_reason es rest ≡ Some reason) → FirstBad set text at reason
+  first_bad {images = images} {at = at} {rest = rest} {Q = Q} reason a bad =
       let P : List Entry → Type 0 = λ es. front_reason es rest ≡ Some reason in
-      let all = machine_taken machine ++ taken in
-      let passed : Moved 1 text all at rest = moved_then 1 line at text after rest (machine_taken machine) taken head.moved moved in
+      let all = machine_taken machine ++ a.taken in
+      let passed : Moved 1 text all at rest = moved_then head.moved a.moved in
       let its : (images : List Image) → AreShaped set set.devices images → AllShort images → Follows all P (entries set machine images) =
-      λ images shaped short. follows_machine set machine images taken P (follows_ends taken Q P (devices_entries set set.devices images) (follows images shaped short) bad) in
-      let s = split all P P (entries set machine images) passed.fine (its images shaped short) (along_machine set machine images taken P (along_ends taken Q P (devices_entries set set.devices images) along bad)) in
+      λ images shaped short. follows_machine set machine images a.taken P (follows_ends a.taken Q P _ (a.follows images shaped short) bad) in
+      let s = split all P P (entries set machine images) passed.fine (its images a.shaped a.short)
+      (along_machine set machine images a.taken P (along_ends a.taken Q P _ a.along bad)) in
       record {
         machine = machine;
         taken = all;
@@ -146,7 +154,7 @@ module _ (set : Set) (text : List ℕ) (machine : Option (List ℕ)) (line : ℕ
           after = s.after;
           rest = rest;
           named = head.named;
-          shaped = shaped;
+          shaped = a.shaped;
           state = s.is;
           fine = s.fine;
           begins = passed.texts ∙ ap (λ (l : List (List ℕ)). text_of l ++ rest) (sym s.lines);
@@ -157,13 +165,13 @@ module _ (set : Set) (text : List ℕ) (machine : Option (List ℕ)) (line : ℕ
 
   pub stopped_first : (e : BadLine) → AllStop set set.devices line after e → FirstBad set text e.line e.reason
   stopped_first e a =
-      first_bad a.images a.taken e.line a.rest e.reason (λ es. Begins a.demand es) a.shaped a.short a.follows a.along a.moved (λ es b. front_of a.demand a.rest e.reason es a.wrong b)
+      first_bad e.reason a.before (λ es b. front_of a.demand a.rest e.reason es a.wrong b)
 
   -- something comes after the last line
-  pub more_first : (all : ReadAll) (b : ℕ) (rest : List ℕ) → all.rest ≡ b ∷ rest → AllRead set set.devices line after all → FirstBad set text all.line reasons.Form
+  pub more_first : (all : ReadAll) (b : ℕ) (rest : List ℕ) → all.rest ≡ b ∷ rest → AllRead set set.devices line after all
+      → FirstBad set text all.line reasons.Form
   more_first all b rest e a =
-      first_bad (images_of all.devices) a.taken all.line all.rest reasons.Form (λ es. es ≡ []) a.shaped a.short a.follows a.along a.moved
-      (λ es is. ap (λ (l : List Entry). front_reason l all.rest) is ∙ ap (λ (l : List ℕ). front_reason [] l) e)
+      first_bad reasons.Form a.whole (λ es is. rw (is, e) refl)
 
   pub fine_first : (all : ReadAll) → AllRead set set.devices line after all → FirstFine set text machine all
   fine_first all a =
@@ -177,5 +185,114 @@ module _ (set : Set) (text : List ℕ) (machine : Option (List ℕ)) (line : ℕ
         judged = devices_judged set line set.devices all.devices a.lined a.shaped ∙ parts_machine set machine line (images_of all.devices) head.moved.further;
         follows = λ images shaped short. follows_machine set machine images a.taken P (a.follows images shaped short);
         along = along_machine set machine (images_of all.devices) a.taken P a.along;
-        moved = moved_then 1 line all.line text after all.rest (machine_taken machine) a.taken head.moved a.moved;
+        moved = moved_then head.moved a.moved;
       }
+
+-- ---- The first pass over a text: a bad line, or what its lines say.
+
+-- ---- the line of the machine
+
+machine_line : (machines : List (List ℕ)) (line name : List ℕ) (b : Bool) → begins_with (codes "machine ") line ≡ b → (c : Bool)
+    → is_one_of machines (drop 8 line) ≡ c → (if b && c then Some (drop 8 line) else None) ≡ Some name → line ≡ codes "machine " ++ name
+machine_line machines line name true e true f h =
+    let is : drop 8 line ≡ name = same_Some (drop 8 line) name h in
+    begun (codes "machine ") line e ∙ ap (λ (l : List ℕ). codes "machine " ++ l) is
+machine_line machines line name true e false f h = cc
+machine_line machines line name false e c f h = cc
+
+machine_first : (machines : List (List ℕ)) (o : Option (List ℕ × List ℕ)) (name : List ℕ) → machine_named machines o ≡ Some name
+    → (rest : List ℕ) × (o ≡ Some (codes "machine " ++ name, rest))
+machine_first machines None name e = cc
+machine_first machines (Some (line, rest)) name e = (
+  rest,
+  ap (λ (l : List ℕ). Some (l, rest))
+      (machine_line machines line name (begins_with (codes "machine ") line) refl (is_one_of machines (drop 8 line)) refl e),
+)
+
+headed : (set : Set) (text name : List ℕ) → machine_named set.machines (first_line text) ≡ Some name → Headed set text (Some name) 2 (rest_of (first_line text))
+headed set text name e =
+    let line = machine_first set.machines (first_line text) name e in
+    record {
+      named = sym e;
+      moved = moved_one 1 text (record { demand = ForMachine name; line = codes "machine " ++ name }) (rest_of (first_line text))
+          (line_taken text (codes "machine " ++ name) line.0 line.1)
+          (let f = (bytes_eq-Decides (codes "machine " ++ name) (codes "machine " ++ name)).1 refl in rw f refl);
+    }
+
+-- ---- the pass
+
+-- no line was bad
+pub record NoneBad (set : Set) (text : List ℕ) (v : ValuesRead) : Type 0 where
+  pub machine : Option (List ℕ)
+  pub all : ReadAll
+  pub first : FirstFine set text machine all
+  pub ends : all.rest ≡ []
+  pub is : v ≡ answer_of machine all.devices (judge_devices set set.devices all.devices)
+
+pub record OneBad (set : Set) (text : List ℕ) (v : ValuesRead) : Type 0 where
+  pub line : ℕ
+  pub reason : ValuesReason
+  pub first : FirstBad set text line reason
+  pub is : v ≡ Bad line reason
+
+abbrev pub FirstPass : Set → List ℕ → ValuesRead → Type 0
+FirstPass set text v = OneBad set text v ⊎ NoneBad set text v
+
+by_rest : (set : Set) (text : List ℕ) (machine : Option (List ℕ)) (line : ℕ) (after : List ℕ) (head : Headed set text machine line after) (all : ReadAll)
+    → (rest : List ℕ) → all.rest ≡ rest → AllRead set set.devices line after all → FirstPass set text (judged set machine all rest)
+by_rest set text machine line after head all [] e a =
+    inr (record { machine = machine; all = all; first = fine_first set text machine line after head all a; ends = e; is = refl })
+by_rest set text machine line after head all (b ∷ rest) e a =
+    inl (record { line = all.line; reason = reasons.Form; first = more_first set text machine line after head all b rest e a; is = refl })
+
+by_end : (set : Set) (text : List ℕ) (machine : Option (List ℕ)) (line : ℕ) (after : List ℕ) (head : Headed set text machine line after)
+    → (o : Result ReadAll BadLine) → AllCome set set.devices line after o → FirstPass set text (ended set machine o)
+by_end set text machine line after head (Ok all) a = by_rest set text machine line after head all all.rest refl a
+by_end set text machine line after head (Err e) a =
+    inl (record { line = e.line; reason = e.reason; first = stopped_first set text machine line after head e a; is = refl })
+
+by_machine : (set : Set) (text : List ℕ) → AreSound set.structs → AreGoodDevices set set.devices → (machine : Option (List ℕ))
+    → machine_named set.machines (first_line text) ≡ machine → FirstPass set text (after_machine set text machine)
+by_machine set text structs good None e =
+    by_end set text None 1 text (record { named = sym e; moved = moved_none 1 text }) (read_devices set set.devices 1 text)
+    (devices_come set structs set.devices good 1 text)
+by_machine set text structs good (Some name) e =
+    let after = rest_of (first_line text) in
+    by_end set text (Some name) 2 after (headed set text name e) (read_devices set set.devices 2 after) (devices_come set structs set.devices good 2 after)
+
+pub first_pass : (set : Set) (text : List ℕ) → AreSound set.structs → AreGoodDevices set set.devices → FirstPass set text (values_read set text)
+unfolding values_read
+first_pass set text structs good = by_machine set text structs good (machine_named set.machines (first_line text)) refl
+
+-- ---- What the first pass takes of a text: the lines of each state that has them, up to a bad line or the end.
+
+pub record TakenOf (set : Set) (text : List ℕ) (machine : Option (List ℕ)) (taken : List Taken) (rest : List ℕ) (o : Option ValuesReason) : Type 0 where
+  pub named : machine ≡ machine_named set.machines (first_line text)
+  pub follows : (images : List Image) → AreShaped set set.devices images → Follows taken (λ es. Ends o rest es) (entries set machine images)
+  pub fine : AreFineTaken taken
+  pub texts : text ≡ text_of (lines_of taken) ++ rest
+
+-- up to a bad line
+pub taken_before : (set : Set) (text : List ℕ) (v : ValuesRead) (b : OneBad set text v)
+    → TakenOf set text b.first.machine b.first.taken b.first.rest (Some b.reason)
+taken_before set text v b =
+    let f = b.first in
+    record {
+      named = f.named;
+      follows = λ images shaped. f.follows images shaped (all_short set set.devices images shaped);
+      fine = f.moved.fine;
+      texts = f.moved.texts;
+    }
+
+-- or all
+pub taken_all : (set : Set) (text : List ℕ) (v : ValuesRead) (n : NoneBad set text v) → TakenOf set text n.machine n.first.taken n.all.rest None
+taken_all set text v n =
+    let f = n.first in
+    record {
+      named = f.named;
+      follows = λ images shaped.
+          follows_ends f.taken (λ es. es ≡ []) (λ es. Ends None n.all.rest es) (entries set n.machine images)
+          (f.follows images shaped (all_short set set.devices images shaped)) (λ es e. (e, n.ends));
+      fine = f.moved.fine;
+      texts = f.moved.texts;
+    }

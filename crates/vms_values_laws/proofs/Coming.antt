@@ -1,15 +1,122 @@
--- Reading line by line, beside the elements of a state by its numbers.
-use Rattle.std.proofs.Common.{◌≡◌, ℕ, ◌+◌, ◌<◌, ◌≤◌, List, [], ◌∷◌, ◌++◌, length, get_or, slice_set, Some, ℤ, pos, Ok, Err, Bool, refl, sym, ap, ◌∙◌, subst, arith, append_assoc}
-use Rattle.std.proofs.lemmas.List.{get_or-set_same, length-set}
-use Rattle.vms_spec.specs.Layout.{Cell}
-use Rattle.vms_spec.specs.Spelling.{first_line}
-use Rattle.vms_spec.specs.ValuesReading.{Standing, Read, BadLine, put_line, ◌>>=◌}
-use Rattle.vms_words.specs.Texts.{IsShort}
-use Rattle.vms_elements.specs.Elements.{Element}
-use Rattle.vms_elements.specs.Entries.{OfNumber, wanted_reason}
-use Rattle.vms_values_laws.specs.Said.{Said, said_line, Agrees, Meets, AreBelow, AreFrom, Ran}
-use Rattle.vms_values_laws.proofs.SaidLaws.{meets_left, meets_more, agrees_front, agrees_last, agrees_more, agrees_put, below_less, below_more, from_more, ran_more}
-use Rattle.vms_values_laws.proofs.OneLine.{spot, cell_line, Put, Stepped, one_line}
+-- One line of a number, and reading line by line, beside the elements of a state by its numbers.
+use Rattle.vms_values_laws.proofs.Facade.{◌≡◌, ℕ, ◌<◌, ◌≤◌, List, [], ◌∷◌, ◌++◌, get_or, slice_set, ℤ, pos, refl, sym, ap, ◌∙◌, arith, append_assoc, Bool, true}
+use Rattle.vms_values_laws.proofs.Facade.{false, ◌||◌, suc, nat_le, length, drop, Option, Some, None, negsuc, Ok, Err, codes, ◌+◌, get_or-set_same, length-set}
+use Rattle.vms_values_laws.proofs.Facade.{and_parts, leb-true, signed_decimal, Standing, Read, BadLine, CellLine, put_number, put_line, ◌>>=◌, Element, Number}
+use Rattle.vms_values_laws.proofs.Facade.{Said, said_line, Agrees, Meets, AreBelow, Ran, OfNumber, number_reason, spelled_reason, line_reason, wanted_reason}
+use Rattle.vms_values_laws.proofs.Facade.{Kind, U8, U16, U32, U64, I8, I16, I32, I64, Timer, same_number, exceeds, in_range, Cell, first_line, begins_with}
+use Rattle.vms_values_laws.proofs.Facade.{number_spelled, IsShort, spelled_holds, line_splits, begun}
+use Rattle.vms_kinds.specs.declared.Kind.TheVariants.{Bool as Truth}
+use Rattle.vms_values_laws.proofs.SaidLaws.{meets_left, meets_more, agrees_front, agrees_later, below_less, ran_more, Told, told_both, below_both}
+use Rattle.vms_spec.specs.declared.ValuesReason.TheVariants as reasons
+
+-- ---- one line: what it says, or why it is refused
+
+-- the element of a number, under a path
+abbrev pub spot : List (ℕ × ℕ) → List ℕ → Bool → ℕ → Cell → Element
+spot steps path present at c = record { path = steps; name = path; cell = at; what = Number c; counted = true; present = present }
+
+abbrev pub cell_line : Bool → ℕ → Cell → CellLine
+cell_line present at c = record { cell = at; kind = c.kind; capacities = c.capacities; default = c.default; present = present }
+
+-- a line was taken, which said this number
+pub record Put (x : Element) (p q : Standing) : Type 0 where
+  pub number : ℤ
+  pub rest : p.rest ≡ said_line (record { element = x; number = number }) ++ 10 ∷ q.rest
+  pub line : q.line ≡ suc p.line
+  pub numbers : q.numbers ≡ slice_set p.numbers x.cell number
+  pub fine : line_reason (OfNumber x []) (said_line (record { element = x; number = number })) ≡ None
+  pub short : IsShort number
+
+-- a line was refused
+pub record NotPut (x : Element) (p : Standing) (o : Option (List ℕ × List ℕ)) (e : BadLine) : Type 0 where
+  pub line : e.line ≡ p.line
+  pub bad : wanted_reason (OfNumber x []) o ≡ Some e.reason
+
+abbrev pub Stepped : Element → Standing → Option (List ℕ × List ℕ) → Read → Type 0
+Stepped x p o (Ok q) = Put x p q
+Stepped x p o (Err e) = NotPut x p o e
+
+-- a number in the range of a kind has at most 64 bits
+pub short : (kind : Kind) (z : ℤ) → in_range kind z ≡ true → IsShort z
+short U8 (pos n) e = omega (arith, leb-true n 0xff (and_parts (nat_le 0 n) (nat_le n 0xff) e).1)
+short U16 (pos n) e = omega (arith, leb-true n 0xffff (and_parts (nat_le 0 n) (nat_le n 0xffff) e).1)
+short U32 (pos n) e = omega (arith, leb-true n 0xffff_ffff (and_parts (nat_le 0 n) (nat_le n 0xffff_ffff) e).1)
+short U64 (pos n) e = omega (arith, leb-true n 0xffff_ffff_ffff_ffff (and_parts (nat_le 0 n) (nat_le n 0xffff_ffff_ffff_ffff) e).1)
+short I8 (pos n) e = omega (arith, leb-true n 0x7f e)
+short I16 (pos n) e = omega (arith, leb-true n 0x7fff e)
+short I32 (pos n) e = omega (arith, leb-true n 0x7fff_ffff e)
+short I64 (pos n) e = omega (arith, leb-true n 0x7fff_ffff_ffff_ffff e)
+short Truth (pos n) e = omega (arith, leb-true n 1 (and_parts (nat_le 0 n) (nat_le n 1) e).1)
+short Timer (pos n) e = omega (arith, leb-true n 0xffff_ffff_ffff_ffff (and_parts (nat_le 0 n) (nat_le n 0xffff_ffff_ffff_ffff) e).1)
+short I8 (negsuc n) e = omega (arith, leb-true n 0x7f (and_parts (nat_le n 0x7f) true e).0)
+short I16 (negsuc n) e = omega (arith, leb-true n 0x7fff (and_parts (nat_le n 0x7fff) true e).0)
+short I32 (negsuc n) e = omega (arith, leb-true n 0x7fff_ffff (and_parts (nat_le n 0x7fff_ffff) true e).0)
+short I64 (negsuc n) e = omega (arith, leb-true n 0x7fff_ffff_ffff_ffff (and_parts (nat_le n 0x7fff_ffff_ffff_ffff) true e).0)
+short _ (negsuc n) e = cc
+
+module _ (steps : List (ℕ × ℕ)) (path : List ℕ) (present : Bool) (at : ℕ) (c : Cell) (p : Standing) where
+  abbrev here : Element
+  here = spot steps path present at c
+
+  abbrev its : CellLine
+  its = cell_line present at c
+
+  abbrev front : List ℕ
+  front = path ++ codes " = "
+
+  module _ (line rest : List ℕ) (splits : p.rest ≡ line ++ 10 ∷ rest) (begins : begins_with front line ≡ true) where
+    abbrev text : List ℕ
+    text = drop (length front) line
+
+    wanted : (o : Option ℤ) → number_spelled text ≡ o → wanted_reason (OfNumber here []) (Some (line, rest)) ≡ spelled_reason c present o
+    wanted o e = rw (begins, e) refl
+
+    refused : (z : ℤ) (reason : Rattle.vms_spec.specs.declared.ValuesReason.ValuesReason) → number_spelled text ≡ Some z
+        → number_reason c present z ≡ Some reason → NotPut here p (Some (line, rest)) (record { line = p.line; reason = reason })
+    refused z reason e f = record { line = refl; bad = wanted (Some z) e ∙ f }
+
+    taken : (z : ℤ) → number_spelled text ≡ Some z → in_range c.kind z ≡ true → number_reason c present z ≡ None
+        → Put here p (record { numbers = slice_set p.numbers at z; line = suc p.line; rest = rest })
+    taken z e range f =
+        let is : text ≡ signed_decimal z = spelled_holds text z (short c.kind z range) e in
+        let whole : line ≡ path ++ (codes " = " ++ signed_decimal z) =
+        begun front line begins ∙ ap (λ (l : List ℕ). front ++ l) is ∙ append_assoc path (codes " = ") _ in
+        record {
+          number = z;
+          rest = splits ∙ ap (λ (l : List ℕ). l ++ 10 ∷ rest) whole;
+          line = refl;
+          numbers = refl;
+          fine = ap (λ (l : List ℕ). line_reason (OfNumber here []) l) (sym whole) ∙ wanted (Some z) e ∙ f;
+          short = short c.kind z range;
+        }
+
+    -- by the three tests on a number
+    judged : (z : ℤ) → number_spelled text ≡ Some z → (a b d : Bool) → in_range c.kind z ≡ a → exceeds c.capacities z ≡ b
+        → (present || same_number z c.default) ≡ d → Stepped here p (Some (line, rest)) (put_number its p rest (Some z))
+    judged z e false b d ra eb pd = rw ra (refused z reasons.Number e (rw ra refl))
+    judged z e true true d ra eb pd = rw (ra, eb) (refused z reasons.Count e (rw (ra, eb) refl))
+    judged z e true false false ra eb pd = rw (ra, eb, pd) (refused z reasons.Absent e (rw (ra, eb, pd) refl))
+    judged z e true false true ra eb pd = rw (ra, eb, pd) (taken z e ra (rw (ra, eb, pd) refl))
+
+    spelled : (o : Option ℤ) → number_spelled text ≡ o → Stepped here p (Some (line, rest)) (put_number its p rest o)
+    spelled None e = record { line = refl; bad = wanted None e }
+    spelled (Some z) e = judged z e (in_range c.kind z) (exceeds c.capacities z) (present || same_number z c.default) refl refl refl
+
+  by_front : (line rest : List ℕ) → p.rest ≡ line ++ 10 ∷ rest → (b : Bool) → begins_with front line ≡ b
+      → Stepped here p (Some (line, rest)) (put_line path its p (Some (line, rest)))
+  by_front line rest splits true e =
+      let stepped = spelled line rest splits e (number_spelled (drop (length front) line)) refl in
+      rw e stepped
+  by_front line rest splits false e = rw e (record { line = refl; bad = rw e refl })
+
+  by_line : (o : Option (List ℕ × List ℕ)) → first_line p.rest ≡ o → Stepped here p o (put_line path its p o)
+  by_line None e = record { line = refl; bad = refl }
+  by_line (Some (line, rest)) e = by_front line rest (line_splits p.rest line rest e) (begins_with front line) refl
+
+  pub one_line : Stepped here p (first_line p.rest) (put_line path its p (first_line p.rest))
+  one_line = by_line (first_line p.rest) refl
+
+-- ---- Reading line by line, beside the elements of a state by its numbers.
 
 -- the number of a cell is settled by what was said
 pub record Knows (said : List Said) (c : ℕ) : Type 0 where
@@ -19,23 +126,30 @@ abbrev pub AllKnown : List ℕ → List Said → Type 0
 AllKnown [] said = Unit {0}
 AllKnown (c ∷ cells) said = Knows said c × AllKnown cells said
 
--- numbers of at most 64 bits were said
-abbrev pub AreShortSaid : List Said → Type 0
-AreShortSaid [] = Unit {0}
-AreShortSaid (s ∷ said) = IsShort s.number × AreShortSaid said
-
-short_more : (said : List Said) (s : Said) → AreShortSaid said → IsShort s.number → AreShortSaid (said ++ s ∷ [])
-short_more [] s a h = (h, tt)
-short_more (t ∷ said) s a h = (a.0, short_more said s a.1 h)
-
 pub knows_grows : (said more : List Said) (c : ℕ) → ((m : List ℤ) → Agrees more m → Agrees said m) → Knows said c → Knows more c
 knows_grows said more c g k = record { known = λ m n a b. k.known m n (g m a) (g n b) }
+
+-- ---- one more line
+
+abbrev said_of : (x : Element) (p q : Standing) → Put x p q → Said
+said_of x p q put = record { element = x; number = put.number }
+
+told_one : (x : Element) (p q : Standing) (put : Put x p q) → x.cell < length p.numbers → Told x.cell p.numbers (said_of x p q put ∷ []) q.numbers
+told_one x p q put inside =
+    rw (put.numbers)
+    (record {
+      agrees = (get_or-set_same p.numbers x.cell put.number (pos 0) inside, tt);
+      from = (omega arith, tt);
+      numbers = refl;
+      long = length-set p.numbers x.cell put.number;
+      short = (put.short, tt);
+    })
 
 ran_one : (p q : Standing) (x : Element) (put : Put x p q) → Ran p (record { element = x; number = put.number } ∷ []) q
 ran_one p q x put =
     record {
       line = omega (arith, put.line);
-      rest = put.rest ∙ sym (append_assoc (said_line (record { element = x; number = put.number })) (10 ∷ []) q.rest);
+      rest = put.rest ∙ sym (append_assoc _ (10 ∷ []) q.rest);
       numbers = put.numbers;
       fine = (put.fine, tt);
     }
@@ -45,12 +159,10 @@ module _ (total : List ℤ → List Element) (start : Standing) (low : ℕ) wher
   -- Once this was said, this is left of each state that agrees with it. What is said from here on is of cells from this one on.
   pub record At (cell : ℕ) (p : Standing) (said : List Said) (left : List ℤ → List Element) : Type 0 where
     pub meets : (m : List ℤ) → Meets said (left m) m (total m)
-    pub agrees : Agrees said p.numbers
     pub below : AreBelow cell said
-    pub from : AreFrom low said
     pub up : low ≤ cell
-    pub short : AreShortSaid said
-    pub long : length p.numbers ≡ length start.numbers
+    pub told : Told low start.numbers said p.numbers
+    pub open told use *
     pub ran : Ran start said p
 
   -- a line was refused where an element must be
@@ -78,80 +190,68 @@ module _ (total : List ℤ → List Element) (start : Standing) (low : ℕ) wher
   pub record Comes (cell : ℕ) (known : List ℕ) (before : List Said) (left : List ℤ → List Element) (r : Read) : Type 0 where
     pub comes : ComesTo cell known before left r
 
-  pub at_left : (cell : ℕ) (p : Standing) (said : List Said) (left left' : List ℤ → List Element) → ((m : List ℤ) → Agrees said m → left m ≡ left' m) → At cell p said left → At cell p said left'
-  at_left cell p said left left' e a =
-      record { meets = λ m. meets_left said (left m) (left' m) m (total m) (a.meets m) (e m); agrees = a.agrees; below = a.below; from = a.from; up = a.up; short = a.short; long = a.long; ran = a.ran }
+  pub at_left : {cell : ℕ} {p : Standing} {said : List Said} {left left' : List ℤ → List Element} → ((m : List ℤ) → Agrees said m → left m ≡ left' m)
+      → At cell p said left → At cell p said left'
+  at_left {said = said} e a =
+      record { meets = λ m. meets_left said _ _ m (total m) (a.meets m) (e m); below = a.below; up = a.up; told = a.told; ran = a.ran }
 
-  pub at_less : (cell further : ℕ) (p : Standing) (said : List Said) (left : List ℤ → List Element) → cell ≤ further → At cell p said left → At further p said left
-  at_less cell further p said left le a = record { meets = a.meets; agrees = a.agrees; below = below_less cell further said le a.below; from = a.from; up = let up = a.up in omega arith; short = a.short; long = a.long; ran = a.ran }
+  pub at_less : (cell further : ℕ) (p : Standing) (said : List Said) (left : List ℤ → List Element) → cell ≤ further → At cell p said left
+      → At further p said left
+  at_less cell further p said left le a =
+      record { meets = a.meets; below = below_less cell further said le a.below; up = omega arith; told = a.told; ran = a.ran }
 
-  pub stay : (cell : ℕ) (p : Standing) (said : List Said) (left : List ℤ → List Element) → At cell p said left → Comes cell [] said left (Ok p)
-  stay cell p said left a = record { comes = record { said = said; stands = a; grows = λ m g. g; knows = tt } }
+  pub stay : (cell further : ℕ) (p : Standing) (said : List Said) (left : List ℤ → List Element) → cell ≤ further → At cell p said left
+      → Comes further [] said left (Ok p)
+  stay cell further p said left le a = record { comes = record { said = said; stands = at_less cell further p said left le a; grows = λ m g. g; knows = tt } }
 
-  pub forget : (cell : ℕ) (known : List ℕ) (before : List Said) (left : List ℤ → List Element) (r : Read) → Comes cell known before left r → Comes cell [] before left r
-  forget cell known before left (Ok q) c = let f = c.comes in record { comes = record { said = f.said; stands = f.stands; grows = f.grows; knows = tt } }
-  forget cell known before left (Err e) c = record { comes = c.comes }
+  pub forget : {cell : ℕ} {known : List ℕ} {before : List Said} {left : List ℤ → List Element} (r : Read) → Comes cell known before left r
+      → Comes cell [] before left r
+  forget (Ok q) c = let f = c.comes in record { comes = record { said = f.said; stands = f.stands; grows = f.grows; knows = tt } }
+  forget (Err e) c = record { comes = c.comes }
 
-  pub comes_less : (cell further : ℕ) (known : List ℕ) (before : List Said) (left : List ℤ → List Element) (r : Read) → cell ≤ further → Comes cell known before left r → Comes further known before left r
-  comes_less cell further known before left (Ok q) le c =
-      let f = c.comes in record { comes = record { said = f.said; stands = at_less cell further q f.said left le f.stands; grows = f.grows; knows = f.knows } }
-  comes_less cell further known before left (Err e) le c = record { comes = c.comes }
-
-  earlier : (cell : ℕ) (known : List ℕ) (before said : List Said) (left : List ℤ → List Element) (r : Read) → ((m : List ℤ) → Agrees said m → Agrees before m)
+  earlier : {cell : ℕ} {known : List ℕ} {before said : List Said} {left : List ℤ → List Element} (r : Read) → ((m : List ℤ) → Agrees said m → Agrees before m)
       → Comes cell known said left r → Comes cell known before left r
-  earlier cell known before said left (Ok q) g c =
-      let f = c.comes in record { comes = record { said = f.said; stands = f.stands; grows = λ m a. g m (f.grows m a); knows = f.knows } }
-  earlier cell known before said left (Err e) g c = record { comes = c.comes }
+  earlier (Ok q) g c = let f = c.comes in record { comes = record { said = f.said; stands = f.stands; grows = λ m a. g m (f.grows m a); knows = f.knows } }
+  earlier (Err e) g c = record { comes = c.comes }
 
-  pub then_comes : (cell further : ℕ) (known known' : List ℕ) (before : List Said) (left left' : List ℤ → List Element) (r : Read) (f : Standing → Read)
+  pub then_comes : {cell further : ℕ} {known known' : List ℕ} {before : List Said} {left left' : List ℤ → List Element} (r : Read) (f : Standing → Read)
       → Comes cell known before left r
       → ((q : Standing) (said : List Said) → At cell q said left → ((m : List ℤ) → Agrees said m → Agrees before m) → AllKnown known said → Comes further known' said left' (f q))
       → Comes further known' before left' (r >>= f)
-  then_comes cell further known known' before left left' (Ok q) f c h =
-      let x = c.comes in earlier further known' before x.said left' (f q) x.grows (h q x.said x.stands x.grows x.knows)
-  then_comes cell further known known' before left left' (Err e) f c h = record { comes = c.comes }
+  then_comes (Ok q) f c h = let x = c.comes in earlier (f q) x.grows (h q x.said x.stands x.grows x.knows)
+  then_comes (Err e) f c h = record { comes = c.comes }
 
   -- ---- one line
 
-  abbrev pub said_of : (x : Element) (p q : Standing) → Put x p q → Said
-  said_of x p q put = record { element = x; number = put.number }
+  module _ (x : Element) (p : Standing) (said : List Said) (left : List ℤ → List Element) (room : x.cell < length start.numbers)
+      (a : At x.cell p said (λ m. x ∷ left m)) where
+    after_line : (q : Standing) (put : Put x p q) → At (x.cell + 1) q (said ++ said_of x p q put ∷ []) left
+    after_line q put =
+        let s = said_of x p q put in
+        let inside : x.cell < length p.numbers = omega (arith, a.told.long) in
+        record {
+          meets = λ m. meets_more said s (left m) m (total m) (a.meets m);
+          below = below_both (x.cell + 1) said (s ∷ []) (below_less x.cell (x.cell + 1) said (omega arith) a.below) (omega arith, tt);
+          up = let up = a.up in omega arith;
+          told = told_both a.told (told_one x p q put inside) a.up a.below;
+          ran = ran_more start p q said (s ∷ []) a.ran (ran_one p q x put);
+        }
 
-  after_line : (cell : ℕ) (x : Element) (p q : Standing) (said : List Said) (left : List ℤ → List Element) → x.cell ≡ cell → cell < length start.numbers
-      → At cell p said (λ m. x ∷ left m) → (put : Put x p q) → At (cell + 1) q (said ++ said_of x p q put ∷ []) left
-  after_line cell x p q said left is room a put =
-      let s = said_of x p q put in
-      let inside : x.cell < length p.numbers = omega (arith, a.long, is) in
-      record {
-        meets = λ m. meets_more said s (left m) m (total m) (a.meets m);
-        agrees = subst (λ (n : List ℤ). Agrees (said ++ s ∷ []) n) (sym put.numbers)
-            (agrees_more said s (slice_set p.numbers x.cell put.number)
-            (agrees_put said x.cell p.numbers put.number (subst (λ (k : ℕ). AreBelow k said) (sym is) a.below) a.agrees)
-            (get_or-set_same p.numbers x.cell put.number (pos 0) inside));
-        below = below_more (cell + 1) said s (below_less cell (cell + 1) said (omega arith) a.below) (omega (arith, is));
-        from = from_more low said s a.from (let up = a.up in omega (arith, is));
-        up = let up = a.up in omega arith;
-        short = short_more said s a.short put.short;
-        long = ap (λ (n : List ℤ). length n) put.numbers ∙ length-set p.numbers x.cell put.number ∙ a.long;
-        ran = ran_more start p q said (s ∷ []) a.ran (ran_one p q x put);
-      }
+    by_read : (r : Read) → Stepped x p (first_line p.rest) r → Comes (x.cell + 1) (x.cell ∷ []) said left r
+    by_read (Ok q) put =
+        let s = said_of x p q put in
+        record {
+          comes = record {
+            said = said ++ s ∷ [];
+            stands = after_line q put;
+            grows = λ m g. agrees_front said (s ∷ []) m g;
+            knows = (record { known = λ m n g h. (agrees_later said (s ∷ []) m g).0 ∙ sym (agrees_later said (s ∷ []) n h).0 }, tt);
+          };
+        }
+    by_read (Err e) not =
+        record { comes = record { cell = x.cell; place = p; said = said; element = x; after = left; stood = a; line = not.line; wrong = not.bad } }
 
-  by_read : (cell : ℕ) (x : Element) (p : Standing) (said : List Said) (left : List ℤ → List Element) (r : Read) → x.cell ≡ cell → cell < length start.numbers
-      → At cell p said (λ m. x ∷ left m) → Stepped x p (first_line p.rest) r → Comes (cell + 1) (cell ∷ []) said left r
-  by_read cell x p said left (Ok q) is room a put =
-      let s = said_of x p q put in
-      record {
-        comes = record {
-          said = said ++ s ∷ [];
-          stands = after_line cell x p q said left is room a put;
-          grows = λ m g. agrees_front said (s ∷ []) m g;
-          knows = (subst (λ (k : ℕ). Knows (said ++ s ∷ []) k) is (record { known = λ m n g h. agrees_last said s m g ∙ sym (agrees_last said s n h) }), tt);
-        };
-      }
-  by_read cell x p said left (Err e) is room a not =
-      record { comes = record { cell = cell; place = p; said = said; element = x; after = left; stood = a; line = not.line; wrong = not.bad } }
-
-  pub line_comes : (steps : List (ℕ × ℕ)) (path : List ℕ) (present : Bool) (cell : ℕ) (c : Cell) (p : Standing) (said : List Said) (left : List ℤ → List Element)
-      → cell < length start.numbers → At cell p said (λ m. spot steps path present cell c ∷ left m)
+  pub line_comes : (steps : List (ℕ × ℕ)) (path : List ℕ) (present : Bool) (cell : ℕ) (c : Cell) (p : Standing) (said : List Said)
+      → (left : List ℤ → List Element) → cell < length start.numbers → At cell p said (λ m. spot steps path present cell c ∷ left m)
       → Comes (cell + 1) (cell ∷ []) said left (put_line path (cell_line present cell c) p (first_line p.rest))
-  line_comes steps path present cell c p said left room a =
-      by_read cell (spot steps path present cell c) p said left (put_line path (cell_line present cell c) p (first_line p.rest)) refl room a (one_line steps path present cell c p)
+  line_comes steps path present cell c p said left room a = by_read (spot steps path present cell c) p said left room a _ (one_line steps path present cell c p)

@@ -1,18 +1,133 @@
--- A text leads along one list of lines: those that were taken are those of each state that has the text's lines.
-use Rattle.std.proofs.Common.{◌≡◌, ℕ, suc, List, ◌∷◌, ◌++◌, length, map, Option, Some, None, refl, sym, ap, ◌∙◌, subst, append_assoc, []}
-use Rattle.std.proofs.lemmas.Option.{some_pair_parts}
-use Rattle.vms_spec.specs.declared.ValuesReason.{ValuesReason}
-use Rattle.vms_spec.specs.Spelling.{first_line}
-use Rattle.vms_elements.specs.Lines.{text_of}
-use Rattle.vms_elements.specs.Entries.{Entry, entry_line, line_reason, wanted_reason, front_reason}
-use Rattle.vms_elements.specs.Reading.{AreFine}
-use Rattle.vms_values_laws.specs.Taken.{Demand, demand_of, reason_for, Taken, lines_of, AreFineTaken, Follows}
-use Rattle.vms_values_laws.proofs.Following.{reason_same}
-use Rattle.vms_values_laws.proofs.Feeds.{NoFeed, IsClean, line_first, fine_feed}
+-- Lines without a line feed: a text leads along one list of lines, and the entries of a fit set have no other.
+use Rattle.vms_values_laws.proofs.Facade.{◌≡◌, ℕ, zero, suc, ◌+◌, ◌%◌, ◌/◌, Bool, true, false, ◌==◌, nat_lt, if◌then◌else◌, List, ◌∷◌, ◌++◌, length, drop}
+use Rattle.vms_values_laws.proofs.Facade.{Option, Some, None, ℤ, pos, negsuc, refl, sym, ap, ◌∙◌, arith, codes, ◌||◌, [], map, append_assoc, not, ne_eqb}
+use Rattle.vms_values_laws.proofs.Facade.{decimal, signed_decimal, digits, digits_onto, digit_glyph, bytes_eq, bytes_eq-Decides, some_pair_parts}
+use Rattle.vms_values_laws.proofs.Facade.{AllByRecursion, ◌&&◌, get_or, nat_le, take, slice_get, list_all, and_parts, get_or_from_slice_get, same_Some}
+use Rattle.vms_values_laws.proofs.Facade.{take-append-drop, Cell, same_number, exceeds, in_range, first_line, longer_line, begins_with, number_spelled}
+use Rattle.vms_values_laws.proofs.Facade.{spelled_holds, begun, What, Number, Element, section_line, sub_line, text_of, if_not, element_reason, spelled_reason}
+use Rattle.vms_values_laws.proofs.Facade.{Entry, entry_line, line_reason, front_reason, Demand, ForMachine, ForSection, ForSub, ForNumber, reason_for}
+use Rattle.vms_values_laws.proofs.Facade.{demand_of, Taken, lines_of, AreFineTaken, Follows, ValuesReason, AreFine, or_else, Item, Struct, Count, One, Field}
+use Rattle.vms_values_laws.proofs.Facade.{Desc, Sub, Device, Set, no_desc, first, counted, capacity_of, item_size, field_cells, desc_cells, numbers_of}
+use Rattle.vms_values_laws.proofs.Facade.{struct_cells, Image, own_cells, Shape, no_shape, shape, shapes, cells_in, dotted, behind, item_elements, Stand}
+use Rattle.vms_values_laws.proofs.Facade.{stand_of, array_elements, field_elements, elements_from, desc_elements, index_text, is_number, elements_in, printed}
+use Rattle.vms_values_laws.proofs.Facade.{OfNumber, number_entries, subs_entries, device_entries, devices_entries, entries, one_more, Place, first_answer}
+use Rattle.vms_values_laws.proofs.Facade.{is_name_byte, is_name, is_sub_name, is_one_of, machine_named, WellFormed, first_fault, failing, here, set_rules}
+use Rattle.vms_values_laws.proofs.Facade.{struct_fault, struct_rules, device_fault, device_rules, sub_rules, size_rules, either_of, or_else_none, Clean}
+use Rattle.vms_values_laws.proofs.Facade.{struct_clean, device_parts, sub_clean, get_none, name_byte_high}
+use Rattle.vms_values_laws.proofs.Coming.{short}
+use Rattle.vms_values_laws.proofs.Numbers.{reason_same}
+use Rattle.vms_values_laws.proofs.SaidLaws.{all_both}
+use Rattle.vms_spec.specs.declared.ValuesReason.TheVariants as reasons
+use Rattle.vms_spec.specs.declared.Part.TheVariants as parts
+
+-- ---- A text leads along one list of lines.
+
+-- ---- Lines without a line feed, and which lines meet a demand.
+
+abbrev pub NoFeed : List ℕ → Type 0
+NoFeed [] = Unit {0}
+NoFeed (b ∷ line) = ((b == 10) ≡ false) × NoFeed line
+
+pub feed_append : (a b : List ℕ) → NoFeed a → NoFeed b → NoFeed (a ++ b)
+feed_append [] b p q = q
+feed_append (x ∷ a) b p q = (p.0, feed_append a b p.1 q)
+
+-- such a line is the first of a text
+pub line_first : (line rest : List ℕ) → NoFeed line → first_line (line ++ 10 ∷ rest) ≡ Some (line, rest)
+line_first [] rest h = refl
+line_first (b ∷ line) rest h =
+    ap (λ (t : Bool). if t then Some ([], line ++ 10 ∷ rest) else longer_line b (first_line (line ++ 10 ∷ rest))) h.0 ∙ ap (longer_line b)
+    (line_first line rest h.1)
+
+glyph_feed : (d : ℕ) → (digit_glyph false d == 10) ≡ false
+glyph_feed d = go (nat_lt d 10)
+  where
+    go : (b : Bool) → ((if b then 48 + d else (if false then 55 + d else 87 + d)) == 10) ≡ false
+    go true = ne_eqb (48 + d) 10 (λ e. omega (arith, e))
+    go false = ne_eqb (87 + d) 10 (λ e. omega (arith, e))
+
+onto_feed : (k n : ℕ) (acc : List ℕ) → NoFeed acc → NoFeed (digits_onto k 10 false n acc)
+onto_feed zero n acc h = h
+onto_feed (suc k) n acc h = go (n / 10 == 0) (onto_feed k (n / 10) (digit_glyph false (n % 10) ∷ acc) (glyph_feed (n % 10), h))
+  where
+    go : (b : Bool) → NoFeed (digits_onto k 10 false (n / 10) (digit_glyph false (n % 10) ∷ acc))
+        → NoFeed (if b then digit_glyph false (n % 10) ∷ acc else digits_onto k 10 false (n / 10) (digit_glyph false (n % 10) ∷ acc))
+    go true more = (glyph_feed (n % 10), h)
+    go false more = more
+
+pub decimal_feed : (n : ℕ) → NoFeed (decimal n)
+unfolding digits
+decimal_feed n = onto_feed 64 n [] tt
+
+pub signed_feed : (z : ℤ) → NoFeed (signed_decimal z)
+signed_feed (pos n) = decimal_feed n
+signed_feed (negsuc n) = (refl, decimal_feed (suc n))
+
+-- ---- fine lines
+
+-- what is demanded has no line feed
+abbrev pub IsClean : Demand → Type 0
+IsClean (ForMachine name) = NoFeed name
+IsClean (ForSection d) = NoFeed d.desc.name
+IsClean (ForSub s) = NoFeed s.desc.name
+IsClean (ForNumber x) = NoFeed x.name
+
+by_bytes : (a b : List ℕ) (t : Bool) → bytes_eq a b ≡ t → if_not t reasons.Form ≡ None → NoFeed b → NoFeed a
+by_bytes a b true e f h = rw ((bytes_eq-Decides a b).0 e) h
+by_bytes a b false e f h = cc
+
+by_either : (a b c : List ℕ) (t u : Bool) → bytes_eq a b ≡ t → bytes_eq a c ≡ u → if_not (t || u) reasons.Form ≡ None → NoFeed b → NoFeed c → NoFeed a
+by_either a b c true u e f g p q = rw ((bytes_eq-Decides a b).0 e) p
+by_either a b c false true e f g p q = rw ((bytes_eq-Decides a c).0 f) q
+by_either a b c false false e f g p q = cc
+
+by_spelled : (cell : Cell) (present : Bool) (text : List ℕ) (o : Option ℤ) → number_spelled text ≡ o → spelled_reason cell present o ≡ None → NoFeed text
+by_spelled cell present text None e f = cc
+by_spelled cell present text (Some z) e f = by_range (in_range cell.kind z) refl f
+  where
+    by_range : (b : Bool) → in_range cell.kind z ≡ b → or_else (if_not b reasons.Number)
+        (or_else (if_not (not (exceeds cell.capacities z)) reasons.Count)
+        (if_not (present || same_number z cell.default) reasons.Absent)) ≡ None
+        → NoFeed text
+    by_range true r f = rw (spelled_holds text z (short cell.kind z r) e) (signed_feed z)
+    by_range false r f = cc
+
+by_what : (what : What) (present : Bool) (text : List ℕ) → element_reason what present text ≡ None → NoFeed text
+by_what (Number cell) present text e = by_spelled cell present text (number_spelled text) refl e
+by_what _ present text e = cc
+
+by_front : (x : Element) (a : List ℕ) (b : Bool) → begins_with (x.name ++ codes " = ") a ≡ b
+    → (if b then element_reason x.what x.present (drop (length (x.name ++ codes " = ")) a) else Some reasons.Form) ≡ None → NoFeed x.name → NoFeed a
+by_front x a true e f h =
+    rw (begun (x.name ++ codes " = ") a e)
+    (feed_append (x.name ++ codes " = ") (drop (length (x.name ++ codes " = ")) a) (feed_append x.name (codes " = ") h (refl, (refl, (refl, tt))))
+    (by_what x.what x.present _ f))
+by_front x a false e f h = cc
+
+pub section_feed : (name : List ℕ) (instance version : ℕ) → NoFeed name
+    → NoFeed (codes "section " ++ (name ++ (codes " " ++ (decimal instance ++ (codes " v" ++ decimal version)))))
+section_feed name instance version h =
+    feed_append (codes "section ") _ (refl, (refl, (refl, (refl, (refl, (refl, (refl, (refl, tt))))))))
+    (feed_append name _ h (refl, feed_append (decimal instance) _ (decimal_feed instance) (refl, (refl, decimal_feed version))))
+
+pub sub_feed : (name text : List ℕ) → NoFeed name → NoFeed text → NoFeed (codes "sub " ++ (name ++ (codes " " ++ text)))
+sub_feed name text h g = (refl, (refl, (refl, (refl, feed_append name _ h (refl, g)))))
+
+-- a fine line has none
+pub fine_feed : (demand : Demand) (a : List ℕ) → IsClean demand → reason_for demand (Some (a, [])) ≡ None → NoFeed a
+fine_feed (ForMachine name) a h e =
+    by_bytes a (codes "machine " ++ name) (bytes_eq a (codes "machine " ++ name)) refl e (refl, (refl, (refl, (refl, (refl, (refl, (refl, (refl, h))))))))
+fine_feed (ForSection d) a h e =
+    by_bytes a (section_line d d.desc.version) (bytes_eq a (section_line d d.desc.version)) refl e (section_feed d.desc.name d.instance d.desc.version h)
+fine_feed (ForSub s) a h e =
+    by_either a (sub_line s (Some s.desc.version)) (sub_line s None) (bytes_eq a (sub_line s (Some s.desc.version))) (bytes_eq a (sub_line s None)) refl refl e
+    (sub_feed s.desc.name _ h (refl, decimal_feed s.desc.version)) (sub_feed s.desc.name _ h (refl, tt))
+fine_feed (ForNumber x) a h e = by_front x a (begins_with (x.name ++ codes " = ") a) refl e h
+
+-- ---- A text leads along one list of lines: those that were taken are those of each state that has the text's lines.
 
 abbrev pub AreClean : List Entry → Type 0
-AreClean [] = Unit {0}
-AreClean (e ∷ es) = IsClean (demand_of e) × AreClean es
+AreClean = AllByRecursion (λ (e : Entry). IsClean (demand_of e))
 
 -- how a list of entries ends before the rest of a text: with the reason of the first bad line, or both with nothing
 abbrev pub Ends : Option ValuesReason → List ℕ → List Entry → Type 0
@@ -27,23 +142,17 @@ pub record Same (taken : List Taken) (before : List Entry) (o o' : Option Values
 
 both_end : (o o' : Option ValuesReason) (rest : List ℕ) (es : List Entry) → Ends o rest es → Ends o' rest es → o ≡ o'
 both_end None None rest es f g = refl
-both_end None (Some r) rest es f g = no (sym (ap (λ (l : List Entry). front_reason l rest) f.0 ∙ ap (λ (l : List ℕ). front_reason [] l) f.1) ∙ g) where
-  no : None ≡ Some r → None ≡ Some r
-  no e = cc
-both_end (Some r) None rest es f g = no (sym (ap (λ (l : List Entry). front_reason l rest) g.0 ∙ ap (λ (l : List ℕ). front_reason [] l) g.1) ∙ f) where
-  no : None ≡ Some r → Some r ≡ None
-  no e = cc
+both_end None (Some r) rest es f g = rw (f.0, f.1) at g
+both_end (Some r) None rest es f g = sym (rw (g.0, g.1) at f)
 both_end (Some r) (Some r') rest es f g = sym f ∙ g
 
 -- a fine line doesn't end them
-not_ended : (o : Option ValuesReason) (e : Entry) (es : List Entry) (line rest : List ℕ) → NoFeed line → reason_for (demand_of e) (Some (line, [])) ≡ None → Ends o (line ++ 10 ∷ rest) (e ∷ es) → ⊥
-not_ended None e es line rest feed fine h = no h.0 where
-  no : e ∷ es ≡ [] → ⊥
-  no f = cc
+not_ended : (o : Option ValuesReason) (e : Entry) (es : List Entry) (line rest : List ℕ) → NoFeed line → reason_for (demand_of e) (Some (line, [])) ≡ None
+    → Ends o (line ++ 10 ∷ rest) (e ∷ es) → ⊥
+not_ended None e es line rest feed fine h = let f = h.0 in cc
 not_ended (Some r) e es line rest feed fine h =
-    no (sym fine ∙ sym (reason_same e (Some (line, rest))) ∙ ap (λ (o : Option (List ℕ × List ℕ)). wanted_reason e o) (sym (line_first line rest feed)) ∙ h) where
-      no : None ≡ Some r → ⊥
-      no f = cc
+    let f : None ≡ Some r = sym fine ∙ sym (reason_same e (Some (line, rest))) ∙ rw (line_first line rest feed) at h in
+    cc
 
 two_lines : (a b r r' : List ℕ) → NoFeed a → NoFeed b → a ++ 10 ∷ r ≡ b ++ 10 ∷ r' → (a ≡ b) × (r ≡ r')
 two_lines a b r r' p q e = some_pair_parts a b r r' (sym (line_first a r p) ∙ ap first_line e ∙ line_first b r' q)
@@ -51,25 +160,220 @@ two_lines a b r r' p q e = some_pair_parts a b r r' (sym (line_first a r p) ∙ 
 fine_entry : (e : Entry) → line_reason e (entry_line e) ≡ None → reason_for (demand_of e) (Some (entry_line e, [])) ≡ None
 fine_entry e h = sym (reason_same e (Some (entry_line e, []))) ∙ h
 
-pub meet : (taken : List Taken) (before after : List Entry) (rest rest' : List ℕ) (o o' : Option ValuesReason) → Follows taken (λ es. Ends o rest es) (before ++ after) → AreClean (before ++ after)
-    → AreFineTaken taken → AreFine before → text_of (lines_of taken) ++ rest ≡ text_of (map entry_line before) ++ rest' → Ends o' rest' after → Same taken before o o'
+pub meet : (taken : List Taken) (before after : List Entry) (rest rest' : List ℕ) (o o' : Option ValuesReason)
+    → Follows taken (λ es. Ends o rest es) (before ++ after) → AreClean (before ++ after)
+    → AreFineTaken taken → AreFine before → text_of (lines_of taken) ++ rest ≡ text_of (map entry_line before) ++ rest' → Ends o' rest' after
+    → Same taken before o o'
 meet [] [] after rest rest' o o' f clean fine fine' e ends =
-    record { long = refl; lines = refl; reason = both_end o o' rest after f (subst (λ (l : List ℕ). Ends o' l after) (sym e) ends) }
+    record { long = refl; lines = refl; reason = both_end o o' rest after f (rw e ends) }
 meet [] (x ∷ before) after rest rest' o o' f clean fine fine' e ends =
     let feed = fine_feed (demand_of x) (entry_line x) clean.0 (fine_entry x fine'.0) in
-    let is : rest ≡ entry_line x ++ 10 ∷ (text_of (map entry_line before) ++ rest') = e ∙ append_assoc (entry_line x) (10 ∷ text_of (map entry_line before)) rest' in
-    absurd (not_ended o x (before ++ after) (entry_line x) (text_of (map entry_line before) ++ rest') feed (fine_entry x fine'.0) (subst (λ (l : List ℕ). Ends o l (x ∷ before ++ after)) is f))
+    let is : rest ≡ entry_line x ++ 10 ∷ (text_of (map entry_line before) ++ rest') =
+    e ∙ append_assoc (entry_line x) (10 ∷ text_of (map entry_line before)) rest' in
+    absurd (not_ended o x (before ++ after) (entry_line x) (text_of (map entry_line before) ++ rest') feed (fine_entry x fine'.0) (rw (is) at f))
 meet (t ∷ taken) [] [] rest rest' o o' f clean fine fine' e ends = absurd f
 meet (t ∷ taken) [] (x ∷ after) rest rest' o o' f clean fine fine' e ends =
-    let same : reason_for (demand_of x) (Some (t.line, [])) ≡ None = ap (λ (d : Demand). reason_for d (Some (t.line, []))) f.0 ∙ fine.0 in
+    let same : reason_for (demand_of x) (Some (t.line, [])) ≡ None = rw (f.0) fine.0 in
     let feed = fine_feed (demand_of x) t.line clean.0 same in
     let is : rest' ≡ t.line ++ 10 ∷ (text_of (lines_of taken) ++ rest) = sym e ∙ append_assoc t.line (10 ∷ text_of (lines_of taken)) rest in
-    absurd (not_ended o' x after t.line (text_of (lines_of taken) ++ rest) feed same (subst (λ (l : List ℕ). Ends o' l (x ∷ after)) is ends))
+    absurd (not_ended o' x after t.line (text_of (lines_of taken) ++ rest) feed same (rw (is) at ends))
 meet (t ∷ taken) (x ∷ before) after rest rest' o o' f clean fine fine' e ends =
-    let same : reason_for (demand_of x) (Some (t.line, [])) ≡ None = ap (λ (d : Demand). reason_for d (Some (t.line, []))) f.0 ∙ fine.0 in
+    let same : reason_for (demand_of x) (Some (t.line, [])) ≡ None = rw (f.0) fine.0 in
     let feed = fine_feed (demand_of x) t.line clean.0 same in
     let feed' = fine_feed (demand_of x) (entry_line x) clean.0 (fine_entry x fine'.0) in
-    let both = two_lines t.line (entry_line x) (text_of (lines_of taken) ++ rest) (text_of (map entry_line before) ++ rest') feed feed'
+    let both = two_lines t.line (entry_line x) _ _ feed feed'
     (sym (append_assoc t.line (10 ∷ text_of (lines_of taken)) rest) ∙ e ∙ append_assoc (entry_line x) (10 ∷ text_of (map entry_line before)) rest') in
     let more = meet taken before after rest rest' o o' (f.1 (sym both.0)) clean.1 fine.1 fine'.1 both.1 ends in
-    record { long = ap suc more.long; lines = ap (λ (l : List ℕ). l ∷ lines_of taken) both.0 ∙ ap (λ (l : List (List ℕ)). entry_line x ∷ l) more.lines; reason = more.reason }
+    record { long = ap suc more.long; lines = rw (both.0, more.lines) refl; reason = more.reason }
+
+-- ---- The lines of the entries of a fit set are clean.
+
+-- ---- The entries of a set whose names have no line feed.
+
+abbrev pub AreNamed : List Element → Type 0
+AreNamed = AllByRecursion (λ (x : Element). NoFeed x.name)
+
+abbrev pub AreCleanFields : List Field → Type 0
+AreCleanFields = AllByRecursion (λ (f : Field). NoFeed f.name)
+
+named_behind : (step : ℕ × ℕ) (text : List ℕ) (c p : Bool) (xs : List Element) → NoFeed text → AreNamed xs → AreNamed (map (behind step text c p) xs)
+named_behind step text c p [] h n = tt
+named_behind step text c p (x ∷ xs) h n = (feed_append text x.name h n.0, named_behind step text c p xs h n.1)
+
+named_dotted : (xs : List Element) → AreNamed xs → AreNamed (map dotted xs)
+named_dotted [] n = tt
+named_dotted (x ∷ xs) n = ((refl, n.0), named_dotted xs n.1)
+
+index_feed : (count : Count) (e : ℕ) → NoFeed (index_text count e)
+index_feed One e = tt
+index_feed _ e = (refl, feed_append (decimal e) (codes "]") (decimal_feed e) (refl, tt))
+
+pub record NamesShape (s : Shape) : Type 0 where
+  pub named : (n : List ℤ) (at : ℕ) → AreNamed (s.elements n at)
+
+module _ (ss : List Shape) (good : (j : ℕ) → NamesShape (get_or ss j no_shape)) where
+  item_named : (item : Item) (caps : List ℕ) (z : ℤ) (n : List ℤ) (at : ℕ) → AreNamed (item_elements ss item caps z n at)
+  item_named (Struct j) caps z n at = named_dotted ((get_or ss j no_shape).elements n at) ((good j).named n at)
+  item_named _ caps z n at = (tt, tt)
+
+  array_named : (f : Field) (stand : Stand) (part : ℕ → List Element) → NoFeed f.name → ((at : ℕ) → AreNamed (part at)) → (step e n at : ℕ)
+      → AreNamed (array_elements f stand part step e n at)
+  array_named f stand part h p step e zero at = tt
+  array_named f stand part h p step e (suc n) at =
+      all_both _ (map (behind _ _ _ _) (part at)) _
+      (named_behind _ _ _ _ (part at) (feed_append f.name (index_text f.count e) h (index_feed f.count e)) (p at))
+      (array_named f stand part h p step (suc e) n (at + step))
+
+  fields_named : (fields : List Field) (v : ℕ) (own : ℕ → ℕ) (n : List ℤ) (i at : ℕ) (fs : List Field) → AreCleanFields fs
+      → AreNamed (elements_from ss fields v own n i at fs)
+  fields_named fields v own n i at [] h = tt
+  fields_named fields v own n i at (f ∷ fs) h =
+      let next = at + length (field_cells (cells_in ss) fields i f) in
+      all_both _ (field_elements ss fields v own n i at f) (elements_from ss fields v own n (suc i) next fs)
+      (array_named f (stand_of i f v own) (item_elements ss f.item (counted i fields) f.default n) h.0
+      (λ at. item_named f.item (counted i fields) f.default n at)
+      (item_size (cells_in ss) f.item) 0 (capacity_of f.count) at) (fields_named fields v own n (suc i) next fs h.1)
+
+  pub desc_named : (d : Desc) (v : ℕ) (n : List ℤ) (at : ℕ) → AreCleanFields d.fields → AreNamed (desc_elements ss d v n at)
+  desc_named d v n at h =
+      all_both _ (elements_from ss d.fields v (numbers_of (cells_in ss) d n at) n 0 at d.fields) _ (fields_named d.fields v _ n 0 at d.fields h) (tt, tt)
+
+shapes_named : (ds : List Desc) → ((j : ℕ) → AreCleanFields (get_or ds j no_desc).fields) → (k : ℕ) → (j : ℕ)
+    → NamesShape (get_or (first shape ds k) j no_shape)
+unfolding first
+shapes_named ds clean zero j = record { named = λ n at. tt }
+shapes_named ds clean (suc k) j =
+    one_more NamesShape no_shape (record { named = λ n at. tt }) (first shape ds k) (shapes_named ds clean k) (shape (first shape ds k) (get_or ds k no_desc))
+    (record { named = λ n at. desc_named (first shape ds k) (shapes_named ds clean k) (get_or ds k no_desc) (get_or ds k no_desc).version n at (clean k) }) j
+
+-- ---- entries
+
+clean_numbers : (n : List ℤ) (xs : List Element) → AreNamed xs → AreClean (map (λ x. OfNumber x n) (printed xs))
+clean_numbers n [] h = tt
+clean_numbers n (x ∷ xs) h = go (x.counted && is_number x.what) (clean_numbers n xs h.1)
+  where
+    go : (b : Bool) → AreClean (map (λ x. OfNumber x n) (printed xs)) → AreClean (map (λ x. OfNumber x n) (if b then x ∷ printed xs else printed xs))
+    go true more = (h.0, more)
+    go false more = more
+
+abbrev pub AreCleanSubs : List Sub → Type 0
+AreCleanSubs = AllByRecursion (λ (s : Sub). NoFeed s.desc.name × AreCleanFields s.desc.fields)
+
+abbrev pub AreCleanDevices : List Device → Type 0
+AreCleanDevices = AllByRecursion (λ (d : Device). NoFeed d.desc.name × AreCleanFields d.desc.fields × AreCleanSubs d.subs)
+
+module _ (set : Set) (structs : (j : ℕ) → AreCleanFields (get_or set.structs j no_desc).fields) where
+  clean_part : (d : Desc) (n : List ℤ) (at : ℕ) → AreCleanFields d.fields → AreClean (number_entries set d n at)
+  clean_part d n at h =
+      clean_numbers n (elements_in set d d.version n at) (desc_named (shapes set) (shapes_named set.structs structs (length set.structs)) d d.version n at h)
+
+  clean_subs : (d : Device) (image : Image) (j at : ℕ) (subs : List Sub) (came : List (Option ℕ)) → AreCleanSubs subs
+      → AreClean (subs_entries set d image j at subs came)
+  clean_subs d image j at (s ∷ subs) (o ∷ came) h =
+      let next = at + length (desc_cells (struct_cells set) s.desc) in (
+        h.0.0,
+        all_both _ (number_entries set s.desc image.numbers at) (subs_entries set d image (suc j) next subs came)
+            (clean_part s.desc image.numbers at h.0.1) (clean_subs d image (suc j) next subs came h.1),
+      )
+  clean_subs d image j at _ _ h = tt
+
+  clean_images : (devices : List Device) (images : List Image) → AreCleanDevices devices → AreClean (devices_entries set devices images)
+  clean_images (d ∷ devices) (image ∷ images) h =
+      all_both _ (device_entries set d image) (devices_entries set devices images) (
+        h.0.0,
+        all_both _ (number_entries set d.desc image.numbers 0) (subs_entries set d image 0 (own_cells set d) d.subs image.came)
+            (clean_part d.desc image.numbers 0 h.0.1) (clean_subs d image 0 (own_cells set d) d.subs image.came h.0.2),
+      ) (clean_images devices images h.1)
+  clean_images _ _ h = tt
+
+  pub clean_entries : (machine : Option (List ℕ)) (images : List Image) → AreCleanDevices set.devices → ((name : List ℕ) → machine ≡ Some name → NoFeed name)
+      → AreClean (entries set machine images)
+  clean_entries None images h m = clean_images set.devices images h
+  clean_entries (Some name) images h m = (m name refl, clean_images set.devices images h)
+
+-- ---- No name of a well-formed set has a line feed.
+
+-- ---- names
+
+name_byte : (b : ℕ) → is_name_byte b ≡ true → (b == 10) ≡ false
+name_byte b e = ne_eqb b 10 (λ same. let h = name_byte_high b e in omega (arith, h, same))
+
+name_bytes : (name : List ℕ) → list_all is_name_byte name ≡ true → NoFeed name
+name_bytes [] e = tt
+name_bytes (b ∷ name) e = let p = and_parts (is_name_byte b) (list_all is_name_byte name) e in (name_byte b p.0, name_bytes name p.1)
+
+clean_name : (most : ℕ) (name : List ℕ) → is_name most name ≡ true → NoFeed name
+clean_name most name e = name_bytes name (and_parts (nat_le 1 (length name) && nat_le (length name) most) (list_all is_name_byte name) e).1
+
+clean_sub_name : (device name : List ℕ) → NoFeed device → is_sub_name device name ≡ true → NoFeed name
+clean_sub_name device name h e =
+    let n = length device + 1 in
+    let p = and_parts (bytes_eq (take n name) (device ++ 47 ∷ [])) (is_name 64 (drop n name)) e in
+    let front : NoFeed (take n name) = rw ((bytes_eq-Decides (take n name) (device ++ 47 ∷ [])).0 p.0) (feed_append device (47 ∷ []) h (refl, tt)) in
+    rw (take-append-drop n name) at (feed_append (take n name) (drop n name) front (clean_name 64 (drop n name) p.1))
+
+-- ---- parts of a set
+
+all_from : {A : Type 0} (P : A → Type 0) (xs : List A) → ((k : ℕ) (x : A) → slice_get xs k ≡ Some x → P x) → AllByRecursion P xs
+all_from P [] h = tt
+all_from P (x ∷ xs) h = (h 0 x refl, all_from P xs (λ k y e. h (suc k) y e))
+
+clean_fields : (k : ℕ) (d : Desc) (rules : List Bool) → Clean k d rules → AreCleanFields d.fields
+clean_fields k d rules c =
+    all_from _ d.fields (λ i f e. clean_name 32 f.name (and_parts (is_name 32 f.name) (list_all (is_name 32) f.former) (c.fields i f e).0).0)
+
+first_true : (b : Bool) (rules : List Bool) (place : Place) → failing 1 (b ∷ rules) place ≡ None → b ≡ true
+first_true true rules place e = refl
+first_true false rules place e = cc
+
+named_one : (machines : List (List ℕ)) (name : List ℕ) → list_all (is_name 64) machines ≡ true → is_one_of machines name ≡ true → NoFeed name
+named_one [] name e h = cc
+named_one (m ∷ machines) name e h =
+    let p = and_parts (is_name 64 m) (list_all (is_name 64) machines) e in
+    either_of (bytes_eq m name) _ h (λ f. rw (← ((bytes_eq-Decides m name).0 f)) (clean_name 64 m p.0)) (λ f. named_one machines name p.1 f)
+
+by_tests : (machines : List (List ℕ)) (line name : List ℕ) (b c : Bool) → is_one_of machines (drop 8 line) ≡ c
+    → (if b && c then Some (drop 8 line) else None) ≡ Some name → is_one_of machines name ≡ true
+by_tests machines line name true true e h = rw (← (same_Some (drop 8 line) name h)) e
+by_tests machines line name _ _ e h = cc
+
+-- a machine that is named is one of the set
+pub named_is : (machines : List (List ℕ)) (o : Option (List ℕ × List ℕ)) (name : List ℕ) → machine_named machines o ≡ Some name → is_one_of machines name ≡ true
+named_is machines None name e = cc
+named_is machines (Some (line, rest)) name e = by_tests machines line name (begins_with (codes "machine ") line) (is_one_of machines (drop 8 line)) refl e
+
+module _ (set : Set) (well : WellFormed set) where
+  pub clean_structs : (j : ℕ) → AreCleanFields (get_or set.structs j no_desc).fields
+  clean_structs j = go (slice_get set.structs j) refl
+    where
+      go : (o : Option Desc) → slice_get set.structs j ≡ o → AreCleanFields (get_or set.structs j no_desc).fields
+      go None e = rw (get_none set.structs j no_desc e) tt
+      go (Some d) e = rw (get_or_from_slice_get set.structs j d no_desc e) (clean_fields j d (struct_rules set.structs j d) (struct_clean set well j d e))
+
+  device_clean : (k : ℕ) (d : Device) → slice_get set.devices k ≡ Some d → NoFeed d.desc.name × AreCleanFields d.desc.fields × AreCleanSubs d.subs
+  device_clean k d e =
+      let c = (device_parts set well k d e).0 in
+      let name : NoFeed d.desc.name = clean_name 100 d.desc.name c.own.0 in (
+        name,
+        clean_fields (length set.structs) d.desc (device_rules set k d) c,
+        all_from _ d.subs
+            (λ j s f. let x = sub_clean set well k j d s e f in
+            (clean_sub_name d.desc.name s.desc.name name x.own.0, clean_fields (length set.structs) s.desc (sub_rules d j s) x)),
+      )
+
+  pub clean_devices : AreCleanDevices set.devices
+  clean_devices = all_from _ set.devices (λ k d e. device_clean k d e)
+
+  machines_named : list_all (is_name 64) set.machines ≡ true
+  unfolding first_fault
+  machines_named =
+      first_true (list_all (is_name 64) set.machines) _ (here parts.Set)
+      (or_else_none (failing 1 (set_rules set) (here parts.Set))
+      (or_else (first_answer (struct_fault set.structs) 0 set.structs)
+      (or_else (first_answer (device_fault set) 0 set.devices) (failing 1 (size_rules set) (here parts.Set)))) well).0
+
+  pub clean_named : (name : List ℕ) → is_one_of set.machines name ≡ true → NoFeed name
+  clean_named name h = named_one set.machines name machines_named h
+
+  pub clean_machine : (o : Option (List ℕ × List ℕ)) (name : List ℕ) → machine_named set.machines o ≡ Some name → NoFeed name
+  clean_machine o name e = clean_named name (named_is set.machines o name e)

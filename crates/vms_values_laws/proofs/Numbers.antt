@@ -1,24 +1,57 @@
--- The numbers of one description, read as entries.
-use Rattle.std.proofs.Common.{◌≡◌, ℕ, ◌+◌, ◌≤◌, List, [], ◌∷◌, ◌++◌, length, get_or, map, true, Some, ℤ, pos, Ok, Err, refl, sym, ap, ◌∙◌, subst, arith, append-nil, codes}
-use Rattle.std.proofs.lemmas.List.{length-map}
-use Rattle.std.specs.Fmt.{signed_decimal}
-use Rattle.vms_spec.specs.Sets.{Desc, Set}
-use Rattle.vms_spec.specs.Layout.{desc_cells, struct_cells}
-use Rattle.vms_spec.specs.Spelling.{first_line, number_spelled}
-use Rattle.vms_spec.specs.ValuesReading.{Standing, Read, BadLine, readers, read_desc}
-use Rattle.vms_spec.specs.Sound.{IsSound, AreSound}
-use Rattle.vms_words.specs.Texts.{IsShort}
-use Rattle.vms_words.proofs.Spells.{number_holds}
-use Rattle.vms_elements.specs.Elements.{Element, shapes, desc_elements}
-use Rattle.vms_elements.specs.Parts.{elements_in}
-use Rattle.vms_elements.specs.Lines.{text_of, printed}
-use Rattle.vms_elements.specs.Entries.{Entry, OfNumber, number_entries}
-use Rattle.vms_values_laws.specs.Said.{Said, said_line, AreFineLines, Agrees, Meets, AreBelow, AreFrom, put_all, Ran}
-use Rattle.vms_values_laws.specs.Taken.{ForNumber, reason_for, Taken, lines_of, AreFineTaken, Follows, Along, Begins, Moved}
-use Rattle.vms_values_laws.proofs.SaidLaws.{ran_none, meets_all}
-use Rattle.vms_values_laws.proofs.Coming.{AreShortSaid, ComesTo, At}
-use Rattle.vms_values_laws.proofs.Wrapped.{under, wrapped}
-use Rattle.vms_values_laws.proofs.Walk.{part_comes}
+-- The numbers of one description, read as entries; following what was taken.
+use Rattle.vms_values_laws.proofs.Facade.{◌≡◌, ℕ, suc, List, [], ◌∷◌, ◌++◌, Option, Some, None, refl, sym, ap, ◌∙◌, arith, append_assoc, ◌+◌, ◌≤◌, length, ◌<◌}
+use Rattle.vms_values_laws.proofs.Facade.{get_or, map, true, ℤ, pos, Ok, Err, append-nil, codes, map-append, length-append, length-map, signed_decimal, ⊎_elim}
+use Rattle.vms_values_laws.proofs.Facade.{cases_lt, get_or-eq_default, text_of, printed, Entry, OfMachine, wanted_reason, OfNumber, number_entries, text_append}
+use Rattle.vms_values_laws.proofs.Facade.{demand_of, reason_for, Taken, lines_of, AreFineTaken, Follows, Along, Moved, ForNumber, Begins, Desc, Set, desc_cells}
+use Rattle.vms_values_laws.proofs.Facade.{struct_cells, first_line, number_spelled, Standing, Read, BadLine, readers, read_desc, IsSound, AreSound, IsShort}
+use Rattle.vms_values_laws.proofs.Facade.{number_holds, Element, shapes, desc_elements, elements_in, Said, said_line, AreFineLines, Agrees, Meets, AreBelow}
+use Rattle.vms_values_laws.proofs.Facade.{Ran, has_line}
+use Rattle.vms_values_laws.proofs.Coming.{ComesTo, At}
+use Rattle.vms_values_laws.proofs.Walk.{under, wrapped, part_comes}
+use Rattle.vms_values_laws.proofs.SecondPass.{subs_past, sub_numbers}
+use Rattle.vms_values_laws.proofs.SaidLaws.{meets_all, ran_none, Told, told_none, has_said, said_both, lines_both, lines_said, AreShortSaid}
+
+-- ---- Following what was taken, part after part.
+
+-- what may be somewhere doesn't depend on the state
+pub reason_same : (e : Entry) (o : Option (List ℕ × List ℕ)) → wanted_reason e o ≡ reason_for (demand_of e) o
+reason_same (OfMachine name) o = refl
+reason_same _ None = refl
+reason_same _ (Some (line, rest)) = refl
+
+pub follows_then : (taken more : List Taken) (P Q : List Entry → Type 0) (es : List Entry) → Follows taken P es
+    → ((xs : List Entry) → P xs → Follows more Q xs) → Follows (taken ++ more) Q es
+follows_then [] more P Q es f h = h es f
+follows_then (t ∷ taken) more P Q [] f h = absurd f
+follows_then (t ∷ taken) more P Q (e ∷ es) f h = (f.0, λ x. follows_then taken more P Q es (f.1 x) h)
+
+pub along_then : (taken more : List Taken) (P Q : List Entry → Type 0) (es : List Entry) → Along taken P es → ((xs : List Entry) → P xs → Along more Q xs)
+    → Along (taken ++ more) Q es
+along_then [] more P Q es f h = h es f
+along_then (t ∷ taken) more P Q [] f h = absurd f
+along_then (t ∷ taken) more P Q (e ∷ es) f h = (f.0, along_then taken more P Q es f.1 h)
+
+pub fine_then : (taken more : List Taken) → AreFineTaken taken → AreFineTaken more → AreFineTaken (taken ++ more)
+fine_then [] more f g = g
+fine_then (t ∷ taken) more f g = (f.0, fine_then taken more f.1 g)
+
+pub moved_none : (line : ℕ) (text : List ℕ) → Moved line text [] line text
+moved_none line text = record { further = omega arith; texts = refl; fine = tt }
+
+pub moved_one : (line : ℕ) (text : List ℕ) (t : Taken) (rest : List ℕ) → text ≡ t.line ++ 10 ∷ rest → reason_for t.demand (Some (t.line, [])) ≡ None
+    → Moved line text (t ∷ []) (suc line) rest
+moved_one line text t rest e f = record { further = omega arith; texts = e ∙ sym (append_assoc t.line (10 ∷ []) rest); fine = (f, tt) }
+
+pub moved_then : {line line' line'' : ℕ} {text text' text'' : List ℕ} {taken more : List Taken} → Moved line text taken line' text'
+    → Moved line' text' more line'' text'' → Moved line text (taken ++ more) line'' text''
+moved_then {text'' = text''} {taken = taken} {more = more} f g = record {
+  further = omega (arith, length-append taken more);
+  texts = f.texts ∙ rw (g.texts, map-append (λ (t : Taken). t.line) taken more, text_append (lines_of taken) (lines_of more))
+      (sym (append_assoc (text_of (lines_of taken)) _ text''));
+  fine = fine_then taken more f.fine g.fine;
+}
+
+-- ---- The numbers of one description, read as entries.
 
 abbrev pub taken_of : Said → Taken
 taken_of s = record { demand = ForNumber s.element; line = said_line s }
@@ -29,6 +62,10 @@ all_taken said = map (λ (s : Said). taken_of s) said
 -- numbers of at most 64 bits
 abbrev pub AreShort : List ℤ → Type 0
 AreShort numbers = (c : ℕ) → IsShort (get_or numbers c (pos 0))
+
+pub short_within : (n : List ℤ) → ((c : ℕ) → c < length n → IsShort (get_or n c (pos 0))) → AreShort n
+short_within n h c =
+    ⊎_elim (λ (lt : c < length n). h c lt) (λ (ge : length n ≤ c). rw (get_or-eq_default n (pos 0) ge) (omega arith)) (cases_lt c (length n))
 
 -- entries of these elements, in a state
 abbrev pub of_numbers : List ℤ → List Element → List Entry
@@ -47,28 +84,28 @@ cancel (x ∷ front) a b e = cancel front a b (tail (x ∷ front ++ a) (x ∷ fr
   tail : (xs ys : List ℕ) → xs ≡ ys → rest_of xs ≡ rest_of ys
   tail xs ys e = ap rest_of e
 
-pub number_same : (name : List ℕ) (y z : ℤ) → IsShort y → IsShort z → name ++ (codes " = " ++ signed_decimal y) ≡ name ++ (codes " = " ++ signed_decimal z) → y ≡ z
+pub number_same : (name : List ℕ) (y z : ℤ) → IsShort y → IsShort z → name ++ (codes " = " ++ signed_decimal y) ≡ name ++ (codes " = " ++ signed_decimal z)
+    → y ≡ z
 number_same name y z p q e =
     let same = cancel (codes " = ") (signed_decimal y) (signed_decimal z) (cancel name (codes " = " ++ signed_decimal y) (codes " = " ++ signed_decimal z) e) in
     some_same y z (sym (number_holds y p) ∙ ap number_spelled same ∙ number_holds z q)
 
-pub follows_meets : (said : List Said) (left : List Element) (n : List ℤ) (xs : List Element) (more : List Entry) (P : List Entry → Type 0) → AreShort n → AreShortSaid said
-    → Meets said left n xs → P (of_numbers n left ++ more) → Follows (all_taken said) P (of_numbers n xs ++ more)
-follows_meets [] left n xs more P short said-short h p = subst (λ (l : List Element). P (of_numbers n l ++ more)) (sym h) p
+pub follows_meets : (said : List Said) (left : List Element) (n : List ℤ) (xs : List Element) (more : List Entry) (P : List Entry → Type 0) → AreShort n
+    → AreShortSaid said → Meets said left n xs → P (of_numbers n left ++ more) → Follows (all_taken said) P (of_numbers n xs ++ more)
+follows_meets [] left n xs more P short said-short h p = rw h p
 follows_meets (s ∷ said) left n [] more P short said-short h p = absurd h
 follows_meets (s ∷ said) left n (x ∷ xs) more P short said-short h p = (
   ap ForNumber h.0,
   λ e. follows_meets said left n xs more P short said-short.1
-      (h.1 (number_same s.element.name (get_or n s.element.cell (pos 0)) s.number (short s.element.cell) said-short.0
-      (subst (λ (y : Element). y.name ++ (codes " = " ++ signed_decimal (get_or n y.cell (pos 0))) ≡ said_line s) h.0 e))) p,
+      (h.1 (number_same s.element.name _ s.number (short s.element.cell) said-short.0 (rw (h.0) at e))) p,
 )
 
 pub along_meets : (said : List Said) (left : List Element) (n : List ℤ) (xs : List Element) (more : List Entry) (P : List Entry → Type 0) → Agrees said n
     → Meets said left n xs → P (of_numbers n left ++ more) → Along (all_taken said) P (of_numbers n xs ++ more)
-along_meets [] left n xs more P a h p = subst (λ (l : List Element). P (of_numbers n l ++ more)) (sym h) p
+along_meets [] left n xs more P a h p = rw h p
 along_meets (s ∷ said) left n [] more P a h p = absurd h
 along_meets (s ∷ said) left n (x ∷ xs) more P a h p = (
-  ap (λ (y : Element). y.name ++ (codes " = " ++ signed_decimal (get_or n y.cell (pos 0)))) h.0 ∙ ap (λ (z : ℤ). s.element.name ++ (codes " = " ++ signed_decimal z)) a.0,
+  rw (h.0, a.0) refl,
   along_meets said left n xs more P a.1 (h.1 a.0) p,
 )
 
@@ -84,39 +121,66 @@ ran_moved : (p q : Standing) (said : List Said) → Ran p said q → Moved p.lin
 ran_moved p q said r =
     record {
       further = omega (arith, r.line, length-map said (λ (s : Said). taken_of s));
-      texts = r.rest ∙ ap (λ (l : List (List ℕ)). text_of l ++ q.rest) (sym (lines_taken said));
+      texts = rw (lines_taken said) r.rest;
       fine = fine_taken said r.fine;
     }
 
 -- ---- a description that was read, or not
 
--- what its lines said, about cells from one on
-pub record Told (low : ℕ) (before : List ℤ) (said : List Said) (after : List ℤ) : Type 0 where
-  pub agrees : Agrees said after
-  pub from : AreFrom low said
-  pub numbers : after ≡ put_all before said
-  pub long : length after ≡ length before
-  pub short : AreShortSaid said
+-- what lines up to a place said, if entries that have these lines go on like this
+pub record NumbersSaid (set : Set) (d : Desc) (at : ℕ) (p : Standing) (numbers : List ℤ) (line : ℕ) (rest : List ℕ)
+    (Then : List Entry → List Entry → Type 0) : Type 0 where
+  pub said : List Said
+  pub told : Told at p.numbers said numbers
+  pub follows : (n : List ℤ) (more : List Entry) → AreShort n → Follows (all_taken said) (Then more) (number_entries set d n at ++ more)
+  pub along : (n : List ℤ) (more : List Entry) → Agrees said n → Along (all_taken said) (Then more) (number_entries set d n at ++ more)
+  pub moved : Moved p.line p.rest (all_taken said) line rest
 
 pub record NumbersRead (set : Set) (d : Desc) (at : ℕ) (p q : Standing) : Type 0 where
-  pub said : List Said
-  pub told : Told at p.numbers said q.numbers
+  pub whole : NumbersSaid set d at p q.numbers q.line q.rest (λ more es. es ≡ more)
+  pub open whole use *
   pub below : AreBelow (at + length (desc_cells (struct_cells set) d)) said
   -- the elements that are printed are those about which something was said
   pub heard : (n : List ℤ) → Agrees said n → printed (elements_in set d d.version n at) ≡ map (λ (s : Said). s.element) said
-  pub follows : (n : List ℤ) (more : List Entry) → AreShort n → Follows (all_taken said) (λ es. es ≡ more) (number_entries set d n at ++ more)
-  pub along : (n : List ℤ) (more : List Entry) → Agrees said n → Along (all_taken said) (λ es. es ≡ more) (number_entries set d n at ++ more)
-  pub moved : Moved p.line p.rest (all_taken said) q.line q.rest
 
 pub record NumbersStop (set : Set) (d : Desc) (at : ℕ) (p : Standing) (e : BadLine) : Type 0 where
-  pub said : List Said
   pub place : Standing
   pub element : Element
-  pub told : Told at p.numbers said place.numbers
-  pub follows : (n : List ℤ) (more : List Entry) → AreShort n → Follows (all_taken said) (λ es. Begins (ForNumber element) es) (number_entries set d n at ++ more)
-  pub along : (n : List ℤ) (more : List Entry) → Agrees said n → Along (all_taken said) (λ es. Begins (ForNumber element) es) (number_entries set d n at ++ more)
-  pub moved : Moved p.line p.rest (all_taken said) e.line place.rest
+  pub before : NumbersSaid set d at p place.numbers e.line place.rest (λ more es. Begins (ForNumber element) es)
+  pub open before use *
   pub wrong : reason_for (ForNumber element) (first_line place.rest) ≡ Some e.reason
+
+-- what comes after the numbers
+module _ {set : Set} {d : Desc} {at : ℕ} {p q : Standing} (n : NumbersRead set d at p q) where
+  pub follows_on : (taken : List Taken) (P : List Entry → Type 0) (numbers : List ℤ) (es : List Entry) → AreShort numbers → Follows taken P es
+      → Follows (all_taken n.said ++ taken) P (number_entries set d numbers at ++ es)
+  follows_on taken P numbers es short h = follows_then (all_taken n.said) taken (λ l. l ≡ es) P _ (n.follows numbers es short) (λ l is. rw is h)
+
+  pub along_on : (taken : List Taken) (P : List Entry → Type 0) (numbers : List ℤ) (es : List Entry) → Agrees n.said numbers → Along taken P es
+      → Along (all_taken n.said ++ taken) P (number_entries set d numbers at ++ es)
+  along_on taken P numbers es agrees h = along_then (all_taken n.said) taken (λ l. l ≡ es) P _ (n.along numbers es agrees) (λ l is. rw is h)
+
+  pub heard_on : (numbers : List ℤ) (es : List Entry) (said : List Said) (c : ℕ) → Agrees n.said numbers → has_line es c ≡ has_said said c
+      → has_line (number_entries set d numbers at ++ es) c ≡ has_said (n.said ++ said) c
+  heard_on numbers es said c agrees h =
+      rw (lines_both (number_entries set d numbers at), n.heard numbers agrees, lines_said numbers n.said c, said_both n.said said c, h) refl
+
+  line_on : (numbers : List ℤ) → Agrees n.said numbers → q.line ≡ p.line + length (printed (elements_in set d d.version numbers at))
+  line_on numbers agrees =
+      omega (
+        arith,
+        n.moved.further,
+        length-map n.said (λ (s : Said). taken_of s),
+        ap length (n.heard numbers agrees),
+        length-map n.said
+            (λ (s : Said). s.element),
+      )
+
+  -- the lines of subsections after them
+  pub lines_on : (numbers : List ℤ) (es : List Entry) → Agrees n.said numbers
+      → sub_numbers p.line (number_entries set d numbers at ++ es) ≡ sub_numbers q.line es
+  lines_on numbers es agrees =
+      subs_past p.line numbers (printed (elements_in set d d.version numbers at)) es ∙ ap (λ (l : ℕ). sub_numbers l es) (sym (line_on numbers agrees))
 
 abbrev pub NumbersCome : Set → Desc → ℕ → Standing → Read → Type 0
 NumbersCome set d at p (Ok q) = NumbersRead set d at p q
@@ -133,43 +197,31 @@ module _ (set : Set) (d : Desc) (at : ℕ) (p : Standing) where
   entries_are : (n : List ℤ) → of_numbers n (total n) ≡ number_entries set d n at
   entries_are n = ap (λ (l : List Element). of_numbers n l) (under_none (printed (desc_elements (shapes set) d d.version n at)))
 
-  told_of : (cell : ℕ) (q : Standing) (said : List Said) (left : List ℤ → List Element) → At total p at cell q said left → Told at p.numbers said q.numbers
-  told_of cell q said left a = record { agrees = a.agrees; from = a.from; numbers = a.ran.numbers; long = a.long; short = a.short }
+  abbrev said_of_at : {cell : ℕ} {q : Standing} {said : List Said} {left : List ℤ → List Element} (line : ℕ) (Then : List Entry → List Entry → Type 0)
+      → At total p at cell q said left
+      → q.line ≡ line → ((n : List ℤ) (more : List Entry) → Then more (of_numbers n (left n) ++ more)) → NumbersSaid set d at p q.numbers line q.rest Then
+  said_of_at {q = q} {said = said} {left = left} line Then a is next =
+      record {
+        said = said;
+        told = a.told;
+        follows = λ n more short. rw (← (entries_are n)) (follows_meets said (left n) n (total n) more (Then more) short a.short (a.meets n) (next n more));
+        along = λ n more agrees. rw (← (entries_are n)) (along_meets said (left n) n (total n) more (Then more) agrees (a.meets n) (next n more));
+        moved = rw (← is) (ran_moved p q said a.ran);
+      }
 
   from_comes : (r : Read) → ComesTo total p at (at + length (desc_cells (struct_cells set) d)) [] [] (λ m. []) r → NumbersCome set d at p r
   from_comes (Ok q) f =
-      let end = at + length (desc_cells (struct_cells set) d) in
       record {
-        said = f.said;
-        told = told_of end q f.said (λ m. []) f.stands;
+        whole = said_of_at q.line (λ more es. es ≡ more) f.stands refl (λ n more. refl);
         below = f.stands.below;
-        heard = λ n agrees.
-            sym (under_none (printed (desc_elements (shapes set) d d.version n at))) ∙ meets_all f.said [] n (total n) agrees (f.stands.meets n) ∙ append-nil (map (λ (s : Said). s.element) f.said);
-        follows = λ n more short.
-            subst (λ (l : List Entry). Follows (all_taken f.said) (λ es. es ≡ more) (l ++ more)) (entries_are n)
-            (follows_meets f.said [] n (total n) more (λ es. es ≡ more) short f.stands.short (f.stands.meets n) refl);
-        along = λ n more agrees.
-            subst (λ (l : List Entry). Along (all_taken f.said) (λ es. es ≡ more) (l ++ more)) (entries_are n)
-            (along_meets f.said [] n (total n) more (λ es. es ≡ more) agrees (f.stands.meets n) refl);
-        moved = ran_moved p q f.said f.stands.ran;
+        heard = λ n agrees. sym (under_none _) ∙ meets_all f.said [] n (total n) agrees (f.stands.meets n) ∙ append-nil (map (λ (s : Said). s.element) f.said);
       }
   from_comes (Err e) s =
-      let a = s.stood in
-      let left : List ℤ → List Element = λ m. s.element ∷ s.after m in
       record {
-        said = s.said;
         place = s.place;
         element = s.element;
-        told = told_of s.cell s.place s.said left a;
-        follows = λ n more short.
-            subst (λ (l : List Entry). Follows (all_taken s.said) (λ es. Begins (ForNumber s.element) es) (l ++ more)) (entries_are n)
-            (follows_meets s.said (left n) n (total n) more (λ es. Begins (ForNumber s.element) es) short a.short (a.meets n)
-            (record { first = OfNumber s.element n; others = of_numbers n (s.after n) ++ more; is = refl; demands = refl }));
-        along = λ n more agrees.
-            subst (λ (l : List Entry). Along (all_taken s.said) (λ es. Begins (ForNumber s.element) es) (l ++ more)) (entries_are n)
-            (along_meets s.said (left n) n (total n) more (λ es. Begins (ForNumber s.element) es) agrees (a.meets n)
-            (record { first = OfNumber s.element n; others = of_numbers n (s.after n) ++ more; is = refl; demands = refl }));
-        moved = subst (λ (line : ℕ). Moved p.line p.rest (all_taken s.said) line s.place.rest) (sym s.line) (ran_moved p s.place s.said a.ran);
+        before = said_of_at e.line (λ more es. Begins (ForNumber s.element) es) s.stood (sym s.line)
+            (λ n more. record { first = OfNumber s.element n; others = _; is = refl; demands = refl });
         wrong = s.wrong;
       }
 
@@ -177,5 +229,5 @@ module _ (set : Set) (d : Desc) (at : ℕ) (p : Standing) where
       → NumbersCome set d at p (read_desc (readers set) d d.version [] true at p)
   numbers_come structs sound room =
       let started : At total p at at p [] (λ m. total m ++ []) =
-      record { meets = λ m. sym (append-nil (total m)); agrees = tt; below = tt; from = tt; up = omega arith; short = tt; long = refl; ran = ran_none p } in
+      record { meets = λ m. sym (append-nil (total m)); below = tt; up = omega arith; told = told_none at p.numbers; ran = ran_none p } in
       from_comes (read_desc (readers set) d d.version [] true at p) (part_comes total p at set d at p [] (λ m. []) structs sound room started).comes

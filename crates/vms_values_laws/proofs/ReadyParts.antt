@@ -1,27 +1,19 @@
--- A state that a text says, with good parts, is ready.
-use Rattle.std.proofs.Common.{◌≡◌, ℕ, suc, ◌+◌, ◌<◌, ◌≤◌, Bool, true, false, List, ◌∷◌, ◌++◌, length, get_or, Option, Some, None, ℤ, refl, sym, ap, ◌∙◌, subst, arith, []}
-use Rattle.std.specs.List.{flat_map, slice_get}
-use Rattle.std.proofs.lemmas.Bool.{or_from}
-use Rattle.vms_spec.specs.declared.ValuesReason.{ValuesReason}
-use Rattle.vms_spec.specs.declared.ValuesReason.TheVariants as reasons
-use Rattle.vms_spec.specs.Lists.{or_else}
-use Rattle.vms_spec.specs.Sets.{Desc, Sub, Device, Set}
-use Rattle.vms_spec.specs.Layout.{Cell, no_cell, Slot, desc_cells, struct_cells, device_cells}
-use Rattle.vms_spec.specs.Layout as slots
-use Rattle.vms_spec.specs.Images.{Image, own_cells, own_slots, sub_slots, came_slots, image_slots, FitsCell, RulesHold, AreVersionsOf}
-use Rattle.vms_spec.specs.Streams.{is_needed, ComeAsNeeded, IsReady}
-use Rattle.vms_spec.specs.Good.{DefaultsFit}
-use Rattle.vms_bodies.proofs.SpellLaws.{rules_append}
-use Rattle.vms_bodies.proofs.ReadyLaws.{rules_are}
-use Rattle.vms_elements.specs.Parts.{cells_of, elements_in}
-use Rattle.vms_elements.specs.Entries.{Entry, OfSub, number_entries, subs_entries, device_entries, if_not, rules_hold, have_defaults, sub_holds, came_well, part_reason}
-use Rattle.vms_elements.specs.Reading.{AreFine, has_line, IsShaped, AreUnsaid, IsAtVersion, AreAtVersions}
-use Rattle.vms_elements.proofs.Walk.{walks}
-use Rattle.vms_elements.proofs.SlotsOf.{elements_slots}
-use Rattle.vms_values_laws.proofs.Unsaid.{lines_both}
-use Rattle.vms_values_laws.proofs.SecondPass.{desc_rules}
+-- Images that may be written, part by part, and the first bad part.
+use Rattle.vms_values_laws.proofs.Facade.{◌≡◌, ℕ, suc, ◌+◌, ◌<◌, ◌≤◌, Bool, true, false, List, ◌∷◌, ◌++◌, length, get_or, Option, Some, None, ℤ, refl, sym, ap}
+use Rattle.vms_values_laws.proofs.Facade.{◌∙◌, arith, [], map, flat_map, slice_get, AllByRecursion, or_from, get_or_append_left, get_or-append-add}
+use Rattle.vms_values_laws.proofs.Facade.{length-append, ValuesReason, or_else, Desc, Sub, Device, Set, Cell, no_cell, Slot, desc_cells, struct_cells}
+use Rattle.vms_values_laws.proofs.Facade.{device_cells, Image, own_cells, own_slots, sub_slots, came_slots, image_slots, RulesHold, AreVersionsOf, is_needed}
+use Rattle.vms_values_laws.proofs.Facade.{ComeAsNeeded, IsReady, DefaultsFit, rules_append, rules_are, elements_in, Entry, OfSub, number_entries, subs_entries}
+use Rattle.vms_values_laws.proofs.Facade.{device_entries, if_not, rules_hold, have_defaults, sub_holds, came_well, part_reason, AreFine, has_line, IsShaped}
+use Rattle.vms_values_laws.proofs.Facade.{AreUnsaid, IsAtVersion, AreAtVersions, walks, elements_slots, BadLine, or_bad}
+use Rattle.vms_values_laws.proofs.SecondPass.{desc_rules, as_bad, parts_from}
 use Rattle.vms_values_laws.proofs.Numbers.{AreShort}
-use Rattle.vms_values_laws.proofs.Rights.{AreRight, right_none, right_both, fit_front, fit_back, AreBare, bare_front, bare_back, below_lines, above_lines, said_right, have_each}
+use Rattle.vms_values_laws.proofs.Rights.{AreRight, right_none, right_both, AreBare, none_outside, said_right, have_each, fit_parts}
+use Rattle.vms_values_laws.proofs.SaidLaws.{lines_both}
+use Rattle.vms_spec.specs.declared.ValuesReason.TheVariants as reasons
+use Rattle.vms_spec.specs.Layout as slots
+
+-- ---- A state that a text says, with good parts, is ready.
 
 -- ---- entries of a part
 
@@ -29,10 +21,12 @@ pub fine_both : (es fs : List Entry) → AreFine (es ++ fs) → AreFine es × Ar
 fine_both [] fs h = (tt, h)
 fine_both (e ∷ es) fs h = let p = fine_both es fs h.1 in ((h.0, p.0), p.1)
 
+none_in : (es fs : List Entry) (k : ℕ) → has_line es k ≡ false → has_line fs k ≡ false → has_line (es ++ fs) k ≡ false
+none_in es fs k a b = lines_both es fs k ∙ or_from _ _ a b
+
 -- no section or subsection is bad
 abbrev pub AreGood : Set → List Entry → Type 0
-AreGood set [] = Unit {0}
-AreGood set (e ∷ es) = (part_reason set e ≡ None) × AreGood set es
+AreGood set = AllByRecursion (λ (e : Entry). part_reason set e ≡ None)
 
 pub good_both : (set : Set) (es fs : List Entry) → AreGood set (es ++ fs) → AreGood set es × AreGood set fs
 good_both set [] fs h = (tt, h)
@@ -56,31 +50,43 @@ module _ (set : Set) (n : List ℤ) (short : AreShort n) where
   abbrev bytes : Desc → ℕ → List Slot
   bytes d at = slots.desc_slots (slots.meanings set.structs (length set.structs)) d d.version n at
 
-  pub desc_right : (d : Desc) (at : ℕ) → AreFine (number_entries set d n at) → DefaultsFit (cells d) → AreBare n at (cells d) (λ k. has_line (number_entries set d n at) k) → AreRight n at (cells d) (bytes d at)
+  pub desc_right : (d : Desc) (at : ℕ) → AreFine (number_entries set d n at) → DefaultsFit (cells d)
+      → AreBare n at (cells d) (λ k. has_line (number_entries set d n at) k) → AreRight n at (cells d) (bytes d at)
   desc_right d at fine defaults bare =
-      let xs = elements_in set d d.version n at in
-      let same : cells_of xs ≡ cells d = (walks set d d.version d.version n n at at).cells_are in
-      subst (λ (l : List Cell). AreRight n at l (bytes d at)) same
-      (subst (λ (ss : List Slot). AreRight n at (cells_of xs) ss) (elements_slots set d d.version n at)
-      (said_right n short at xs (walks set d d.version d.version n n at at).up fine (subst (λ (l : List Cell). DefaultsFit l) (sym same) defaults)
-      (subst (λ (l : List Cell). AreBare n at l (λ k. has_line (number_entries set d n at) k)) (sym same) bare)))
+      let w = walks set d d.version d.version n n at at in
+      rw (← (w.cells_are), ← (elements_slots set d d.version n at))
+      (said_right n short at (elements_in set d d.version n at) w.up fine (rw (w.cells_are) defaults) (rw (w.cells_are) bare))
 
   desc_bare : (d : Desc) (at : ℕ) → have_defaults n (elements_in set d d.version n at) ≡ true → AreBare n at (cells d) (λ k. false)
   desc_bare d at h =
-      subst (λ (l : List Cell). AreBare n at l (λ k. false)) (walks set d d.version d.version n n at at).cells_are (have_each n at (elements_in set d d.version n at) (walks set d d.version d.version n n at at).up h)
+      let w = walks set d d.version d.version n n at at in rw (w.cells_are) at (have_each n at (elements_in set d d.version n at) w.up h)
 
   -- what is at its default is right, whatever is in the bytes
   pub default_right : (at : ℕ) (cs : List Cell) (ss : List Slot) → DefaultsFit cs → AreBare n at cs (λ k. false) → AreRight n at cs ss
   default_right at cs ss defaults bare =
-      record { right = λ c k lt e. let is = bare c k lt e refl in record { fits = subst (λ (z : ℤ). FitsCell (get_or cs c no_cell) z) (sym is) (defaults c lt); absent = λ h. is } }
+      record { right = λ c k lt e. let is = bare c k lt e refl in record { fits = rw is (defaults c lt); absent = λ h. is } }
 
   pub below_desc : (d : Desc) (at k : ℕ) → k < at → has_line (number_entries set d n at) k ≡ false
-  below_desc d at k lt = below_lines n at (elements_in set d d.version n at) (walks set d d.version d.version n n at at).up k lt
+  below_desc d at k lt = (none_outside n at (elements_in set d d.version n at) (walks set d d.version d.version n n at at).up k (λ le. omega arith)).0
 
   pub above_desc : (d : Desc) (at k : ℕ) → at + length (cells d) ≤ k → has_line (number_entries set d n at) k ≡ false
   above_desc d at k le =
-      above_lines n at (elements_in set d d.version n at) (walks set d d.version d.version n n at at).up k
-      (omega (arith, ap (λ (l : List Cell). length l) (walks set d d.version d.version n n at at).cells_are))
+      let w = walks set d d.version d.version n n at at in
+      (none_outside n at (elements_in set d d.version n at) w.up k (λ low. omega (arith, ap length w.cells_are))).0
+
+  -- a part, and what comes after it
+  pub bare_parts : (d : Desc) (at next : ℕ) (cs : List Cell) (others : List Entry) → next ≡ at + length (cells d)
+      → ((k : ℕ) → k < next → has_line others k ≡ false) → AreBare n at (cells d ++ cs) (λ k. has_line (number_entries set d n at ++ others) k)
+      → AreBare n at (cells d) (λ k. has_line (number_entries set d n at) k) × AreBare n next cs (λ k. has_line others k)
+  bare_parts d at next cs others is below b = (
+    λ c k lt e f.
+        b c k (omega (arith, length-append (cells d) cs)) e (none_in (number_entries set d n at) others k f (below k (omega arith)))
+        ∙ ap (λ (x : Cell). x.default) (get_or_append_left (cells d) cs no_cell c lt),
+    λ c k lt e f.
+        b (length (cells d) + c) k (omega (arith, length-append (cells d) cs)) (omega arith)
+        (none_in (number_entries set d n at) others k (above_desc d at k (omega arith)) f)
+        ∙ ap (λ (x : Cell). x.default) (get_or-append-add (cells d) cs c no_cell),
+  )
 
 -- the cells of subsections
 abbrev pub sub_cells : Set → List Sub → List Cell
@@ -93,13 +99,9 @@ module _ (set : Set) (d : Device) (image : Image) (short : AreShort image.number
   n = image.numbers
 
   pub below_subs : (j at : ℕ) (subs : List Sub) (came : List (Option ℕ)) (k : ℕ) → k < at → has_line (subs_entries set d image j at subs came) k ≡ false
-  below_subs j at [] came k lt = refl
-  below_subs j at (s ∷ subs) [] k lt = refl
   below_subs j at (s ∷ subs) (o ∷ came) k lt =
-      let next = at + length (desc_cells (struct_cells set) s.desc) in
-      let others = subs_entries set d image (suc j) next subs came in
-      lines_both (number_entries set s.desc n at) others k
-      ∙ or_from (has_line (number_entries set s.desc n at) k) (has_line others k) (below_desc set n short s.desc at k lt) (below_subs (suc j) next subs came k (omega arith))
+      none_in (number_entries set s.desc n at) _ k (below_desc set n short s.desc at k lt) (below_subs (suc j) _ subs came k (omega arith))
+  below_subs j at _ _ k lt = refl
 
   -- what holds of the subsections
   pub record SubsReady (j at : ℕ) (subs : List Sub) (came : List (Option ℕ)) : Type 0 where
@@ -112,29 +114,34 @@ module _ (set : Set) (d : Device) (image : Image) (short : AreShort image.number
     next = at + length (desc_cells (struct_cells set) s.desc)
 
     it_came : (v : ℕ) → v ≡ s.desc.version → AreRight n at (desc_cells (struct_cells set) s.desc) (sub_slots set s s.desc.version n at)
-        → (b : Bool) → is_needed set d image s j ≡ b → sub_holds set s (Some v) n at ≡ true → came_well b (Some v) (have_defaults n (elements_in set s.desc s.desc.version n at)) ≡ true
+        → (b : Bool) → is_needed set d image s j ≡ b → sub_holds set s (Some v) n at ≡ true
+        → came_well b (Some v) (have_defaults n (elements_in set s.desc s.desc.version n at)) ≡ true
         → SubsReady (suc j) next subs came → SubsReady j at (s ∷ subs) (Some v ∷ came)
     it_came v same right true needed holds well later =
         record {
-          right = right_both n at (desc_cells (struct_cells set) s.desc) (sub_cells set subs) (sub_slots set s v n at) (came_slots set d n next subs came)
-              (subst (λ (w : ℕ). AreRight n at (desc_cells (struct_cells set) s.desc) (sub_slots set s w n at)) (sym same) right) later.right;
-          valid = rules_append (sub_slots set s v n at) (came_slots set d n next subs came) (rules_are (sub_slots set s v n at) (sym (desc_rules set s.desc v n at) ∙ holds)) later.valid;
+          right =
+              right_both n at next (desc_cells (struct_cells set) s.desc) (sub_cells set subs) (sub_slots set s v n at) (came_slots set d n next subs came) refl
+              (rw same right) later.right;
+          valid = rules_append (sub_slots set s v n at) (came_slots set d n next subs came)
+              (rules_are (sub_slots set s v n at) (sym (desc_rules set s.desc v n at) ∙ holds)) later.valid;
           needed = (needed, same, later.needed);
         }
     it_came v same right false needed holds well later = cc
 
     it_did_not : DefaultsFit (desc_cells (struct_cells set) s.desc) → (b : Bool) → is_needed set d image s j ≡ b
-        → came_well b None (have_defaults n (elements_in set s.desc s.desc.version n at)) ≡ true → SubsReady (suc j) next subs came → SubsReady j at (s ∷ subs) (None ∷ came)
+        → came_well b None (have_defaults n (elements_in set s.desc s.desc.version n at)) ≡ true → SubsReady (suc j) next subs came
+        → SubsReady j at (s ∷ subs) (None ∷ came)
     it_did_not defaults true needed well later = cc
     it_did_not defaults false needed well later =
         record {
-          right = right_both n at (desc_cells (struct_cells set) s.desc) (sub_cells set subs) [] (came_slots set d n next subs came)
+          right = right_both n at next (desc_cells (struct_cells set) s.desc) (sub_cells set subs) [] (came_slots set d n next subs came) refl
               (default_right set n short at (desc_cells (struct_cells set) s.desc) [] defaults (desc_bare set n short s.desc at well)) later.right;
           valid = later.valid;
           needed = (needed, later.needed);
         }
 
-    by_line : (o : Option ℕ) → IsAtVersion s o → AreRight n at (desc_cells (struct_cells set) s.desc) (sub_slots set s s.desc.version n at) → DefaultsFit (desc_cells (struct_cells set) s.desc)
+    by_line : (o : Option ℕ) → IsAtVersion s o → AreRight n at (desc_cells (struct_cells set) s.desc) (sub_slots set s s.desc.version n at)
+        → DefaultsFit (desc_cells (struct_cells set) s.desc)
         → part_reason set (OfSub d image j s at o) ≡ None → SubsReady (suc j) next subs came → SubsReady j at (s ∷ subs) (o ∷ came)
     by_line (Some v) same right defaults good later =
         let well = came_well (is_needed set d image s j) (Some v) (have_defaults n (elements_in set s.desc s.desc.version n at)) in
@@ -144,12 +151,10 @@ module _ (set : Set) (d : Device) (image : Image) (short : AreShort image.number
         let well = came_well (is_needed set d image s j) None (have_defaults n (elements_in set s.desc s.desc.version n at)) in
         it_did_not defaults (is_needed set d image s j) refl (two_none true well good).1 later
 
-  pub subs_ready : (j at : ℕ) (subs : List Sub) (came : List (Option ℕ)) → length came ≡ length subs → AreAtVersions subs came → AreFine (subs_entries set d image j at subs came)
-      → AreGood set (subs_entries set d image j at subs came) → DefaultsFit (sub_cells set subs) → AreBare n at (sub_cells set subs) (λ k. has_line (subs_entries set d image j at subs came) k)
-      → SubsReady j at subs came
+  pub subs_ready : (j at : ℕ) (subs : List Sub) (came : List (Option ℕ)) → length came ≡ length subs → AreAtVersions subs came
+      → AreFine (subs_entries set d image j at subs came) → AreGood set (subs_entries set d image j at subs came) → DefaultsFit (sub_cells set subs)
+      → AreBare n at (sub_cells set subs) (λ k. has_line (subs_entries set d image j at subs came) k) → SubsReady j at subs came
   subs_ready j at [] [] long versions fine good defaults bare = record { right = right_none n at []; valid = tt; needed = refl }
-  subs_ready j at [] (o ∷ came) long versions fine good defaults bare = absurd (omega (arith, long))
-  subs_ready j at (s ∷ subs) [] long versions fine good defaults bare = absurd (omega (arith, long))
   subs_ready j at (s ∷ subs) (o ∷ came) long versions fine good defaults bare =
       let own = desc_cells (struct_cells set) s.desc in
       let next = at + length own in
@@ -157,28 +162,26 @@ module _ (set : Set) (d : Device) (image : Image) (short : AreShort image.number
       let others = subs_entries set d image (suc j) next subs came in
       let f = fine_both numbers others fine.1 in
       let g = good_both set numbers others good.1 in
-      let front : AreBare n at own (λ k. has_line numbers k) =
-      bare_front n at own (sub_cells set subs) (λ k. has_line numbers k) (λ k. has_line (subs_entries set d image j at (s ∷ subs) (o ∷ came)) k)
-      (λ k lt e. lines_both numbers others k ∙ or_from (has_line numbers k) (has_line others k) e (below_subs (suc j) next subs came k lt)) bare in
-      let back : AreBare n next (sub_cells set subs) (λ k. has_line others k) =
-      bare_back n at own (sub_cells set subs) (λ k. has_line others k) (λ k. has_line (subs_entries set d image j at (s ∷ subs) (o ∷ came)) k)
-      (λ k le e. lines_both numbers others k ∙ or_from (has_line numbers k) (has_line others k) (above_desc set n short s.desc at k le) e) bare in
-      by_line s j at subs came o versions.0 (desc_right set n short s.desc at f.0 (fit_front own (sub_cells set subs) defaults) front) (fit_front own (sub_cells set subs) defaults) good.0
-      (subs_ready (suc j) next subs came (omega (arith, long)) versions.1 f.1 g.1 (fit_back own (sub_cells set subs) defaults) back)
+      let b = bare_parts set n short s.desc at next (sub_cells set subs) others refl (λ k lt. below_subs (suc j) next subs came k lt) bare in
+      let p = fit_parts own (sub_cells set subs) defaults in
+      by_line s j at subs came o versions.0 (desc_right set n short s.desc at f.0 p.0 b.0) p.0 good.0
+      (subs_ready (suc j) next subs came (omega (arith, long)) versions.1 f.1 g.1 p.1 b.1)
+  subs_ready j at _ _ long versions fine good defaults bare = absurd (omega (arith, long))
 
   -- ---- the whole
 
-  versions_of : (subs : List Sub) (came : List (Option ℕ)) → length came ≡ length subs → AreAtVersions subs came → ((j : ℕ) (s : Sub) → slice_get subs j ≡ Some s → s.desc.minimum ≤ s.desc.version) → AreVersionsOf subs came
+  versions_of : (subs : List Sub) (came : List (Option ℕ)) → length came ≡ length subs → AreAtVersions subs came
+      → ((j : ℕ) (s : Sub) → slice_get subs j ≡ Some s → s.desc.minimum ≤ s.desc.version) → AreVersionsOf subs came
   versions_of [] [] long h low = tt
-  versions_of [] (o ∷ came) long h low = absurd (omega (arith, long))
-  versions_of (s ∷ subs) [] long h low = absurd (omega (arith, long))
   versions_of (s ∷ subs) (None ∷ came) long h low = versions_of subs came (omega (arith, long)) h.1 (λ j t e. low (suc j) t e)
   versions_of (s ∷ subs) (Some v ∷ came) long h low =
       let l = low 0 s refl in
       let same : v ≡ s.desc.version = h.0 in
       ((omega arith, omega arith), versions_of subs came (omega (arith, long)) h.1 (λ j t e. low (suc j) t e))
+  versions_of _ _ long h low = absurd (omega (arith, long))
 
-  pub device_ready : IsShaped set d image → AreUnsaid set d image → AreFine (device_entries set d image) → AreGood set (device_entries set d image) → DefaultsFit (device_cells set d)
+  pub device_ready : IsShaped set d image → AreUnsaid set d image → AreFine (device_entries set d image) → AreGood set (device_entries set d image)
+      → DefaultsFit (device_cells set d)
       → d.desc.minimum ≤ d.desc.version → ((j : ℕ) (s : Sub) → slice_get d.subs j ≡ Some s → s.desc.minimum ≤ s.desc.version) → IsReady set d image
   device_ready shaped unsaid fine good defaults low lows =
       let own = desc_cells (struct_cells set) d.desc in
@@ -190,19 +193,15 @@ module _ (set : Set) (d : Device) (image : Image) (short : AreShort image.number
       let bare : AreBare n 0 (own ++ sub_cells set d.subs) (λ k. has_line (device_entries set d image) k) =
       λ c k lt e h. let same : k ≡ c = omega arith in
       unsaid k (omega (arith, shaped.cells)) h ∙ ap (λ (i : ℕ). (get_or (device_cells set d) i no_cell).default) same in
-      let front : AreBare n 0 own (λ k. has_line numbers k) =
-      bare_front n 0 own (sub_cells set d.subs) (λ k. has_line numbers k) (λ k. has_line (device_entries set d image) k)
-      (λ k lt e. lines_both numbers others k ∙ or_from (has_line numbers k) (has_line others k) e (below_subs 0 (own_cells set d) d.subs image.came k (omega arith))) bare in
-      let back : AreBare n (0 + length own) (sub_cells set d.subs) (λ k. has_line others k) =
-      bare_back n 0 own (sub_cells set d.subs) (λ k. has_line others k) (λ k. has_line (device_entries set d image) k)
-      (λ k le e. lines_both numbers others k ∙ or_from (has_line numbers k) (has_line others k) (above_desc set n short d.desc 0 k le) e) bare in
-      let subs = subs_ready 0 (own_cells set d) d.subs image.came shaped.subs shaped.versions f.1 g.1 (fit_back own (sub_cells set d.subs) defaults)
-      (subst (λ (i : ℕ). AreBare n i (sub_cells set d.subs) (λ k. has_line others k)) (sym next) back) in
-      let mine : AreRight n 0 own (own_slots set d d.desc.version n) = desc_right set n short d.desc 0 f.0 (fit_front own (sub_cells set d.subs) defaults) front in
-      let theirs : AreRight n 0 own (own_slots set d image.version n) = subst (λ (v : ℕ). AreRight n 0 own (own_slots set d v n)) (sym shaped.version) mine in
+      let b = bare_parts set n short d.desc 0 (own_cells set d) (sub_cells set d.subs) others next
+      (λ k lt. below_subs 0 (own_cells set d) d.subs image.came k lt) bare in
+      let p = fit_parts own (sub_cells set d.subs) defaults in
+      let subs = subs_ready 0 (own_cells set d) d.subs image.came shaped.subs shaped.versions f.1 g.1 p.1 b.1 in
+      let mine : AreRight n 0 own (own_slots set d d.desc.version n) = desc_right set n short d.desc 0 f.0 p.0 b.0 in
+      let theirs : AreRight n 0 own (own_slots set d image.version n) = rw (shaped.version) mine in
       let all : AreRight n 0 (device_cells set d) (image_slots set d image) =
-      right_both n 0 own (sub_cells set d.subs) (own_slots set d image.version n) (came_slots set d n (own_cells set d) d.subs image.came) theirs
-      (subst (λ (i : ℕ). AreRight n i (sub_cells set d.subs) (came_slots set d n (own_cells set d) d.subs image.came)) next subs.right) in
+      right_both n 0 (own_cells set d) own (sub_cells set d.subs) (own_slots set d image.version n) (came_slots set d n (own_cells set d) d.subs image.came)
+      next theirs subs.right in
       record {
         normal = record {
           version = (let v = shaped.version in omega arith, let v = shaped.version in omega arith);
@@ -211,7 +210,64 @@ module _ (set : Set) (d : Device) (image : Image) (short : AreShort image.number
           absent = λ c lt e. (all.right c c (omega (arith, shaped.cells)) (omega arith)).absent e;
         };
         valid = rules_append (own_slots set d image.version n) (came_slots set d n (own_cells set d) d.subs image.came)
-            (rules_are (own_slots set d image.version n) (sym (desc_rules set d.desc image.version n 0) ∙ if_none (rules_hold (elements_in set d.desc image.version n 0)) reasons.Invalid good.0)) subs.valid;
+            (rules_are (own_slots set d image.version n)
+            (sym (desc_rules set d.desc image.version n 0) ∙ if_none
+            (rules_hold (elements_in set d.desc image.version n 0)) reasons.Invalid good.0)) subs.valid;
         version = shaped.version;
         needed = subs.needed;
       }
+
+-- ---- The first bad part of entries.
+
+pub record FirstPart (set : Set) (line : ℕ) (es : List Entry) (b : BadLine) : Type 0 where
+  pub before : List Entry
+  pub entry : Entry
+  pub after : List Entry
+  pub is : es ≡ before ++ entry ∷ after
+  pub good : map (part_reason set) before ≡ map (λ e. None) before
+  pub number : b.line ≡ line + length before
+  pub bad : part_reason set entry ≡ Some b.reason
+
+pub first_part : (set : Set) (line : ℕ) (es : List Entry) (b : BadLine) → parts_from set line es ≡ Some b → FirstPart set line es b
+first_part set line [] b h = absurd (cc)
+first_part set line (e ∷ es) b h = go (part_reason set e) refl h (λ g. first_part set (suc line) es b g)
+  where
+    go : (o : Option ValuesReason) → part_reason set e ≡ o → or_bad (as_bad line o) (parts_from set (suc line) es) ≡ Some b
+        → (parts_from set (suc line) es ≡ Some b → FirstPart set (suc line) es b) → FirstPart set line (e ∷ es) b
+    go None is h more =
+        let p = more h in
+        record {
+          before = e ∷ p.before;
+          entry = p.entry;
+          after = p.after;
+          is = ap (λ (l : List Entry). e ∷ l) p.is;
+          good = rw (is, p.good) refl;
+          number = omega (arith, p.number);
+          bad = p.bad;
+        }
+    go (Some reason) is h more =
+        let same : record { line = line; reason = reason } ≡ b = cc in
+        record {
+          before = [];
+          entry = e;
+          after = es;
+          is = refl;
+          good = refl;
+          number = rw (← same) (omega arith);
+          bad = rw (← same) is;
+        }
+
+pub bad_part_found : (set : Set) (line : ℕ) (before : List Entry) (entry : Entry) (after : List Entry) (reason : ValuesReason)
+    → map (part_reason set) before ≡ map (λ e. None) before
+    → part_reason set entry ≡ Some reason → parts_from set line (before ++ entry ∷ after) ≡ Some (record { line = line + length before; reason = reason })
+bad_part_found set line [] entry after reason good bad =
+    let same : line ≡ line + 0 = omega arith in
+    rw (bad, ← same) refl
+bad_part_found set line (e ∷ before) entry after reason good bad =
+    let here : part_reason set e ≡ None = cc in
+    let same : line + suc (length before) ≡ suc line + length before = omega arith in
+    rw (here, same) (bad_part_found set (suc line) before entry after reason (cc) bad)
+
+pub good_none : (set : Set) (line : ℕ) (es : List Entry) → AreGood set es → parts_from set line es ≡ None
+good_none set line [] g = refl
+good_none set line (e ∷ es) g = rw (g.0) (good_none set (suc line) es g.1)

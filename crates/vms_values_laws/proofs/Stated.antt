@@ -1,38 +1,142 @@
--- The laws of reading, as they are stated.
-use Rattle.std.proofs.Common.{◌≡◌, inl, inr, ℕ, ◌+◌, length, List, Option, Some, None, refl, sym, ap, ◌∙◌, subst, arith}
-use Rattle.vms_spec.specs.declared.ValuesReason.{ValuesReason}
-use Rattle.vms_spec.specs.Sets.{Set}
-use Rattle.vms_spec.specs.Images.{Image}
-use Rattle.vms_spec.specs.Spelling.{first_line}
-use Rattle.vms_spec.specs.Values.{values_text}
-use Rattle.vms_spec.specs.ValuesReading.{BadLine, ValuesRead, Values, Bad, values_read}
-use Rattle.vms_spec.specs.Good.{IsFit}
-use Rattle.vms_spec.proofs.WellFormedLaws.{well_good}
-use Rattle.vms_elements.specs.Lines.{text_of}
-use Rattle.vms_elements.specs.Entries.{entries}
-use Rattle.vms_elements.specs.Reading.{IsText, Says, IsBadLine, IsBadPart, Refused, Reads}
-use Rattle.vms_elements.proofs.EntryLines.{entry_law}
-use Rattle.vms_elements.proofs.LinesOf.{text_is}
-use Rattle.vms_values_laws.specs.Laws.{ReadLaw, OnlyLaw, AcceptedLaw, PrintedLaw}
+-- The laws of values texts, as they are stated.
+use Rattle.vms_values_laws.proofs.Facade.{◌≡◌, inl, inr, ℕ, List, ◌++◌, Option, Some, None, sym, ap, ◌∙◌, subst, arith, ◌∷◌, map, true, refl, codes, append-nil}
+use Rattle.vms_values_laws.proofs.Facade.{[], ◌+◌, length, suc, ◌≤◌, Bool, false, sum_by, ℤ, if◌then◌else◌, ⊎_elim, same_Some, length-append, length-map}
+use Rattle.vms_values_laws.proofs.Facade.{sum_by-cons, ValuesReason, Set, Device, Desc, Sub, ValuesRead, Bad, machine_named, BadLine, Values, values_read}
+use Rattle.vms_values_laws.proofs.Facade.{Entry, entries, devices_entries, entry_line, OfNumber, number_entries, subs_entries, device_entries, IsBadLine}
+use Rattle.vms_values_laws.proofs.Facade.{IsMachineOf, Says, IsText, IsBadPart, Refused, Reads, Taken, Follows, Image, own_cells, first_line, is_one_of}
+use Rattle.vms_values_laws.proofs.Facade.{IsConfiguration, IsTrailer, optional, configuration, trailer, written, AreReady, WellFormed, text_of, section_line}
+use Rattle.vms_values_laws.proofs.Facade.{printed, values_text, IsFit, well_good, entry_law, text_is, ReadLaw, OnlyLaw, AcceptedLaw, PrintedLaw, device_lines}
+use Rattle.vms_values_laws.proofs.Facade.{most_lines, LineLaw, machine_short, few_devices, Takes, one_stream_holds, written_holds, FitsText, WrittenLaw}
+use Rattle.vms_values_laws.proofs.Facade.{PackedLaw, ShownLaw, desc_cells, struct_cells, Element, cells_of, elements_in, walks}
+use Rattle.vms_values_laws.proofs.BadLines.{FirstPass, NoneBad, first_pass, TakenOf, taken_all, taken_before}
+use Rattle.vms_values_laws.proofs.Meeting.{AreClean, Ends, Same, meet, NoFeed, line_first, section_feed, AreCleanDevices, clean_entries, clean_structs}
+use Rattle.vms_values_laws.proofs.Meeting.{clean_devices, clean_named, clean_machine}
 use Rattle.vms_values_laws.proofs.SecondPass.{parts_from}
-use Rattle.vms_values_laws.proofs.GoodDevices.{good_devices}
-use Rattle.vms_values_laws.proofs.AllCome.{images_of}
-use Rattle.vms_values_laws.proofs.FirstPass.{FirstPass, first_pass}
-use Rattle.vms_values_laws.proofs.Back.{bad_back}
-use Rattle.vms_values_laws.proofs.CleanNames.{clean_entries}
-use Rattle.vms_values_laws.proofs.CleanSets.{clean_structs, clean_devices, clean_machine}
-use Rattle.vms_values_laws.proofs.ReadyParts.{AreGood}
-use Rattle.vms_values_laws.proofs.Accepted.{none_says, answer_by, none_answers, none_good, says_ready}
-use Rattle.vms_values_laws.proofs.BadParts.{FirstPart, first_part, bad_part_found, good_none}
-use Rattle.vms_values_laws.proofs.Unique.{says_answers}
+use Rattle.vms_values_laws.proofs.AllCome.{all_short, images_of, good_devices}
+use Rattle.vms_values_laws.proofs.Accepted.{Match, inside_of, matched, devices_same, answer_by, none_answers, none_says, none_good, says_ready}
+use Rattle.vms_values_laws.proofs.ReadyParts.{AreGood, sub_cells, FirstPart, first_part, bad_part_found, good_none}
 use Rattle.vms_values_laws.proofs.ReadyBack.{text_says}
+use Rattle.vms_values_laws.proofs.Rights.{IsNumberOf, IsNoNumber, view}
+
+-- ---- A bad line by the relation is the one that is found.
+
+module _ (set : Set) (text : List ℕ) (line : ℕ) (reason : ValuesReason) (x : IsBadLine set text line reason)
+    (clean : AreClean (entries set x.machine x.images)) where
+  -- what was taken, beside the state that the relation has
+  against : (machine : Option (List ℕ)) (taken : List Taken) (rest : List ℕ) (o : Option ValuesReason) → TakenOf set text machine taken rest o
+      → Same taken x.before o (Some reason)
+  against machine taken rest o t =
+      let same : machine ≡ x.machine = t.named ∙ sym x.named in
+      let f : Follows taken (λ es. Ends o rest es) (x.before ++ x.after) =
+      subst (λ (es : List Entry). Follows taken (λ es. Ends o rest es) es) x.state
+      (subst (λ (m : Option (List ℕ)). Follows taken (λ es. Ends o rest es) (entries set m x.images)) same (t.follows x.images x.shaped)) in
+      meet taken x.before x.after rest x.rest o (Some reason) f (rw (x.state) at clean) t.fine x.fine (sym t.texts ∙ x.begins) x.bad
+
+  pub bad_back : (v : ValuesRead) → FirstPass set text v → v ≡ Bad line reason
+  bad_back v (inl b) =
+      let f = b.first in
+      let same = against f.machine f.taken f.rest (Some b.reason) (taken_before set text v b) in
+      let reasons : b.reason ≡ reason = (let e = same.reason in cc) in
+      let lines : b.line ≡ line = omega (arith, f.moved.further, same.long, x.number) in
+      rw (← lines, ← reasons) b.is
+  bad_back v (inr n) =
+      let e = (against n.machine n.first.taken n.all.rest None (taken_all set text v n)).reason in
+      cc
+
+-- ---- What a text says, if no line is bad, is what is read of it.
+
+-- ---- the machine
+
+-- the first line of a text that has this line first
+first_is : (text line : List ℕ) (lines : List (List ℕ)) → NoFeed line → text ≡ text_of (line ∷ lines) → first_line text ≡ Some (line, text_of lines)
+first_is text line lines clean e = ap first_line e ∙ line_first line (text_of lines) clean
+
+name_read : (machines : List (List ℕ)) (name rest : List ℕ) → is_one_of machines name ≡ true
+    → machine_named machines (Some (codes "machine " ++ name, rest)) ≡ Some name
+name_read machines name rest e = rw e refl
+
+no_name : (machines : List (List ℕ)) (d : Device) (version : ℕ) (rest : List ℕ) → machine_named machines (Some (section_line d version, rest)) ≡ None
+no_name machines d version rest = refl
+
+by_devices : (set : Set) (text : List ℕ) (devices : List Device) (images : List Image) → AreCleanDevices devices
+    → text ≡ text_of (map entry_line (devices_entries set devices images)) → machine_named set.machines (first_line text) ≡ None
+by_devices set text [] images clean e = ap (λ (l : List ℕ). machine_named set.machines (first_line l)) e
+by_devices set text (d ∷ devices) [] clean e = ap (λ (l : List ℕ). machine_named set.machines (first_line l)) e
+by_devices set text (d ∷ devices) (image ∷ images) clean e =
+    let lines = map entry_line (inside_of set d image ++ devices_entries set devices images) in
+    ap (machine_named set.machines) (first_is text (section_line d image.version) lines (section_feed d.desc.name d.instance image.version clean.0.0) e)
+    ∙ no_name set.machines d image.version (text_of lines)
+
+named_by : (set : Set) → WellFormed set → (text : List ℕ) (machine : Option (List ℕ)) (images : List Image) → IsMachineOf set machine
+    → text ≡ text_of (map entry_line (entries set machine images)) → machine_named set.machines (first_line text) ≡ machine
+named_by set well text None images named e = by_devices set text set.devices images (clean_devices set well) e
+named_by set well text (Some name) images named e =
+    let lines = map entry_line (devices_entries set set.devices images) in
+    ap (machine_named set.machines)
+    (first_is text (codes "machine " ++ name) lines (refl, (refl, (refl, (refl, (refl, (refl, (refl, (refl, clean_named set well name named)))))))) e)
+    ∙ name_read set.machines name (text_of lines) named
+
+clean_says : (set : Set) → WellFormed set → (machine : Option (List ℕ)) (images : List Image) → IsMachineOf set machine → AreClean (entries set machine images)
+clean_says set well None images named = clean_entries set (clean_structs set well) None images (clean_devices set well) (λ name e. cc)
+clean_says set well (Some name) images named =
+    clean_entries set (clean_structs set well) (Some name) images (clean_devices set well)
+    (λ other e. rw (same_Some name other e) at (clean_named set well name named))
+
+-- ---- the state
+
+module _ (set : Set) (well : WellFormed set) (text : List ℕ) (machine : Option (List ℕ)) (images : List Image) (says : Says set text machine images) where
+  its_machine : machine_named set.machines (first_line text) ≡ machine
+  its_machine = named_by set well text machine images says.named says.printed
+
+  -- what was taken are the lines of the state
+  beside : (machine' : Option (List ℕ)) (taken : List Taken) (rest : List ℕ) (o : Option ValuesReason) → TakenOf set text machine' taken rest o
+      → Same taken (entries set machine images) o None
+  beside machine' taken rest o t =
+      let es = entries set machine images in
+      let whole : es ≡ es ++ [] = sym (append-nil es) in
+      let f : Follows taken (λ es. Ends o rest es) es =
+      subst (λ (m : Option (List ℕ)). Follows taken (λ es. Ends o rest es) (entries set m images)) (t.named ∙ its_machine) (t.follows images says.shaped) in
+      meet taken es [] rest [] o None (rw (whole) at f) (subst (λ (l : List Entry). AreClean l) whole (clean_says set well machine images says.named))
+      t.fine says.fine (sym t.texts ∙ says.printed ∙ sym (append-nil (text_of (map entry_line es)))) (refl, refl)
+
+  same_devices : (machine : Option (List ℕ)) (i j : List Image) → Match (entries set machine i) (entries set machine j)
+      → Match (devices_entries set set.devices i) (devices_entries set set.devices j)
+  same_devices None i j m = m
+  same_devices (Some name) i j m = m.2
+
+  module _ (v : ValuesRead) (n : NoneBad set text v) where
+    same_machine : n.machine ≡ machine
+    same_machine = n.first.named ∙ its_machine
+
+    same_images : images_of n.all.devices ≡ images
+    same_images =
+        let f = n.first in
+        let read = images_of n.all.devices in
+        let same = beside n.machine f.taken n.all.rest None (taken_all set text v n) in
+        let m : Match (entries set n.machine read) (entries set n.machine images) =
+        matched f.taken (entries set n.machine read) (entries set n.machine images) (f.follows read f.shaped f.short) f.along
+        (f.follows images says.shaped (all_short set set.devices images says.shaped))
+        (same.lines ∙ ap (λ (m : Option (List ℕ)). map entry_line (entries set m images)) (sym same_machine)) in
+        devices_same set set.devices read images f.shaped says.shaped f.short (all_short set set.devices images says.shaped) f.unsaid says.unsaid
+        (same_devices n.machine read images m)
+
+  pub says_answers : (v : ValuesRead) → FirstPass set text v → v ≡ answer_by machine images (parts_from set 1 (entries set machine images))
+  says_answers v (inl b) =
+      let f = b.first in
+      let e = (beside f.machine f.taken f.rest (Some b.reason) (taken_before set text v b)).reason in
+      cc
+  says_answers v (inr n) =
+      none_answers set text v n ∙ rw (same_machine v n, same_images v n) refl
+
+-- ---- The laws of reading, as they are stated.
 
 its_first_pass : (set : Set) (text : List ℕ) → IsFit set → FirstPass set text (values_read set text)
 its_first_pass set text fit = let good = well_good set fit.well fit.heads in first_pass set text good.structs (good_devices set good)
 
 -- ---- what is read
 
-text_of_ready : (set : Set) (text : List ℕ) (machine : Option (List ℕ)) (images : List Image) → IsFit set → Says set text machine images → AreGood set (entries set machine images) → IsText set text machine images
+text_of_ready : (set : Set) (text : List ℕ) (machine : Option (List ℕ)) (images : List Image) → IsFit set → Says set text machine images
+    → AreGood set (entries set machine images) → IsText set text machine images
 text_of_ready set text machine images fit says good =
     record {
       named = says.named;
@@ -40,7 +144,8 @@ text_of_ready set text machine images fit says good =
       printed = says.printed ∙ ap text_of (entry_law set machine images) ∙ text_is set machine images;
     }
 
-bad_part : (set : Set) (text : List ℕ) (machine : Option (List ℕ)) (images : List Image) (b : BadLine) → Says set text machine images → FirstPart set 1 (entries set machine images) b → IsBadPart set text b.line b.reason
+bad_part : (set : Set) (text : List ℕ) (machine : Option (List ℕ)) (images : List Image) (b : BadLine) → Says set text machine images
+    → FirstPart set 1 (entries set machine images) b → IsBadPart set text b.line b.reason
 bad_part set text machine images b says p =
     record {
       machine = machine;
@@ -55,47 +160,45 @@ bad_part set text machine images b says p =
       bad = p.bad;
     }
 
-by_parts : (set : Set) (text : List ℕ) (machine : Option (List ℕ)) (images : List Image) (o : Option BadLine) → IsFit set → Says set text machine images → parts_from set 1 (entries set machine images) ≡ o
-    → Reads set text (answer_by machine images o)
+by_parts : (set : Set) (text : List ℕ) (machine : Option (List ℕ)) (images : List Image) (o : Option BadLine) → IsFit set → Says set text machine images
+    → parts_from set 1 (entries set machine images) ≡ o → Reads set text (answer_by machine images o)
 by_parts set text machine images (Some b) fit says e = inr (bad_part set text machine images b says (first_part set 1 (entries set machine images) b e))
 by_parts set text machine images None fit says e = text_of_ready set text machine images fit says (none_good set 1 (entries set machine images) e)
 
 by_pass : (set : Set) (text : List ℕ) (v : ValuesRead) → IsFit set → FirstPass set text v → Reads set text v
-by_pass set text v fit (inl b) = subst (λ (v : ValuesRead). Reads set text v) (sym b.is) (inl b.first.is_bad)
+by_pass set text v fit (inl b) = rw (b.is) (inl b.first.is_bad)
 by_pass set text v fit (inr n) =
-    let images = images_of n.all.devices in
-    subst (λ (v : ValuesRead). Reads set text v) (sym (none_answers set text v n))
-    (by_parts set text n.machine images (parts_from set 1 (entries set n.machine images)) fit (none_says set text v n) refl)
+    rw (none_answers set text v n) (by_parts set text n.machine (images_of n.all.devices) _ fit (none_says set text v n) refl)
 
 pub read_holds : ReadLaw
 read_holds set text fit = by_pass set text (values_read set text) fit (its_first_pass set text fit)
 
 pub accepted_holds : AcceptedLaw
-accepted_holds set text machine images fit e = subst (λ (v : ValuesRead). Reads set text v) e (read_holds set text fit)
+accepted_holds set text machine images fit e = rw e at (read_holds set text fit)
 
 -- ---- and nothing else
 
 line_back : (set : Set) (text : List ℕ) (line : ℕ) (reason : ValuesReason) → IsFit set → IsBadLine set text line reason → values_read set text ≡ Bad line reason
 line_back set text line reason fit x =
     bad_back set text line reason x
-    (clean_entries set (clean_structs set fit.well) x.machine x.images (clean_devices set fit.well) (λ name e. clean_machine set fit.well (first_line text) name (sym x.named ∙ e)))
-    (values_read set text) (its_first_pass set text fit)
+    (clean_entries set (clean_structs set fit.well) x.machine x.images (clean_devices set fit.well)
+    (λ name e. clean_machine set fit.well (first_line text) name (sym x.named ∙ e))) (values_read set text) (its_first_pass set text fit)
 
 part_back : (set : Set) (text : List ℕ) (line : ℕ) (reason : ValuesReason) → IsFit set → IsBadPart set text line reason → values_read set text ≡ Bad line reason
 part_back set text line reason fit x =
-    let es = entries set x.machine x.images in
     let here : 1 + length x.before ≡ line = omega (arith, x.number) in
     says_answers set fit.well text x.machine x.images x.says (values_read set text) (its_first_pass set text fit)
-    ∙ ap (λ (o : Option BadLine). answer_by x.machine x.images o) (ap (parts_from set 1) x.state ∙ bad_part_found set 1 x.before x.entry x.after reason x.good x.bad)
-    ∙ ap (λ (n : ℕ). Bad n reason) here
+    ∙ rw (x.state, bad_part_found set 1 x.before x.entry x.after reason x.good x.bad, here) refl
 
-text_back : (set : Set) (text : List ℕ) (machine : Option (List ℕ)) (images : List Image) → IsFit set → IsText set text machine images → values_read set text ≡ Values machine images
+text_back : (set : Set) (text : List ℕ) (machine : Option (List ℕ)) (images : List Image) → IsFit set → IsText set text machine images
+    → values_read set text ≡ Values machine images
 text_back set text machine images fit t =
     let s = text_says set text machine images t in
     says_answers set fit.well text machine images s.says (values_read set text) (its_first_pass set text fit)
-    ∙ ap (λ (o : Option BadLine). answer_by machine images o) (good_none set 1 (entries set machine images) s.good)
+    ∙ rw (good_none set 1 (entries set machine images) s.good) refl
 
-refused_back : (set : Set) (text : List ℕ) (line : ℕ) (reason : ValuesReason) → IsFit set → Refused set text line reason → values_read set text ≡ Bad line reason
+refused_back : (set : Set) (text : List ℕ) (line : ℕ) (reason : ValuesReason) → IsFit set → Refused set text line reason
+    → values_read set text ≡ Bad line reason
 refused_back set text line reason fit (inl x) = line_back set text line reason fit x
 refused_back set text line reason fit (inr x) = part_back set text line reason fit x
 
@@ -106,3 +209,119 @@ only_holds set text (Bad line reason) fit r = refused_back set text line reason 
 pub printed_holds : PrintedLaw
 printed_holds set machine images fit named ready =
     text_back set (values_text set machine images) machine images fit (record { named = named; ready = ready; printed = refl })
+
+-- ---- Streams of any set, written and shown.
+
+module _ (set : Set) (well : WellFormed set) where
+  configured : (machine : Option (List ℕ)) → IsMachineOf set machine → IsConfiguration set.machines machine (optional configuration machine)
+  configured None h = refl
+  configured (Some name) h = (h, let s = machine_short set well name h in omega arith, refl)
+
+trailed : (described : Option (List ℕ)) → FitsText described → IsTrailer described (optional trailer described)
+trailed None h = refl
+trailed (Some text) h = (h, refl)
+
+-- all of it is taken
+pub takes : (set : Set) → WellFormed set → (machine described : Option (List ℕ)) (images : List Image) → IsMachineOf set machine → FitsText described
+    → AreReady set images → Takes set set.machines (written set machine images described) (length (written set machine images described)) machine images
+takes set well machine described images named fits ready =
+    let few = few_devices set well in
+    let stream = written set machine images described in
+    subst (λ (l : List ℕ). Takes set set.machines l (length stream) machine images) (append-nil stream)
+    (written_holds set set.machines (omega arith) machine described images (configured set well machine named) (trailed described fits) ready [] (λ e. refl))
+
+pub written_only : WrittenLaw
+written_only set machine described images fit named fits ready =
+    let stream = written set machine images described in
+    let whole = takes set fit.well machine described images named fits ready in
+    record {
+      whole = whole;
+      only = λ taken other others t.
+          let same = one_stream_holds set set.machines fit.well fit.heads stream
+          (length stream) taken machine other images others whole t in (sym same.lengths, sym same.machines, sym same.states);
+    }
+
+pub packed_holds : PackedLaw
+packed_holds set text machine described images fit fits e =
+    let is = accepted_holds set text machine images fit e in
+    record { machine = machine; images = images; whole = takes set fit.well machine described images is.named fits is.ready; printed = sym is.printed }
+
+pub shown_holds : ShownLaw
+shown_holds set machine described images fit named fits ready text s =
+    let stream = written set machine images described in
+    let same = (written_only set machine described images fit named fits ready).only (length stream) s.machine s.images s.whole in
+    let text_is : values_text set machine images ≡ text =
+    ap (λ (o : Option (List ℕ)). values_text set o images) (sym same.1) ∙ ap (values_text set s.machine) (sym same.2) ∙ s.printed in
+    sym (ap (values_read set) text_is) ∙ printed_holds set machine images fit named ready
+
+-- ---- The number of lines that a text of a set may have.
+
+few_printed : (xs : List Element) → length (printed xs) ≤ length (cells_of xs)
+few_printed [] = omega arith
+few_printed (x ∷ xs) =
+    ⊎_elim (λ (v : IsNumberOf x xs). omega (arith, ap length v.lines, ap length v.cells, either x.counted, few_printed xs))
+    (λ (v : IsNoNumber x xs). omega (arith, ap length v.lines, ap length v.cells, few_printed xs)) (view x xs)
+  where
+    either : (b : Bool) → length (if b then x ∷ printed xs else printed xs) ≤ suc (length (printed xs))
+    either true = omega arith
+    either false = omega arith
+
+few_numbers : (set : Set) (d : Desc) (n : List ℤ) (at : ℕ) → length (number_entries set d n at) ≤ length (desc_cells (struct_cells set) d)
+few_numbers set d n at =
+    let xs = elements_in set d d.version n at in
+    omega (arith, length-map (printed xs) (λ x. OfNumber x n), few_printed xs, ap length (walks set d d.version d.version n n at at).cells_are)
+
+few_subs : (set : Set) (d : Device) (image : Image) (j at : ℕ) (subs : List Sub) (came : List (Option ℕ))
+    → length (subs_entries set d image j at subs came) ≤ length subs + length (sub_cells set subs)
+few_subs set d image j at (s ∷ subs) (o ∷ came) =
+    let own = desc_cells (struct_cells set) s.desc in
+    let numbers = number_entries set s.desc image.numbers at in
+    let others = subs_entries set d image (suc j) (at + length own) subs came in
+    omega (
+      arith,
+      length-append numbers others,
+      few_numbers set s.desc image.numbers at,
+      few_subs set d image (suc j)
+          (at + length own) subs came,
+      length-append own (sub_cells set subs),
+    )
+few_subs set d image j at _ _ = omega arith
+
+few_device : (set : Set) (d : Device) (image : Image) → length (device_entries set d image) ≤ device_lines set d
+few_device set d image =
+    let numbers = number_entries set d.desc image.numbers 0 in
+    let others = subs_entries set d image 0 (own_cells set d) d.subs image.came in
+    omega (
+      arith,
+      length-append numbers others,
+      few_numbers set d.desc image.numbers 0,
+      few_subs set d image 0
+          (own_cells set d) d.subs image.came,
+      length-append (desc_cells (struct_cells set) d.desc) (sub_cells set d.subs),
+    )
+
+few_all : (set : Set) (devices : List Device) (images : List Image) → length (devices_entries set devices images) ≤ sum_by (device_lines set) devices
+few_all set (d ∷ devices) (image ∷ images) =
+    omega (
+      arith,
+      length-append (device_entries set d image)
+          (devices_entries set devices images),
+      few_device set d image,
+      few_all set devices images,
+      sum_by-cons (device_lines set) d devices,
+    )
+few_all set _ _ = omega arith
+
+few_entries : (set : Set) (machine : Option (List ℕ)) (images : List Image) → length (entries set machine images) ≤ most_lines set
+few_entries set None images = omega (arith, few_all set set.devices images)
+few_entries set (Some name) images = omega (arith, few_all set set.devices images)
+
+by_refused : (set : Set) (text : List ℕ) (line : ℕ) (reason : ValuesReason) → Refused set text line reason → line ≤ suc (most_lines set)
+by_refused set text line reason (inl x) =
+    omega (arith, x.number, ap length x.state, length-append x.before x.after, few_entries set x.machine x.images)
+by_refused set text line reason (inr x) =
+    omega (arith, x.number, ap length x.state, length-append x.before (x.entry ∷ x.after), few_entries set x.machine x.images)
+
+pub line_holds : LineLaw
+line_holds set text line reason fit e =
+    by_refused set text line reason (rw e at (read_holds set text fit))

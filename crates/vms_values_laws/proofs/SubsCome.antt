@@ -1,76 +1,30 @@
 -- The subsections of a device, read as entries.
-use Rattle.std.proofs.Common.{◌≡◌, ℕ, suc, ◌+◌, ◌≤◌, List, ◌∷◌, ◌++◌, length, map, Bool, true, false, if◌then◌else◌, Option, Some, None, ℤ, Ok, Err, Result, refl, sym, ap, ◌∙◌, subst, arith, append_assoc, [], ◌||◌}
-use Rattle.std.proofs.lemmas.List.{length-append, length-map}
-use Rattle.std.specs.List.{flat_map}
-use Rattle.std.specs.Str.{bytes_eq}
-use Rattle.std.proofs.lemmas.Slice.Eq.{bytes_eq-Decides}
+use Rattle.vms_values_laws.proofs.Facade.{◌≡◌, ℕ, suc, ◌+◌, ◌≤◌, List, ◌∷◌, ◌++◌, length, map, Bool, true, false, if◌then◌else◌, Option, Some, None, ℤ, Ok, Err}
+use Rattle.vms_values_laws.proofs.Facade.{Result, refl, sym, ap, ◌∙◌, subst, arith, append_assoc, [], length-append, length-map, flat_map, bytes_eq}
+use Rattle.vms_values_laws.proofs.Facade.{bytes_eq-Decides, Sub, Device, Set, desc_cells, struct_cells, Image, first_line, Standing, Read, BadLine, ReadSubs}
+use Rattle.vms_values_laws.proofs.Facade.{readers, read_desc, read_subs, read_sub, sub_said, also, then_subs, next_line, rest_of, IsSound, AreSound}
+use Rattle.vms_values_laws.proofs.Facade.{line_splits, sub_line, Entry, OfSub, number_entries, subs_entries, has_line, IsAtVersion, AreAtVersions, Said, Agrees}
+use Rattle.vms_values_laws.proofs.Facade.{Demand, ForSub, ForNumber, reason_for, Taken, Follows, Along, Begins, Moved}
 use Rattle.vms_spec.specs.declared.ValuesReason.TheVariants as reasons
-use Rattle.vms_spec.specs.Sets.{Sub, Device, Set}
-use Rattle.vms_spec.specs.Layout.{desc_cells, struct_cells}
-use Rattle.vms_spec.specs.Images.{Image}
-use Rattle.vms_spec.specs.Spelling.{first_line}
-use Rattle.vms_spec.specs.ValuesReading.{Standing, Read, BadLine, ReadSubs, readers, read_desc, read_subs, read_sub, sub_said, also, then_subs, next_line, rest_of}
-use Rattle.vms_spec.specs.Sound.{IsSound, AreSound}
-use Rattle.vms_words.proofs.Lines.{line_splits}
-use Rattle.vms_elements.specs.Elements.{Element}
-use Rattle.vms_elements.specs.Parts.{elements_in}
-use Rattle.vms_elements.specs.Lines.{sub_line, printed}
-use Rattle.vms_elements.specs.Entries.{Entry, OfSub, OfNumber, number_entries, subs_entries}
-use Rattle.vms_elements.specs.Reading.{has_line, IsAtVersion, AreAtVersions}
-use Rattle.vms_values_laws.specs.Said.{Said, Agrees, AreBelow, AreFrom, put_all}
-use Rattle.vms_values_laws.specs.Taken.{Demand, ForSub, ForNumber, reason_for, Taken, Follows, Along, Begins, Moved}
-use Rattle.vms_values_laws.proofs.SaidLaws.{agrees_kept, agrees_front, from_less, put_more}
-use Rattle.vms_values_laws.proofs.Coming.{AreShortSaid}
-use Rattle.vms_values_laws.proofs.Following.{follows_then, along_then, moved_none, moved_one, moved_then}
-use Rattle.vms_values_laws.proofs.Unsaid.{has_said, said_both, lines_both, lines_said}
-use Rattle.vms_values_laws.proofs.SecondPass.{sub_numbers, subs_past}
-use Rattle.vms_values_laws.proofs.Numbers.{AreShort, taken_of, all_taken, Told, NumbersRead, NumbersStop, NumbersCome, numbers_come}
-
--- ---- what was said in two parts
-
-agrees_both : (said more : List Said) (n : List ℤ) → Agrees said n → Agrees more n → Agrees (said ++ more) n
-agrees_both [] more n a b = b
-agrees_both (s ∷ said) more n a b = (a.0, agrees_both said more n a.1 b)
-
-pub agrees_later : (said more : List Said) (n : List ℤ) → Agrees (said ++ more) n → Agrees more n
-agrees_later [] more n a = a
-agrees_later (s ∷ said) more n a = agrees_later said more n a.1
-
-from_both : (low : ℕ) (said more : List Said) → AreFrom low said → AreFrom low more → AreFrom low (said ++ more)
-from_both low [] more a b = b
-from_both low (s ∷ said) more a b = (a.0, from_both low said more a.1 b)
-
-short_both : (said more : List Said) → AreShortSaid said → AreShortSaid more → AreShortSaid (said ++ more)
-short_both [] more a b = b
-short_both (s ∷ said) more a b = (a.0, short_both said more a.1 b)
-
-pub told_none : (low : ℕ) (n : List ℤ) → Told low n [] n
-told_none low n = record { agrees = tt; from = tt; numbers = refl; long = refl; short = tt }
-
-pub told_both : (low high : ℕ) (n m k : List ℤ) (said more : List Said) → low ≤ high → AreBelow high said → Told low n said m → Told high m more k → Told low n (said ++ more) k
-told_both low high n m k said more le below f g =
-    record {
-      agrees = agrees_both said more k (subst (λ (l : List ℤ). Agrees said l) (sym g.numbers) (agrees_kept said more high m below g.from f.agrees)) g.agrees;
-      from = from_both low said more f.from (from_less low high more le g.from);
-      numbers = g.numbers ∙ ap (λ (l : List ℤ). put_all l more) f.numbers ∙ sym (put_more n said more);
-      long = g.long ∙ f.long;
-      short = short_both said more f.short g.short;
-    }
+use Rattle.vms_values_laws.proofs.Numbers.{moved_none, moved_one, moved_then, AreShort, all_taken, NumbersRead, NumbersStop, NumbersCome, numbers_come}
+use Rattle.vms_values_laws.proofs.Numbers.{follows_on, along_on, heard_on, lines_on}
+use Rattle.vms_values_laws.proofs.SecondPass.{sub_numbers}
+use Rattle.vms_values_laws.proofs.SaidLaws.{agrees_front, agrees_later, Told, told_none, told_both, has_said}
 
 -- ---- the line of a subsection
 
 pub line_taken : (text line rest : List ℕ) → first_line text ≡ Some (line, rest) → text ≡ line ++ 10 ∷ rest_of (first_line text)
-line_taken text line rest e = line_splits text line rest e ∙ ap (λ (l : List ℕ). line ++ 10 ∷ l) (sym (ap rest_of e))
+line_taken text line rest e = line_splits text line rest e ∙ rw e refl
 
-either_way : (s : Sub) (line : List ℕ) (a b : Bool) → bytes_eq line (sub_line s (Some s.desc.version)) ≡ a → bytes_eq line (sub_line s None) ≡ b → (rest : List ℕ)
+either_way : (s : Sub) (line : List ℕ) (a b : Bool) → bytes_eq line (sub_line s (Some s.desc.version)) ≡ a → bytes_eq line (sub_line s None) ≡ b
+    → (rest : List ℕ)
     → (if a then Some (Some s.desc.version) else if b then Some None else None) ≡ None → reason_for (ForSub s) (Some (line, rest)) ≡ Some reasons.Form
-either_way s line true b e f rest h = cc
-either_way s line false true e f rest h = cc
 either_way s line false false e f rest h = rw (e, f) refl
+either_way s line _ _ e f rest h = cc
 
 sub_refused : (s : Sub) (o : Option (List ℕ × List ℕ)) → sub_said s o ≡ None → reason_for (ForSub s) o ≡ Some reasons.Form
 sub_refused s None e = refl
-sub_refused s (Some (line, rest)) e = either_way s line (bytes_eq line (sub_line s (Some s.desc.version))) (bytes_eq line (sub_line s None)) refl refl rest e
+sub_refused s (Some (line, rest)) e = either_way s line _ _ refl refl rest e
 
 -- what a line says of a subsection
 pub record SaidSub (s : Sub) (o : Option (List ℕ × List ℕ)) (came : Option ℕ) : Type 0 where
@@ -79,49 +33,44 @@ pub record SaidSub (s : Sub) (o : Option (List ℕ × List ℕ)) (came : Option 
   pub fine : reason_for (ForSub s) (Some (sub_line s came, [])) ≡ None
   pub version : IsAtVersion s came
 
-one_way : (s : Sub) (line rest : List ℕ) (came : Option ℕ) (a b : Bool) → bytes_eq line (sub_line s (Some s.desc.version)) ≡ a → bytes_eq line (sub_line s None) ≡ b
+one_way : (s : Sub) (line rest : List ℕ) (came : Option ℕ) (a b : Bool) → bytes_eq line (sub_line s (Some s.desc.version)) ≡ a
+    → bytes_eq line (sub_line s None) ≡ b
     → (if a then Some (Some s.desc.version) else if b then Some None else None) ≡ Some came → SaidSub s (Some (line, rest)) came
 one_way s line rest (Some v) true b e f h =
-    let same : line ≡ sub_line s (Some s.desc.version) = (bytes_eq-Decides line (sub_line s (Some s.desc.version))).0 e in
     let version : Some s.desc.version ≡ Some v = cc in
-    let whole : line ≡ sub_line s (Some v) = same ∙ ap (λ (o : Option ℕ). sub_line s o) version in
+    let whole : line ≡ sub_line s (Some v) = (bytes_eq-Decides line (sub_line s (Some s.desc.version))).0 e ∙ ap (λ (o : Option ℕ). sub_line s o) version in
     record {
       rest = rest;
       is = ap (λ (l : List ℕ). Some (l, rest)) whole;
-      fine = ap (λ (l : List ℕ). reason_for (ForSub s) (Some (l, []))) (sym whole) ∙ (rw e refl);
+      fine = ap (λ (l : List ℕ). reason_for (ForSub s) (Some (l, []))) (sym whole) ∙ rw e refl;
       version = cc;
     }
-one_way s line rest None true b e f h = cc
-one_way s line rest (Some v) false true e f h = cc
 one_way s line rest None false true e f h =
     let whole : line ≡ sub_line s None = (bytes_eq-Decides line (sub_line s None)).0 f in
     record {
       rest = rest;
       is = ap (λ (l : List ℕ). Some (l, rest)) whole;
-      fine = ap (λ (l : List ℕ). reason_for (ForSub s) (Some (l, []))) (sym whole) ∙ (rw (e, f) refl);
+      fine = ap (λ (l : List ℕ). reason_for (ForSub s) (Some (l, []))) (sym whole) ∙ rw (e, f) refl;
       version = tt;
     }
-one_way s line rest came false false e f h = cc
+one_way s line rest (Some v) false true e f h = absurd (cc)
+one_way s line rest _ _ _ e f h = absurd (cc)
 
 sub_taken : (s : Sub) (o : Option (List ℕ × List ℕ)) (came : Option ℕ) → sub_said s o ≡ Some came → SaidSub s o came
 sub_taken s None came e = cc
-sub_taken s (Some (line, rest)) came e = one_way s line rest came (bytes_eq line (sub_line s (Some s.desc.version))) (bytes_eq line (sub_line s None)) refl refl e
+sub_taken s (Some (line, rest)) came e = one_way s line rest came _ _ refl refl e
 
--- what was said and taken up to a bad line, if the entries follow it and have its lines
-pub record Stopped (subs : List Sub) (at : ℕ) (p : Standing) (e : BadLine) (Behind : Demand → List Taken → Type 0) (Lined : Demand → List Taken → List Said → List (Option ℕ) → List ℤ → Type 0) : Type 0 where
+-- what was said and taken up to a place, if the entries follow it and have its lines
+pub record Went (subs : List Sub) (at : ℕ) (p : Standing) (came : List (Option ℕ)) (numbers : List ℤ) (line : ℕ) (rest : List ℕ) (Behind : List Taken → Type 0)
+    (Lined : List Taken → List Said → Type 0) : Type 0 where
   pub said : List Said
   pub taken : List Taken
-  pub demand : Demand
-  pub came : List (Option ℕ)
-  pub numbers : List ℤ
-  pub rest : List ℕ
   pub told : Told at p.numbers said numbers
   pub one_each : length came ≡ length subs
   pub versions : AreAtVersions subs came
-  pub follows : Behind demand taken
-  pub along : Lined demand taken said came numbers
-  pub moved : Moved p.line p.rest taken e.line rest
-  pub wrong : reason_for demand (first_line rest) ≡ Some e.reason
+  pub follows : Behind taken
+  pub along : Lined taken said
+  pub moved : Moved p.line p.rest taken line rest
 
 -- ---- all of them
 
@@ -129,26 +78,28 @@ module _ (set : Set) (d : Device) where
   abbrev pub cells_long : List Sub → ℕ
   cells_long subs = length (flat_map (λ s. desc_cells (struct_cells set) s.desc) subs)
 
-  -- the entries of subsections follow on what was taken, whichever of them have come and whatever comes after them
-  abbrev pub FollowSubs : List Sub → ℕ → ℕ → List Taken → (List Entry → List Entry → Type 0) → Type 0
-  FollowSubs subs j at taken Then = (image : Image) (came : List (Option ℕ)) (more : List Entry) → length came ≡ length subs → AreShort image.numbers
-      → Follows taken (Then more) (subs_entries set d image j at subs came ++ more)
+  -- The entries of subsections follow on what was taken, whichever of them have come and whatever comes after them. Those that have come have its lines.
+  abbrev pub SubsWent : List Sub → ℕ → ℕ → Standing → List (Option ℕ) → List ℤ → ℕ → List ℕ → (List Entry → List Entry → Type 0) → Type 0
+  SubsWent subs j at p came numbers line rest Then = Went subs at p came numbers line rest
+      (λ taken. (image : Image) (came : List (Option ℕ)) (more : List Entry) → length came ≡ length subs → AreShort image.numbers
+      → Follows taken (Then more) (subs_entries set d image j at subs came ++ more))
+      (λ taken said. (image : Image) (more : List Entry) → Agrees said image.numbers → Along taken (Then more)
+      (subs_entries set d image j at subs came ++ more))
 
   pub record SubsRead (subs : List Sub) (j at : ℕ) (p : Standing) (r : ReadSubs) : Type 0 where
-    pub said : List Said
-    pub taken : List Taken
-    pub told : Told at p.numbers said r.place.numbers
-    pub one_each : length r.came ≡ length subs
-    pub versions : AreAtVersions subs r.came
+    pub whole : SubsWent subs j at p r.came r.place.numbers r.place.line r.place.rest (λ more es. es ≡ more)
+    pub open whole use *
     pub heard : (image : Image) → Agrees said image.numbers → (c : ℕ) → has_line (subs_entries set d image j at subs r.came) c ≡ has_said said c
     pub lines : (image : Image) → Agrees said image.numbers → r.lines ≡ sub_numbers p.line (subs_entries set d image j at subs r.came)
-    pub follows : FollowSubs subs j at taken (λ more es. es ≡ more)
-    pub along : (image : Image) (more : List Entry) → Agrees said image.numbers → Along taken (λ es. es ≡ more) (subs_entries set d image j at subs r.came ++ more)
-    pub moved : Moved p.line p.rest taken r.place.line r.place.rest
 
-  abbrev pub SubsStop : List Sub → ℕ → ℕ → Standing → BadLine → Type 0
-  SubsStop subs j at p e = Stopped subs at p e (λ demand taken. FollowSubs subs j at taken (λ more es. Begins demand es))
-      (λ demand taken said came numbers. (image : Image) (more : List Entry) → Agrees said image.numbers → Along taken (λ es. Begins demand es) (subs_entries set d image j at subs came ++ more))
+  pub record SubsStop (subs : List Sub) (j at : ℕ) (p : Standing) (e : BadLine) : Type 0 where
+    pub demand : Demand
+    pub came : List (Option ℕ)
+    pub numbers : List ℤ
+    pub rest : List ℕ
+    pub before : SubsWent subs j at p came numbers e.line rest (λ more es. Begins demand es)
+    pub open before use *
+    pub wrong : reason_for demand (first_line rest) ≡ Some e.reason
 
   abbrev pub SubsCome : List Sub → ℕ → ℕ → Standing → Result ReadSubs BadLine → Type 0
   SubsCome subs j at p (Ok r) = SubsRead subs j at p r
@@ -162,44 +113,44 @@ module _ (set : Set) (d : Device) where
   none_at [] = tt
   none_at (s ∷ subs) = (tt, none_at subs)
 
+  abbrev size_of : Sub → ℕ
+  size_of s = length (desc_cells (struct_cells set) s.desc)
+
   module _ (s : Sub) (subs : List Sub) (j at : ℕ) (p : Standing) where
     abbrev size : ℕ
-    size = length (desc_cells (struct_cells set) s.desc)
+    size = size_of s
 
     refused : sub_said s (first_line p.rest) ≡ None → SubsStop (s ∷ subs) j at p (record { line = p.line; reason = reasons.Form })
     refused e =
         record {
-          said = [];
-          taken = [];
           demand = ForSub s;
           came = None ∷ none_of subs;
           numbers = p.numbers;
           rest = p.rest;
-          told = told_none at p.numbers;
-          one_each = ap suc (length-map subs (λ s. None));
-          versions = (tt, none_at subs);
-          follows = λ image came more long short. first_sub image came more long;
-          along = λ image more agrees. first_sub image (None ∷ none_of subs) more (ap suc (length-map subs (λ s. None)));
-          moved = moved_none p.line p.rest;
+          before = record {
+            said = [];
+            taken = [];
+            told = told_none at p.numbers;
+            one_each = ap suc (length-map subs (λ s. None));
+            versions = (tt, none_at subs);
+            follows = λ image came more long short. first_sub image came more long;
+            along = λ image more agrees. first_sub image (None ∷ none_of subs) more (ap suc (length-map subs (λ s. None)));
+            moved = moved_none p.line p.rest;
+          };
           wrong = sub_refused s (first_line p.rest) e;
         }
       where
-        first_sub : (image : Image) (came : List (Option ℕ)) (more : List Entry) → length came ≡ suc (length subs) → Begins (ForSub s) (subs_entries set d image j at (s ∷ subs) came ++ more)
+        first_sub : (image : Image) (came : List (Option ℕ)) (more : List Entry) → length came ≡ suc (length subs)
+            → Begins (ForSub s) (subs_entries set d image j at (s ∷ subs) came ++ more)
         first_sub image [] more long = absurd (omega (arith, long))
-        first_sub image (o ∷ came) more long =
-            record {
-              first = OfSub d image j s at o;
-              others = (number_entries set s.desc image.numbers at ++ subs_entries set d image (suc j) (at + size) subs came) ++ more;
-              is = refl;
-              demands = refl;
-            }
+        first_sub image (o ∷ came) more long = record { first = OfSub d image j s at o; others = _; is = refl; demands = refl }
 
     module _ (came : Option ℕ) (head : SaidSub s (first_line p.rest) came) where
       abbrev taken_head : Taken
       taken_head = record { demand = ForSub s; line = sub_line s came }
 
       head_moved : Moved p.line p.rest (taken_head ∷ []) (suc p.line) (next_line p).rest
-      head_moved = moved_one p.line p.rest taken_head (rest_of (first_line p.rest)) (line_taken p.rest (sub_line s came) head.rest head.is) head.fine
+      head_moved = moved_one p.line p.rest taken_head _ (line_taken p.rest (sub_line s came) head.rest head.is) head.fine
 
       -- after the line of the subsection come its numbers, and then the other subsections
       abbrev behind_head : Image → List (Option ℕ) → List Entry → List Entry
@@ -207,120 +158,78 @@ module _ (set : Set) (d : Device) where
 
       entries_are : (image : Image) (o : Option ℕ) (others : List (Option ℕ)) (more : List Entry)
           → subs_entries set d image j at (s ∷ subs) (o ∷ others) ++ more ≡ OfSub d image j s at o ∷ behind_head image others more
-      entries_are image o others more =
-          ap (λ (l : List Entry). OfSub d image j s at o ∷ l) (append_assoc (number_entries set s.desc image.numbers at) (subs_entries set d image (suc j) (at + size) subs others) more)
+      entries_are image o others more = ap (λ (l : List Entry). OfSub d image j s at o ∷ l) (append_assoc (number_entries set s.desc image.numbers at) _ more)
 
-      follows_head : (taken : List Taken) (P : List Entry → Type 0) (image : Image) (others : List (Option ℕ)) (more : List Entry) → length others ≡ suc (length subs)
-          → ((others : List (Option ℕ)) → length others ≡ length subs → Follows taken P (behind_head image others more))
+      follows_head : (taken : List Taken) (P : List Entry → Type 0) (image : Image) (others : List (Option ℕ)) (more : List Entry)
+          → length others ≡ suc (length subs) → ((others : List (Option ℕ)) → length others ≡ length subs → Follows taken P (behind_head image others more))
           → Follows (taken_head ∷ taken) P (subs_entries set d image j at (s ∷ subs) others ++ more)
       follows_head taken P image [] more long h = absurd (omega (arith, long))
       follows_head taken P image (o ∷ others) more long h =
           subst (λ (l : List Entry). Follows (taken_head ∷ taken) P l) (sym (entries_are image o others more)) (refl, λ e. h others (omega (arith, long)))
 
-      along_head : (taken : List Taken) (P : List Entry → Type 0) (image : Image) (others : List (Option ℕ)) (more : List Entry) → Along taken P (behind_head image others more)
-          → Along (taken_head ∷ taken) P (subs_entries set d image j at (s ∷ subs) (came ∷ others) ++ more)
+      along_head : (taken : List Taken) (P : List Entry → Type 0) (image : Image) (others : List (Option ℕ)) (more : List Entry)
+          → Along taken P (behind_head image others more) → Along (taken_head ∷ taken) P (subs_entries set d image j at (s ∷ subs) (came ∷ others) ++ more)
       along_head taken P image others more h = subst (λ (l : List Entry). Along (taken_head ∷ taken) P l) (sym (entries_are image came others more)) (refl, h)
 
       stopped_inside : (e : BadLine) → NumbersStop set s.desc at (next_line p) e → SubsStop (s ∷ subs) j at p e
-      stopped_inside e n =
-          record {
-            said = n.said;
-            taken = taken_head ∷ all_taken n.said;
-            demand = ForNumber n.element;
-            came = came ∷ none_of subs;
-            numbers = n.place.numbers;
-            rest = n.place.rest;
-            told = n.told;
-            one_each = ap suc (length-map subs (λ s. None));
-            versions = (head.version, none_at subs);
-            follows = λ image others more long short.
-                follows_head (all_taken n.said) (λ es. Begins (ForNumber n.element) es) image others more long
-                (λ others long. n.follows image.numbers (subs_entries set d image (suc j) (at + size) subs others ++ more) short);
-            along = λ image more agrees.
-                along_head (all_taken n.said) (λ es. Begins (ForNumber n.element) es) image (none_of subs) more
-                (n.along image.numbers (subs_entries set d image (suc j) (at + size) subs (none_of subs) ++ more) agrees);
-            moved = moved_then p.line (suc p.line) e.line p.rest (next_line p).rest n.place.rest (taken_head ∷ []) (all_taken n.said) head_moved n.moved;
-            wrong = n.wrong;
-          }
+      stopped_inside e n = record {
+        demand = ForNumber n.element;
+        came = came ∷ none_of subs;
+        numbers = n.place.numbers;
+        rest = n.place.rest;
+        before = record {
+          said = n.said;
+          taken = taken_head ∷ all_taken n.said;
+          told = n.told;
+          one_each = ap suc (length-map subs (λ s. None));
+          versions = (head.version, none_at subs);
+          follows = λ image others more long short. follows_head (all_taken n.said) (Begins (ForNumber n.element)) image others more long
+              (λ others long. n.follows image.numbers _ short);
+          along = λ image more agrees. along_head (all_taken n.said) (Begins (ForNumber n.element)) image (none_of subs) more (n.along image.numbers _ agrees);
+          moved = moved_then head_moved n.moved;
+        };
+        wrong = n.wrong;
+      }
 
-      stopped_behind : (q : Standing) (e : BadLine) → NumbersRead set s.desc at (next_line p) q → SubsStop subs (suc j) (at + size) q e → SubsStop (s ∷ subs) j at p e
-      stopped_behind q e n r =
-          record {
-            said = n.said ++ r.said;
-            taken = taken_head ∷ (all_taken n.said ++ r.taken);
-            demand = r.demand;
-            came = came ∷ r.came;
-            numbers = r.numbers;
-            rest = r.rest;
-            told = told_both at (at + size) p.numbers q.numbers r.numbers n.said r.said (omega arith) n.below n.told r.told;
-            one_each = ap suc r.one_each;
-            versions = (head.version, r.versions);
-            follows = λ image others more long short.
-                follows_head (all_taken n.said ++ r.taken) (λ es. Begins r.demand es) image others more long
-                (λ others long.
-                follows_then (all_taken n.said) r.taken (λ es. es ≡ subs_entries set d image (suc j) (at + size) subs others ++ more) (λ es. Begins r.demand es) (behind_head image others more)
-                (n.follows image.numbers (subs_entries set d image (suc j) (at + size) subs others ++ more) short)
-                (λ es is. subst (λ (l : List Entry). Follows r.taken (λ es. Begins r.demand es) l) (sym is) (r.follows image others more long short)));
-            along = λ image more agrees.
-                along_head (all_taken n.said ++ r.taken) (λ es. Begins r.demand es) image r.came more
-                (along_then (all_taken n.said) r.taken (λ es. es ≡ subs_entries set d image (suc j) (at + size) subs r.came ++ more) (λ es. Begins r.demand es) (behind_head image r.came more)
-                (n.along image.numbers (subs_entries set d image (suc j) (at + size) subs r.came ++ more) (agrees_front n.said r.said image.numbers agrees))
-                (λ es is. subst (λ (l : List Entry). Along r.taken (λ es. Begins r.demand es) l) (sym is) (r.along image more (agrees_later n.said r.said image.numbers agrees))));
-            moved = moved_then p.line (suc p.line) e.line p.rest (next_line p).rest r.rest (taken_head ∷ []) (all_taken n.said ++ r.taken) head_moved
-                (moved_then (suc p.line) q.line e.line (next_line p).rest q.rest r.rest (all_taken n.said) r.taken n.moved r.moved);
-            wrong = r.wrong;
-          }
-
-      heard_both : (q : Standing) (r : ReadSubs) (n : NumbersRead set s.desc at (next_line p) q) (x : SubsRead subs (suc j) (at + size) q r) (image : Image) → Agrees (n.said ++ x.said) image.numbers
-          → (c : ℕ) → has_line (subs_entries set d image j at (s ∷ subs) (came ∷ r.came)) c ≡ has_said (n.said ++ x.said) c
-      heard_both q r n x image agrees c =
-          let others = subs_entries set d image (suc j) (at + size) subs r.came in
-          lines_both (number_entries set s.desc image.numbers at) others c
-          ∙ ap (λ (b : Bool). b || has_line others c)
-          (ap (λ (l : List Element). has_line (map (λ x. OfNumber x image.numbers) l) c) (n.heard image.numbers (agrees_front n.said x.said image.numbers agrees)) ∙ lines_said image.numbers n.said c)
-          ∙ ap (λ (b : Bool). has_said n.said c || b) (x.heard image (agrees_later n.said x.said image.numbers agrees) c)
-          ∙ sym (said_both n.said x.said c)
-
-      lines_both_parts : (q : Standing) (r : ReadSubs) (n : NumbersRead set s.desc at (next_line p) q) (x : SubsRead subs (suc j) (at + size) q r) (image : Image)
-          → Agrees (n.said ++ x.said) image.numbers → p.line ∷ r.lines ≡ sub_numbers p.line (subs_entries set d image j at (s ∷ subs) (came ∷ r.came))
-      lines_both_parts q r n x image agrees =
-          let others = subs_entries set d image (suc j) (at + size) subs r.came in
-          let xs = printed (elements_in set s.desc s.desc.version image.numbers at) in
-          let further : q.line ≡ suc p.line + length xs =
-          omega (arith, n.moved.further, length-map n.said (λ (s : Said). taken_of s), ap (λ (l : List Element). length l) (n.heard image.numbers (agrees_front n.said x.said image.numbers agrees)), length-map n.said (λ (s : Said). s.element)) in
-          ap (λ (l : List ℕ). p.line ∷ l)
-          (x.lines image (agrees_later n.said x.said image.numbers agrees) ∙ ap (λ (l : ℕ). sub_numbers l others) further ∙ sym (subs_past (suc p.line) image.numbers xs others))
-
-      read_behind : (q : Standing) (r : ReadSubs) → NumbersRead set s.desc at (next_line p) q → SubsRead subs (suc j) (at + size) q r
-          → SubsRead (s ∷ subs) j at p (record { place = r.place; came = came ∷ r.came; lines = p.line ∷ r.lines })
-      read_behind q r n x =
-          record {
-            said = n.said ++ x.said;
-            taken = taken_head ∷ (all_taken n.said ++ x.taken);
-            told = told_both at (at + size) p.numbers q.numbers r.place.numbers n.said x.said (omega arith) n.below n.told x.told;
-            one_each = ap suc x.one_each;
-            versions = (head.version, x.versions);
-            heard = λ image agrees c. heard_both q r n x image agrees c;
-            lines = λ image agrees. lines_both_parts q r n x image agrees;
-            follows = λ image others more long short.
-                follows_head (all_taken n.said ++ x.taken) (λ es. es ≡ more) image others more long
-                (λ others long.
-                follows_then (all_taken n.said) x.taken (λ es. es ≡ subs_entries set d image (suc j) (at + size) subs others ++ more) (λ es. es ≡ more) (behind_head image others more)
-                (n.follows image.numbers (subs_entries set d image (suc j) (at + size) subs others ++ more) short)
-                (λ es is. subst (λ (l : List Entry). Follows x.taken (λ es. es ≡ more) l) (sym is) (x.follows image others more long short)));
-            along = λ image more agrees.
-                along_head (all_taken n.said ++ x.taken) (λ es. es ≡ more) image r.came more
-                (along_then (all_taken n.said) x.taken (λ es. es ≡ subs_entries set d image (suc j) (at + size) subs r.came ++ more) (λ es. es ≡ more) (behind_head image r.came more)
-                (n.along image.numbers (subs_entries set d image (suc j) (at + size) subs r.came ++ more) (agrees_front n.said x.said image.numbers agrees))
-                (λ es is. subst (λ (l : List Entry). Along x.taken (λ es. es ≡ more) l) (sym is) (x.along image more (agrees_later n.said x.said image.numbers agrees))));
-            moved = moved_then p.line (suc p.line) r.place.line p.rest (next_line p).rest r.place.rest (taken_head ∷ []) (all_taken n.said ++ x.taken) head_moved
-                (moved_then (suc p.line) q.line r.place.line (next_line p).rest q.rest r.place.rest (all_taken n.said) x.taken n.moved x.moved);
-          }
+      abbrev went_behind : {q : Standing} {others : List (Option ℕ)} {numbers : List ℤ} {line : ℕ} {rest : List ℕ} (Then : List Entry → List Entry → Type 0)
+          → NumbersRead set s.desc at (next_line p) q → SubsWent subs (suc j) (at + size) q others numbers line rest Then
+          → SubsWent (s ∷ subs) j at p (came ∷ others) numbers line rest Then
+      went_behind {others = others} Then n r = record {
+        said = n.said ++ r.said;
+        taken = taken_head ∷ (all_taken n.said ++ r.taken);
+        told = told_both n.told r.told (omega arith) n.below;
+        one_each = ap suc r.one_each;
+        versions = (head.version, r.versions);
+        follows = λ image others more long short.
+            follows_head (all_taken n.said ++ r.taken) (Then more) image others more long
+            (λ others long. follows_on n r.taken (Then more) image.numbers _ short (r.follows image others more long short));
+        along = λ image more agrees.
+            along_head (all_taken n.said ++ r.taken) (Then more) image others more
+            (along_on n r.taken (Then more) image.numbers _ (agrees_front n.said r.said image.numbers agrees)
+            (r.along image more (agrees_later n.said r.said image.numbers agrees)));
+        moved = moved_then head_moved (moved_then n.moved r.moved);
+      }
 
       others_come : (q : Standing) (o : Result ReadSubs BadLine) → NumbersRead set s.desc at (next_line p) q → SubsCome subs (suc j) (at + size) q o
           → SubsCome (s ∷ subs) j at p (also came p.line o)
-      others_come q (Ok r) n x = read_behind q r n x
-      others_come q (Err e) n x = stopped_behind q e n x
+      others_come q (Ok r) n x = record {
+        whole = went_behind (λ more es. es ≡ more) n x.whole;
+        heard = λ image agrees c.
+            heard_on n image.numbers _ x.said c (agrees_front n.said x.said image.numbers agrees)
+            (x.heard image (agrees_later n.said x.said image.numbers agrees) c);
+        lines = λ image agrees.
+            ap (λ (l : List ℕ). p.line ∷ l)
+            (x.lines image (agrees_later n.said x.said image.numbers agrees)
+            ∙ sym (lines_on n image.numbers (subs_entries set d image (suc j) (at + size) subs r.came) (agrees_front n.said x.said image.numbers agrees)));
+      }
+      others_come q (Err e) n x = record {
+        demand = x.demand;
+        came = came ∷ x.came;
+        numbers = x.numbers;
+        rest = x.rest;
+        before = went_behind (λ more es. Begins x.demand es) n x.before;
+        wrong = x.wrong;
+      }
 
       sub_comes : (r : Read) (go : Standing → Result ReadSubs BadLine) → NumbersCome set s.desc at (next_line p) r
           → ((q : Standing) → r ≡ Ok q → NumbersRead set s.desc at (next_line p) q → SubsCome subs (suc j) (at + size) q (go q))
@@ -332,33 +241,32 @@ module _ (set : Set) (d : Device) where
   AreSoundSubs [] = Unit {0}
   AreSoundSubs (s ∷ subs) = IsSound s.desc × AreSoundSubs subs
 
-  by_head : (s : Sub) (subs : List Sub) (j at : ℕ) (p : Standing) (o : Option (Option ℕ)) → AreSound set.structs → IsSound s.desc → sub_said s (first_line p.rest) ≡ o
-      → at + length (desc_cells (struct_cells set) s.desc) ≤ length p.numbers
-      → ((q : Standing) → length q.numbers ≡ length p.numbers
-      → SubsCome subs (suc j) (at + length (desc_cells (struct_cells set) s.desc)) q (read_subs set (at + length (desc_cells (struct_cells set) s.desc)) subs q))
-      → SubsCome (s ∷ subs) j at p (read_sub set s at p o (λ q. read_subs set (at + length (desc_cells (struct_cells set) s.desc)) subs q))
+  by_head : (s : Sub) (subs : List Sub) (j at : ℕ) (p : Standing) (o : Option (Option ℕ)) → AreSound set.structs → IsSound s.desc
+      → sub_said s (first_line p.rest) ≡ o → at + size_of s ≤ length p.numbers
+      → ((q : Standing) → length q.numbers ≡ length p.numbers → SubsCome subs (suc j) (at + size_of s) q (read_subs set (at + size_of s) subs q))
+      → SubsCome (s ∷ subs) j at p (read_sub set s at p o (λ q. read_subs set (at + size_of s) subs q))
   by_head s subs j at p None structs sound e here later = refused s subs j at p e
   by_head s subs j at p (Some came) structs sound e here later =
       sub_comes s subs j at p came (sub_taken s (first_line p.rest) came e) (read_desc (readers set) s.desc s.desc.version [] true at (next_line p)) _
-      (numbers_come set s.desc at (next_line p) structs sound here)
-      (λ q is n. later q n.told.long)
+      (numbers_come set s.desc at (next_line p) structs sound here) (λ q is n. later q n.told.long)
 
-  pub subs_come : AreSound set.structs → (subs : List Sub) (j at : ℕ) (p : Standing) → AreSoundSubs subs → at + cells_long subs ≤ length p.numbers → SubsCome subs j at p (read_subs set at subs p)
-  subs_come structs [] j at p sound room =
-      record {
-        said = [];
-        taken = [];
-        told = told_none at p.numbers;
-        one_each = refl;
-        versions = tt;
-        heard = λ image agrees c. refl;
-        lines = λ image agrees. refl;
-        follows = λ image came more long short. refl;
-        along = λ image more agrees. refl;
-        moved = moved_none p.line p.rest;
-      }
+  pub subs_come : AreSound set.structs → (subs : List Sub) (j at : ℕ) (p : Standing) → AreSoundSubs subs → at + cells_long subs ≤ length p.numbers
+      → SubsCome subs j at p (read_subs set at subs p)
+  subs_come structs [] j at p sound room = record {
+    whole = record {
+      said = [];
+      taken = [];
+      told = told_none at p.numbers;
+      one_each = refl;
+      versions = tt;
+      follows = λ image came more long short. refl;
+      along = λ image more agrees. refl;
+      moved = moved_none p.line p.rest;
+    };
+    heard = λ image agrees c. refl;
+    lines = λ image agrees. refl;
+  }
   subs_come structs (s ∷ subs) j at p sound room =
-      let size = length (desc_cells (struct_cells set) s.desc) in
-      let long : cells_long (s ∷ subs) ≡ size + cells_long subs = length-append (desc_cells (struct_cells set) s.desc) (flat_map (λ s. desc_cells (struct_cells set) s.desc) subs) in
-      by_head s subs j at p (sub_said s (first_line p.rest)) structs sound.0 refl (omega (arith, long))
-      (λ q same. subs_come structs subs (suc j) (at + size) q sound.1 (omega (arith, long, same)))
+      let long : cells_long (s ∷ subs) ≡ size_of s + cells_long subs = length-append (desc_cells (struct_cells set) s.desc) _ in
+      by_head s subs j at p (sub_said s (first_line p.rest)) structs sound.0 refl (omega arith)
+      (λ q same. subs_come structs subs (suc j) (at + size_of s) q sound.1 (omega arith))

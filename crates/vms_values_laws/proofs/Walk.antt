@@ -1,70 +1,83 @@
 -- Reading the fields of a description, beside its elements.
-use Rattle.std.proofs.Common.{◌≡◌, ℕ, zero, suc, ◌+◌, ◌*◌, ◌<◌, ◌≤◌, List, ◌∷◌, ◌++◌, length, get_or, map, drop, ℤ, Bool, true, false, ◌&&◌, nat_lt, refl, sym, ap, ◌∙◌, subst, arith, append_assoc, append-nil, length-append, codes, []}
-use Rattle.std.specs.Fmt.{decimal}
-use Rattle.std.proofs.lemmas.Bool.{ltb-true, ltb-false, le-ltb, lt-ltb}
-use Rattle.std.proofs.Math.Bool.{and-true}
-use Rattle.vms_kinds.specs.declared.Item.{Item}
-use Rattle.vms_kinds.specs.declared.Item.TheVariants.{Num, Equal, Unused, Struct}
-use Rattle.vms_kinds.specs.Codes.{width, residue}
-use Rattle.vms_spec.specs.declared.Count.{Count}
-use Rattle.vms_spec.specs.declared.Count.TheVariants.{One, Fixed, Counted}
-use Rattle.vms_spec.specs.Sets.{Field, Desc, Set}
-use Rattle.vms_spec.specs.Layout.{Cell, no_desc, no_field, first, counted, capacity_of, elements_of, item_size, field_cells, cells_from, desc_cells, struct_cells, numbers_of, place_of, kind_of, all_hold}
-use Rattle.vms_spec.specs.ValuesReading.{Standing, Reader, no_reader, reader, readers, cells_of, read_item, read_elements, read_array, read_field, read_fields, read_desc}
-use Rattle.vms_spec.proofs.Sizes.{elements_fit, field_size}
-use Rattle.vms_spec.specs.Sound.{IsNumber, IsOne, IsEarlier, IsSoundField, AreSoundFields, IsSound, AreSound}
-use Rattle.vms_bodies.proofs.Places.{there_same, elements_same, place_next}
-use Rattle.vms_bodies.proofs.WalkLaws.{drop_next, zero_plus, place_first}
-use Rattle.vms_elements.specs.Elements.{Element, Number, Shape, no_shape, shape, shapes, cells_in, dotted, behind, single, Rule, item_elements, Stand, stand_of, array_elements, field_elements, elements_from, desc_elements, index_text}
-use Rattle.vms_spec.proofs.Tables.{first_long}
-use Rattle.vms_spec.proofs.Prefixes.{readers_cells}
-use Rattle.vms_elements.proofs.Tables.{both, two_more, shapes_cells}
-use Rattle.vms_values_laws.specs.Said.{Said, Agrees}
-use Rattle.vms_values_laws.proofs.OneLine.{spot}
-use Rattle.vms_values_laws.proofs.Coming.{Knows, AllKnown, knows_grows, At, Comes, at_left, at_less, stay, forget, then_comes, line_comes}
-use Rattle.vms_values_laws.proofs.Wrapped.{under, wrapped, wrapped_append, wrapped_behind, wrapped_none, wrapped_dotted}
+use Rattle.vms_values_laws.proofs.Facade.{◌≡◌, ℕ, List, ◌∷◌, ◌++◌, map, refl, sym, ap, ◌∙◌, Bool, true, false, ◌&&◌, if◌then◌else◌, append_assoc, codes, []}
+use Rattle.vms_values_laws.proofs.Facade.{◌<◌, zero, suc, ◌+◌, ◌*◌, ◌≤◌, length, get_or, drop, ℤ, arith, append-nil, map-append, length-append, and_assoc}
+use Rattle.vms_values_laws.proofs.Facade.{and-true, decimal, le-ltb, lt-ltb, ⊎_elim, cases_lt, Element, dotted, behind, Number, Shape, no_shape, shape, shapes}
+use Rattle.vms_values_laws.proofs.Facade.{cells_in, single, Rule, item_elements, Stand, stand_of, array_elements, field_elements, elements_from, desc_elements}
+use Rattle.vms_values_laws.proofs.Facade.{index_text, is_number, printed, printed_append, Item, Num, Struct, width, residue, Count, One, Fixed, Counted, Field}
+use Rattle.vms_values_laws.proofs.Facade.{Desc, Set, Cell, no_desc, no_field, first, counted, capacity_of, elements_of, item_size, field_cells, cells_from}
+use Rattle.vms_values_laws.proofs.Facade.{desc_cells, struct_cells, numbers_of, place_of, kind_of, all_hold, Standing, Read, Reader, no_reader, reader, readers}
+use Rattle.vms_values_laws.proofs.Facade.{read_item, read_elements, read_array, read_field, read_fields, read_desc, elements_fit, field_size, IsNumber, IsOne}
+use Rattle.vms_values_laws.proofs.Facade.{IsEarlier, IsSoundField, AreSoundFields, IsSound, AreSound, there_same, elements_same, place_next, drop_next}
+use Rattle.vms_values_laws.proofs.Facade.{zero_plus, place_first, first_long, readers_cells, two_more, shapes_cells, Said, Agrees}
+use Rattle.vms_spec.specs.ValuesReading.{cells_of}
+use Rattle.vms_values_laws.proofs.Coming.{spot, Knows, AllKnown, knows_grows, At, Comes, at_left, stay, forget, then_comes, line_comes}
+
+-- ---- The printed elements under a path.
+
+-- an element after these steps, of this text
+abbrev pub under : List (ℕ × ℕ) → List ℕ → Bool → Element → Element
+under steps text present x = record x { path = steps ++ x.path; name = text ++ x.name; present = present && x.present }
+
+abbrev pub wrapped : List (ℕ × ℕ) → List ℕ → Bool → List Element → List Element
+wrapped steps text present xs = map (under steps text present) (printed xs)
+
+-- what is printed of elements that a function made, which keeps which are printed
+module _ (f u v : Element → Element) (same : (x : Element) → u (f x) ≡ v x)
+    (kept : (x : Element) → ((f x).counted && is_number (f x).what) ≡ (x.counted && is_number x.what)) where
+  printed_map : (xs : List Element) → map u (printed (map f xs)) ≡ map v (printed xs)
+  printed_map [] = refl
+  printed_map (x ∷ xs) = rw (kept x) (go (x.counted && is_number x.what) (printed_map xs))
+    where
+      go : (b : Bool) → map u (printed (map f xs)) ≡ map v (printed xs)
+          → map u (if b then f x ∷ printed (map f xs) else printed (map f xs)) ≡ map v (if b then x ∷ printed xs else printed xs)
+      go true more = rw (same x, more) refl
+      go false more = more
+
+module _ (steps : List (ℕ × ℕ)) (text : List ℕ) (present : Bool) where
+  pub wrapped_append : (xs ys : List Element) → wrapped steps text present (xs ++ ys) ≡ wrapped steps text present xs ++ wrapped steps text present ys
+  wrapped_append xs ys =
+      ap (λ (l : List Element). map (under steps text present) l) (printed_append xs ys) ∙ map-append (under steps text present) (printed xs) (printed ys)
+
+  pub wrapped_behind : (step : ℕ × ℕ) (name : List ℕ) (p : Bool) (xs : List Element)
+      → wrapped steps text present (map (behind step name true p) xs) ≡ wrapped (steps ++ step ∷ []) (text ++ name) (present && p) xs
+  wrapped_behind step name p xs =
+      printed_map (behind step name true p) (under steps text present) (under (steps ++ step ∷ []) (text ++ name) (present && p))
+      (λ x. rw (append_assoc steps (step ∷ []) x.path, append_assoc text name x.name, and_assoc present p x.present) refl) (λ x. refl) xs
+
+  pub wrapped_none : (step : ℕ × ℕ) (name : List ℕ) (p : Bool) (xs : List Element) → wrapped steps text present (map (behind step name false p) xs) ≡ []
+  wrapped_none step name p [] = refl
+  wrapped_none step name p (x ∷ xs) = wrapped_none step name p xs
+
+  pub wrapped_dotted : (xs : List Element) → wrapped steps text present (map dotted xs) ≡ wrapped steps (text ++ codes ".") present xs
+  wrapped_dotted xs =
+      printed_map dotted (under steps text present) (under steps (text ++ codes ".") present) (λ x. rw (append_assoc text (codes ".") x.name) refl) (λ x. refl) xs
+
+-- ---- Reading the fields of a description, beside its elements.
 
 brackets : ℕ → List ℕ
 brackets e = codes "[" ++ (decimal e ++ codes "]")
 
 element_path : (path : List ℕ) (e : ℕ) → path ++ (codes "[" ++ (decimal e ++ codes "]")) ≡ path ++ codes "[" ++ decimal e ++ codes "]"
-element_path path e = sym (append_assoc path (codes "[") (decimal e ++ codes "]")) ∙ sym (append_assoc (path ++ codes "[") (decimal e) (codes "]"))
+element_path path e = simp append_assoc
 
--- elements past the count are not printed
-past_count : (steps : List (ℕ × ℕ)) (path : List ℕ) (present : Bool) (f : Field) (stand : Stand) (part : ℕ → List Element) (step e k at : ℕ) → stand.count ≤ e
-    → wrapped steps path present (array_elements f stand part step e k at) ≡ []
-past_count steps path present f stand part step e zero at le = refl
-past_count steps path present f stand part step e (suc k) at le =
-    let text = f.name ++ index_text f.count e in
-    let below = nat_lt e stand.count in
-    let later = array_elements f stand part step (suc e) k (at + step) in
-    wrapped_append steps path present (map (behind (stand.number, e) text below (stand.there && below)) (part at)) later
-    ∙ both _ _ _ _
-    (ap (λ (b : Bool). wrapped steps path present (map (behind (stand.number, e) text b (stand.there && below)) (part at))) (le-ltb e stand.count le)
-    ∙ wrapped_none steps path present (stand.number, e) text (stand.there && below) (part at))
-    (past_count steps path present f stand part step (suc e) k (at + step) (omega arith))
+module _ (steps : List (ℕ × ℕ)) (path : List ℕ) (present : Bool) (f : Field) (stand : Stand) (part : ℕ → List Element) (step : ℕ) where
+  -- elements past the count are not printed
+  past_count : (e k at : ℕ) → stand.count ≤ e → wrapped steps path present (array_elements f stand part step e k at) ≡ []
+  past_count e zero at le = refl
+  past_count e (suc k) at le =
+      rw (wrapped_append steps path present, le-ltb e stand.count le, wrapped_none steps path present, past_count (suc e) k (at + step) (omega arith)) refl
 
--- the first element of an array that has some, and those after it
-first_counted : (steps : List (ℕ × ℕ)) (path : List ℕ) (present : Bool) (f : Field) (stand : Stand) (part : ℕ → List Element) (step e k m at : ℕ) → stand.count ≡ e + suc m
-    → wrapped steps path present (array_elements f stand part step e (suc k) at)
-    ≡ wrapped (steps ++ (stand.number, e) ∷ []) (path ++ (f.name ++ index_text f.count e)) (present && stand.there) (part at)
-    ++ wrapped steps path present (array_elements f stand part step (suc e) k (at + step))
-first_counted steps path present f stand part step e k m at c =
-    let text = f.name ++ index_text f.count e in
-    let below = nat_lt e stand.count in
-    let later = array_elements f stand part step (suc e) k (at + step) in
-    let is : below ≡ true = lt-ltb e stand.count (omega (arith, c)) in
-    wrapped_append steps path present (map (behind (stand.number, e) text below (stand.there && below)) (part at)) later
-    ∙ ap (λ (l : List Element). l ++ wrapped steps path present later)
-    (ap (λ (b : Bool). wrapped steps path present (map (behind (stand.number, e) text b (stand.there && b)) (part at))) is
-    ∙ wrapped_behind steps path present (stand.number, e) text (stand.there && true) (part at)
-    ∙ ap (λ (b : Bool). wrapped (steps ++ (stand.number, e) ∷ []) (path ++ text) (present && b) (part at)) (and-true stand.there))
+  -- the first element of an array that has some, and those after it
+  first_counted : (e k m at : ℕ) → stand.count ≡ e + suc m → wrapped steps path present (array_elements f stand part step e (suc k) at)
+      ≡ wrapped (steps ++ (stand.number, e) ∷ []) (path ++ (f.name ++ index_text f.count e)) (present && stand.there) (part at)
+      ++ wrapped steps path present (array_elements f stand part step (suc e) k (at + step))
+  first_counted e k m at c =
+      rw (wrapped_append steps path present, lt-ltb e stand.count (omega (arith, c)), and-true stand.there, wrapped_behind steps path present) refl
 
 dropped : (fields : List Field) (i : ℕ) (f : Field) (fs : List Field) → drop i fields ≡ f ∷ fs → get_or fields i no_field ≡ f
-dropped [] zero f fs e = cc
-dropped [] (suc i) f fs e = cc
-dropped (g ∷ fields) zero f fs e = cc
 dropped (g ∷ fields) (suc i) f fs e = dropped fields i f fs e
+dropped _ zero f fs e = cc
+dropped _ (suc i) f fs e = cc
 
 -- a single number, whose cell is then known
 abbrev pub single_cell : Item → ℕ → List ℕ
@@ -77,220 +90,213 @@ known_cell count item at = []
 
 is_known : (count : Count) (item : Item) (at : ℕ) (said : List Said) → IsNumber item → IsOne count → AllKnown (known_cell count item at) said → Knows said at
 is_known One (Num kind) at said n o k = k.0
-is_known One (Equal kind z) at said n o k = absurd n
-is_known One (Unused i) at said n o k = absurd n
-is_known One (Struct j) at said n o k = absurd n
-is_known (Fixed i) item at said n o k = absurd o
-is_known (Counted by most) item at said n o k = absurd o
+is_known One _ at said n o k = absurd n
+is_known _ item at said n o k = absurd o
 
 -- what is known of the fields before the next one
-known_next : (cs : List (List Cell)) (d : Desc) (base i at : ℕ) (f : Field) (fs : List Field) (said more : List Said) → drop i d.fields ≡ f ∷ fs → at ≡ place_of cs d.fields 0 base d.fields i
-    → ((m : List ℤ) → Agrees more m → Agrees said m) → ((j : ℕ) → IsEarlier d.fields i j → Knows said (place_of cs d.fields 0 base d.fields j))
-    → AllKnown (known_cell f.count f.item at) more → (j : ℕ) → IsEarlier d.fields (suc i) j → (b : Bool) → nat_lt j i ≡ b → Knows more (place_of cs d.fields 0 base d.fields j)
-known_next cs d base i at f fs said more is here grows known k j x true lt =
-    knows_grows said more (place_of cs d.fields 0 base d.fields j) grows (known j (record { earlier = ltb-true j i lt; there = x.there; number = x.number; one = x.one }))
-known_next cs d base i at f fs said more is here grows known k j x false ge =
-    let le : i ≤ j = ltb-false j i ge in
-    let less : j < suc i = x.earlier in
-    let same : i ≡ j = omega arith in
-    let this : get_or d.fields j no_field ≡ f = ap (λ (k : ℕ). get_or d.fields k no_field) (sym same) ∙ dropped d.fields i f fs is in
-    let number : IsNumber f.item = subst (λ (g : Field). IsNumber g.item) this x.number in
-    let one : IsOne f.count = subst (λ (g : Field). IsOne g.count) this x.one in
-    subst (λ (c : ℕ). Knows more c) (here ∙ ap (λ (k : ℕ). place_of cs d.fields 0 base d.fields k) same) (is_known f.count f.item at more number one k)
+known_next : (cs : List (List Cell)) (d : Desc) (base i at : ℕ) (f : Field) (fs : List Field) (said more : List Said) → drop i d.fields ≡ f ∷ fs
+    → at ≡ place_of cs d.fields 0 base d.fields i → ((m : List ℤ) → Agrees more m → Agrees said m)
+    → ((j : ℕ) → IsEarlier d.fields i j → Knows said (place_of cs d.fields 0 base d.fields j)) → AllKnown (known_cell f.count f.item at) more
+    → (j : ℕ) → IsEarlier d.fields (suc i) j → Knows more (place_of cs d.fields 0 base d.fields j)
+known_next cs d base i at f fs said more is here grows known k j x =
+    ⊎_elim
+    (λ (lt : j < i). knows_grows said more _ grows (known j (record { earlier = lt; there = x.there; number = x.number; one = x.one })))
+    (λ (ge : i ≤ j).
+    let same : j ≡ i = omega (arith, x.earlier) in
+    let this : get_or d.fields j no_field ≡ f = rw same (dropped d.fields i f fs is) in
+    rw (same, ← here) (is_known f.count f.item at more (rw this at x.number) (rw this at x.one) k))
+    (cases_lt j i)
 
 module _ (total : List ℤ → List Element) (start : Standing) (low : ℕ) where
+  abbrev Here : ℕ → Standing → List Said → (List ℤ → List Element) → Type 0
+  Here at p said left = At total start low at p said left
+
+  abbrev Came : ℕ → List ℕ → List Said → (List ℤ → List Element) → Read → Type 0
+  Came at known said left r = Comes total start low at known said left r
+
   -- a structure's lines are those of its elements, at any cell
   pub record ReadsShape (r : Reader) (s : Shape) : Type 0 where
-    pub shape_comes : (steps : List (ℕ × ℕ)) (path : List ℕ) (present : Bool) (at : ℕ) (p : Standing) (said : List Said) (left : List ℤ → List Element)
-        → at + length r.cells ≤ length start.numbers → At total start low at p said (λ m. wrapped steps path present (s.elements m at) ++ left m)
-        → Comes total start low (at + length r.cells) [] said left (r.reads path present at p)
+    pub shape_comes : (steps : List (ℕ × ℕ)) (path : List ℕ) (present : Bool) (at end : ℕ) (p : Standing) (said : List Said) (left : List ℤ → List Element)
+        → end ≡ at + length r.cells → end ≤ length start.numbers → Here at p said (λ m. wrapped steps path present (s.elements m at) ++ left m)
+        → Came end [] said left (r.reads path present at p)
 
   none_reads : ReadsShape no_reader no_shape
-  none_reads = record { shape_comes = λ steps path present at p said left room a. stay total start low (at + 0) p said left (at_less total start low at (at + 0) p said left (omega arith) a) }
+  none_reads = record { shape_comes = λ steps path present at end p said left e room a. stay total start low at end p said left (omega arith) a }
 
-  module _ (rs : List Reader) (ss : List Shape) (cells : cells_in ss ≡ cells_of rs) (reads : (j : ℕ) → ReadsShape (get_or rs j no_reader) (get_or ss j no_shape)) where
+  module _ (rs : List Reader) (ss : List Shape) (cells : cells_in ss ≡ cells_of rs)
+      (reads : (j : ℕ) → ReadsShape (get_or rs j no_reader) (get_or ss j no_shape)) where
     cells_get : (ts : List Reader) (j : ℕ) → (get_or ts j no_reader).cells ≡ get_or (cells_of ts) j []
     cells_get [] j = refl
     cells_get (t ∷ ts) zero = refl
     cells_get (t ∷ ts) (suc j) = cells_get ts j
 
-    item_comes : (f : Field) (item : Item) (caps : List ℕ) (steps : List (ℕ × ℕ)) (path : List ℕ) (present : Bool) (at : ℕ) (p : Standing) (said : List Said) (left : List ℤ → List Element)
-        → at + item_size (cells_of rs) item ≤ length start.numbers
-        → At total start low at p said (λ m. wrapped steps path present (item_elements ss item caps f.default m at) ++ left m)
-        → Comes total start low (at + item_size (cells_of rs) item) (single_cell item at) said left (read_item rs f caps path present at item p)
-    item_comes f (Num kind) caps steps path present at p said left room a =
+    item_comes : (f : Field) (item : Item) (caps : List ℕ) (steps : List (ℕ × ℕ)) (path : List ℕ) (present : Bool) (at end : ℕ) (p : Standing)
+        → (said : List Said) → (left : List ℤ → List Element) → end ≡ at + item_size (cells_of rs) item → end ≤ length start.numbers
+        → Here at p said (λ m. wrapped steps path present (item_elements ss item caps f.default m at) ++ left m)
+        → Came end (single_cell item at) said left (read_item rs f caps path present at item p)
+    item_comes f (Num kind) caps steps path present at end p said left e room a =
         let c : Cell = record { kind = kind; capacities = caps; default = f.default } in
-        let is : under steps path present (single at (Number c)) ≡ spot steps path present at c = rw (append-nil steps, append-nil path, and-true present) refl in
-        line_comes total start low steps path present at c p said left (omega arith)
-        (at_left total start low at p said (λ m. under steps path present (single at (Number c)) ∷ left m) (λ m. spot steps path present at c ∷ left m) (λ m g. ap (λ (x : Element). x ∷ left m) is) a)
-    item_comes f (Equal kind z) caps steps path present at p said left room a =
-        stay total start low (at + 0) p said left (at_less total start low at (at + 0) p said left (omega arith) a)
-    item_comes f (Unused n) caps steps path present at p said left room a =
-        stay total start low (at + 0) p said left (at_less total start low at (at + 0) p said left (omega arith) a)
-    item_comes f (Struct j) caps steps path present at p said left room a =
-        let size : length (get_or rs j no_reader).cells ≡ length (get_or (cells_of rs) j []) = ap length (cells_get rs j) in
-        subst (λ (k : ℕ). Comes total start low (at + k) [] said left ((get_or rs j no_reader).reads (path ++ codes ".") present at p)) size
-        ((reads j).shape_comes steps (path ++ codes ".") present at p said left (omega (arith, size))
-        (at_left total start low at p said (λ m. wrapped steps path present (map dotted ((get_or ss j no_shape).elements m at)) ++ left m)
-        (λ m. wrapped steps (path ++ codes ".") present ((get_or ss j no_shape).elements m at) ++ left m)
-        (λ m g. ap (λ (l : List Element). l ++ left m) (wrapped_dotted steps path present ((get_or ss j no_shape).elements m at))) a))
+        let is : under steps path present (single at (Number c)) ≡ spot steps path present at c =
+        rw (append-nil steps, append-nil path, and-true present) refl in
+        rw e (line_comes total start low steps path present at c p said left (omega arith)
+        (at_left total start low (λ m g. ap (λ (x : Element). x ∷ left m) is) a))
+    item_comes f (Struct j) caps steps path present at end p said left e room a =
+        (reads j).shape_comes steps (path ++ codes ".") present at end p said left (omega (arith, ap length (cells_get rs j))) room
+        (at_left total start low (λ m g. ap (λ (l : List Element). l ++ left m) (wrapped_dotted steps path present ((get_or ss j no_shape).elements m at))) a)
+    item_comes f _ caps steps path present at end p said left e room a = stay total start low at end p said left (omega arith) a
 
-    -- elements of an array, from element e on
-    items_comes : (f : Field) (stand : Stand) (caps : List ℕ) → ((e : ℕ) → index_text f.count e ≡ brackets e)
-        → (steps : List (ℕ × ℕ)) (path : List ℕ) (present : Bool) (e k m at : ℕ) (p : Standing) (said : List Said) (left : List ℤ → List Element)
-        → stand.count ≡ e + m → m ≤ k → at + k * item_size (cells_of rs) f.item ≤ length start.numbers
-        → At total start low at p said (λ n. wrapped steps path present (array_elements f stand (item_elements ss f.item caps f.default n) (item_size (cells_of rs) f.item) e k at) ++ left n)
-        → Comes total start low (at + k * item_size (cells_of rs) f.item) [] said left
-        (read_elements rs f caps (path ++ f.name) (present && stand.there) at (item_size (cells_of rs) f.item) e m p)
-    unfolding brackets
-    items_comes f stand caps many steps path present e k zero at p said left c le room a =
-        let size = item_size (cells_of rs) f.item in
-        stay total start low (at + k * size) p said left
-        (at_less total start low at (at + k * size) p said left (omega arith)
-        (at_left total start low at p said _ left (λ n g. ap (λ (l : List Element). l ++ left n) (past_count steps path present f stand (item_elements ss f.item caps f.default n) size e k at (omega (arith, c)))) a))
-    items_comes f stand caps many steps path present e zero (suc m) at p said left c le room a = absurd (omega arith)
-    items_comes f stand caps many steps path present e (suc k) (suc m) at p said left c le room a =
-        let size = item_size (cells_of rs) f.item in
-        let b = present && stand.there in
-        let element = path ++ f.name ++ codes "[" ++ decimal e ++ codes "]" in
-        let steps' = steps ++ (stand.number, e) ∷ [] in
-        let is : path ++ (f.name ++ index_text f.count e) ≡ element =
-        ap (λ l. path ++ (f.name ++ l)) (many e) ∙ sym (append_assoc path f.name (brackets e)) ∙ element_path (path ++ f.name) e in
-        let part : List ℤ → ℕ → List Element = λ n. item_elements ss f.item caps f.default n in
-        let later : List ℤ → List Element = λ n. wrapped steps path present (array_elements f stand (part n) size (suc e) k (at + size)) ++ left n in
-        let total_size : at + suc k * size ≡ (at + size) + k * size = grind arith in
-        subst (λ (x : ℕ). Comes total start low x [] said left (read_elements rs f caps (path ++ f.name) b at size e (suc m) p)) (sym total_size)
-        (then_comes total start low (at + size) ((at + size) + k * size) [] [] said later left (read_item rs f caps element b at f.item p) _
-        (forget total start low (at + size) (single_cell f.item at) said later (read_item rs f caps element b at f.item p)
-        (item_comes f f.item caps steps' element b at p said later (omega (arith, total_size))
-        (at_left total start low at p said _ (λ n. wrapped steps' element b (part n at) ++ later n)
-        (λ n g. ap (λ (l : List Element). l ++ left n) (first_counted steps path present f stand (part n) size e k m at c)
-        ∙ append_assoc (wrapped steps' (path ++ (f.name ++ index_text f.count e)) b (part n at)) (wrapped steps path present (array_elements f stand (part n) size (suc e) k (at + size))) (left n)
-        ∙ ap (λ (l : List ℕ). wrapped steps' l b (part n at) ++ later n) is) a)))
-        (λ q done a' grows known. items_comes f stand caps many steps path present (suc e) k m (at + size) q done left (omega (arith, c)) (omega arith) (omega (arith, total_size)) a'))
+    module _ (f : Field) (stand : Stand) (caps : List ℕ) (steps : List (ℕ × ℕ)) (path : List ℕ) (present : Bool) where
+      abbrev size : ℕ
+      size = item_size (cells_of rs) f.item
 
-    -- a single element
-    one_comes : (f : Field) (stand : Stand) (caps : List ℕ) → ((e : ℕ) → index_text f.count e ≡ [])
-        → (steps : List (ℕ × ℕ)) (path : List ℕ) (present : Bool) (at : ℕ) (p : Standing) (said : List Said) (left : List ℤ → List Element)
-        → stand.count ≡ 1 → at + item_size (cells_of rs) f.item ≤ length start.numbers
-        → At total start low at p said (λ n. wrapped steps path present (array_elements f stand (item_elements ss f.item caps f.default n) (item_size (cells_of rs) f.item) 0 1 at) ++ left n)
-        → Comes total start low (at + item_size (cells_of rs) f.item) (single_cell f.item at) said left (read_item rs f caps (path ++ f.name) (present && stand.there) at f.item p)
-    one_comes f stand caps one steps path present at p said left c room a =
-        let size = item_size (cells_of rs) f.item in
-        let b = present && stand.there in
-        let steps' = steps ++ (stand.number, 0) ∷ [] in
-        let part : List ℤ → ℕ → List Element = λ n. item_elements ss f.item caps f.default n in
-        item_comes f f.item caps steps' (path ++ f.name) b at p said left room
-        (at_left total start low at p said _ (λ n. wrapped steps' (path ++ f.name) b (part n at) ++ left n)
-        (λ n g. ap (λ (l : List Element). l ++ left n) (first_counted steps path present f stand (part n) size 0 0 0 at (c ∙ omega arith)
-        ∙ append-nil (wrapped steps' (path ++ (f.name ++ index_text f.count 0)) b (part n at))
-        ∙ ap (λ (l : List ℕ). wrapped steps' (path ++ l) b (part n at)) (ap (λ l. f.name ++ l) (one 0) ∙ append-nil f.name))) a)
+      -- an element at a cell, and the elements from e on
+      abbrev part : List ℤ → ℕ → List Element
+      part n at = item_elements ss f.item caps f.default n at
 
-    -- all elements of such a field
-    array_comes : (f : Field) (stand : Stand) (own : ℕ → ℕ) (caps : List ℕ) (count : Count) → f.count ≡ count → stand.count ≡ elements_of count own
-        → (steps : List (ℕ × ℕ)) (path : List ℕ) (present : Bool) (at : ℕ) (p : Standing) (said : List Said) (left : List ℤ → List Element)
-        → at + capacity_of count * item_size (cells_of rs) f.item ≤ length start.numbers
-        → At total start low at p said
-        (λ n. wrapped steps path present (array_elements f stand (item_elements ss f.item caps f.default n) (item_size (cells_of rs) f.item) 0 (capacity_of count) at) ++ left n)
-        → Comes total start low (at + capacity_of count * item_size (cells_of rs) f.item) (known_cell count f.item at) said left
-        (read_array rs f caps (path ++ f.name) (present && stand.there) at count own p)
-    unfolding brackets
-    array_comes f stand own caps One is c steps path present at p said left room a =
-        let size = item_size (cells_of rs) f.item in
-        let same : at + size ≡ at + 1 * size = grind arith in
-        subst (λ (k : ℕ). Comes total start low k (single_cell f.item at) said left (read_item rs f caps (path ++ f.name) (present && stand.there) at f.item p)) same
-        (one_comes f stand caps (λ e. ap (λ (c : Count). index_text c e) is) steps path present at p said left c (omega (arith, same)) a)
-    array_comes f stand own caps (Fixed n) is c steps path present at p said left room a =
-        items_comes f stand caps (λ e. ap (λ (c : Count). index_text c e) is) steps path present 0 (capacity_of (Fixed n)) (elements_of (Fixed n) own) at p said left
-        (c ∙ omega arith) (elements_fit (Fixed n) own) room a
-    array_comes f stand own caps (Counted by most) is c steps path present at p said left room a =
-        items_comes f stand caps (λ e. ap (λ (c : Count). index_text c e) is) steps path present 0 (capacity_of (Counted by most)) (elements_of (Counted by most) own) at p said left
-        (c ∙ omega arith) (elements_fit (Counted by most) own) room a
+      abbrev parts : ℕ → ℕ → ℕ → List ℤ → List Element
+      parts e k at n = wrapped steps path present (array_elements f stand (part n) size e k at)
 
-    -- whether a field is there, and how many elements it has, by what was said before it
-    field_comes : (d : Desc) (v : ℕ) (steps : List (ℕ × ℕ)) (path : List ℕ) (present : Bool) (base i at : ℕ) (f : Field) (p : Standing) (said : List Said) (left : List ℤ → List Element)
-        → IsSoundField d.fields i f → ((j : ℕ) → IsEarlier d.fields i j → Knows said (place_of (cells_of rs) d.fields 0 base d.fields j))
-        → at + length (field_cells (cells_of rs) d.fields i f) ≤ length start.numbers
-        → At total start low at p said (λ m. wrapped steps path present (field_elements ss d.fields v (numbers_of (cells_of rs) d m base) m i at f) ++ left m)
-        → Comes total start low (at + length (field_cells (cells_of rs) d.fields i f)) (known_cell f.count f.item at) said left (read_field rs d v path present base i at f p)
-    field_comes d v steps path present base i at f p said left sound known room a =
-        let cs = cells_of rs in
-        let size = item_size cs f.item in
-        let caps = counted i d.fields in
-        let own = numbers_of cs d p.numbers base in
-        let stand : Stand = stand_of i f v own in
-        let elements : Stand → List (List Cell) → List ℤ → List Element = λ stand cs m. array_elements f stand (item_elements ss f.item caps f.default m) (item_size cs f.item) 0 (capacity_of f.count) at in
-        let long : at + capacity_of f.count * size ≡ at + length (field_cells cs d.fields i f) = ap (λ (k : ℕ). at + k) (sym (field_size cs d.fields i f)) in
-        let settled : (m : List ℤ) → Agrees said m → (j : ℕ) → IsEarlier d.fields i j → numbers_of cs d m base j ≡ own j = λ m g j x.
-        ap (λ (z : ℤ). residue (width (kind_of (get_or d.fields j no_field).item)) z) ((known j x).known m p.numbers g a.agrees) in
-        let same : (m : List ℤ) → Agrees said m → stand_of i f v (numbers_of cs d m base) ≡ stand = λ m g.
-        let count = elements_same d.fields i own (numbers_of cs d m base) (settled m g) f.count sound.count in
-        let there = there_same d.fields i v f.since own (numbers_of cs d m base) (settled m g) f.test sound.test in
-        rw (count, there) refl in
-        subst (λ (k : ℕ). Comes total start low k (known_cell f.count f.item at) said left (read_field rs d v path present base i at f p)) long
-        (array_comes f stand own caps f.count refl refl steps path present at p said left (omega (arith, long))
-        (at_left total start low at p said _ (λ m. wrapped steps path present (elements stand cs m) ++ left m)
-        (λ m g. ap (λ (cs : List (List Cell)). wrapped steps path present (elements (stand_of i f v (numbers_of (cells_of rs) d m base)) cs m) ++ left m) cells
-        ∙ ap (λ (s : Stand). wrapped steps path present (elements s cs m) ++ left m) (same m g)) a))
+      -- elements of an array, from element e on
+      items_comes : ((e : ℕ) → index_text f.count e ≡ brackets e) → (e k m at end : ℕ) (p : Standing) (said : List Said) (left : List ℤ → List Element)
+          → stand.count ≡ e + m → m ≤ k → end ≡ at + k * size → end ≤ length start.numbers → Here at p said (λ n. parts e k at n ++ left n)
+          → Came end [] said left (read_elements rs f caps (path ++ f.name) (present && stand.there) at size e m p)
+      unfolding brackets
+      items_comes many e k zero at end p said left c le is room a =
+          stay total start low at end p said left (omega arith)
+          (at_left total start low (λ n g. ap (λ (l : List Element). l ++ left n)
+          (past_count steps path present f stand (part n) size e k at (omega (arith, c)))) a)
+      items_comes many e zero (suc m) at end p said left c le is room a = absurd (omega arith)
+      items_comes many e (suc k) (suc m) at end p said left c le is room a =
+          let b = present && stand.there in
+          let element = path ++ f.name ++ codes "[" ++ decimal e ++ codes "]" in
+          let name : path ++ (f.name ++ index_text f.count e) ≡ element =
+          ap (λ l. path ++ (f.name ++ l)) (many e) ∙ sym (append_assoc path f.name (brackets e)) ∙ element_path (path ++ f.name) e in
+          let later : List ℤ → List Element = λ n. parts (suc e) k (at + size) n ++ left n in
+          let is' : end ≡ (at + size) + k * size = grind arith in
+          then_comes total start low (read_item rs f caps element b at f.item p) _
+          (forget total start low (read_item rs f caps element b at f.item p)
+          (item_comes f f.item caps (steps ++ (stand.number, e) ∷ []) element b at (at + size) p said later refl (omega arith)
+          (at_left total start low (λ n g. ap (λ (l : List Element). l ++ left n) (first_counted steps path present f stand (part n) size e k m at c)
+          ∙ append_assoc (wrapped (steps ++ (stand.number, e) ∷ []) (path ++ (f.name ++ index_text f.count e)) b (part n at)) _ (left n)
+          ∙ ap (λ (l : List ℕ). wrapped (steps ++ (stand.number, e) ∷ []) l b (part n at) ++ later n) name) a)))
+          (λ q done a' grows known. items_comes many (suc e) k m (at + size) end q done left (omega (arith, c)) (omega arith) is' room a')
 
-    fields_comes : (d : Desc) (v : ℕ) (steps : List (ℕ × ℕ)) (path : List ℕ) (present : Bool) (base i at : ℕ) (fs : List Field) (p : Standing) (said : List Said) (left : List ℤ → List Element)
-        → AreSoundFields d.fields i fs → at ≡ place_of (cells_of rs) d.fields 0 base d.fields i → drop i d.fields ≡ fs
-        → ((j : ℕ) → IsEarlier d.fields i j → Knows said (place_of (cells_of rs) d.fields 0 base d.fields j))
-        → at + length (cells_from (cells_of rs) d.fields i fs) ≤ length start.numbers
-        → At total start low at p said (λ m. wrapped steps path present (elements_from ss d.fields v (numbers_of (cells_of rs) d m base) m i at fs) ++ left m)
-        → Comes total start low (at + length (cells_from (cells_of rs) d.fields i fs)) [] said left (read_fields rs d v path present base i at fs p)
-    fields_comes d v steps path present base i at [] p said left sound here is known room a =
-        stay total start low (at + 0) p said left (at_less total start low at (at + 0) p said left (omega arith) a)
-    fields_comes d v steps path present base i at (f ∷ fs) p said left sound here is known room a =
-        let cs = cells_of rs in
-        let own : List ℤ → ℕ → ℕ = λ m. numbers_of cs d m base in
-        let next = at + length (field_cells cs d.fields i f) in
-        let later : List ℤ → List Element = λ m. wrapped steps path present (elements_from ss d.fields v (own m) m (suc i) next fs) ++ left m in
-        let long : at + length (cells_from cs d.fields i (f ∷ fs)) ≡ next + length (cells_from cs d.fields (suc i) fs) =
-        omega (arith, length-append (field_cells cs d.fields i f) (cells_from cs d.fields (suc i) fs)) in
-        let there : next ≡ place_of cs d.fields 0 base d.fields (suc i) = omega (arith, place_next cs d.fields 0 base d.fields i f fs is, ap (λ (k : ℕ). length (field_cells cs d.fields k f)) (zero_plus i)) in
-        subst (λ (k : ℕ). Comes total start low k [] said left (read_fields rs d v path present base i at (f ∷ fs) p)) (sym long)
-        (then_comes total start low next (next + length (cells_from cs d.fields (suc i) fs)) (known_cell f.count f.item at) [] said later left (read_field rs d v path present base i at f p) _
-        (field_comes d v steps path present base i at f p said later sound.0 known (omega (arith, long))
-        (at_left total start low at p said _ (λ m. wrapped steps path present (field_elements ss d.fields v (own m) m i at f) ++ later m)
-        (λ m g. ap (λ (l : List Element). l ++ left m) (wrapped_append steps path present (field_elements ss d.fields v (own m) m i at f) (elements_from ss d.fields v (own m) m (suc i) (at + length (field_cells (cells_in ss) d.fields i f)) fs))
-        ∙ ap (λ (cs : List (List Cell)). (wrapped steps path present (field_elements ss d.fields v (own m) m i at f) ++ wrapped steps path present (elements_from ss d.fields v (own m) m (suc i) (at + length (field_cells cs d.fields i f)) fs)) ++ left m) cells
-        ∙ append_assoc (wrapped steps path present (field_elements ss d.fields v (own m) m i at f)) (wrapped steps path present (elements_from ss d.fields v (own m) m (suc i) next fs)) (left m)) a))
-        (λ q done a' grows k.
-        fields_comes d v steps path present base (suc i) next fs q done left sound.1 there (drop_next d.fields i f fs is)
-        (λ j x. known_next cs d base i at f fs said done is here grows known k j x (nat_lt j i) refl) (omega (arith, long)) a'))
+      -- a single element
+      one_comes : ((e : ℕ) → index_text f.count e ≡ []) → (at end : ℕ) (p : Standing) (said : List Said) (left : List ℤ → List Element)
+          → stand.count ≡ 1 → end ≡ at + size → end ≤ length start.numbers → Here at p said (λ n. parts 0 1 at n ++ left n)
+          → Came end (single_cell f.item at) said left (read_item rs f caps (path ++ f.name) (present && stand.there) at f.item p)
+      one_comes one at end p said left c is room a =
+          let b = present && stand.there in
+          item_comes f f.item caps (steps ++ (stand.number, 0) ∷ []) (path ++ f.name) b at end p said left is room
+          (at_left total start low (λ n g. ap (λ (l : List Element). l ++ left n)
+          (first_counted steps path present f stand (part n) size 0 0 0 at (omega (arith, c))
+          ∙ append-nil _ ∙ ap (λ (l : List ℕ). wrapped (steps ++ (stand.number, 0) ∷ []) (path ++ l) b (part n at))
+          (ap (λ l. f.name ++ l) (one 0) ∙ append-nil f.name))) a)
 
-    -- a description's lines are those of its elements
-    pub desc_comes : (d : Desc) (v : ℕ) (steps : List (ℕ × ℕ)) (path : List ℕ) (present : Bool) (base : ℕ) (p : Standing) (said : List Said) (left : List ℤ → List Element)
-        → IsSound d → base + length (desc_cells (cells_of rs) d) ≤ length start.numbers
-        → At total start low base p said (λ m. wrapped steps path present (desc_elements ss d v m base) ++ left m)
-        → Comes total start low (base + length (desc_cells (cells_of rs) d)) [] said left (read_desc rs d v path present base p)
-    desc_comes d v steps path present base p said left sound room a =
-        let cs = cells_of rs in
-        let own : List (List Cell) → List ℤ → ℕ → ℕ = λ cs m. numbers_of cs d m base in
-        let end : List (List Cell) → List ℤ → List Element = λ cs m. single (base + length (desc_cells cs d)) (Rule (all_hold d.validate v (own cs m))) ∷ [] in
-        let first_place : base ≡ place_of cs d.fields 0 base d.fields 0 = sym (place_first cs d.fields 0 base d.fields) in
-        fields_comes d v steps path present base 0 base d.fields p said left sound.fields first_place refl (λ j x. let lt = x.earlier in absurd (omega arith)) room
-        (at_left total start low base p said _ (λ m. wrapped steps path present (elements_from ss d.fields v (own cs m) m 0 base d.fields) ++ left m)
-        (λ m g. ap (λ (cs : List (List Cell)). wrapped steps path present (elements_from ss d.fields v (own cs m) m 0 base d.fields ++ end cs m) ++ left m) cells
-        ∙ ap (λ (l : List Element). l ++ left m)
-        (wrapped_append steps path present (elements_from ss d.fields v (own cs m) m 0 base d.fields) (end cs m)
-        ∙ append-nil (wrapped steps path present (elements_from ss d.fields v (own cs m) m 0 base d.fields)))) a)
+      -- all elements of such a field
+      array_comes : (own : ℕ → ℕ) (count : Count) → f.count ≡ count → stand.count ≡ elements_of count own → (at end : ℕ) (p : Standing) (said : List Said)
+          → (left : List ℤ → List Element) → end ≡ at + capacity_of count * size → end ≤ length start.numbers
+          → Here at p said (λ n. parts 0 (capacity_of count) at n ++ left n)
+          → Came end (known_cell count f.item at) said left (read_array rs f caps (path ++ f.name) (present && stand.there) at count own p)
+      unfolding brackets
+      array_comes own One is c at end p said left e room a =
+          let e' : end ≡ at + size = grind arith in
+          one_comes (λ e. ap (λ (c : Count). index_text c e) is) at end p said left c e' room a
+      array_comes own (Fixed n) is c at end p said left e room a =
+          items_comes (λ e. ap (λ (c : Count). index_text c e) is) 0 n n at end p said left (omega (arith, c)) (omega arith) e room a
+      array_comes own (Counted by most) is c at end p said left e room a =
+          items_comes (λ e. ap (λ (c : Count). index_text c e) is) 0 most _ at end p said left (c ∙ omega arith) (elements_fit (Counted by most) own) e room a
+
+    module _ (d : Desc) (v : ℕ) (steps : List (ℕ × ℕ)) (path : List ℕ) (present : Bool) (base : ℕ) where
+      abbrev own : List ℤ → ℕ → ℕ
+      own m = numbers_of (cells_of rs) d m base
+
+      -- the lines of fields
+      abbrev lines : List Element → List Element
+      lines xs = wrapped steps path present xs
+
+      -- whether a field is there, and how many elements it has, by what was said before it
+      field_comes : (i at end : ℕ) (f : Field) (p : Standing) (said : List Said) (left : List ℤ → List Element)
+          → IsSoundField d.fields i f → ((j : ℕ) → IsEarlier d.fields i j → Knows said (place_of (cells_of rs) d.fields 0 base d.fields j))
+          → end ≡ at + length (field_cells (cells_of rs) d.fields i f) → end ≤ length start.numbers
+          → Here at p said (λ m. lines (field_elements ss d.fields v (own m) m i at f) ++ left m)
+          → Came end (known_cell f.count f.item at) said left (read_field rs d v path present base i at f p)
+      field_comes i at end f p said left sound known is room a =
+          let caps = counted i d.fields in
+          let old = own p.numbers in
+          let stand : Stand = stand_of i f v old in
+          let elements : Stand → List (List Cell) → List ℤ → List Element = λ stand cs m.
+          array_elements f stand (item_elements ss f.item caps f.default m) (item_size cs f.item) 0 (capacity_of f.count) at in
+          let settled : (m : List ℤ) → Agrees said m → (j : ℕ) → IsEarlier d.fields i j → own m j ≡ old j = λ m g j x.
+          ap (λ (z : ℤ). residue (width (kind_of (get_or d.fields j no_field).item)) z) ((known j x).known m p.numbers g a.agrees) in
+          let same : (m : List ℤ) → Agrees said m → stand_of i f v (own m) ≡ stand = λ m g.
+          let count = elements_same d.fields i old (own m) (settled m g) f.count sound.count in
+          let there = there_same d.fields i v f.since old (own m) (settled m g) f.test sound.test in
+          rw (count, there) refl in
+          array_comes f stand caps steps path present old f.count refl refl at end p said left (omega (arith, field_size (cells_of rs) d.fields i f)) room
+          (at_left total start low (λ m g. ap (λ (cs : List (List Cell)). lines (elements (stand_of i f v (own m)) cs m) ++ left m) cells
+          ∙ ap (λ (s : Stand). lines (elements s (cells_of rs) m) ++ left m) (same m g)) a)
+
+      fields_comes : (i at end : ℕ) (fs : List Field) (p : Standing) (said : List Said) (left : List ℤ → List Element)
+          → AreSoundFields d.fields i fs → at ≡ place_of (cells_of rs) d.fields 0 base d.fields i → drop i d.fields ≡ fs
+          → ((j : ℕ) → IsEarlier d.fields i j → Knows said (place_of (cells_of rs) d.fields 0 base d.fields j))
+          → end ≡ at + length (cells_from (cells_of rs) d.fields i fs) → end ≤ length start.numbers
+          → Here at p said (λ m. lines (elements_from ss d.fields v (own m) m i at fs) ++ left m)
+          → Came end [] said left (read_fields rs d v path present base i at fs p)
+      fields_comes i at end [] p said left sound here is known e room a = stay total start low at end p said left (omega arith) a
+      fields_comes i at end (f ∷ fs) p said left sound here is known e room a =
+          let cs = cells_of rs in
+          let next = at + length (field_cells cs d.fields i f) in
+          let first : List ℤ → List Element = λ m. field_elements ss d.fields v (own m) m i at f in
+          let rest : List ℤ → ℕ → List Element = λ m k. elements_from ss d.fields v (own m) m (suc i) (at + k) fs in
+          let later : List ℤ → List Element = λ m. lines (elements_from ss d.fields v (own m) m (suc i) next fs) ++ left m in
+          let e' : end ≡ next + length (cells_from cs d.fields (suc i) fs) =
+          omega (arith, length-append (field_cells cs d.fields i f) (cells_from cs d.fields (suc i) fs)) in
+          let there : next ≡ place_of cs d.fields 0 base d.fields (suc i) =
+          omega (arith, place_next cs d.fields 0 base d.fields i f fs is, ap (λ (k : ℕ). length (field_cells cs d.fields k f)) (zero_plus i)) in
+          then_comes total start low (read_field rs d v path present base i at f p) _
+          (field_comes i at next f p said later sound.0 known refl (omega arith)
+          (at_left total start low (λ m g. ap (λ (l : List Element). l ++ left m) (wrapped_append steps path present (first m) _)
+          ∙ ap (λ (cs : List (List Cell)). (lines (first m) ++ lines (rest m (length (field_cells cs d.fields i f)))) ++ left m) cells
+          ∙ append_assoc (lines (first m)) _ (left m)) a))
+          (λ q done a' grows k.
+          fields_comes (suc i) next end fs q done left sound.1 there (drop_next d.fields i f fs is)
+          (λ j x. known_next cs d base i at f fs said done is here grows known k j x) e' room a')
+
+      -- a description's lines are those of its elements
+      pub desc_comes : (end : ℕ) (p : Standing) (said : List Said) (left : List ℤ → List Element) → IsSound d → end ≡ base + length (desc_cells (cells_of rs) d)
+          → end ≤ length start.numbers → Here base p said (λ m. lines (desc_elements ss d v m base) ++ left m)
+          → Came end [] said left (read_desc rs d v path present base p)
+      desc_comes end p said left sound e room a =
+          let cs = cells_of rs in
+          let fields : List ℤ → List Element = λ m. elements_from ss d.fields v (own m) m 0 base d.fields in
+          let last : List (List Cell) → List ℤ → List Element =
+          λ cs m. single (base + length (desc_cells cs d)) (Rule (all_hold d.validate v (numbers_of cs d m base))) ∷ [] in
+          fields_comes 0 base end d.fields p said left sound.fields (sym (place_first cs d.fields 0 base d.fields)) refl
+          (λ j x. let lt = x.earlier in absurd (omega arith)) e room
+          (at_left total start low
+          (λ m g. ap (λ (cs : List (List Cell)). lines (elements_from ss d.fields v (numbers_of cs d m base) m 0 base d.fields ++ last cs m) ++ left m) cells
+          ∙ ap (λ (l : List Element). l ++ left m) (wrapped_append steps path present (fields m) (last cs m) ∙ append-nil (lines (fields m)))) a)
 
   -- ---- structures
 
   same_cells : (ds : List Desc) (k : ℕ) → cells_in (first shape ds k) ≡ cells_of (first reader ds k)
   same_cells ds k = shapes_cells ds k ∙ sym (readers_cells ds k)
 
-  all_read : (ds : List Desc) → AreSound ds → (k : ℕ) → k ≤ length ds → (j : ℕ) → ReadsShape (get_or (first reader ds k) j no_reader) (get_or (first shape ds k) j no_shape)
+  all_read : (ds : List Desc) → AreSound ds → (k : ℕ) → k ≤ length ds → (j : ℕ)
+      → ReadsShape (get_or (first reader ds k) j no_reader) (get_or (first shape ds k) j no_shape)
   unfolding first
   all_read ds sound zero le j = none_reads
   all_read ds sound (suc k) le j =
       let rs = first reader ds k in
       let ss = first shape ds k in
       let d = get_or ds k no_desc in
-      two_more ReadsShape no_reader no_shape none_reads rs ss (first_long reader ds k ∙ sym (first_long shape ds k)) (all_read ds sound k (omega arith)) (reader rs d) (shape ss d)
-      (record { shape_comes = λ steps path present at p said left room a. desc_comes rs ss (same_cells ds k) (all_read ds sound k (omega arith)) d d.version steps path present at p said left (sound k (omega arith)) room a })
+      let before = all_read ds sound k (omega arith) in
+      two_more ReadsShape no_reader no_shape none_reads rs ss (first_long reader ds k ∙ sym (first_long shape ds k)) before (reader rs d) (shape ss d)
+      (record {
+        shape_comes = λ steps path present at end p said left e room a.
+            desc_comes rs ss (same_cells ds k) before d d.version steps path present at end p said left (sound k (omega arith)) e room a;
+      })
       j
 
   -- the description of a part of a set, which starts at a cell
@@ -300,6 +306,7 @@ module _ (total : List ℤ → List Element) (start : Standing) (low : ℕ) wher
       → Comes total start low (at + length (desc_cells (struct_cells set) d)) [] said left (read_desc (readers set) d d.version [] true at p)
   part_comes set d at p said left structs sound room a =
       let k = length set.structs in
-      let size : length (desc_cells (cells_of (readers set)) d) ≡ length (desc_cells (struct_cells set) d) = ap (λ (cs : List (List Cell)). length (desc_cells cs d)) (readers_cells set.structs k) in
-      subst (λ (n : ℕ). Comes total start low (at + n) [] said left (read_desc (readers set) d d.version [] true at p)) size
-      (desc_comes (readers set) (shapes set) (same_cells set.structs k) (all_read set.structs structs k (omega arith)) d d.version [] [] true at p said left sound (omega (arith, size)) a)
+      let same : length (desc_cells (struct_cells set) d) ≡ length (desc_cells (cells_of (readers set)) d) =
+      ap (λ (cs : List (List Cell)). length (desc_cells cs d)) (sym (readers_cells set.structs k)) in
+      desc_comes (readers set) (shapes set) (same_cells set.structs k)
+      (all_read set.structs structs k (omega arith)) d d.version [] [] true at _ p said left sound (omega (arith, same)) room a

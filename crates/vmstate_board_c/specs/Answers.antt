@@ -5,7 +5,7 @@ use Rattle.dev_board.specs.Wires.{is_wire}
 use Rattle.dev_board.specs.declared.event.Answer.{Answer}
 use Rattle.dev_board.specs.declared.event.Event.{Event}
 use Rattle.dev_board.specs.declared.event.Event.TheVariants.{Wait, Wire, Ack}
-use Rattle.vmstate_board_c.specs.Kinds.{is_made, now_of, output_of, power_on_of, step_of}
+use Rattle.vmstate_board_c.specs.Kinds.{IsDueAt, is_made, now_of, output_of, power_on_of, step_of}
 use Rattle.vmstate_board_c.specs.declared.answer.CAnswer.{CAnswer}
 use Rattle.vmstate_board_c.specs.declared.answer.CNumber.{CNumber}
 use Rattle.vmstate_board_c.specs.declared.handle.Handle.{Handle}
@@ -110,6 +110,16 @@ told answer (Some board) = answer board
 abbrev pub output_told : ℕ → Option AnyBoard → CNumber
 output_told counter board =
     if nat_lt counter 3 then told (λ m. flag (output_of counter m)) board else no_number 2
+
+-- The wait as a number, 2^64 - 1 if there is none.
+abbrev pub wait_number : Option ℕ → CNumber
+wait_number None = number 18446744073709551615
+wait_number (Some ns) = number ns
+
+-- `told` is the number of the least wait that shows something. The status is 3 if there is no board.
+abbrev pub DueTold : Option AnyBoard → CNumber → Type 0
+DueTold None told = told ≡ no_number 3
+DueTold (Some board) told = (due : Option ℕ) × IsDueAt board due × (told ≡ wait_number due)
 
 -- ---- new boards
 

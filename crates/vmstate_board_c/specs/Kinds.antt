@@ -1,9 +1,10 @@
 -- The boards of both kinds.
-use Rattle.std.specs.Prelude.{ℕ, ◌==◌, Bool, false, ◌&&◌, ◌||◌, nat_le, if◌then◌else◌}
+use Rattle.std.specs.Prelude.{ℕ, ◌==◌, Bool, false, ◌&&◌, ◌||◌, nat_le, if◌then◌else◌, Option}
 use Rattle.dev_board.specs.State.{State}
 use Rattle.dev_board.specs.declared.event.Answer.{Answer}
 use Rattle.dev_board.specs.declared.event.Event.{Event}
 use Rattle.dev_clock.specs.State.{ClockState}
+use Rattle.dev_due.specs.Due.{IsDue}
 use Rattle.vms_board.specs.Clock.{clock}
 use Rattle.vms_board.specs.Family.{Family}
 use Rattle.vms_board.specs.Isa.{isa}
@@ -68,3 +69,8 @@ room_of (Clock board) = clock.room board.state
 abbrev pub character_of : AnyBoard → ℕ
 character_of (Isa board) = isa.character board.state
 character_of (Clock board) = clock.character board.state
+
+-- `due`, if there is one, is the least wait of the board that shows something.
+abbrev pub IsDueAt : AnyBoard → Option ℕ → Type 0
+IsDueAt (Isa board) due = IsDue isa.step isa.int board.state due
+IsDueAt (Clock board) due = IsDue clock.step clock.int board.state due

@@ -1,6 +1,6 @@
 // The results of calls, as C structures.
 ghost use Rattle.std.specs.Prelude.{◌≡◌, ◌≤◌, length};
-ghost use Rattle.vmstate_board_c.specs.Answers.{flag as flag_of, no_number as no_number_of, nothing_said, number as number_of, said};
+ghost use Rattle.vmstate_board_c.specs.Answers.{flag as flag_of, no_number as no_number_of, nothing_said, number as number_of, said, wait_number as wait_number_of};
 
 /// The most bytes that a board sends at once.
 const MOST_SENT: usize = 17;
@@ -84,4 +84,11 @@ pub(crate) fn no_number(status: u32) -> CNumber
     ensures { result ≡ no_number_of status }
 {
     CNumber { status, number: 0 }
+}
+
+/// Returns `wait` as a number, 2^64 - 1 if there is none.
+pub(crate) fn wait_number(wait: Option<u64>) -> CNumber
+    ensures { result ≡ wait_number_of wait }
+{
+    number(wait.unwrap_or(u64::MAX))
 }

@@ -1,7 +1,7 @@
 // The calls of boards of both kinds.
 ghost use Rattle.std.specs.Prelude.{◌≡◌, ◌<◌, IsTrue, IfOk};
 ghost use Rattle.dev_board.specs.Step.{names_wire};
-ghost use Rattle.vmstate_board_c.specs.Kinds.{character_of, has_port_of, int_of, is_made, level_of, now_of, output_of, power_on_of, room_of, step_of};
+ghost use Rattle.vmstate_board_c.specs.Kinds.{IsDueAt, character_of, has_port_of, int_of, is_made, level_of, now_of, output_of, power_on_of, room_of, step_of};
 
 use crate::held::AnyBoard;
 use dev_board::{Answer, Event};
@@ -122,6 +122,17 @@ impl AnyBoard {
         match self {
             AnyBoard::Isa(board) => board.character(),
             AnyBoard::Clock(board) => board.character(),
+        }
+    }
+
+    /// Returns the least wait, in nanoseconds, after which the interrupt output has changed or bytes
+    /// have left the serial port, or `None` if no wait changes it and none lets bytes leave.
+    pub(crate) fn due(&self) -> Option<u64>
+        ensures { IsDueAt self.now result }
+    {
+        match self {
+            AnyBoard::Isa(board) => board.due(),
+            AnyBoard::Clock(board) => board.due(),
         }
     }
 }

@@ -6,11 +6,9 @@
 
 mod answer;
 mod border;
-mod growing;
 mod handle;
 mod held;
 mod kinds;
-mod lent;
 mod parts;
 mod question;
 mod reason;
@@ -25,7 +23,7 @@ pub use border::{
 };
 pub use handle::Handle;
 pub use question::{
-    vmstate_board_character, vmstate_board_has_port, vmstate_board_int, vmstate_board_level,
-    vmstate_board_now, vmstate_board_output, vmstate_board_room,
+    vmstate_board_character, vmstate_board_due, vmstate_board_has_port, vmstate_board_int,
+    vmstate_board_level, vmstate_board_now, vmstate_board_output, vmstate_board_room,
 };
 pub use stream::{CRestored, vmstate_board_restore, vmstate_board_save};

@@ -1,10 +1,10 @@
 // Questions about a board, which don't change it. The status of each is 3 if the handle owns no
 // board.
 ghost use Rattle.std.specs.Prelude.{◌≡◌};
-ghost use Rattle.vmstate_board_c.specs.Answers.{board_of, flag as flag_of, number as number_of, output_told, told};
+ghost use Rattle.vmstate_board_c.specs.Answers.{DueTold, board_of, flag as flag_of, number as number_of, output_told, told};
 ghost use Rattle.vmstate_board_c.specs.Kinds.{character_of, has_port_of, int_of, level_of, now_of, room_of};
 
-use crate::answer::{CNumber, flag, no_number, number};
+use crate::answer::{CNumber, flag, no_number, number, wait_number};
 use crate::handle::Handle;
 use crate::status::{NO_BOARD, NONE_SUCH};
 use std::alloc::Global;
@@ -109,6 +109,21 @@ pub extern "C" fn vmstate_board_output(alloc: Global, handle: &mut Handle, count
         return no_number(NO_BOARD);
     };
     let answer = flag(held.board.output(counter));
+    *handle = Handle::of(held);
+    answer
+}
+
+/// Returns the least wait, in nanoseconds, after which the interrupt output has changed or bytes have
+/// left the serial port, or 2^64 - 1 if no wait changes it and none lets bytes leave.
+#[unsafe(no_mangle)]
+pub extern "C" fn vmstate_board_due(alloc: Global, handle: &mut Handle) -> CNumber
+    ensures same { board_of handle.new ≡ board_of handle.old }
+    ensures number { DueTold (board_of handle.old) result }
+{
+    let Some(held) = handle.take(alloc) else {
+        return no_number(NO_BOARD);
+    };
+    let answer = wait_number(held.board.due());
     *handle = Handle::of(held);
     answer
 }

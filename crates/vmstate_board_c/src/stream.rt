@@ -4,14 +4,16 @@ ghost use Rattle.vmstate_board_c.specs.Answers.{board_of};
 ghost use Rattle.vmstate_board_c.specs.Streams.{HasRestored, HasSaved, IsRestored, Lands, RestoredTo, SavedIf, may_save, may_save_in, nothing_restored, refused_said, stream_in, stream_of};
 
 use crate::answer::{CNumber, no_number};
-use crate::growing::Growing;
 use crate::handle::Handle;
 use crate::held::AnyBoard;
-use crate::lent::Lent;
 use crate::reason::{reason_number, rule_of};
 use crate::status::{DONE, NO_BOARD, NO_MEMORY, NONE_SUCH, REFUSED, TOO_SMALL};
 use std::alloc::Global;
 use vms_board::{Machine, MachineBoard, Refusal, RestoreFault};
+use vms_board_streams::{Growing, Lent};
+
+// The room that a stream gets at first, enough for that of a board with its description.
+const ROOM: usize = 8192;
 
 /// The result of a restore.
 ///
@@ -80,7 +82,9 @@ fn save<M: Machine>(
     if board.number() > set || set > M::newest() {
         return no_number(NONE_SUCH);
     }
-    let mut sink = Growing::new(alloc);
+    let Ok(mut sink) = Growing::with_room(alloc, ROOM) else {
+        return no_number(NO_MEMORY);
+    };
     let saved = if describe {
         board.save(alloc, set, &mut sink)
     } else {
@@ -141,11 +145,7 @@ fn restore_any(board: &mut AnyBoard, stream: &[u8]) -> CRestored
 fn restore<M: Machine>(board: &mut MachineBoard<M>, stream: &[u8]) -> CRestored
     ensures { IsRestored M.family stream.now board.old board.new result }
 {
-    let mut source = Lent {
-        bytes: stream,
-        at: 0,
-        given: 0,
-    };
+    let mut source = Lent::new(stream);
     match board.restore(&mut source) {
         Ok(()) => CRestored {
             offset: board.taken(),

@@ -1,83 +1,156 @@
--- What a cursor's call sees, and what the judge says.
-use Rattle.std.proofs.Common.{◌≡◌, ◌⊎◌, inl, inr, ℕ, zero, suc, ◌+◌, List, [], ◌∷◌, ◌++◌, length, get_or, Option, Some, None, refl, sym, ap, ◌∙◌, subst, Bool, true, false, not, nat_lt, ◌==◌, ◌||◌, ◌&&◌, if◌then◌else◌}
+-- What a cursor's call sees, and what the judge says; a unit between sections after the fields.
+use Rattle.std.proofs.Common.{◌≡◌, ℕ, ◌+◌, List, ◌∷◌, length, get_or, Option, Some, None, refl, ap, ◌∙◌, Bool, true, false, not, nat_lt, ◌==◌, ◌&&◌}
+use Rattle.std.proofs.Common.{if◌then◌else◌, [], ◌||◌, zero, suc, ◌++◌, take, sym, subst}
+use Rattle.std.proofs.lemmas.Bool.{both_ways, not-true}
+use Rattle.std.proofs.Math.Bool.{or-not_self}
+use Rattle.vms_spec.specs.declared.TheConstants.{LONGEST_NAME}
 use Rattle.vms_spec.specs.declared.Reason.{Reason}
-use Rattle.vms_spec.specs.declared.Reason.TheVariants as reasons
-use Rattle.vms_spec.specs.Numbers.{is_truth, is_above, exceeds, same_number}
 use Rattle.vms_spec.specs.Sets.{Set}
-use Rattle.vms_spec.specs.Layout.{Slot, Number as NumberSlot, Constant as ConstantSlot, Filler as FillerSlot, Rule as RuleSlot}
-use Rattle.vms_spec.specs.Lookup.{number_at}
-use Rattle.vms_spec.specs.Readings.{Faulty, Over}
-use Rattle.vms_spec.specs.Units.{Piece, Number, Constant, SubHead, Foot, Mark}
+use Rattle.vms_spec.specs.Images.{Image}
+use Rattle.vms_spec.specs.Lookup.{number_at, bytes_at}
+use Rattle.vms_spec.specs.Readings.{Verdict, Faulty, Over}
+use Rattle.vms_spec.specs.Units.{Piece, Configuration, Long, Head, End, Start, Mark, Number, Constant, Filler, SubHead, Foot}
 use Rattle.vms_bodies.proofs.BodyOnly.{if_true}
 use Rattle.vms_stream.specs.SoFar.{Tail, Unknown, Footed, Bare, Known}
-use Rattle.vms_stream.specs.Dues.{Due, AMagic, AVersion, Between, Field, AfterFields, AfterEnd, Nothing, is_foot, is_next, begins_next, rules_hold, due_field}
-use Rattle.vms_stream.specs.Table.{Row, first_row, alone, asking, is_between, wants_foot, other_constant, large_count, bad_foot, is_lone, is_mark, starts, is_ram}
+use Rattle.vms_stream.specs.Dues.{Due, Between, AfterFields, begins_next, rules_hold, AMagic, AVersion, Field, AfterEnd, Nothing, is_foot, is_next, due_field}
+use Rattle.vms_stream.specs.Finding.{Found, Whole, Cut, needs, between_at, unit_at, sub_at, behind_at}
 use Rattle.vms_stream.specs.Faults.{cut_in}
-use Rattle.vms_stream.specs.Finding.{Found, Whole, Cut, needs, sub_at, between_at, behind_at, unit_at}
+use Rattle.vms_stream.specs.Table.{first_of, is_between, wants_foot, is_ram, Row, first_row, alone, asking, other_constant, large_count, bad_foot}
+use Rattle.vms_stream.specs.Judge.{judge, judge_found, by_row, owes}
+use Rattle.vms_stream.specs.State.{State, Free, Inside, due_by, known_at, slots_at, after, by_state, Spot, Before, Headed, Ended, Over as IsOver, open_at}
+use Rattle.vms_stream.proofs.Finding.There.{next_at}
+use Rattle.vms_kinds.specs.Codes.{width}
+use Rattle.vms_spec.specs.Layout.{Slot, Number as NumberSlot, Constant as ConstantSlot, Filler as FillerSlot, Rule as RuleSlot}
 use Rattle.vms_stream.specs.Seen.{Bad, seen_in, seen_by}
-use Rattle.vms_stream.specs.Judge.{judge_found, by_row, owes}
-use Rattle.vms_stream.specs.State.{State, Spot, Before, Headed, Free, Inside, Ended, Over as IsOver, open_at, slots_at, due_by, known_at, after, by_state}
 use Rattle.vms_stream.specs.Judged.{judge_seen, ask, begins_section, JudgedLaw, NextLaw, SeenLaw}
-use Rattle.vms_stream.proofs.Calls.Seen.{append_first, append_taken}
-use Rattle.vms_stream.proofs.Judging.Onward.{next_judged}
+use Rattle.vms_spec.specs.declared.Reason.TheVariants as reasons
+
+-- what begins there is between sections, and no footer
+next_between : (k : ℕ) (t : Tail) (rest : List ℕ) → begins_next t rest ≡ true → (is_between (AfterFields k t) ≡ true) × (wants_foot (AfterFields k t) ≡ false)
+next_between k Footed [] e = cc
+next_between k Footed (c ∷ rest) e = absurd (both_ways _ (not-true _ e) (or-not_self (c == 0x05)))
+next_between k Unknown rest e = (refl, refl)
+next_between k Bare rest e = (refl, refl)
+
+-- a lone mark is invalid
+mark_by : (set : Set) (names : List (List ℕ)) (s u : State) (m : ℕ) (p q r w : Bool) → (let row : Option (Option ℕ × Reason) =
+    if true && not (p || q || r || (w && false)) then Some (None, reasons.BadMark)
+    else if (p || q) && true then Some (None, reasons.Iterative)
+    else if r && true then Some (None, reasons.Command)
+    else if w && false then Some (None, reasons.ConfigurationExtra)
+    else None in by_row (by_state set names) row m s ≡ by_row (by_state set names) row m u)
+mark_by set names s u m true q r w = refl
+mark_by set names s u m false true r w = refl
+mark_by set names s u m false false true w = refl
+mark_by set names s u m false false false true = refl
+mark_by set names s u m false false false false = refl
+
+module _ (set : Set) (names : List (List ℕ)) (machine : Option (List ℕ)) (images : List Image) (came : List Bool) (k id : ℕ) (part : Option ℕ) (n : ℕ)
+    (t : Tail) (rest : List ℕ) where
+  -- in the section, and between sections of a bare stream
+  abbrev inner : State
+  inner = record { machine = machine; images = images; came = came; tail = t; spot = Inside k id part n }
+
+  abbrev outer : State
+  outer = record { machine = machine; images = images; came = came; tail = Bare; spot = Free false false }
+
+  -- the verdict after the fields, by what is found there
+  abbrev verdict : Due → Found → Verdict State
+  verdict d (Whole x m) = by_row (by_state set names) (first_of set names d (known_at set inner) x) m (after set inner x)
+  verdict d Cut = if owes d rest then Faulty (cut_in d rest (Some k)) reasons.Truncated (length rest) else Over inner
+
+  same : (f : Found) → judge_found (by_state set names) inner rest f ≡ verdict (due_by set inner (Inside k id part n)) f
+  same (Whole x m) = refl
+  same Cut = refl
+
+  -- it is the one between sections
+  abbrev IsOuter : Found → Type 0
+  IsOuter f = verdict (AfterFields k t) f ≡ judge_found (by_state set names) outer rest f
+
+  pick : (b : Bool) (v w : Found) → IsOuter v → IsOuter w → IsOuter (if b then v else w)
+  pick true v w f g = f
+  pick false v w f g = g
+
+  module _ (e : begins_next t rest ≡ true) where
+    needs_outer : (m : ℕ) (x : Piece) → IsOuter (Whole x m) → IsOuter (needs m rest x)
+    needs_outer m x h =
+        pick (nat_lt (length rest) m) Cut (Whole x m) (ap (λ (b : Bool). Faulty (if b then None else Some k) reasons.Truncated (length rest)) e) h
+
+    start_outer : (m its : ℕ) (name : List ℕ) → IsOuter (Whole (Start its name) m)
+    start_outer m its name = by (is_ram name)
+      where
+        by : (b : Bool)
+            → by_row (by_state set names) (if b then Some (None, reasons.Ram) else if not b || false then Some (None, reasons.Iterative) else None) m
+            (after set inner (Start its name))
+            ≡ by_row (by_state set names) (if b then Some (None, reasons.Ram) else if not b || false then Some (None, reasons.Iterative) else None) m
+            (after set outer (Start its name))
+        by true = refl
+        by false = refl
+
+    between_outer : (b : ℕ) → ((m : ℕ) → IsOuter (Whole (Mark b) m)) → IsOuter (between_at false b rest)
+    unfolding between_at
+    between_outer b mark =
+        let size = number_at 4 1 rest in
+        let name = get_or rest 5 0 in
+        pick (b == 0x00) _ _ (needs_outer 1 End refl)
+        (pick (b == 0x01) _ _ (needs_outer (6 + name) _ (start_outer (6 + name) size (bytes_at name 6 rest)))
+        (pick (b == 0x04) _ _ (needs_outer (14 + name) (Head _ _ _ _) refl)
+        (pick (b == 0x07 && false) _ _ (pick (nat_lt LONGEST_NAME size) _ _ (needs_outer 5 (Long 0x07 size) refl)
+        (needs_outer (5 + size) (Configuration (bytes_at size 5 rest)) refl)) (needs_outer 1 (Mark b) (mark 1)))))
+
+    unit_is : unit_at (AfterFields k t) rest ≡ unit_at (Between false false) rest
+    unit_is = by rest e
+      where
+        by : (rest : List ℕ) → begins_next t rest ≡ true → unit_at (AfterFields k t) rest ≡ unit_at (Between false false) rest
+        by [] e = cc
+        by (b ∷ more) e = next_at t b (b ∷ more) e
+
+    mark_outer : (b m : ℕ) → IsOuter (Whole (Mark b) m)
+    mark_outer b m = let f = next_between k t rest e in rw (f.0, f.1) (mark_by set names _ _ m (b == 2) (b == 3) (b == 8) (b == 5))
+
+    pub next_judged : due_by set inner (Inside k id part n) ≡ AfterFields k t → rules_hold (slots_at set inner (Inside k id part n)) ≡ true
+        → judge (by_state set names) inner rest ≡ judge (by_state set names) outer rest
+    next_judged due held =
+        if_true (rules_hold (slots_at set inner (Inside k id part n)))
+        (judge_found (by_state set names) inner rest (unit_at (due_by set inner (Inside k id part n)) rest)) _ held
+        ∙ same (unit_at (due_by set inner (Inside k id part n)) rest)
+        ∙ ap (λ (d : Due). verdict d (unit_at d rest)) due
+        ∙ ap (verdict (AfterFields k t)) unit_is
+        ∙ between_outer (get_or rest 0 0) (mark_outer (get_or rest 0 0))
 
 abbrev Line : Type 0
 Line = Option (Option ℕ × Reason)
 
-abbrev line : Option ℕ → Reason → Line
-line section reason = Some (section, reason)
+-- a row of this section, or none
+abbrev Of : Option ℕ → Line → Type 0
+Of section None = Unit {0}
+Of section (Some line) = line.0 ≡ section
 
-pair_is : (p q : Option ℕ × Reason) → Some p ≡ Some q → p ≡ q
-pair_is p q e = cc
+abbrev AllOf : Option ℕ → List Row → Type 0
+AllOf section [] = Unit {0}
+AllOf section (r ∷ rows) = (r.section ≡ section) × AllOf section rows
 
--- one line is of one section
-section_is : (a b : Option ℕ) (p q : Reason) → line a p ≡ line b q → a ≡ b
-section_is a b p q e = ap (λ (x : Option ℕ × Reason). x.0) (pair_is (a, p) (b, q) e)
-
--- ---- the section of a row that a unit alone decides
-
-abbrev AllNone : List Row → Type 0
-AllNone [] = Unit {0}
-AllNone (r ∷ rows) = (r.section ≡ None) × AllNone rows
-
-none_of : (rows : List Row) (section : Option ℕ) (reason : Reason) → AllNone rows → first_row rows ≡ Some (section, reason) → section ≡ None
-none_of [] section reason a e = cc
-none_of (r ∷ rows) section reason a e = by r.taken (none_of rows section reason a.1) e
+of_first : (section : Option ℕ) (rows : List Row) → AllOf section rows → Of section (first_row rows)
+of_first section [] a = tt
+of_first section (r ∷ rows) a = by (of_first section rows a.1) r.taken
   where
-    by : (b : Bool) → (first_row rows ≡ Some (section, reason) → section ≡ None) → (if b then Some (r.section, r.reason) else first_row rows) ≡ Some (section, reason) → section ≡ None
-    by true on e = sym (section_is r.section section r.reason reason e) ∙ a.0
-    by false on e = on e
+    by : Of section (first_row rows) → (b : Bool) → Of section (if b then Some (r.section, r.reason) else first_row rows)
+    by later true = a.0
+    by later false = later
 
-alone_none : (d : Due) (k : Known) (x : Piece) (section : Option ℕ) (reason : Reason) → k.section ≡ None → first_row (alone d k x) ≡ Some (section, reason) → section ≡ None
-alone_none d k x section reason n e = none_of (alone d k x) section reason (refl, (refl, (refl, (refl, (refl, (refl, (refl, (refl, (refl, (n, (n, (n, (n, (refl, (refl, tt))))))))))))))) e
+-- the first row of two lists
+abbrev or_line : Line → Line → Line
+or_line None o = o
+or_line (Some line) o = Some line
 
-two_rows : (a b : Bool) (k section : Option ℕ) (p q reason : Reason) → (if a then line k p else if b then line k q else None) ≡ line section reason → section ≡ k
-two_rows true b k section p q reason e = sym (section_is k section p reason e)
-two_rows false true k section p q reason e = sym (section_is k section q reason e)
-two_rows false false k section p q reason e = cc
-
-whole_is : (b : Bool) (y x : Piece) (m n : ℕ) → (if b then Cut else Whole y m) ≡ Whole x n → y ≡ x
-whole_is true y x m n e = cc
-whole_is false y x m n e = cc
-
-in_field : (j : ℕ) (slot : Slot) (k : Known) (rest : List ℕ) (x : Piece) (n : ℕ) (section : Option ℕ) (reason : Reason) → unit_at (Field j slot) rest ≡ Whole x n → first_row (alone (Field j slot) k x) ≡ Some (section, reason)
-    → section ≡ k.section
-in_field j (NumberSlot c kind caps) k rest x n section reason e f =
-    by (whole_is _ _ x _ n e)
+first_append : (xs ys : List Row) → first_row (xs ++ ys) ≡ or_line (first_row xs) (first_row ys)
+first_append [] ys = refl
+first_append (x ∷ xs) ys = by (first_append xs ys) x.taken
   where
-    by : {z : _} → Number c kind z ≡ x → section ≡ k.section
-    by {z} is = two_rows (is_truth kind && is_above z 1) (exceeds caps z) k.section section reasons.BadBool reasons.CountTooLarge reason
-        (ap (λ (y : Piece). first_row (alone (Field j (NumberSlot c kind caps)) k y)) is ∙ f)
-in_field j (ConstantSlot kind y) k rest x n section reason e f =
-    by (whole_is _ _ x _ n e)
-  where
-    by : {z : _} → Constant kind z ≡ x → section ≡ k.section
-    by {z} is = two_rows (is_truth kind && is_above z 1) (not (same_number z y)) k.section section reasons.BadBool reasons.NotEqual reason
-        (ap (λ (y' : Piece). first_row (alone (Field j (ConstantSlot kind y)) k y')) is ∙ f)
-in_field j (FillerSlot m) k rest x n section reason e f =
-    let is = whole_is _ _ x _ n e in
-    let g = ap (λ (y : Piece). first_row (alone (Field j (FillerSlot m)) k y)) is ∙ f in cc
-in_field j (RuleSlot b) k rest x n section reason e f = cc
+    by : first_row (xs ++ ys) ≡ or_line (first_row xs) (first_row ys) → (b : Bool)
+        → (if b then Some (x.section, x.reason) else first_row (xs ++ ys)) ≡ or_line (if b then Some (x.section, x.reason) else first_row xs) (first_row ys)
+    by later true = refl
+    by later false = later
 
 never : {A : Type 0} (p : Bool) (x y : A) → (if p && false then x else y) ≡ y
 never true x y = refl
@@ -85,94 +158,93 @@ never false x y = refl
 
 -- if no section may begin, no mark is one of those that may not begin one
 pub not_between : (bad : Line) (p q r : Bool)
-    → (if p && false then Some (None, reasons.Iterative) else if q && false then Some (None, reasons.Command) else if r && false then Some (None, reasons.ConfigurationExtra) else bad) ≡ bad
-not_between bad p q r =
-    let extra : Line = if r && false then Some (None, reasons.ConfigurationExtra) else bad in
-    let command : Line = if q && false then Some (None, reasons.Command) else extra in
-    never p (Some (None, reasons.Iterative)) command ∙ never q (Some (None, reasons.Command)) extra ∙ never r (Some (None, reasons.ConfigurationExtra)) bad
+    → (if p && false then Some (None, reasons.Iterative) else if q && false then Some (None, reasons.Command) else if r && false then Some
+    (None, reasons.ConfigurationExtra) else bad) ≡ bad
+not_between bad p q r = never p _ _ ∙ never q _ _ ∙ never r _ bad
 
 -- neither a footer nor a subsection head
 pub foot_row : (j : ℕ) (k : Known) (b : ℕ) → first_row (alone (AfterFields j Footed) k (Mark b)) ≡ Some (k.section, reasons.BadFooter)
 foot_row j k b = not_between (Some (k.section, reasons.BadFooter)) (b == 0x02 || b == 0x03) (b == 0x08) (b == 0x05)
 
-one_row : (a : Bool) (k section : Option ℕ) (p reason : Reason) → (if a then line k p else None) ≡ line section reason → section ≡ k
-one_row true k section p reason e = sym (section_is k section p reason e)
-one_row false k section p reason e = cc
+-- ---- a unit that is invalid by itself belongs to the open section
 
-module _ (j : ℕ) (k : Known) (x : Piece) (n : ℕ) (section : Option ℕ) (reason : Reason) where
-  abbrev Concerns : Tail → Found → Type 0
-  Concerns t f = f ≡ Whole x n → first_row (alone (AfterFields j t) k x) ≡ Some (section, reason) → section ≡ k.section
+module _ (k : Known) where
+  abbrev OfOpen : Due → Found → Type 0
+  OfOpen d (Whole x n) = Of k.section (first_row (alone d k x))
+  OfOpen d Cut = Unit {0}
 
-  sub_concerns : (t : Tail) (m : ℕ) (rest name : List ℕ) (v : ℕ) → Concerns t (needs m rest (SubHead name v))
-  sub_concerns t m rest name v e f =
-      let is = whole_is (nat_lt (length rest) m) (SubHead name v) x m n e in
-      let g = ap (λ (y : Piece). first_row (alone (AfterFields j t) k y)) is ∙ f in cc
+  test : (d : Due) (b : Bool) (v w : Found) → (b ≡ true → OfOpen d v) → (b ≡ false → OfOpen d w) → OfOpen d (if b then v else w)
+  test d true v w f g = f refl
+  test d false v w f g = g refl
 
-  foot_concerns : (t : Tail) (m : ℕ) (rest : List ℕ) (its : ℕ) → Concerns t (needs m rest (Foot its))
-  foot_concerns t m rest its e f =
-      let is = whole_is (nat_lt (length rest) m) (Foot its) x m n e in
-      one_row (not (its == k.id)) k.section section reasons.BadFooter reason (ap (λ (y : Piece). first_row (alone (AfterFields j t) k y)) is ∙ f)
+  whole : (d : Due) (rest : List ℕ) (m : ℕ) (x : Piece) → Of k.section (first_row (alone d k x)) → OfOpen d (needs m rest x)
+  whole d rest m x h = test d (nat_lt (length rest) m) Cut (Whole x m) (λ e. tt) (λ e. h)
 
-  mark_concerns : (t : Tail) (m : ℕ) (rest : List ℕ) (b : ℕ) → is_foot t b ≡ true → (b == 0x7e) ≡ false → Concerns t (needs m rest (Mark b))
-  mark_concerns Unknown m rest b h g e f = cc
-  mark_concerns Bare m rest b h g e f = cc
-  mark_concerns Footed m rest b h g e f =
-      let is = whole_is (nat_lt (length rest) m) (Mark b) x m n e in
-      sym (section_is k.section section reasons.BadFooter reason (sym (foot_row j k b) ∙ ap (λ (y : Piece). first_row (alone (AfterFields j Footed) k y)) is ∙ f))
+  two_rows : (a b : Bool) (p q : Reason) → Of k.section (if a then Some (k.section, p) else if b then Some (k.section, q) else None)
+  two_rows true b p q = refl
+  two_rows false true p q = refl
+  two_rows false false p q = tt
 
-  behind_concerns : (t : Tail) (b : ℕ) (rest : List ℕ) → is_next t b ≡ false → Concerns t (behind_at t b rest)
+  in_field : (j : ℕ) (slot : Slot) (rest : List ℕ) → OfOpen (Field j slot) (unit_at (Field j slot) rest)
+  in_field j (NumberSlot c kind caps) rest =
+      whole (Field j (NumberSlot c kind caps)) rest (width kind) (Number c kind _) (two_rows _ _ reasons.BadBool reasons.CountTooLarge)
+  in_field j (ConstantSlot kind y) rest =
+      whole (Field j (ConstantSlot kind y)) rest (width kind) (Constant kind _) (two_rows _ _ reasons.BadBool reasons.NotEqual)
+  in_field j (FillerSlot m) rest = whole (Field j (FillerSlot m)) rest m (Filler (take m rest)) tt
+  in_field j (RuleSlot b) rest = tt
+
+  mark_of : (j : ℕ) (t : Tail) (b : ℕ) → is_foot t b ≡ true → (b == 0x7e) ≡ false → Of k.section (first_row (alone (AfterFields j t) k (Mark b)))
+  mark_of j Unknown b h g = cc
+  mark_of j Bare b h g = cc
+  mark_of j Footed b h g = subst (Of k.section) (sym (foot_row j k b)) refl
+
+  behind_of : (j : ℕ) (t : Tail) (b : ℕ) (rest : List ℕ) → is_next t b ≡ false → OfOpen (AfterFields j t) (behind_at t b rest)
   unfolding behind_at
-  behind_concerns t b rest h = by (b == 0x05) (is_foot t b) (b == 0x7e) refl refl h
-    where
-      by : (p q r : Bool) → is_foot t b ≡ q → (b == 0x7e) ≡ r → not (p || q) ≡ false
-          → Concerns t (if p then sub_at rest (get_or rest 1 0) else if q then (if r then needs 5 rest (Foot (number_at 4 1 rest)) else needs 1 rest (Mark b)) else between_at false b rest)
-      by true q r e f h = sub_concerns t (6 + get_or rest 1 0) rest _ _
-      by false true true e f h = foot_concerns t 5 rest (number_at 4 1 rest)
-      by false true false e f h = mark_concerns t 1 rest b e f
-      by false false r e f h = cc
+  behind_of j t b rest h =
+      let d = AfterFields j t in
+      test d (b == 0x05) (sub_at rest (get_or rest 1 0)) _ (λ _. whole d rest (6 + get_or rest 1 0) (SubHead _ _) tt)
+      (λ e. test d (is_foot t b) (if b == 0x7e then needs 5 rest (Foot (number_at 4 1 rest)) else needs 1 rest (Mark b)) (between_at false b rest)
+      (λ f. test d (b == 0x7e) (needs 5 rest (Foot (number_at 4 1 rest))) (needs 1 rest (Mark b))
+      (λ _. whole d rest 5 (Foot (number_at 4 1 rest)) (two_rows _ false reasons.BadFooter reasons.BadFooter))
+      (λ g. whole d rest 1 (Mark b) (mark_of j t b f g)))
+      (λ f. let wrong : not (false || false) ≡ false = rw (e, f) at h in cc))
 
-  none_there : (t : Tail) → Concerns t (behind_at t 0 [])
+  after_of : (j : ℕ) (t : Tail) (rest : List ℕ) → begins_next t rest ≡ false → OfOpen (AfterFields j t) (unit_at (AfterFields j t) rest)
   unfolding behind_at between_at
-  none_there Unknown e f = cc
-  none_there Footed e f = cc
-  none_there Bare e f = cc
+  after_of j Unknown [] h = tt
+  after_of j Footed [] h = tt
+  after_of j Bare [] h = tt
+  after_of j t (b ∷ more) h = behind_of j t b (b ∷ more) h
 
-  after_concerns : (t : Tail) (rest : List ℕ) → begins_next t rest ≡ false → Concerns t (unit_at (AfterFields j t) rest)
-  after_concerns t [] h = none_there t
-  after_concerns t (b ∷ more) h = behind_concerns t b (b ∷ more) h
+  -- and a cut one belongs to it
+  record Concerned (d : Due) (rest : List ℕ) : Type 0 where
+    bad : OfOpen d (unit_at d rest)
+    cut : cut_in d rest k.section ≡ k.section
 
--- ---- what is due in a section
+  outside : (d : Due) (rest : List ℕ) → k.section ≡ None → ((o : Option ℕ) → cut_in d rest o ≡ o) → Concerned d rest
+  outside d rest n c = record { bad = by (unit_at d rest); cut = c k.section }
+    where
+      by : (f : Found) → OfOpen d f
+      by (Whole x m) = of_first k.section (alone d k x) (rw n search)
+      by Cut = tt
 
-in_due : (t : Tail) (k : ℕ) (slots : List Slot) → (due_field t (Some k) slots ≡ AfterFields k t) ⊎ ((slot : Slot) × (due_field t (Some k) slots ≡ Field k slot))
-in_due t k [] = inl refl
-in_due t k (RuleSlot b ∷ slots) = in_due t k slots
-in_due t k (FillerSlot zero ∷ slots) = in_due t k slots
-in_due t k (FillerSlot (suc n) ∷ slots) = inr (FillerSlot (suc n), refl)
-in_due t k (NumberSlot c kind caps ∷ slots) = inr (NumberSlot c kind caps, refl)
-in_due t k (ConstantSlot kind z ∷ slots) = inr (ConstantSlot kind z, refl)
+  inside : (t : Tail) (j : ℕ) (slots : List Slot) (rest : List ℕ) → begins_section (due_field t (Some j) slots) rest ≡ false
+      → Concerned (due_field t (Some j) slots) rest
+  inside t j [] rest h = record { bad = after_of j t rest h; cut = ap (λ (b : Bool). if b then None else k.section) h }
+  inside t j (RuleSlot b ∷ slots) rest h = inside t j slots rest h
+  inside t j (FillerSlot zero ∷ slots) rest h = inside t j slots rest h
+  inside t j (FillerSlot (suc n) ∷ slots) rest h = record { bad = in_field j (FillerSlot (suc n)) rest; cut = refl }
+  inside t j (NumberSlot c kind caps ∷ slots) rest h = record { bad = in_field j (NumberSlot c kind caps) rest; cut = refl }
+  inside t j (ConstantSlot kind z ∷ slots) rest h = record { bad = in_field j (ConstantSlot kind z) rest; cut = refl }
 
--- a unit that is invalid by itself, and a cut one, belong to the open section
-record Concerned (d : Due) (k : Known) (rest : List ℕ) : Type 0 where
-  bad : (x : Piece) (n : ℕ) (section : Option ℕ) (reason : Reason) → unit_at d rest ≡ Whole x n → first_row (alone d k x) ≡ Some (section, reason) → section ≡ k.section
-  cut : cut_in d rest k.section ≡ k.section
-
-outside : (d : Due) (k : Known) (rest : List ℕ) → k.section ≡ None → ((o : Option ℕ) → cut_in d rest o ≡ o) → Concerned d k rest
-outside d k rest n c = record { bad = λ x m section reason e f. alone_none d k x section reason n f ∙ sym n; cut = c k.section }
-
-concerned_in : (t : Tail) (j : ℕ) (d : Due) (k : Known) (rest : List ℕ) → (d ≡ AfterFields j t) ⊎ ((slot : Slot) × (d ≡ Field j slot)) → begins_section d rest ≡ false → Concerned d k rest
-concerned_in t j d k rest (inl e) b =
-    let h : begins_next t rest ≡ false = ap (λ (d : Due). begins_section d rest) (sym e) ∙ b in
-    subst (λ (d : Due). Concerned d k rest) (sym e)
-    (record { bad = λ x n section reason u f. after_concerns j k x n section reason t rest h u f; cut = ap (λ (b : Bool). if b then None else k.section) h })
-concerned_in t j d k rest (inr s) b = subst (λ (d : Due). Concerned d k rest) (sym s.1) (record { bad = λ x n section reason u f. in_field j s.0 k rest x n section reason u f; cut = refl })
-
-concerned_at : (set : Set) (s : State) (p : Spot) (rest : List ℕ) → s.spot ≡ p → begins_section (due_by set s p) rest ≡ false → owes (due_by set s p) rest ≡ true → Concerned (due_by set s p) (known_at set s) rest
-concerned_at set s Before rest e b o = outside AMagic (known_at set s) rest (ap open_at e) (λ o. refl)
-concerned_at set s Headed rest e b o = outside AVersion (known_at set s) rest (ap open_at e) (λ o. refl)
-concerned_at set s (Free first c) rest e b o = outside (Between first c) (known_at set s) rest (ap open_at e) (λ o. refl)
-concerned_at set s Ended rest e b o = outside AfterEnd (known_at set s) rest (ap open_at e) (λ o. refl)
-concerned_at set s IsOver rest e b o = outside Nothing (known_at set s) rest (ap open_at e) (λ o. refl)
-concerned_at set s (Inside k id part n) rest e b o = concerned_in s.tail k (due_by set s (Inside k id part n)) (known_at set s) rest (in_due s.tail k (slots_at set s (Inside k id part n))) b
+concerned_at : (set : Set) (s : State) (p : Spot) (rest : List ℕ) → s.spot ≡ p → begins_section (due_by set s p) rest ≡ false
+    → Concerned (known_at set s) (due_by set s p) rest
+concerned_at set s (Inside k id part n) rest e b = inside (known_at set s) s.tail k (slots_at set s (Inside k id part n)) rest b
+concerned_at set s Before rest e b = outside (known_at set s) AMagic rest (ap open_at e) (λ o. refl)
+concerned_at set s Headed rest e b = outside (known_at set s) AVersion rest (ap open_at e) (λ o. refl)
+concerned_at set s (Free first c) rest e b = outside (known_at set s) (Between first c) rest (ap open_at e) (λ o. refl)
+concerned_at set s Ended rest e b = outside (known_at set s) AfterEnd rest (ap open_at e) (λ o. refl)
+concerned_at set s IsOver rest e b = outside (known_at set s) Nothing rest (ap open_at e) (λ o. refl)
 
 -- ---- the judge
 
@@ -183,25 +255,27 @@ module _ (set : Set) (names : List (List ℕ)) (s : State) (rest : List ℕ) whe
   abbrev k : Known
   k = known_at set s
 
-  by_line : (x : Piece) (n : ℕ) → ((section : Option ℕ) (reason : Reason) → first_row (alone d k x) ≡ Some (section, reason) → section ≡ k.section) → (o : Line) → first_row (alone d k x) ≡ o
-      → by_row (by_state set names) (first_row (alone d k x ++ asking set names k x)) n (after set s x) ≡ judge_seen k.section (ask set names s) rest (seen_by o x n)
-  by_line x n h None e = ap (λ (o : Line). by_row (by_state set names) o n (after set s x)) (append_first (alone d k x) (asking set names k x) e)
-  by_line x n h (Some (section, reason)) e =
-      ap (λ (o : Line). by_row (by_state set names) o n (after set s x)) (append_taken (alone d k x) (asking set names k x) (section, reason) e)
-      ∙ ap (λ (o : Option ℕ). Faulty o reason n) (h section reason e)
+  by_line : (x : Piece) (n : ℕ) (o : Line) → Of k.section o
+      → by_row (by_state set names) (or_line o (first_row (asking set names k x))) n (after set s x) ≡ judge_seen k.section (ask set names s) rest
+      (seen_by o x n)
+  by_line x n None h = refl
+  by_line x n (Some (section, reason)) h = ap (λ (o : Option ℕ). Faulty o reason n) h
 
-  by_found : Concerned d k rest → owes d rest ≡ true → (f : Found) → unit_at d rest ≡ f → judge_found (by_state set names) s rest f ≡ judge_seen k.section (ask set names s) rest (seen_in d k f)
-  by_found c o (Whole x n) e = by_line x n (λ section reason f. c.bad x n section reason e f) (first_row (alone d k x)) refl
-  by_found c o Cut e =
-      if_true (owes d rest) (Faulty (cut_in d rest k.section) reasons.Truncated (length rest)) (Over s) o ∙ ap (λ (section : Option ℕ). Faulty section reasons.Truncated (length rest)) c.cut
+  by_found : (f : Found) → OfOpen k d f → cut_in d rest k.section ≡ k.section → owes d rest ≡ true
+      → judge_found (by_state set names) s rest f ≡ judge_seen k.section (ask set names s) rest (seen_in d k f)
+  by_found (Whole x n) h c o =
+      ap (λ (o : Line). by_row (by_state set names) o n (after set s x)) (first_append (alone d k x) (asking set names k x)) ∙ by_line x n
+      (first_row (alone d k x)) h
+  by_found Cut h c o = rw (o, c)
 
 pub judged_holds : JudgedLaw
 judged_holds set names s rest held o b =
+    let c = concerned_at set s s.spot rest refl b in
     if_true (rules_hold (slots_at set s s.spot)) (judge_found (by_state set names) s rest (unit_at (due_by set s s.spot) rest)) _ held
-    ∙ by_found set names s rest (concerned_at set s s.spot rest refl b o) o (unit_at (due_by set s s.spot) rest) refl
+    ∙ by_found set names s rest (unit_at (due_by set s s.spot) rest) c.bad c.cut o
 
 pub next_holds : NextLaw
-next_holds set names machine images came k id part n tail rest due held e = next_judged set names machine images came k id part n tail rest due held e
+next_holds set names machine images came k id part n tail rest due held e = next_judged set names machine images came k id part n tail rest e due held
 
 -- ---- what a call asks
 
@@ -216,23 +290,18 @@ alike_seen : (rows others : List Row) (x : Piece) (n : ℕ) → Alike rows other
 alike_seen [] [] x n a = refl
 alike_seen [] (s ∷ others) x n a = absurd a
 alike_seen (r ∷ rows) [] x n a = absurd a
-alike_seen (r ∷ rows) (s ∷ others) x n a =
-    ap (λ (b : Bool). seen_by (if b then line r.section r.reason else first_row rows) x n) a.0 ∙ by (alike_seen rows others x n a.2) s.taken
+alike_seen (r ∷ rows) (s ∷ others) x n a = rw a.0 (by (alike_seen rows others x n a.2) s.taken)
   where
-    by : seen_by (first_row rows) x n ≡ seen_by (first_row others) x n → (b : Bool) → seen_by (if b then line r.section r.reason else first_row rows) x n ≡ seen_by (if b then line s.section s.reason else first_row others) x n
+    by : seen_by (first_row rows) x n ≡ seen_by (first_row others) x n → (b : Bool)
+        → seen_by (if b then Some (r.section, r.reason) else first_row rows) x n ≡ seen_by (if b then Some (s.section, s.reason) else first_row others) x n
     by later true = ap (Bad n) a.1
     by later false = later
 
 module _ (t : Tail) (j : ℕ) (l m : Known) (id_is : l.id ≡ m.id) where
-  between_same : (t : Tail) → is_between (AfterFields j t) ≡ is_between (AfterFields 0 t)
-  between_same Unknown = refl
-  between_same Footed = refl
-  between_same Bare = refl
-
-  wants_same : (t : Tail) → wants_foot (AfterFields j t) ≡ wants_foot (AfterFields 0 t)
-  wants_same Unknown = refl
-  wants_same Footed = refl
-  wants_same Bare = refl
+  tail_same : (t : Tail) → (is_between (AfterFields j t) ≡ is_between (AfterFields 0 t)) × (wants_foot (AfterFields j t) ≡ wants_foot (AfterFields 0 t))
+  tail_same Unknown = (refl, refl)
+  tail_same Footed = (refl, refl)
+  tail_same Bare = (refl, refl)
 
   other_same : (x : Piece) → other_constant x (AfterFields j t) ≡ other_constant x (AfterFields 0 t)
   other_same (Constant kind y) = refl
@@ -244,39 +313,11 @@ module _ (t : Tail) (j : ℕ) (l m : Known) (id_is : l.id ≡ m.id) where
 
   foot_same : (x : Piece) → bad_foot (AfterFields j t) l x ≡ bad_foot (AfterFields 0 t) m x
   foot_same (Foot its) = ap (λ (i : ℕ). not (its == i)) id_is
-  foot_same (Mark b) = wants_same t
+  foot_same (Mark b) = (tail_same t).1
   foot_same x = refl
 
   rows_alike : (x : Piece) → Alike (alone (AfterFields j t) l x) (alone (AfterFields 0 t) m x)
-  rows_alike x = (
-    refl,
-    refl,
-    (
-      refl,
-      refl,
-      (
-        refl,
-        refl,
-        (
-          ap (λ (b : Bool). is_lone x && b && not (is_mark 2 x || is_mark 3 x || is_mark 8 x || (is_mark 5 x && false))) (between_same t),
-          refl,
-          (
-            refl,
-            refl,
-            (
-              ap (λ (b : Bool). starts (λ name. not (is_ram name)) x || ((is_mark 2 x || is_mark 3 x) && b)) (between_same t),
-              refl,
-              (
-                ap (λ (b : Bool). is_mark 8 x && b) (between_same t),
-                refl,
-                (refl, refl, (refl, refl, (refl, refl, (other_same x, refl, (large_same x, refl, (foot_same x, refl, (refl, refl, (refl, refl, tt)))))))),
-              ),
-            ),
-          ),
-        ),
-      ),
-    ),
-  )
+  rows_alike x = rw ((tail_same t).0, other_same x, large_same x, foot_same x) search
 
 same_seen : (t : Tail) (j : ℕ) (l m : Known) → l.id ≡ m.id → (f : Found) → seen_in (AfterFields j t) l f ≡ seen_in (AfterFields 0 t) m f
 same_seen t j l m e Cut = refl

@@ -1,24 +1,24 @@
 -- A unit that is found has at least one byte, and all its bytes are there. So a reading advances.
-use Rattle.std.proofs.Common.{◌≡◌, ℕ, zero, suc, ◌+◌, ◌<◌, ◌≤◌, List, [], ◌∷◌, length, get_or, take, drop, Option, Some, None, refl, subst, arith, Bool, true, false, nat_lt, ◌==◌, ◌&&◌, if◌then◌else◌}
+use Rattle.std.proofs.Common.{◌≡◌, ℕ, zero, suc, ◌+◌, ◌<◌, ◌≤◌, List, [], ◌∷◌, length, get_or, take, drop, Option, Some, None, refl, subst, arith, Bool, true}
+use Rattle.std.proofs.Common.{false, nat_lt, ◌==◌, ◌&&◌, if◌then◌else◌}
 use Rattle.std.proofs.lemmas.Bool.{ltb-false}
-use Rattle.vms_kinds.specs.Codes.{width, value_of}
+use Rattle.vms_kinds.specs.Codes.{width}
 use Rattle.vms_spec.specs.declared.TheConstants.{LONGEST_NAME}
 use Rattle.vms_spec.specs.declared.Reason.{Reason}
-use Rattle.vms_spec.specs.declared.Reason.TheVariants as reasons
 use Rattle.vms_spec.specs.Sets.{Set}
 use Rattle.vms_spec.specs.Layout.{Slot, Number as NumberSlot, Constant as ConstantSlot, Filler as FillerSlot, Rule as RuleSlot}
 use Rattle.vms_spec.specs.Streams.{longest_text}
 use Rattle.vms_spec.specs.Lookup.{number_at, bytes_at}
-use Rattle.vms_spec.specs.Readings.{Verdict, Goes, Faulty, Over}
+use Rattle.vms_spec.specs.Readings.{Verdict, Goes, Over}
 use Rattle.vms_spec.specs.Units.{Piece, Magic, Version, Configuration, Long, Number, Constant, Filler, Foot, End, Description, Mark}
 use Rattle.vms_spec.specs.SoFar.{opened, slots}
-use Rattle.vms_stream.specs.Dues.{Due, is_foot, AMagic, AVersion, Between, Field, AfterFields, AfterEnd, Nothing, raw, due, due_field}
+use Rattle.vms_stream.specs.Dues.{Due, is_foot, AMagic, AVersion, Between, Field, AfterFields, AfterEnd, due, due_field}
 use Rattle.vms_bodies.specs.Whole.{Advances}
 use Rattle.vms_bodies.proofs.Widths.{width_positive}
 use Rattle.vms_stream.specs.Finding.{Found, Whole, Cut, needs, text_at, between_at, behind_at, trailer_at, unit_at}
-use Rattle.vms_stream.specs.Faults.{cut_in}
 use Rattle.vms_stream.specs.Judge.{Grammar, judge, judge_found, by_row, owes}
 use Rattle.vms_stream.specs.SoFar.{Tail, passed, tail}
+use Rattle.vms_spec.specs.declared.Reason.TheVariants as reasons
 
 abbrev Stays : List ℕ → Found → Type 0
 Stays rest (Whole x n) = (0 < n) × (n ≤ length rest)
@@ -29,14 +29,15 @@ choice rest true v w f g = f
 choice rest false v w f g = g
 
 some_bytes : (n : ℕ) (rest : List ℕ) (x : Piece) → 0 < n → Stays rest (needs n rest x)
-some_bytes n rest x h = by_length (nat_lt (length rest) n) refl
+some_bytes n rest x h = by (nat_lt (length rest) n) refl
   where
-    by_length : (b : Bool) → nat_lt (length rest) n ≡ b → Stays rest (if b then Cut else Whole x n)
-    by_length true e = tt
-    by_length false e = (h, ltb-false (length rest) n e)
+    by : (b : Bool) → nat_lt (length rest) n ≡ b → Stays rest (if b then Cut else Whole x n)
+    by true e = tt
+    by false e = (h, ltb-false (length rest) n e)
 
 text_stays : (mark longest : ℕ) (unit : List ℕ → Piece) (rest : List ℕ) (n : ℕ) → Stays rest (text_at mark longest unit rest n)
-text_stays mark longest unit rest n = choice rest (nat_lt longest n) _ _ (some_bytes 5 rest (Long mark n) (omega arith)) (some_bytes (5 + n) rest (unit (bytes_at n 5 rest)) (omega arith))
+text_stays mark longest unit rest n =
+    choice rest (nat_lt longest n) _ _ (some_bytes 5 rest (Long mark n) (omega arith)) (some_bytes (5 + n) rest (unit (bytes_at n 5 rest)) (omega arith))
 
 between_stays : (first : Bool) (m : ℕ) (rest : List ℕ) → Stays rest (between_at first m rest)
 unfolding between_at
@@ -46,78 +47,59 @@ between_stays first m rest =
     (choice rest (m == 0x04) _ _ (some_bytes (14 + get_or rest 5 0) rest _ (omega arith))
     (choice rest (m == 0x07 && first) _ _ (text_stays 0x07 LONGEST_NAME Configuration rest (number_at 4 1 rest)) (some_bytes 1 rest (Mark m) (omega arith)))))
 
-behind_stays : (tail : Tail) (m : ℕ) (rest : List ℕ) → Stays rest (behind_at tail m rest)
-unfolding behind_at
-behind_stays tail m rest =
-    choice rest (m == 0x05) _ _ (some_bytes (6 + get_or rest 1 0) rest _ (omega arith))
-    (choice rest (is_foot tail m) _ _ (choice rest (m == 0x7e) _ _ (some_bytes 5 rest (Foot (number_at 4 1 rest)) (omega arith)) (some_bytes 1 rest (Mark m) (omega arith)))
-    (between_stays false m rest))
-
-trailer_stays : (m : ℕ) (rest : List ℕ) → Stays rest (trailer_at m rest)
-unfolding trailer_at
-trailer_stays m rest = choice rest (m == 0x06) _ _ (text_stays 0x06 longest_text Description rest (number_at 4 1 rest)) (some_bytes 1 rest (Mark m) (omega arith))
-
 -- no filler of 0 bytes is due
 abbrev pub IsSolid : Due → Type 0
 IsSolid (Field k (FillerSlot zero)) = ⊥
 IsSolid _ = Unit {0}
 
 stays : (d : Due) (rest : List ℕ) → IsSolid d → Stays rest (unit_at d rest)
+unfolding behind_at trailer_at
 stays AMagic rest solid = some_bytes 4 rest (Magic (take 4 rest)) (omega arith)
 stays AVersion rest solid = some_bytes 4 rest (Version (number_at 4 0 rest)) (omega arith)
 stays (Between first after) rest solid = between_stays first (get_or rest 0 0) rest
-stays (Field k (NumberSlot c kind capacities)) rest solid = some_bytes (width kind) rest (Number c kind (value_of (raw kind) (take (width kind) rest))) (width_positive kind)
-stays (Field k (ConstantSlot kind z)) rest solid = some_bytes (width kind) rest (Constant kind (value_of (raw kind) (take (width kind) rest))) (width_positive kind)
+stays (Field k (NumberSlot c kind capacities)) rest solid = some_bytes (width kind) rest (Number c kind _) (width_positive kind)
+stays (Field k (ConstantSlot kind z)) rest solid = some_bytes (width kind) rest (Constant kind _) (width_positive kind)
 stays (Field k (FillerSlot zero)) rest solid = absurd solid
 stays (Field k (FillerSlot (suc n))) rest solid = some_bytes (suc n) rest (Filler (take (suc n) rest)) (omega arith)
-stays (Field k (RuleSlot b)) rest solid = tt
-stays (AfterFields k tail) rest solid = behind_stays tail (get_or rest 0 0) rest
-stays AfterEnd rest solid = trailer_stays (get_or rest 0 0) rest
-stays Nothing rest solid = tt
+stays (AfterFields k tail) rest solid =
+    let m = get_or rest 0 0 in
+    choice rest (m == 0x05) _ _ (some_bytes (6 + get_or rest 1 0) rest _ (omega arith))
+    (choice rest (is_foot tail m) _ _
+    (choice rest (m == 0x7e) _ _ (some_bytes 5 rest (Foot (number_at 4 1 rest)) (omega arith)) (some_bytes 1 rest (Mark m) (omega arith)))
+    (between_stays false m rest))
+stays AfterEnd rest solid =
+    choice rest (get_or rest 0 0 == 0x06) _ _ (text_stays 0x06 longest_text Description rest (number_at 4 1 rest))
+    (some_bytes 1 rest (Mark (get_or rest 0 0)) (omega arith))
+stays _ rest solid = tt
 
 module _ {S : Type 0} (g : Grammar S) (solid : (s : S) → IsSolid (g.due s)) where
-  Goes_on : List ℕ → Verdict S → Type 0
-  Goes_on rest (Goes n next) = (0 < n) × (n ≤ length rest)
-  Goes_on rest (Faulty section reason n) = Unit {0}
-  Goes_on rest (Over s) = Unit {0}
+  abbrev Advanced : List ℕ → Verdict S → Type 0
+  Advanced rest (Goes n next) = (0 < n) × (n ≤ length rest)
+  Advanced rest _ = Unit {0}
 
-  by_verdict : (rest : List ℕ) (v : Verdict S) → Goes_on rest v → (n : ℕ) (next : S) → v ≡ Goes n next → (0 < n) × (n ≤ length rest)
-  unfolding Goes_on
-  by_verdict rest v h n next e = subst (Goes_on rest) e h
-
-  on_row : (rest : List ℕ) (o : Option (Option ℕ × Reason)) (n : ℕ) (next : S) → (0 < n) × (n ≤ length rest) → Goes_on rest (by_row g o n next)
-  unfolding Goes_on
+  on_row : (rest : List ℕ) (o : Option (Option ℕ × Reason)) (n : ℕ) (next : S) → (0 < n) × (n ≤ length rest) → Advanced rest (by_row g o n next)
   on_row rest None n next h = h
   on_row rest (Some (section, reason)) n next h = tt
 
-  on_found : (s : S) (rest : List ℕ) (f : Found) → Stays rest f → Goes_on rest (judge_found g s rest f)
-  unfolding Goes_on
-  on_found s rest (Whole x n) h = on_row rest (g.reason s x) n (g.after s x) h
-  on_found s rest Cut h = by_owes (owes (g.due s) rest)
-    where
-      by_owes : (b : Bool) → Goes_on rest (if b then Faulty (cut_in (g.due s) rest (g.section s)) reasons.Truncated (length rest) else Over s)
-      by_owes true = tt
-      by_owes false = tt
+  on_test : (rest : List ℕ) (b : Bool) (v w : Verdict S) → Advanced rest v → Advanced rest w → Advanced rest (if b then v else w)
+  on_test rest true v w f g = f
+  on_test rest false v w f g = g
 
-  on_holds : (s : S) (rest : List ℕ) (b : Bool) (v : Verdict S) → Goes_on rest v → Goes_on rest (if b then v else Faulty (g.section s) reasons.Invalid 0)
-  unfolding Goes_on
-  on_holds s rest true v h = h
-  on_holds s rest false v h = tt
+  on_found : (s : S) (rest : List ℕ) (f : Found) → Stays rest f → Advanced rest (judge_found g s rest f)
+  on_found s rest (Whole x n) h = on_row rest (g.reason s x) n (g.after s x) h
+  on_found s rest Cut h = on_test rest (owes (g.due s) rest) _ (Over s) tt tt
 
   pub advances : Advances (judge g)
   advances = record {
-    goes = λ s rest n next e. by_verdict rest (judge g s rest) (on_holds s rest (g.holds s) _ (on_found s rest (unit_at (g.due s) rest) (stays (g.due s) rest (solid s)))) n next e;
+    goes = λ s rest n next e. subst (Advanced rest) e
+        (on_test rest (g.holds s) _ _ (on_found s rest (unit_at (g.due s) rest) (stays (g.due s) rest (solid s))) tt);
   }
 
 -- of the units so far: the fields that are due leave fillers of 0 bytes out
 pub field_solid : (t : Tail) (o : Option ℕ) (slots : List Slot) → IsSolid (due_field t o slots)
-field_solid t None slots = tt
-field_solid t (Some k) [] = tt
 field_solid t (Some k) (RuleSlot b ∷ slots) = field_solid t (Some k) slots
 field_solid t (Some k) (FillerSlot zero ∷ slots) = field_solid t (Some k) slots
-field_solid t (Some k) (FillerSlot (suc n) ∷ slots) = tt
-field_solid t (Some k) (NumberSlot c kind capacities ∷ slots) = tt
-field_solid t (Some k) (ConstantSlot kind z ∷ slots) = tt
+field_solid t o slots = tt
 
 pub due_solid : (set : Set) (u : List Piece) → IsSolid (due set u)
 due_solid set [] = tt

@@ -1,78 +1,68 @@
 -- Refusals of worked rows as faults: the units before the place, and why nothing goes on there.
-use Rattle.std.proofs.Common.{◌≡◌, ℕ, ◌<◌, List, [], ◌∷◌, ◌++◌, length, take, drop, Option, Some, None, pos, refl, arith, codes, Bool, true, false}
+use Rattle.std.proofs.Common.{◌≡◌, ap, ◌∙◌, ℕ, ◌<◌, List, [], ◌∷◌, ◌++◌, length, take, drop, Option, Some, None, pos, refl, arith, codes, Bool, true, false}
 use Rattle.std.proofs.lemmas.Int.{ints}
 use Rattle.vms_kinds.specs.declared.Kind.TheVariants.{U8, U64, Bool as Truth}
 use Rattle.vms_kinds.specs.Codes.{code, InRange}
 use Rattle.vms_spec.specs.declared.Reason.{Reason}
-use Rattle.vms_spec.specs.declared.Reason.TheVariants as reasons
 use Rattle.vms_spec.specs.Sets.{Set}
 use Rattle.vms_spec.specs.Layout.{first}
 use Rattle.vms_spec.specs.Streams.{magic}
 use Rattle.vms_spec.specs.Shipped.{set_0}
 use Rattle.vms_spec.specs.Units.{Piece, Magic, Version, Configuration, Long, Head, Number, Constant, SubHead, Foot, End, Start, Mark, spell, spelled}
-use Rattle.vms_spec.specs.SoFar.{opened}
-use Rattle.vms_stream.specs.Dues.{Between, AfterFields, May, AtMagic, AtVersion, AtConfiguration, AtStart, AtHead, AtEnd, AtMark, AtNumber, AtConstant, AtSubHead, AtFoot, AtLongText, AtTrailing, due, holds}
+use Rattle.vms_stream.specs.Dues.{Between, AfterFields, May, AtMagic, AtVersion, AtConfiguration, AtStart, AtHead, AtEnd, AtMark, AtNumber, AtConstant}
+use Rattle.vms_stream.specs.Dues.{AtSubHead, AtFoot, AtLongText, AtTrailing, due, holds}
 use Rattle.vms_stream.specs.SoFar.{Unknown}
 use Rattle.vms_stream.specs.Table.{reason_of}
-use Rattle.vms_stream.specs.Faults.{Owes, cut_in, Front, Fails, Cut, Wrong, Fault}
+use Rattle.vms_stream.specs.Faults.{Front, Fails, Cut, Wrong, Fault}
 use Rattle.vms_spec.proofs.Rows.{hex, head, smallest, box_head}
 use Rattle.vms_spec.proofs.Boxes.{counted_set, constant_set, subsection_set, tested_set}
-use Rattle.vms_stream.proofs.Rows.DueSizes.{least, too_few}
+use Rattle.vms_stream.specs.Finding.{unit_at}
+use Rattle.vms_stream.proofs.Finding.There.{only}
+use Rattle.vms_spec.specs.declared.Reason.TheVariants as reasons
+
+abbrev Refused : Set → List ℕ → ℕ → Option ℕ → Reason → ℕ → Type 0
+Refused set input place section reason size = Fault set set.machines input place section reason size
 
 -- a fault of a unit that is whole
-wrong : (set : Set) (u : List Piece) (x : Piece) (more input : List ℕ) (place : ℕ) (section : Option ℕ) (reason : Reason) → Front set set.machines u → holds set u ≡ true → May (due set u) x
-    → reason_of set set.machines u x ≡ Some (section, reason) → input ≡ spelled u ++ (spell x ++ more) → length (spelled u) ≡ place → Fault set set.machines input place section reason (length (spell x))
-wrong set u x more input place section reason front held may taken whole long = record {
+wrong : {set : Set} {names : List (List ℕ)} {input : List ℕ} {place : ℕ} {section : Option ℕ} {reason : Reason} {size : ℕ}
+    → (u : List Piece) (x : Piece) (more : List ℕ) → Front set names u → May (due set u) x
+    → holds set u ≡ true → reason_of set names u x ≡ Some (section, reason) → input ≡ spelled u ++ (spell x ++ more) → length (spelled u) ≡ place
+    → length (spell x) ≡ size → Fault set names input place section reason size
+wrong {section = section} {reason = reason} u x more front may held taken whole long size = record {
   units = u;
   rest = spell x ++ more;
   front = front;
   whole = whole;
   long = long;
-  why = Wrong x section reason held (record { may = may; more = more; there = refl }) taken;
+  why = rw (← size) (Wrong x section reason held (record { may = may; more = more; there = refl }) taken);
 }
 
-refuses_version_4 : Fault set_0 set_0.machines (hex (codes "5145564d00000004")) 4 None reasons.BadVersion 4
-refuses_version_4 = wrong set_0 (Magic magic ∷ []) (Version 4) [] _ 4 None reasons.BadVersion (tt, refl, AtMagic magic refl, refl) refl (AtVersion 4 (omega arith)) refl refl refl
+refuses_version_4 : Refused set_0 (hex (codes "5145564d00000004")) 4 None reasons.BadVersion 4
+refuses_version_4 = wrong (Magic magic ∷ []) (Version 4) [] (tt, refl, AtMagic magic refl, refl) (AtVersion 4 (omega arith)) refl refl refl refl refl
 
-refuses_another_magic : Fault set_0 set_0.machines (hex (codes "5145564e00000003")) 0 None reasons.BadMagic 4
-refuses_another_magic = wrong set_0 [] (Magic (hex (codes "5145564e"))) (0 ∷ 0 ∷ 0 ∷ 3 ∷ []) _ 0 None reasons.BadMagic tt refl (AtMagic _ refl) refl refl refl
+refuses_another_magic : Refused set_0 (hex (codes "5145564e00000003")) 0 None reasons.BadMagic 4
+refuses_another_magic = wrong [] (Magic (hex (codes "5145564e"))) (0 ∷ 0 ∷ 0 ∷ 3 ∷ []) tt (AtMagic _ refl) refl refl refl refl refl
 
 abbrev start : List Piece
 start = Version 3 ∷ Magic magic ∷ []
 
-three : 3 < 4294967296
-three = omega arith
-
 in_start : (set : Set) → Front set set.machines start
-in_start set = ((tt, refl, AtMagic magic refl, refl), refl, AtVersion 3 three, refl)
+in_start set = ((tt, refl, AtMagic magic refl, refl), refl, AtVersion 3 (omega arith), refl)
 
-refuses_ram : Fault set_0 set_0.machines (head ++ hex (codes "01000000020372616d")) 8 None reasons.Ram 9
-refuses_ram = wrong set_0 start (Start 2 (codes "ram")) [] _ 8 None reasons.Ram (in_start set_0) refl (AtStart _ _ _ _ (omega arith)) refl refl refl
+refuses_ram : Refused set_0 (head ++ hex (codes "01000000020372616d")) 8 None reasons.Ram 9
+refuses_ram = wrong start (Start 2 (codes "ram")) [] (in_start set_0) (AtStart _ _ _ _ (omega arith)) refl refl refl refl refl
 
-refuses_a_part : Fault set_0 set_0.machines (head ++ hex (codes "02")) 8 None reasons.Iterative 1
-refuses_a_part = wrong set_0 start (Mark 2) [] _ 8 None reasons.Iterative (in_start set_0) refl (AtMark _ _ _ refl) refl refl refl
+refuses_a_part : Refused set_0 (head ++ hex (codes "02")) 8 None reasons.Iterative 1
+refuses_a_part = wrong start (Mark 2) [] (in_start set_0) (AtMark _ _ _ refl) refl refl refl refl refl
 
-refuses_a_command : Fault set_0 set_0.machines (head ++ hex (codes "08")) 8 None reasons.Command 1
-refuses_a_command = wrong set_0 start (Mark 8) [] _ 8 None reasons.Command (in_start set_0) refl (AtMark _ _ _ refl) refl refl refl
+refuses_a_command : Refused set_0 (head ++ hex (codes "08")) 8 None reasons.Command 1
+refuses_a_command = wrong start (Mark 8) [] (in_start set_0) (AtMark _ _ _ refl) refl refl refl refl refl
 
-refuses_a_footer_between_sections : Fault set_0 set_0.machines (head ++ hex (codes "7e")) 8 None reasons.BadMark 1
-refuses_a_footer_between_sections = wrong set_0 start (Mark 0x7e) [] _ 8 None reasons.BadMark (in_start set_0) refl (AtMark _ _ _ refl) refl refl refl
+refuses_a_footer_between_sections : Refused set_0 (head ++ hex (codes "7e")) 8 None reasons.BadMark 1
+refuses_a_footer_between_sections = wrong start (Mark 0x7e) [] (in_start set_0) (AtMark _ _ _ refl) refl refl refl refl refl
 
-refuses_a_missing_section : Fault set_0 set_0.machines (head ++ hex (codes "00")) 8 (Some 0) reasons.MissingSection 1
-refuses_a_missing_section = wrong set_0 start End [] _ 8 (Some 0) reasons.MissingSection (in_start set_0) refl (AtEnd _ _) refl refl refl
-
--- ---- where fewer bytes are left than any due unit has
-
-cut : (set : Set) (u : List Piece) (rest input : List ℕ) (place : ℕ) → Front set set.machines u → holds set u ≡ true → Owes (due set u) rest → length rest < least (due set u)
-    → input ≡ spelled u ++ rest → length (spelled u) ≡ place → Fault set set.machines input place (cut_in (due set u) rest (opened set u)) reasons.Truncated (length rest)
-cut set u rest input place front held owes few whole long = record {
-  units = u;
-  rest = rest;
-  front = front;
-  whole = whole;
-  long = long;
-  why = Cut held owes (λ x w. too_few set u rest x few w);
-}
+refuses_a_missing_section : Refused set_0 (head ++ hex (codes "00")) 8 (Some 0) reasons.MissingSection 1
+refuses_a_missing_section = wrong start End [] (in_start set_0) (AtEnd _ _) refl refl refl refl refl
 
 -- ---- a whole section
 
@@ -86,9 +76,16 @@ in_headed : Front set_0 set_0.machines headed
 unfolding first
 in_headed = (in_start set_0, refl, head_may true false (codes "timer"), refl)
 
-refuses_a_cut_number : Fault set_0 set_0.machines (take 30 smallest) 27 (Some 0) reasons.Truncated 3
+refuses_a_cut_number : Refused set_0 (take 30 smallest) 27 (Some 0) reasons.Truncated 3
 unfolding first
-refuses_a_cut_number = cut set_0 headed (0 ∷ 0 ∷ 0 ∷ []) _ 27 in_headed refl tt (omega arith) refl refl
+refuses_a_cut_number = record {
+  units = headed;
+  rest = 0 ∷ 0 ∷ 0 ∷ [];
+  front = in_headed;
+  whole = refl;
+  long = refl;
+  why = Cut refl tt (λ x w. let e = ap (unit_at (due set_0 headed)) w.there ∙ only (due set_0 headed) x w.more w.may in cc);
+}
 
 in_64 : InRange U64 (pos 0)
 in_64 = (omega (arith, ints), omega (arith, ints))
@@ -100,9 +97,9 @@ in_fielded : Front set_0 set_0.machines fielded
 unfolding first
 in_fielded = (in_headed, refl, AtNumber 0 0 U64 [] (pos 0) in_64, refl)
 
-refuses_a_footer_of_another_id : Fault set_0 set_0.machines (take 35 smallest ++ hex (codes "7e0000000100")) 35 (Some 0) reasons.BadFooter 5
+refuses_a_footer_of_another_id : Refused set_0 (take 35 smallest ++ hex (codes "7e0000000100")) 35 (Some 0) reasons.BadFooter 5
 unfolding code first
-refuses_a_footer_of_another_id = wrong set_0 fielded (Foot 1) (0 ∷ []) _ 35 (Some 0) reasons.BadFooter in_fielded refl (AtFoot 0 Unknown 1 refl (omega arith)) refl refl refl
+refuses_a_footer_of_another_id = wrong fielded (Foot 1) (0 ∷ []) in_fielded (AtFoot 0 Unknown 1 refl (omega arith)) refl refl refl refl refl
 
 abbrev ended : List Piece
 ended = End ∷ Foot 0 ∷ fielded
@@ -114,9 +111,9 @@ in_ended : Front set_0 set_0.machines ended
 unfolding first
 in_ended = ((in_fielded, refl, foot_may, refl), refl, AtEnd false false, refl)
 
-refuses_a_trailing_byte : Fault set_0 set_0.machines (smallest ++ hex (codes "00")) 41 None reasons.Trailing 1
+refuses_a_trailing_byte : Refused set_0 (smallest ++ hex (codes "00")) 41 None reasons.Trailing 1
 unfolding code first
-refuses_a_trailing_byte = wrong set_0 ended (Mark 0) [] _ 41 None reasons.Trailing in_ended refl (AtTrailing 0 refl) refl refl refl
+refuses_a_trailing_byte = wrong ended (Mark 0) [] in_ended (AtTrailing 0 refl) refl refl refl refl refl
 
 -- ---- sets with other fields
 
@@ -129,21 +126,40 @@ in_boxed set e = (in_start set, refl, head_may true false (codes "box"), e)
 byte : (n : ℕ) → n < 256 → InRange U8 (pos n)
 byte n lt = (omega (arith, ints), omega (arith, ints))
 
-refuses_too_large_a_count : Fault counted_set counted_set.machines (box_head ++ hex (codes "03")) 25 (Some 0) reasons.CountTooLarge 1
+refuses_too_large_a_count : Refused counted_set (box_head ++ hex (codes "03")) 25 (Some 0) reasons.CountTooLarge 1
 unfolding code first
-refuses_too_large_a_count = wrong counted_set boxed (Number 0 U8 (pos 3)) [] _ 25 (Some 0) reasons.CountTooLarge (in_boxed counted_set refl) refl (AtNumber 0 0 U8 (2 ∷ []) (pos 3) (byte 3 (omega arith))) refl refl refl
+refuses_too_large_a_count =
+    wrong boxed (Number 0 U8 (pos 3)) [] (in_boxed counted_set refl) (AtNumber 0 0 U8 (2 ∷ []) (pos 3) (byte 3 (omega arith))) refl refl refl refl refl
 
-refuses_a_bool_of_2 : Fault constant_set constant_set.machines (box_head ++ hex (codes "02")) 25 (Some 0) reasons.BadBool 1
+refuses_a_bool_of_2 : Refused constant_set (box_head ++ hex (codes "02")) 25 (Some 0) reasons.BadBool 1
 unfolding code first
-refuses_a_bool_of_2 = wrong constant_set boxed (Number 0 Truth (pos 2)) [] _ 25 (Some 0) reasons.BadBool (in_boxed constant_set refl) refl (AtNumber 0 0 Truth [] (pos 2) (byte 2 (omega arith))) refl refl refl
+refuses_a_bool_of_2 =
+    wrong boxed (Number 0 Truth (pos 2)) [] (in_boxed constant_set refl) (AtNumber 0 0 Truth [] (pos 2) (byte 2 (omega arith))) refl refl refl refl refl
 
-refuses_another_constant : Fault constant_set constant_set.machines (box_head ++ hex (codes "0108")) 26 (Some 0) reasons.NotEqual 1
+refuses_another_constant : Refused constant_set (box_head ++ hex (codes "0108")) 26 (Some 0) reasons.NotEqual 1
 unfolding code first
-refuses_another_constant = wrong constant_set (Number 0 Truth (pos 1) ∷ boxed) (Constant U8 (pos 8)) [] _ 26 (Some 0) reasons.NotEqual (in_boxed constant_set refl, refl, AtNumber 0 0 Truth [] (pos 1) (byte 1 (omega arith)), refl) refl (AtConstant 0 U8 (pos 7) (pos 8) (byte 8 (omega arith))) refl refl refl
+refuses_another_constant =
+    wrong (Number 0 Truth (pos 1) ∷ boxed) (Constant U8 (pos 8)) []
+    (in_boxed constant_set refl, refl, AtNumber 0 0 Truth [] (pos 1) (byte 1 (omega arith)), refl)
+    (AtConstant 0 U8 (pos 7) (pos 8) (byte 8 (omega arith))) refl refl refl refl refl
 
-refuses_a_failing_validation : Fault tested_set tested_set.machines (box_head ++ hex (codes "0a")) 26 (Some 0) reasons.Invalid 0
+refuses_a_failing_validation : Refused tested_set (box_head ++ hex (codes "0a")) 26 (Some 0) reasons.Invalid 0
 unfolding code first
-refuses_a_failing_validation = record { units = Number 0 U8 (pos 10) ∷ boxed; rest = []; front = (in_boxed tested_set refl, refl, AtNumber 0 0 U8 [] (pos 10) (byte 10 (omega arith)), refl); whole = refl; long = refl; why = Fails refl }
+refuses_a_failing_validation =
+    record {
+      units = Number 0 U8 (pos 10) ∷ boxed;
+      rest = [];
+      front = (
+        in_boxed tested_set refl,
+        refl,
+        AtNumber 0 0 U8 [] (pos 10)
+            (byte 10 (omega arith)),
+        refl,
+      );
+      whole = refl;
+      long = refl;
+      why = Fails refl;
+    }
 
 abbrev with_q : List Piece
 with_q = Number 2 U8 (pos 7) ∷ SubHead (codes "box/q") 1 ∷ Number 0 U8 (pos 9) ∷ boxed
@@ -159,25 +175,31 @@ in_q : Front subsection_set subsection_set.machines with_q
 unfolding first
 in_q = ((in_nine, refl, sub_may 0 1 (codes "box/q") (omega arith), refl), refl, AtNumber 0 2 U8 [] (pos 7) (byte 7 (omega arith)), refl)
 
-refuses_a_subsection_that_came : Fault subsection_set subsection_set.machines (box_head ++ hex (codes "090505626f782f7100000001070505626f782f7100000001077e0000000000")) 38 (Some 0) reasons.RepeatedSubsection 11
+refuses_a_subsection_that_came : Refused subsection_set (box_head ++ hex (codes "090505626f782f7100000001070505626f782f7100000001077e0000000000"))
+    38 (Some 0) reasons.RepeatedSubsection 11
 unfolding code first
-refuses_a_subsection_that_came = wrong subsection_set with_q (SubHead (codes "box/q") 1) (7 ∷ 0x7e ∷ 0 ∷ 0 ∷ 0 ∷ 0 ∷ 0 ∷ []) _ 38 (Some 0) reasons.RepeatedSubsection in_q refl (sub_may 0 1 (codes "box/q") (omega arith)) refl refl refl
+refuses_a_subsection_that_came =
+    wrong with_q (SubHead (codes "box/q") 1) (7 ∷ 0x7e ∷ 0 ∷ 0 ∷ 0 ∷ 0 ∷ 0 ∷ []) in_q (sub_may 0 1 (codes "box/q") (omega arith)) refl refl refl refl refl
 
-refuses_an_unknown_subsection : Fault subsection_set subsection_set.machines (box_head ++ hex (codes "090505626f782f7200000001")) 26 (Some 0) reasons.UnknownSubsection 11
+refuses_an_unknown_subsection : Refused subsection_set (box_head ++ hex (codes "090505626f782f7200000001")) 26 (Some 0) reasons.UnknownSubsection 11
 unfolding code first
-refuses_an_unknown_subsection = wrong subsection_set (Number 0 U8 (pos 9) ∷ boxed) (SubHead (codes "box/r") 1) [] _ 26 (Some 0) reasons.UnknownSubsection in_nine refl (sub_may 0 1 (codes "box/r") (omega arith)) refl refl refl
+refuses_an_unknown_subsection =
+    wrong (Number 0 U8 (pos 9) ∷ boxed) (SubHead (codes "box/r") 1) [] in_nine (sub_may 0 1 (codes "box/r") (omega arith)) refl refl refl refl refl
 
-refuses_a_section_that_came : Fault set_0 set_0.machines (take 40 smallest ++ hex (codes "04000000000574696d6572000000000000000100000000000000007e00000000")) 40 (Some 0) reasons.RepeatedSection 19
+refuses_a_section_that_came : Refused set_0 (take 40 smallest ++ hex (codes "04000000000574696d6572000000000000000100000000000000007e00000000"))
+    40 (Some 0) reasons.RepeatedSection 19
 unfolding code first
-refuses_a_section_that_came = wrong set_0 (Foot 0 ∷ fielded) (Head 0 (codes "timer") 0 1) (0 ∷ 0 ∷ 0 ∷ 0 ∷ 0 ∷ 0 ∷ 0 ∷ 0 ∷ 0x7e ∷ 0 ∷ 0 ∷ 0 ∷ 0 ∷ []) _ 40 (Some 0) reasons.RepeatedSection (in_fielded, refl, foot_may, refl) refl (head_may false false (codes "timer")) refl refl refl
+refuses_a_section_that_came =
+    wrong (Foot 0 ∷ fielded) (Head 0 (codes "timer") 0 1) (0 ∷ 0 ∷ 0 ∷ 0 ∷ 0 ∷ 0 ∷ 0 ∷ 0 ∷ 0x7e ∷ 0 ∷ 0 ∷ 0 ∷ 0 ∷ []) (in_fielded, refl, foot_may, refl)
+    (head_may false false (codes "timer")) refl refl refl refl refl
 
 -- ---- further reasons
 
-refuses_version_2 : Fault set_0 set_0.machines (hex (codes "5145564d00000002")) 4 None reasons.OldStream 4
-refuses_version_2 = wrong set_0 (Magic magic ∷ []) (Version 2) [] _ 4 None reasons.OldStream (tt, refl, AtMagic magic refl, refl) refl (AtVersion 2 (omega arith)) refl refl refl
+refuses_version_2 : Refused set_0 (hex (codes "5145564d00000002")) 4 None reasons.OldStream 4
+refuses_version_2 = wrong (Magic magic ∷ []) (Version 2) [] (tt, refl, AtMagic magic refl, refl) (AtVersion 2 (omega arith)) refl refl refl refl refl
 
-refuses_another_machine : Fault set_0 set_0.machines (head ++ hex (codes "07000000056973612d31")) 8 None reasons.WrongMachine 10
-refuses_another_machine = wrong set_0 start (Configuration (codes "isa-1")) [] _ 8 None reasons.WrongMachine (in_start set_0) refl (AtConfiguration _ _ (omega arith)) refl refl refl
+refuses_another_machine : Refused set_0 (head ++ hex (codes "07000000056973612d31")) 8 None reasons.WrongMachine 10
+refuses_another_machine = wrong start (Configuration (codes "isa-1")) [] (in_start set_0) (AtConfiguration _ _ (omega arith)) refl refl refl refl refl
 
 abbrev named : List Piece
 named = Configuration (codes "isa-0") ∷ start
@@ -185,22 +207,23 @@ named = Configuration (codes "isa-0") ∷ start
 in_named : Front set_0 set_0.machines named
 in_named = (in_start set_0, refl, AtConfiguration _ _ (omega arith), refl)
 
-refuses_a_subsection_of_the_configuration : Fault set_0 set_0.machines (head ++ hex (codes "07000000056973612d3005")) 18 None reasons.ConfigurationExtra 1
-refuses_a_subsection_of_the_configuration = wrong set_0 named (Mark 5) [] _ 18 None reasons.ConfigurationExtra in_named refl (AtMark _ _ _ refl) refl refl refl
+refuses_a_subsection_of_the_configuration : Refused set_0 (head ++ hex (codes "07000000056973612d3005")) 18 None reasons.ConfigurationExtra 1
+refuses_a_subsection_of_the_configuration = wrong named (Mark 5) [] in_named (AtMark _ _ _ refl) refl refl refl refl refl
 
 timer_may : (v : ℕ) → v < 4294967296 → May (Between true false) (Head 0 (codes "timer") 0 v)
 timer_may v lt = AtHead true false 0 (codes "timer") 0 v (omega arith) (omega arith) lt
 
-refuses_too_new_a_section : Fault set_0 set_0.machines (take 23 smallest ++ hex (codes "00000002") ++ drop 27 smallest) 8 (Some 0) reasons.TooNew 19
-refuses_too_new_a_section = wrong set_0 start (Head 0 (codes "timer") 0 2) (drop 27 smallest) _ 8 (Some 0) reasons.TooNew (in_start set_0) refl (timer_may 2 (omega arith)) refl refl refl
+refuses_too_new_a_section : Refused set_0 (take 23 smallest ++ hex (codes "00000002") ++ drop 27 smallest) 8 (Some 0) reasons.TooNew 19
+refuses_too_new_a_section = wrong start (Head 0 (codes "timer") 0 2) (drop 27 smallest) (in_start set_0) (timer_may 2 (omega arith)) refl refl refl refl refl
 
-refuses_too_old_a_section : Fault set_0 set_0.machines (take 23 smallest ++ hex (codes "00000000") ++ drop 27 smallest) 8 (Some 0) reasons.TooOld 19
-refuses_too_old_a_section = wrong set_0 start (Head 0 (codes "timer") 0 0) (drop 27 smallest) _ 8 (Some 0) reasons.TooOld (in_start set_0) refl (timer_may 0 (omega arith)) refl refl refl
+refuses_too_old_a_section : Refused set_0 (take 23 smallest ++ hex (codes "00000000") ++ drop 27 smallest) 8 (Some 0) reasons.TooOld 19
+refuses_too_old_a_section = wrong start (Head 0 (codes "timer") 0 0) (drop 27 smallest) (in_start set_0) (timer_may 0 (omega arith)) refl refl refl refl refl
 
-refuses_another_instance : Fault set_0 set_0.machines (take 19 smallest ++ hex (codes "00000001") ++ drop 23 smallest) 8 None reasons.UnknownSection 19
-refuses_another_instance = wrong set_0 start (Head 0 (codes "timer") 1 1) (drop 27 smallest) _ 8 None reasons.UnknownSection (in_start set_0) refl
-    (AtHead true false 0 (codes "timer") 1 1 (omega arith) (omega arith) (omega arith)) refl refl refl
+refuses_another_instance : Refused set_0 (take 19 smallest ++ hex (codes "00000001") ++ drop 23 smallest) 8 None reasons.UnknownSection 19
+refuses_another_instance =
+    wrong start (Head 0 (codes "timer") 1 1) (drop 27 smallest) (in_start set_0)
+    (AtHead true false 0 (codes "timer") 1 1 (omega arith) (omega arith) (omega arith)) refl refl refl refl refl
 
-refuses_too_long_a_description : Fault set_0 set_0.machines (smallest ++ hex (codes "0601000001")) 41 None reasons.DescriptionTooLong 5
+refuses_too_long_a_description : Refused set_0 (smallest ++ hex (codes "0601000001")) 41 None reasons.DescriptionTooLong 5
 unfolding code first
-refuses_too_long_a_description = wrong set_0 ended (Long 6 16777217) [] _ 41 None reasons.DescriptionTooLong in_ended refl (AtLongText 16777217 (omega arith) (omega arith)) refl refl refl
+refuses_too_long_a_description = wrong ended (Long 6 16777217) [] in_ended (AtLongText 16777217 (omega arith) (omega arith)) refl refl refl refl refl

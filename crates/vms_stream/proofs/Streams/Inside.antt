@@ -1,28 +1,40 @@
--- In a section whose slots are all passed: what an accepted reading finds after the fields.
-use Rattle.std.proofs.Common.{◌≡◌, ℕ, ◌+◌, ◌<◌, List, ◌++◌, length, drop, slice_set, Option, Some, None, refl, sym, ap, ◌∙◌, subst, arith, Bool, true, false, ◌==◌, []}
+-- In a section whose slots are all passed: what an accepted reading finds after the fields. The subsections are spelled, in any
+-- order and each once; the image stays normal and valid.
+use Rattle.std.proofs.Common.{◌≡◌, ℕ, ◌+◌, ◌<◌, List, ◌++◌, length, drop, slice_set, Option, Some, None, refl, ap, ◌∙◌, subst, arith, Bool, true, false}
+use Rattle.std.proofs.Common.{if◌then◌else◌, ◌==◌, [], zero, suc, ◌∷◌, Ok, Err, ℤ, sym, append_assoc, length-append}
 use Rattle.std.specs.List.{slice_get}
 use Rattle.vms_kinds.specs.Bytes.{IsBytes}
+use Rattle.vms_kinds.proofs.ByteLemmas.{bytes_rest}
 use Rattle.vms_spec.specs.Lists.{at_option}
 use Rattle.vms_spec.specs.Sets.{Set, Device, Sub}
-use Rattle.vms_spec.specs.Images.{Image, IsVersionOf}
-use Rattle.vms_spec.specs.Streams.{sub_head, foot}
-use Rattle.vms_spec.specs.SoFar.{subs_of, part_slots, put_version}
+use Rattle.vms_spec.specs.Images.{Image, IsVersionOf, sub_slots, Spells}
+use Rattle.vms_spec.specs.Streams.{sub_head, foot, ComesOnce, SubsSpell}
+use Rattle.vms_spec.specs.SoFar.{subs_of, part_slots}
 use Rattle.vms_spec.specs.Lookup.{find_sub}
-use Rattle.vms_spec.specs.Readings.{Accepted}
 use Rattle.vms_spec.specs.Units.{Piece, spell, SubHead, Mark}
-use Rattle.vms_bodies.specs.Whole.{reading_on}
 use Rattle.vms_bodies.proofs.BodyLaws.{at_set, set_twice}
 use Rattle.std.proofs.lemmas.Option.{slice_get_within}
 use Rattle.std.proofs.lemmas.Bool.{both_ways, not-true}
 use Rattle.std.proofs.Math.Bool.{or-not_self}
+use Rattle.std.proofs.Math.Nat.{add-zero}
 use Rattle.vms_stream.specs.SoFar.{Tail, Unknown, Footed, Bare, Known}
 use Rattle.vms_stream.specs.Dues.{Due, AfterFields, due_field, rules_hold, is_foot, is_next, first_byte, May, AtSubHead, AtFoot, AtOther, AtNext}
 use Rattle.vms_stream.specs.Table.{first_of, is_between}
-use Rattle.vms_stream.specs.Judge.{judge, owes}
-use Rattle.vms_stream.specs.State.{State, Free, Inside, or_none, image_at, slots_at, due_by, known_at, after, by_state}
+use Rattle.vms_stream.specs.Judge.{owes}
+use Rattle.vms_stream.specs.State.{State, Free, Inside, slots_at, due_by, known_at, after}
 use Rattle.vms_stream.proofs.Streams.UnitRows.{foot_is, foot_mark_never, sub_is_one, none_from}
-use Rattle.vms_stream.proofs.Streams.Steps.{steps}
-use Rattle.vms_stream.proofs.Streams.Free.{Opening, opening}
+use Rattle.vms_stream.proofs.Streams.Steps.{Run, Goes, steps, Opening, opening, free_opens}
+use Rattle.vms_spec.specs.Layout.{device_cells, desc_cells}
+use Rattle.vms_spec.specs.Taking.{Taken, Progress, take_desc, takers, cells_of}
+use Rattle.vms_spec.specs.Good.{IsGood}
+use Rattle.vms_spec.proofs.ListLaws.{versions_long}
+use Rattle.vms_bodies.proofs.Places.{same_refl}
+use Rattle.vms_bodies.proofs.FoundLaws.{body_found}
+use Rattle.vms_bodies.proofs.AgreeLaws.{its_spelled}
+use Rattle.vms_bodies.proofs.PartLaws.{sub_are, Beside, beside_back, beside_done}
+use Rattle.vms_bodies.proofs.FineLaws.{part_place, Fine, Stays, stays_refl, stays_on, stays_next, fine_next}
+use Rattle.vms_bodies.proofs.ComeLaws.{sub_front}
+use Rattle.vms_stream.proofs.Bodies.Body.{Reads, body_read}
 
 -- whether sections have footers, if the tail is known already
 abbrev pub Agrees : Tail → Bool → Type 0
@@ -34,117 +46,248 @@ abbrev pub tail_of : Bool → Tail
 tail_of true = Footed
 tail_of false = Bare
 
--- in the section of device k, with this image
-abbrev pub in_section : Option (List ℕ) → List Image → List Bool → Tail → ℕ → ℕ → Image → Option ℕ → ℕ → State
-in_section machine images came t k id image part n = record {
-  machine = machine;
-  images = slice_set images k image;
-  came = came;
-  tail = t;
-  spot = Inside k id part n;
-}
+-- what ends a section
+abbrev pub closing : Bool → ℕ → List ℕ
+closing footed id = if footed then foot id else []
 
-module _ (set : Set) (names : List (List ℕ)) (machine : Option (List ℕ)) (images : List Image) (came : List Bool) (t : Tail) (k id : ℕ) (d : Device) (there : slice_get set.devices k ≡ Some d) (room : k < length images) where
-  abbrev pub stands : Image → Option ℕ → ℕ → State
-  stands image part n = in_section machine images came t k id image part n
+foot_agrees : (t : Tail) → is_foot t 0x7e ≡ true → Agrees t true
+foot_agrees Unknown e = tt
+foot_agrees Footed e = refl
+foot_agrees Bare e = cc
 
-  pub image_is : (image : Image) (part : Option ℕ) (n : ℕ) → image_at (stands image part n) ≡ image
-  image_is image part n = ap or_none (at_set images k image room)
+next_agrees : (k : ℕ) (t : Tail) (b : ℕ) → is_next t b ≡ true → Agrees t false × (is_between (AfterFields k t) ≡ true)
+next_agrees k Unknown b e = (tt, refl)
+next_agrees k Footed b e = absurd (both_ways _ (not-true _ e) (or-not_self (b == 0x05)))
+next_agrees k Bare b e = (refl, refl)
 
-  pub slots_are : (image : Image) (part : Option ℕ) (n : ℕ) → slots_at set (stands image part n) (Inside k id part n) ≡ drop n (part_slots set (Some d) image part)
-  slots_are image part n =
-      ap (λ (i : Image). drop n (part_slots set (slice_get set.devices k) i part)) (image_is image part n) ∙ ap (λ (o : Option Device). drop n (part_slots set o image part)) there
+-- a mark that is neither of a subsection head nor of a footer
+other_never : (set : Set) (names : List (List ℕ)) (k : ℕ) (t : Tail) (so_far : Known) (b : ℕ) → is_foot t b ≡ true → (b == 0x7e) ≡ false
+    → first_of set names (AfterFields k t) so_far (Mark b) ≡ None → ⊥
+other_never set names k Unknown so_far b f e h = cc
+other_never set names k Footed so_far b f e h = foot_mark_never set names (AfterFields k Footed) so_far b refl h
+other_never set names k Bare so_far b f e h = cc
 
-  abbrev pub knows : Image → Known
-  knows image = record { came = came; section = Some k; id = id; image = image }
+-- the section of a device, and the state of which it is a part
+pub record Section (set : Set) : Type 0 where
+  pub state : State
+  pub k : ℕ
+  pub id : ℕ
+  pub device : Device
+  pub there : slice_get set.devices k ≡ Some device
+  pub room : k < length state.images
 
-  pub known_is : (image : Image) (part : Option ℕ) (n : ℕ) → known_at set (stands image part n) ≡ knows image
-  known_is image part n = ap knows (image_is image part n)
+-- there, with this image
+abbrev pub stands : {set : Set} → Section set → Image → Option ℕ → ℕ → State
+stands c image part n = record c.state { images = slice_set c.state.images c.k image; spot = Inside c.k c.id part n }
+
+-- after it
+abbrev pub over : {set : Set} → Section set → Image → Bool → State
+over c image footed = record c.state { images = slice_set c.state.images c.k image; tail = tail_of footed; spot = Free false false }
+
+module _ {set : Set} (c : Section set) (image : Image) (part : Option ℕ) (n : ℕ) where
+  abbrev pub knows : Known
+  knows = record { came = c.state.came; section = Some c.k; id = c.id; image = image }
+
+  pub known_is : known_at set (stands c image part n) ≡ knows
+  known_is = rw (at_set c.state.images c.k image c.room)
+
+  slots_are : slots_at set (stands c image part n) (Inside c.k c.id part n) ≡ drop n (part_slots set (Some c.device) image part)
+  slots_are = rw (c.there, at_set c.state.images c.k image c.room)
 
   -- if all slots are passed, what is due comes after the fields
-  pub due_is : (image : Image) (part : Option ℕ) (n : ℕ) → drop n (part_slots set (Some d) image part) ≡ [] → due_by set (stands image part n) (Inside k id part n) ≡ AfterFields k t
-  due_is image part n done = ap (due_field t (Some k)) (slots_are image part n ∙ done)
+  pub due_is : drop n (part_slots set (Some c.device) image part) ≡ []
+      → due_by set (stands c image part n) (Inside c.k c.id part n) ≡ AfterFields c.k c.state.tail
+  due_is done = ap (due_field c.state.tail (Some c.k)) (slots_are ∙ done)
 
-  pub held_is : (image : Image) (part : Option ℕ) (n : ℕ) → drop n (part_slots set (Some d) image part) ≡ [] → rules_hold (slots_at set (stands image part n) (Inside k id part n)) ≡ true
-  held_is image part n done = ap rules_hold (slots_are image part n ∙ done)
+  pub held_is : drop n (part_slots set (Some c.device) image part) ≡ [] → rules_hold (slots_at set (stands c image part n) (Inside c.k c.id part n)) ≡ true
+  held_is done = ap rules_hold (slots_are ∙ done)
 
-  pub subs_are : subs_of (at_option set.devices (Some k)) ≡ d.subs
-  subs_are = ap subs_of there
+  pub subs_are : subs_of (at_option set.devices (Some c.k)) ≡ c.device.subs
+  subs_are = ap subs_of c.there
 
   -- the state after a subsection head
-  pub sub_after : (image : Image) (part : Option ℕ) (n j : ℕ) (name : List ℕ) (v : ℕ) → find_sub 0 d.subs name ≡ Some j
-      → after set (stands image part n) (SubHead name v) ≡ stands (record image { came = slice_set image.came j (Some v) }) (Some j) 0
-  sub_after image part n j name v named =
-      let to : List Image → Option ℕ → State = λ l o. record { machine = machine; images = l; came = came; tail = t; spot = Inside k id o 0 } in
-      let next : Image → Option ℕ → State = λ i o. to (slice_set (slice_set images k image) k (record i { came = put_version i.came o v })) o in
-      ap (next (image_at (stands image part n))) (ap (λ (subs : List Sub). find_sub 0 subs name) subs_are ∙ named)
-      ∙ ap (λ (i : Image). next i (Some j)) (image_is image part n)
-      ∙ ap (λ (l : List Image). to l (Some j)) (set_twice images k image (record image { came = slice_set image.came j (Some v) }))
+  pub sub_after : (j : ℕ) (name : List ℕ) (v : ℕ) → find_sub 0 c.device.subs name ≡ Some j
+      → after set (stands c image part n) (SubHead name v) ≡ stands c (record image { came = slice_set image.came j (Some v) }) (Some j) 0
+  sub_after j name v named =
+      rw (c.there, named, at_set c.state.images c.k image c.room, set_twice c.state.images c.k image (record image { came = slice_set image.came j (Some v) }))
 
-  -- what comes after the fields: a subsection head, the footer, or a unit between sections
-  pub data Behind (image : Image) (part : Option ℕ) (n place : ℕ) (rest : List ℕ) (taken : ℕ) (end : State) : Type 0 where
-    ASub : (j v : ℕ) (s : Sub) (more : List ℕ) → rest ≡ sub_head s.desc.name v ++ more → slice_get d.subs j ≡ Some s → slice_get image.came j ≡ Some None → IsVersionOf s.desc v
-        → reading_on (judge (by_state set names)) (stands (record image { came = slice_set image.came j (Some v) }) (Some j) 0) (place + length (sub_head s.desc.name v)) more ≡ Some (Accepted taken end)
-        → Behind image part n place rest taken end
-    AFoot : (more : List ℕ) → Agrees t true → rest ≡ foot id ++ more
-        → reading_on (judge (by_state set names)) (record { machine = machine; images = slice_set images k image; came = came; tail = Footed; spot = Free false false }) (place + 5) more ≡ Some (Accepted taken end)
-        → Behind image part n place rest taken end
-    ANext : Agrees t false → Opening set names false (stands image part n) Bare place rest taken end → Behind image part n place rest taken end
+-- what comes after the fields: a subsection head, or the end of the section
+pub data Behind (r : Run) (c : Section r.set) (image : Image) (place : ℕ) (rest : List ℕ) : Type 0 where
+  ASub : (j v : ℕ) (s : Sub) (more : List ℕ) → rest ≡ sub_head s.desc.name v ++ more → slice_get c.device.subs j ≡ Some s → slice_get image.came j ≡ Some None
+      → IsVersionOf s.desc v
+      → Goes r (stands c (record image { came = slice_set image.came j (Some v) }) (Some j) 0) (place + length (sub_head s.desc.name v)) more
+      → Behind r c image place rest
+  AnEnd : (footed : Bool) (more : List ℕ) → Agrees c.state.tail footed → rest ≡ closing footed c.id ++ more
+      → Opening r false (over c image footed) (place + length (closing footed c.id)) more → Behind r c image place rest
 
-  foot_agrees : (t : Tail) → is_foot t 0x7e ≡ true → Agrees t true
-  foot_agrees Unknown e = tt
-  foot_agrees Footed e = refl
-  foot_agrees Bare e = cc
-
-  next_agrees : (t : Tail) (b : ℕ) → is_next t b ≡ true → Agrees t false
-  next_agrees Unknown b e = tt
-  next_agrees Footed b e = absurd (both_ways _ (not-true _ e) (or-not_self (b == 0x05)))
-  next_agrees Bare b e = refl
-
-  next_between : (t : Tail) (b : ℕ) → is_next t b ≡ true → is_between (AfterFields k t) ≡ true
-  next_between Unknown b e = refl
-  next_between Footed b e = absurd (both_ways _ (not-true _ e) (or-not_self (b == 0x05)))
-  next_between Bare b e = refl
-
-  -- a mark that is neither of a subsection head nor of a footer
-  other_never : (t : Tail) (so_far : Known) (b : ℕ) → is_foot t b ≡ true → (b == 0x7e) ≡ false → first_of set names (AfterFields k t) so_far (Mark b) ≡ None → ⊥
-  other_never Unknown so_far b f e h = cc
-  other_never Footed so_far b f e h = foot_mark_never set names (AfterFields k Footed) so_far b refl h
-  other_never Bare so_far b f e h = cc
-
-  by_unit : (image : Image) (part : Option ℕ) (n place : ℕ) (rest more : List ℕ) (taken : ℕ) (end : State) → length came ≡ length set.devices → length image.came ≡ length d.subs
-      → (due : Due) → due ≡ AfterFields k t → (x : Piece) → May due x → first_of set names due (knows image) x ≡ None → first_of set names due (known_at set (stands image part n)) x ≡ None → rest ≡ spell x ++ more
-      → reading_on (judge (by_state set names)) (after set (stands image part n) x) (place + length (spell x)) more ≡ Some (Accepted taken end) → Behind image part n place rest taken end
-  by_unit image part n place rest more taken end long subs_long due is x may none none2 e goes =
-      by (subst (λ (d : Due). May d x) is may) (ap (λ (d : Due). first_of set names d (knows image) x) (sym is) ∙ none) (ap (λ (d : Due). first_of set names d (known_at set (stands image part n)) x) (sym is) ∙ none2)
-    where
-      by : May (AfterFields k t) x → first_of set names (AfterFields k t) (knows image) x ≡ None → first_of set names (AfterFields k t) (known_at set (stands image part n)) x ≡ None → Behind image part n place rest taken end
-      by m none none2 = which k t x m refl refl none none2 e goes
-        where
-          which : (k' : ℕ) (t' : Tail) (x : Piece) → May (AfterFields k' t') x → k' ≡ k → t' ≡ t → first_of set names (AfterFields k t) (knows image) x ≡ None
-              → first_of set names (AfterFields k t) (known_at set (stands image part n)) x ≡ None → rest ≡ spell x ++ more
-              → reading_on (judge (by_state set names)) (after set (stands image part n) x) (place + length (spell x)) more ≡ Some (Accepted taken end) → Behind image part n place rest taken end
-          which _ _ _ (AtSubHead k' t' name v f) ke te none none2 e goes =
-              let h = sub_is_one set names (AfterFields k t) (knows image) d.subs name v subs_are none in
-              let lt : h.j < length d.subs = slice_get_within d.subs h.j h.sub h.there in
-              ASub h.j v h.sub more (e ∙ ap (λ (x : List ℕ). sub_head x v ++ more) (sym h.name_is)) h.there (none_from image.came h.j (omega arith) h.new) h.version
-              (ap (λ (s : State). reading_on (judge (by_state set names)) s (place + length (sub_head h.sub.desc.name v)) more) (sym (sub_after image part n h.j name v h.named))
-              ∙ ap (λ (x : List ℕ). reading_on (judge (by_state set names)) (after set (stands image part n) (SubHead name v)) (place + length (sub_head x v)) more) h.name_is ∙ goes)
-          which _ _ _ (AtFoot k' t' its f g) ke te none none2 e goes =
-              AFoot more (foot_agrees t (ap (λ (t : Tail). is_foot t 0x7e) (sym te) ∙ f))
-              (e ∙ ap (λ (i : ℕ). foot i ++ more) (foot_is set names (AfterFields k t) (knows image) its none)) goes
-          which _ _ _ (AtOther k' t' b f g) ke te none none2 e goes = absurd (other_never t (knows image) b (ap (λ (t : Tail). is_foot t b) (sym te) ∙ f) g none)
-          which _ _ x (AtNext k' t' _ f m) ke te none none2 e goes =
-              let f' = ap (λ (t : Tail). is_next t (first_byte x)) (sym te) ∙ f in
-              ANext (next_agrees t (first_byte x) f')
-              (opening set names false false (AfterFields k t) (stands image part n) place rest more taken end long (next_between t (first_byte x) f') x m none2 e goes)
+module _ {r : Run} (c : Section r.set) (image : Image) (part : Option ℕ) (n : ℕ) (long : length c.state.came ≡ length r.set.devices)
+    (subs_long : length image.came ≡ length c.device.subs) where
+  by_unit : {place : ℕ} {rest more : List ℕ} → IsBytes rest → (x : Piece) → May (AfterFields c.k c.state.tail) x
+      → first_of r.set r.names (AfterFields c.k c.state.tail) (known_at r.set (stands c image part n)) x ≡ None
+      → rest ≡ spell x ++ more → Goes r (after r.set (stands c image part n) x) (place + length (spell x)) more → Behind r c image place rest
+  by_unit {more = more} ok _ (AtSubHead _ _ name v f) none e goes =
+      let d = AfterFields c.k c.state.tail in
+      let known = knows c image part n in
+      let h = sub_is_one r.set r.names d known c.device.subs name v (subs_are c image part n)
+      (subst (λ (k : Known). first_of r.set r.names d k (SubHead name v) ≡ None) (known_is c image part n) none) in
+      let lt : h.j < length c.device.subs = slice_get_within c.device.subs h.j h.sub h.there in
+      ASub h.j v h.sub more (rw h.name_is e) h.there (none_from image.came h.j (omega arith) h.new) h.version
+      (rw (h.name_is, ← sub_after c image part n h.j name v h.named) goes)
+  by_unit {more = more} ok _ (AtFoot _ _ its f g) none e goes =
+      let is = foot_is r.set r.names (AfterFields c.k c.state.tail) (known_at r.set (stands c image part n)) its none in
+      let e2 = rw is at e in
+      AnEnd true more (foot_agrees c.state.tail f) e2 (free_opens false false refl (bytes_rest (foot c.id) more (subst IsBytes e2 ok)) long goes)
+  by_unit ok _ (AtOther _ _ b f g) none e goes = absurd (other_never r.set r.names c.k c.state.tail (known_at r.set (stands c image part n)) b f g none)
+  by_unit {place} {rest} ok x (AtNext _ _ _ f m) none e goes =
+      let a = next_agrees c.k c.state.tail (first_byte x) f in
+      AnEnd false rest a.0 refl (rw (add-zero place) (opening false false (AfterFields c.k c.state.tail) (stands c image part n) long a.1 x m none e goes))
 
   -- how an accepted reading goes on after the fields of a part
-  pub behind_found : (image : Image) (part : Option ℕ) (n place : ℕ) (rest : List ℕ) (taken : ℕ) (end : State) → length came ≡ length set.devices → length image.came ≡ length d.subs
-      → drop n (part_slots set (Some d) image part) ≡ [] → IsBytes rest → reading_on (judge (by_state set names)) (stands image part n) place rest ≡ Some (Accepted taken end) → Behind image part n place rest taken end
-  behind_found image part n place rest taken end long subs_long done ok h =
-      let s = stands image part n in
-      let is = due_is image part n done in
-      let u = steps set names s place rest taken end ok (ap (λ (d : Due). owes d rest) is) h in
-      by_unit image part n place rest u.more taken end long subs_long (due_by set s (Inside k id part n)) is u.unit u.may
-      (ap (λ (so_far : Known). first_of set names (due_by set s (Inside k id part n)) so_far u.unit) (sym (known_is image part n)) ∙ u.none) u.none u.there u.goes
+  pub behind_found : {place : ℕ} {rest : List ℕ} → drop n (part_slots r.set (Some c.device) image part) ≡ [] → IsBytes rest
+      → Goes r (stands c image part n) place rest → Behind r c image place rest
+  behind_found {rest = rest} done ok h =
+      let is = due_is c image part n done in
+      let u = steps ok h (ap (λ (d : Due). owes d rest) is) in
+      by_unit ok u.unit (subst (λ (d : Due). May d u.unit) is u.may)
+      (subst (λ (d : Due). first_of r.set r.names d (known_at r.set (stands c image part n)) u.unit ≡ None) is u.none) u.there u.goes
+
+abbrev pub image_so : ℕ → List (Option ℕ) → List ℤ → Image
+image_so v came n = record { version = v; came = came; numbers = n }
+
+-- the subsections that are read after a body, up to the end of the section
+pub record SubsRead (r : Run) (c : Section r.set) (v : ℕ) (so_far : List (Option ℕ)) (n : List ℤ) (place : ℕ) (rest : List ℕ) : Type 0 where
+  pub all : List (Option ℕ)
+  pub numbers : List ℤ
+  pub left : List (Option ℕ)
+  pub beside : Beside so_far left all
+  pub order : List ℕ
+  pub once : ComesOnce left order
+  pub tail : List ℕ
+  pub subs : SubsSpell r.set c.device (image_so v all numbers) order tail
+  pub footed : Bool
+  pub agrees : Agrees c.state.tail footed
+  pub after : List ℕ
+  pub spelled : rest ≡ tail ++ (closing footed c.id ++ after)
+  pub fine : Fine r.set c.device v all numbers
+  pub stays : Stays r.set c.device so_far n numbers
+  pub opens : Opening r false (over c (image_so v all numbers) footed) ((place + length tail) + length (closing footed c.id)) after
+
+module _ (r : Run) (good : IsGood r.set) (c : Section r.set) (long : length c.state.came ≡ length r.set.devices) (v : ℕ) where
+  abbrev Accepts : List (Option ℕ) → List ℤ → Option ℕ → ℕ → ℕ → List ℕ → Type 0
+  Accepts so_far n part i place rest = Goes r (stands c (image_so v so_far n) part i) place rest
+
+  abbrev FindsSubs : ℕ → Type 0
+  FindsSubs most =
+      (part : Option ℕ) (i : ℕ) (so_far : List (Option ℕ)) (n : List ℤ) (place : ℕ) (rest : List ℕ) → drop i
+      (part_slots r.set (Some c.device) (image_so v so_far n) part) ≡ [] → length rest < most
+      → IsBytes rest → Fine r.set c.device v so_far n → Accepts so_far n part i place rest → SubsRead r c v so_far n place rest
+
+  -- one subsection, and those after it
+  module _ (so_far : List (Option ℕ)) (n : List ℤ) (j w : ℕ) (s : Sub) (place : ℕ) (rest : List ℕ) (there : slice_get c.device.subs j ≡ Some s)
+      (new : slice_get so_far j ≡ Some None) where
+    abbrev next : List (Option ℕ)
+    next = slice_set so_far j (Some w)
+
+    abbrev head : List ℕ
+    head = sub_head s.desc.name w
+
+    abbrev base : ℕ
+    base = part_place r.set c.device j
+
+    set_at : slice_get next j ≡ Some (Some w)
+    set_at = at_set so_far j (Some w) (slice_get_within so_far j None new)
+
+    sub_before : (m : List ℤ) (body more : List ℕ) → rest ≡ head ++ (body ++ more) → Spells m (sub_slots r.set s w m base) body
+        → Stays r.set c.device so_far n m
+        → SubsRead r c v next m ((place + length head) + length body) more → SubsRead r c v so_far n place rest
+    sub_before m body more spelled spells stays q =
+        let b = beside_back so_far q.left q.all j w q.beside new in
+        let last : Spells q.numbers (sub_slots r.set s w q.numbers base) body =
+        its_spelled r.set s.desc w base good.structs (good.subs c.k j c.device s c.there there) m q.numbers body (q.stays.parts j s w there set_at) spells in
+        record {
+          all = q.all;
+          numbers = q.numbers;
+          left = slice_set q.left j (Some w);
+          beside = b.3;
+          order = j ∷ q.order;
+          once = ((w, b.1), rw b.2 q.once);
+          tail = (head ++ body) ++ q.tail;
+          subs = (head ++ body, q.tail, sub_front r.set c.device (image_so v q.all q.numbers) j w s body _ _ (sym there) (sym b.0) last, q.subs, refl);
+          footed = q.footed;
+          agrees = q.agrees;
+          after = q.after;
+          spelled = spelled ∙ rw (
+            q.spelled,
+            append_assoc (head ++ body) q.tail (closing q.footed c.id ++ q.after),
+            append_assoc head body
+                (q.tail ++ (closing q.footed c.id ++ q.after)),
+          );
+          fine = q.fine;
+          stays = stays_on r.set c.device so_far j w n m q.numbers new stays q.stays;
+          opens = subst (λ (x : ℕ). Opening r false (over c (image_so v q.all q.numbers) q.footed) (x + length (closing q.footed c.id)) q.after)
+              (omega (arith, length-append (head ++ body) q.tail, length-append head body)) q.opens;
+        }
+
+    -- its body
+    body_goes : (more : List ℕ) → IsBytes rest → Fine r.set c.device v so_far n → rest ≡ head ++ more → IsVersionOf s.desc w → FindsSubs (length rest)
+        → (q : Taken)
+        → take_desc (takers r.set.structs (length r.set.structs)) s.desc w base (record { numbers = n; place = place + length head; rest = more }) ≡ q
+        → Reads r.set r.names c.state c.device (image_so v next n) c.k c.id (Some j) c.there c.room 0
+        (record { numbers = n; place = place + length head; rest = more }) q
+        → Accepts next n (Some j) 0 (place + length head) more → SubsRead r c v so_far n place rest
+    body_goes more ok fine spelled version on (Err e) is reads h = let f = sym reads ∙ h.is in cc
+    body_goes more ok fine spelled version on (Ok q) is reads h =
+        let p : Progress = record { numbers = n; place = place + length head; rest = more } in
+        let sound = good.subs c.k j c.device s c.there there in
+        let okm : IsBytes more = bytes_rest head more (subst IsBytes spelled ok) in
+        let b = body_found (device_cells r.set c.device) r.set.structs good.structs s.desc w base p q sound okm (omega (arith, fine.long))
+        (λ m. sub_are r.set c.device j s w m there) is in
+        let last : IsBytes q.rest = bytes_rest b.bytes q.rest (subst IsBytes b.front okm) in
+        let same = same_refl (base + length (desc_cells (cells_of (takers r.set.structs (length r.set.structs))) s.desc)) q.numbers in
+        let kept = b.kept q.numbers same in
+        let fine' = fine_next r.set c.device v so_far n q.numbers j w s good.structs (good.devices c.k c.device c.there)
+        (λ j s e. good.subs c.k j c.device s c.there e) there new version b.long
+        (b.fits q.numbers same) (b.rules q.numbers same) kept fine in
+        let spelled' : rest ≡ head ++ (b.bytes ++ q.rest) = spelled ∙ ap (λ (l : List ℕ). head ++ l) b.front in
+        let later = on (Some j) reads.0 next q.numbers q.place q.rest reads.1
+        (omega (arith, ap length spelled', length-append head (b.bytes ++ q.rest), length-append b.bytes q.rest)) last fine'
+        (record { is = sym reads.2 ∙ h.is }) in
+        sub_before q.numbers b.bytes q.rest spelled' (b.spells q.numbers same) (stays_next r.set c.device so_far j w s n q.numbers there new kept)
+        (rw (← b.place) later)
+
+    sub_goes : (more : List ℕ) → IsBytes rest → Fine r.set c.device v so_far n → rest ≡ head ++ more → IsVersionOf s.desc w → FindsSubs (length rest)
+        → Accepts next n (Some j) 0 (place + length head) more
+        → SubsRead r c v so_far n place rest
+    sub_goes more ok fine spelled version on h =
+        body_goes more ok fine spelled version on _ refl
+        (body_read r.set r.names c.state c.device (image_so v next n) c.k c.id (Some j) c.there c.room good.structs s.desc w base
+        (good.subs c.k j c.device s c.there there) (λ m. rw (there, set_at))
+        (record { numbers = n; place = place + length head; rest = more })) h
+
+  pub subs_found : (most : ℕ) → FindsSubs most
+  subs_found zero part i so_far n place rest done less ok fine h = absurd (omega arith)
+  subs_found (suc most) part i so_far n place rest done less ok fine h =
+      by (λ part i so_far n place more done' less'. subs_found most part i so_far n place more done' (omega arith))
+      (behind_found c (image_so v so_far n) part i long (versions_long c.device.subs so_far fine.versions) done ok h)
+    where
+      by : FindsSubs (length rest) → Behind r c (image_so v so_far n) place rest → SubsRead r c v so_far n place rest
+      by on (ASub j w s more e there new version goes) = sub_goes so_far n j w s place rest there new more ok fine e version on goes
+      by on (AnEnd footed more agrees e opens) =
+          let done = beside_done so_far in
+          record {
+            all = so_far;
+            numbers = n;
+            left = done.0;
+            beside = done.1;
+            order = [];
+            once = done.2;
+            tail = [];
+            subs = refl;
+            footed = footed;
+            agrees = agrees;
+            after = more;
+            spelled = e;
+            fine = fine;
+            stays = stays_refl r.set c.device so_far n;
+            opens = rw (add-zero place) opens;
+          }

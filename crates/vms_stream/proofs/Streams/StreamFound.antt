@@ -1,81 +1,279 @@
--- What is accepted is a stream at the front of the input.
-use Rattle.std.proofs.Common.{◌≡◌, inl, inr, ℕ, suc, ◌+◌, List, ◌∷◌, ◌++◌, length, map, Option, Some, None, refl, sym, ap, ◌∙◌, subst, arith, append_assoc, length-append, Bool, true, false, []}
-use Rattle.std.proofs.Math.Nat.{add-zero}
+-- What is accepted is a stream at the front of the input: its sections, in any order and each once, and all of it.
+use Rattle.std.proofs.Common.{◌≡◌, ℕ, zero, suc, ◌+◌, ◌<◌, List, ◌∷◌, ◌++◌, length, slice_set, Some, None, Ok, Err, refl, sym, ap, ◌∙◌, subst, arith}
+use Rattle.std.proofs.Common.{append_assoc, length-append, Bool, true, false, [], inl, inr, map, Option}
+use Rattle.std.specs.List.{slice_get}
+use Rattle.std.proofs.lemmas.List.{length-set}
 use Rattle.vms_kinds.specs.Bytes.{IsBytes}
+use Rattle.vms_kinds.proofs.ByteLemmas.{bytes_rest}
 use Rattle.vms_spec.specs.Sets.{Device, Set}
-use Rattle.vms_spec.specs.Images.{Image, default_image}
-use Rattle.vms_spec.specs.Streams.{be32, magic, stream_head, configuration, end_mark, trailer, EachOnce, IsConfiguration, IsTrailer}
+use Rattle.vms_spec.specs.Layout.{device_cells, desc_cells}
+use Rattle.vms_spec.specs.Images.{Image, default_image, IsVersionOf}
+use Rattle.vms_spec.specs.Streams.{section_head, EachOnce, be32, magic, stream_head, configuration, end_mark, trailer, IsConfiguration, IsTrailer}
+use Rattle.vms_spec.specs.Taking.{Taken, Progress, take_desc, takers, cells_of}
+use Rattle.vms_spec.specs.Good.{IsGood}
+use Rattle.vms_bodies.proofs.Places.{same_refl}
+use Rattle.vms_bodies.proofs.BodyLaws.{at_set}
+use Rattle.vms_bodies.proofs.FoundLaws.{body_found}
+use Rattle.vms_bodies.proofs.SectionLaws.{own_are, defaults_at, defaults_long}
+use Rattle.vms_bodies.proofs.ComeLaws.{none_versions, all_came, falses, defaults_of}
+use Rattle.vms_bodies.proofs.AgreeLaws.{its_spelled}
+use Rattle.std.proofs.lemmas.Option.{slice_get_within}
+use Rattle.std.proofs.Math.Nat.{add-zero}
+use Rattle.vms_bodies.proofs.PartLaws.{at_other, none_of, none_came, beside_start}
+use Rattle.vms_bodies.proofs.FineLaws.{Fine, fine_normal, fine_valid}
+use Rattle.vms_stream.specs.SoFar.{Tail, Unknown, Footed, Bare}
+use Rattle.vms_stream.specs.State.{State, Free, Ended, Spot, due_by, Headed, Over, known_at, after, between, by_state, at_start}
+use Rattle.vms_stream.specs.Streams.{IsSection, SectionsSpell, Takes}
+use Rattle.vms_stream.proofs.Bodies.Body.{Reads, body_read}
+use Rattle.vms_stream.proofs.Streams.Steps.{Run, Goes, Opening, Closes, Opens, Names, opened, next, steps, free_opens}
+use Rattle.vms_stream.proofs.Streams.Inside.{Agrees, tail_of, closing, Section, image_so, subs_found}
 use Rattle.vms_spec.specs.Units.{Piece, spell}
 use Rattle.vms_spec.specs.Readings.{Accepted}
-use Rattle.vms_bodies.specs.Whole.{reading_on}
-use Rattle.vms_spec.specs.Good.{IsGood}
-use Rattle.vms_bodies.proofs.ComeLaws.{falses, defaults_of}
-use Rattle.vms_stream.specs.SoFar.{Tail, Unknown, Footed}
 use Rattle.vms_stream.specs.Dues.{AMagic, AVersion, AfterEnd, Nothing, May, AtMagic, AtVersion, AtDescription, AtLongText, AtTrailing}
 use Rattle.vms_stream.specs.Table.{first_of}
-use Rattle.vms_stream.specs.Judge.{judge, owes, reading}
-use Rattle.vms_stream.specs.State.{State, Spot, due_by, Headed, Free, Over, known_at, after, by_state, at_start}
-use Rattle.vms_stream.specs.Streams.{SectionsSpell, Takes}
+use Rattle.vms_stream.specs.Judge.{owes, reading}
 use Rattle.vms_stream.proofs.Streams.UnitRows.{magic_is, version_is_3, trailing_never}
-use Rattle.vms_stream.proofs.Streams.Steps.{next, steps}
-use Rattle.vms_stream.proofs.Streams.Free.{Opening, Closes, Opens, Names, OpensAt, Closed, Opened, opens_at, ended, free_opens}
-use Rattle.vms_stream.proofs.Streams.Inside.{Agrees}
-use Rattle.vms_stream.proofs.Streams.SectionsFound.{sections_found}
-use Rattle.vms_kinds.proofs.ByteLemmas.{bytes_rest}
+
+-- the state after device k's section
+abbrev pub came_to : State → ℕ → Image → Bool → State
+came_to s k image footed = record s { images = slice_set s.images k image; came = slice_set s.came k true; tail = tail_of footed; spot = Free false false }
+
+-- device k's section is at the front, and the reading goes on after it
+pub record HasRead (r : Run) (s : State) (k : ℕ) (d : Device) (place : ℕ) (rest : List ℕ) : Type 0 where
+  pub id : ℕ
+  pub image : Image
+  pub footed : Bool
+  pub agrees : Agrees s.tail footed
+  pub bytes : List ℕ
+  pub after : List ℕ
+  pub is : IsSection r.set d image id footed bytes
+  pub spelled : rest ≡ bytes ++ after
+  pub opens : Opening r false (came_to s k image footed) (place + length bytes) after
+
+-- the sections that are read, from a place between sections on
+pub record SectionsRead (r : Run) (s : State) (place : ℕ) (rest : List ℕ) : Type 0 where
+  pub order : List ℕ
+  pub each_once : EachOnce s.came order
+  pub sections : List ℕ
+  pub after : List ℕ
+  pub spelled : rest ≡ sections ++ (0x00 ∷ after)
+  pub footed : Bool
+  pub agrees : Agrees s.tail footed
+  pub states : List Image
+  pub sections_are : SectionsSpell r.set footed states order sections
+  pub long : length states ≡ length s.images
+  -- the images of devices that came before stay
+  pub kept : (k : ℕ) → slice_get s.came k ≡ Some true → slice_get states k ≡ slice_get s.images k
+  pub came_last : List Bool
+  pub tail_last : Tail
+  pub goes : Goes r (record s { images = states; came = came_last; tail = tail_last; spot = Ended }) ((place + length sections) + 1) after
+
+any : (t : Tail) → (footed : Bool) × Agrees t footed
+any Unknown = (true, tt)
+any Footed = (true, refl)
+any Bare = (false, refl)
+
+same_footed : (a b : Bool) → Agrees (tail_of a) b → b ≡ a
+same_footed true b e = e
+same_footed false b e = e
+
+module _ (r : Run) (good : IsGood r.set) where
+  module _ (s : State) (place : ℕ) (k id v : ℕ) (d : Device) (more : List ℕ) (there : slice_get r.set.devices k ≡ Some d) (room : k < length s.images) where
+    abbrev c : Section r.set
+    c = record { state = record s { came = slice_set s.came k true }; k = k; id = id; device = d; there = there; room = room }
+
+    abbrev head : List ℕ
+    head = section_head id d.desc.name d.instance v
+
+    abbrev start : Progress
+    start = record { numbers = (default_image r.set d).numbers; place = place + length head; rest = more }
+
+    by_taken : {rest : List ℕ} → length s.came ≡ length r.set.devices → IsBytes rest → id < 4294967296 → rest ≡ head ++ more → IsVersionOf d.desc v
+        → Goes r (opened r.set s k id d v) (place + length head) more
+        → (q : Taken) → take_desc (takers r.set.structs (length r.set.structs)) d.desc v 0 start ≡ q
+        → Reads r.set r.names c.state d (record (default_image r.set d) { version = v }) k id None there room 0 start q → HasRead r s k d place rest
+    by_taken long ok id_fits spelled version h (Err e) is reads = let f = sym reads ∙ h.is in cc
+    by_taken long ok id_fits spelled version h (Ok q) is reads =
+        let all = device_cells r.set d in
+        let none = none_of d.subs in
+        let okm : IsBytes more = bytes_rest head more (subst IsBytes spelled ok) in
+        let sound = good.devices k d there in
+        let b = body_found all r.set.structs good.structs d.desc v 0 start q sound okm (omega (arith, defaults_long all)) (own_are r.set d v) is in
+        let last : IsBytes q.rest = bytes_rest b.bytes q.rest (subst IsBytes b.front okm) in
+        let m = same_refl (0 + length (desc_cells (cells_of (takers r.set.structs (length r.set.structs))) d.desc)) q.numbers in
+        let so_far : Fine r.set d v none q.numbers = record {
+          versions = none_versions d.subs;
+          long = b.long ∙ defaults_long all;
+          own_fits = b.fits q.numbers m;
+          own_rules = b.rules q.numbers m;
+          fits = λ j s w e f. absurd (none_came d.subs j w f);
+          rules = λ j s w e f. absurd (none_came d.subs j w f);
+          absent = λ c e f. b.kept q.numbers m c e ∙ defaults_at all c;
+        } in
+        let q' =
+        subs_found r good c (length-set s.came k true ∙ long) v (suc (length q.rest)) None reads.0 none q.numbers q.place q.rest reads.1
+        (omega arith) last so_far (record { is = sym reads.2 ∙ h.is }) in
+        let close = closing q'.footed id in
+        record {
+          id = id;
+          image = image_so v q'.all q'.numbers;
+          footed = q'.footed;
+          agrees = q'.agrees;
+          bytes = ((head ++ b.bytes) ++ q'.tail) ++ close;
+          after = q'.after;
+          is = record {
+            fits = id_fits;
+            normal = fine_normal r.set d v q'.all q'.numbers version (good.defaults k d there) q'.fine;
+            valid = fine_valid r.set d v q'.all q'.numbers q'.fine;
+            body = b.bytes;
+            own = its_spelled r.set d.desc v 0 good.structs sound q.numbers q'.numbers b.bytes q'.stays.own (b.spells q.numbers m);
+            order = q'.order;
+            each_once = rw (← beside_start d.subs q'.left q'.all q'.beside) q'.once;
+            tail = q'.tail;
+            subs = q'.subs;
+            whole = refl;
+          };
+          spelled = spelled ∙ ap (λ (l : List ℕ). head ++ l) (b.front ∙ ap (λ (l : List ℕ). b.bytes ++ l) q'.spelled)
+              ∙ rw (
+                append_assoc ((head ++ b.bytes) ++ q'.tail) close q'.after,
+                append_assoc (head ++ b.bytes) q'.tail
+                    (close ++ q'.after),
+                append_assoc head b.bytes (q'.tail ++ (close ++ q'.after)),
+              );
+          opens = subst (λ (x : ℕ). Opening r false (came_to s k (image_so v q'.all q'.numbers) q'.footed) x q'.after)
+              (omega (
+                arith,
+                b.place,
+                length-append ((head ++ b.bytes) ++ q'.tail) close,
+                length-append
+                    (head ++ b.bytes) q'.tail,
+                length-append head b.bytes,
+              )) q'.opens;
+        }
+
+    pub section_found : {rest : List ℕ} → length s.came ≡ length r.set.devices → IsBytes rest → id < 4294967296 → rest ≡ head ++ more → IsVersionOf d.desc v
+        → Goes r (opened r.set s k id d v) (place + length head) more
+        → HasRead r s k d place rest
+    section_found long ok id_fits spelled version h =
+        by_taken long ok id_fits spelled version h (take_desc (takers r.set.structs (length r.set.structs)) d.desc v 0 start) refl
+        (body_read r.set r.names c.state d (record (default_image r.set d) { version = v }) k id None there room good.structs d.desc v 0
+        (good.devices k d there) (λ m. refl) start)
+
+  sections_next : {s : State} {place : ℕ} {rest : List ℕ} {k : ℕ} {d : Device} → length s.came ≡ length r.set.devices → length s.images ≡ length r.set.devices
+      → slice_get r.set.devices k ≡ Some d → slice_get s.came k ≡ Some false
+      → (h : HasRead r s k d place rest) → SectionsRead r (came_to s k h.image h.footed) (place + length h.bytes) h.after → SectionsRead r s place rest
+  sections_next {s} {place} {rest} {k} {d} came_long images_long there new h q =
+      let inside : k < length r.set.devices = slice_get_within r.set.devices k d there in
+      let here : slice_get q.states k ≡ Some h.image = q.kept k (at_set s.came k true (omega arith)) ∙ at_set s.images k h.image (omega arith) in
+      record {
+        order = k ∷ q.order;
+        each_once = (new, q.each_once);
+        sections = h.bytes ++ q.sections;
+        after = q.after;
+        spelled = h.spelled ∙ rw (q.spelled, append_assoc h.bytes q.sections (0x00 ∷ q.after));
+        footed = h.footed;
+        agrees = h.agrees;
+        states = q.states;
+        sections_are = (
+          h.bytes,
+          q.sections,
+          rw (there, here) (h.id, h.is),
+          subst (λ (b : Bool). SectionsSpell r.set b q.states q.order q.sections)
+              (same_footed h.footed q.footed q.agrees) q.sections_are,
+          refl,
+        );
+        long = q.long ∙ length-set s.images k h.image;
+        kept = λ j e.
+            let ne : j ≡ k → ⊥ = λ same. (let f = sym e ∙ ap (slice_get s.came) same ∙ new in cc) in
+            q.kept j (at_other s.came k j true ne ∙ e) ∙ at_other s.images k j h.image ne;
+        came_last = q.came_last;
+        tail_last = q.tail_last;
+        goes = subst (λ (x : ℕ). Goes r (record s { images = q.states; came = q.came_last; tail = q.tail_last; spot = Ended }) (x + 1) q.after)
+            (sym (omega (arith, length-append h.bytes q.sections))) q.goes;
+      }
+
+  -- the sections, in any order, each once
+  pub sections_found : (most : ℕ) (s : State) {place : ℕ} {rest : List ℕ} → length s.came ≡ length r.set.devices → length s.images ≡ length r.set.devices
+      → length rest < most → IsBytes rest
+      → Opening r false s place rest → SectionsRead r s place rest
+  sections_found zero s came_long images_long less ok o = absurd (omega arith)
+  sections_found (suc most) s {place} came_long images_long less ok (Closes more e all goes) =
+      let a = any s.tail in
+      record {
+        order = [];
+        each_once = all_came 0 s.came all;
+        sections = [];
+        after = more;
+        spelled = e;
+        footed = a.0;
+        agrees = a.1;
+        states = s.images;
+        sections_are = refl;
+        long = refl;
+        kept = λ k e. refl;
+        came_last = s.came;
+        tail_last = s.tail;
+        goes = rw (add-zero place) goes;
+      }
+  sections_found (suc most) s came_long images_long less ok (Names name more first e one le goes) = cc
+  sections_found (suc most) s {place} {rest} came_long images_long less ok (Opens k id v d more f e there new version goes) =
+      let inside : k < length r.set.devices = slice_get_within r.set.devices k d there in
+      let h = section_found s place k id v d more there (omega arith) came_long ok f e version goes in
+      let ok2 : IsBytes h.after = bytes_rest h.bytes h.after (subst IsBytes h.spelled ok) in
+      sections_next came_long images_long there new h
+      (sections_found most (came_to s k h.image h.footed) (length-set s.came k true ∙ came_long) (length-set s.images k h.image ∙ images_long)
+      (omega (arith, ap length h.spelled, length-append h.bytes h.after, has_bytes h.is)) ok2 h.opens)
+    where
+      has_bytes : {image : Image} {footed : Bool} {bytes : List ℕ} {id : ℕ} → IsSection r.set d image id footed bytes → 0 < length bytes
+      has_bytes {image = image} {footed = footed} {bytes = bytes} {id = id} s =
+          let head = section_head id d.desc.name d.instance image.version in
+          omega (
+            arith,
+            ap length s.whole,
+            length-append ((head ++ s.body) ++ s.tail) (closing footed id),
+            length-append
+                (head ++ s.body) s.tail,
+            length-append head s.body,
+          )
 
 -- what ends a stream: nothing, or a description
-record Ending (machine : Option (List ℕ)) (images : List Image) (place : ℕ) (rest : List ℕ) (n : ℕ) (end : State) : Type 0 where
+record Ending (r : Run) (s : State) (place : ℕ) (rest : List ℕ) : Type 0 where
   text : Option (List ℕ)
   tail : List ℕ
   after : List ℕ
   spelled : rest ≡ tail ++ after
   described : IsTrailer text tail
   all : text ≡ None → after ≡ []
-  long : n ≡ place + length tail
-  machine_is : end.machine ≡ machine
-  images_are : end.images ≡ images
+  long : r.taken ≡ place + length tail
+  machine_is : r.end.machine ≡ s.machine
+  images_are : r.end.images ≡ s.images
 
--- what comes from the first section on
-record Rest (set : Set) (images : List Image) (came : List Bool) (t : Tail) (machine : Option (List ℕ)) (place : ℕ) (rest : List ℕ) (n : ℕ) (end : State) : Type 0 where
-  order : List ℕ
-  each_once : EachOnce came order
-  sections : List ℕ
-  footed : Bool
-  agrees : Agrees t footed
-  are : SectionsSpell set footed end.images order sections
-  one_each : length end.images ≡ length images
-  text : Option (List ℕ)
-  tail : List ℕ
-  after : List ℕ
-  spelled : rest ≡ sections ++ (0x00 ∷ (tail ++ after))
-  described : IsTrailer text tail
-  all : text ≡ None → after ≡ []
-  long : n ≡ ((place + length sections) + 1) + length tail
-  machine_is : end.machine ≡ machine
+nothing_may : (x : Piece) → May Nothing x → ⊥
+nothing_may x m = elim m [ ]
 
-module _ (set : Set) (names : List (List ℕ)) where
-  nothing_may : (x : Piece) → May Nothing x → ⊥
-  nothing_may x m = elim m [ ]
+none_left : (rest : List ℕ) → owes AfterEnd rest ≡ false → rest ≡ []
+none_left [] e = refl
+none_left (b ∷ rest) e = cc
 
+module _ {r : Run} (s : State) {place : ℕ} {rest : List ℕ} (ok : IsBytes rest) where
   -- if nothing is due, a reading has ended
-  over_is : (s : State) → s.spot ≡ Over → (place : ℕ) (rest : List ℕ) (n : ℕ) (end : State) → IsBytes rest → reading_on (judge (by_state set names)) s place rest ≡ Some (Accepted n end) → (place ≡ n) × (s ≡ end)
-  over_is s over place rest n end ok h = elim (next set names s place rest n end ok h) [
-    | inl t ↦ absurd (nothing_may t.unit (subst (λ (p : Spot). May (due_by set s p) t.unit) over t.may))
+  over_is : s.spot ≡ Over → Goes r s place rest → (place ≡ r.taken) × (s ≡ r.end)
+  over_is over h = elim (next ok h) [
+    | inl t ↦ absurd (nothing_may t.unit (subst (λ (p : Spot). May (due_by r.set s p) t.unit) over t.may))
     | inr t ↦ (t.place_is, t.end_is)
   ]
 
-  none_left : (rest : List ℕ) → owes AfterEnd rest ≡ false → rest ≡ []
-  none_left [] e = refl
-  none_left (b ∷ rest) e = cc
+abbrev last : State → State
+last s = record s { spot = Ended }
 
-  by_text : (machine : Option (List ℕ)) (images : List Image) (came : List Bool) (t : Tail) (place : ℕ) (rest more : List ℕ) (n : ℕ) (end : State) → IsBytes rest → (x : Piece) → May AfterEnd x
-      → first_of set names AfterEnd (known_at set (ended machine images came t)) x ≡ None → rest ≡ spell x ++ more
-      → reading_on (judge (by_state set names)) (after set (ended machine images came t) x) (place + length (spell x)) more ≡ Some (Accepted n end) → Ending machine images place rest n end
-  by_text machine images came t place rest more n end ok _ (AtLongText size lt f) none e goes = cc
-  by_text machine images came t place rest more n end ok _ (AtTrailing b f) none e goes = absurd (trailing_never set names AfterEnd (known_at set (ended machine images came t)) b refl none)
-  by_text machine images came t place rest more n end ok _ (AtDescription text le) none e goes =
-      let okm : IsBytes more = bytes_rest (trailer text) more (subst (λ (l : List ℕ). IsBytes l) e ok) in
-      let o = over_is (record (ended machine images came t) { spot = Over }) refl (place + length (trailer text)) more n end okm goes in
+module _ {r : Run} (s : State) {place : ℕ} {rest : List ℕ} (ok : IsBytes rest) where
+  by_text : {more : List ℕ} (x : Piece) → May AfterEnd x → first_of r.set r.names AfterEnd (known_at r.set (last s)) x ≡ None → rest ≡ spell x ++ more
+      → Goes r (after r.set (last s) x) (place + length (spell x)) more
+      → Ending r s place rest
+  by_text _ (AtLongText size lt f) none e goes = cc
+  by_text _ (AtTrailing b f) none e goes = absurd (trailing_never r.set r.names AfterEnd (known_at r.set (last s)) b refl none)
+  by_text {more} _ (AtDescription text le) none e goes =
+      let o = over_is (record s { spot = Over }) (bytes_rest (trailer text) more (subst IsBytes e ok)) refl goes in
       record {
         text = Some text;
         tail = trailer text;
@@ -88,10 +286,9 @@ module _ (set : Set) (names : List (List ℕ)) where
         images_are = ap (λ (s : State). s.images) (sym o.1);
       }
 
-  ending_found : (machine : Option (List ℕ)) (images : List Image) (came : List Bool) (t : Tail) (place : ℕ) (rest : List ℕ) (n : ℕ) (end : State) → IsBytes rest
-      → reading_on (judge (by_state set names)) (ended machine images came t) place rest ≡ Some (Accepted n end) → Ending machine images place rest n end
-  ending_found machine images came t place rest n end ok h = elim (next set names (ended machine images came t) place rest n end ok h) [
-    | inl u ↦ by_text machine images came t place rest u.more n end ok u.unit u.may u.none u.there u.goes
+  ending_found : Goes r (last s) place rest → Ending r s place rest
+  ending_found h = elim (next ok h) [
+    | inl u ↦ by_text u.unit u.may u.none u.there u.goes
     | inr u ↦ record {
       text = None;
       tail = [];
@@ -105,115 +302,91 @@ module _ (set : Set) (names : List (List ℕ)) where
     }
   ]
 
-module _ (set : Set) (names : List (List ℕ)) (good : IsGood set) where
-  rest_found : (machine : Option (List ℕ)) (images : List Image) (came : List Bool) (t : Tail) (place : ℕ) (rest : List ℕ) (n : ℕ) (end : State) → length came ≡ length set.devices → length images ≡ length set.devices
-      → IsBytes rest → OpensAt set names machine images came t place rest n end → Rest set images came t machine place rest n end
-  rest_found machine images came t place rest n end came_long images_long ok o =
-      let s = sections_found set names good (suc (length rest)) machine images came t place rest n end came_long images_long (omega arith) ok o in
-      let fine : IsBytes s.after = bytes_rest (0x00 ∷ []) s.after (bytes_rest s.sections (0x00 ∷ s.after) (subst (λ (l : List ℕ). IsBytes l) s.spelled ok)) in
-      let c = ending_found set names machine s.states s.came_last s.tail_last ((place + length s.sections) + 1) s.after n end fine s.goes in
-      record {
-        order = s.order;
-        each_once = s.each_once;
-        sections = s.sections;
-        footed = s.footed;
-        agrees = s.agrees;
-        are = subst (λ (xs : List Image). SectionsSpell set s.footed xs s.order s.sections) (sym c.images_are) s.sections_are;
-        one_each = ap length c.images_are ∙ s.long;
-        text = c.text;
-        tail = c.tail;
-        after = c.after;
-        spelled = s.spelled ∙ ap (λ (l : List ℕ). s.sections ++ (0x00 ∷ l)) c.spelled;
-        described = c.described;
-        all = c.all;
-        long = c.long;
-        machine_is = c.machine_is;
-      }
+module _ (r : Run) (good : IsGood r.set) (input : List ℕ) where
+  abbrev from : Option (List ℕ) → Tail → State
+  from machine t = between machine (map (default_image r.set) r.set.devices) (map (λ (d : Device). false) r.set.devices) t false false
+
+  abbrev IsTaken : Type 0
+  IsTaken = Takes r.set r.names input r.taken r.end.machine r.end.images
 
   -- the stream, from its head on
-  stream_of : (input named rest : List ℕ) (n : ℕ) (end : State) (t : Tail) (machine : Option (List ℕ)) → IsConfiguration names machine named → ((footed : Bool) → Agrees t footed → footed ≡ false → machine ≡ None)
-      → input ≡ stream_head ++ (named ++ rest) → Rest set (map (default_image set) set.devices) (map (λ (d : Device). false) set.devices) t machine (8 + length named) rest n end → Takes set names input n end.machine end.images
-  stream_of input named rest n end t machine c bare e r =
-      let bytes = (((stream_head ++ named) ++ r.sections) ++ end_mark) ++ r.tail in
+  stream_of : (named rest : List ℕ) (t : Tail) (machine : Option (List ℕ)) → IsBytes rest → IsConfiguration r.names machine named
+      → ((footed : Bool) → Agrees t footed → footed ≡ false → machine ≡ None)
+      → input ≡ stream_head ++ (named ++ rest) → Opening r false (from machine t) (8 + length named) rest → IsTaken
+  stream_of named rest t machine ok c bare e o =
+      let q = sections_found r good (suc (length rest)) (from machine t) (falses r.set.devices) (defaults_of r.set r.set.devices) (omega arith) ok o in
+      let fine : IsBytes q.after = bytes_rest (0x00 ∷ []) q.after (bytes_rest q.sections (0x00 ∷ q.after) (subst IsBytes q.spelled ok)) in
+      let d = ending_found (record (from machine t) { images = q.states; came = q.came_last; tail = q.tail_last }) fine q.goes in
+      let front = ((stream_head ++ named) ++ q.sections) ++ end_mark in
       record {
-        bytes = bytes;
-        text = r.text;
+        bytes = front ++ d.tail;
+        text = d.text;
         stream = record {
           named = named;
-          configured = subst (λ (m : Option (List ℕ)). IsConfiguration names m named) (sym r.machine_is) c;
-          one_each = r.one_each ∙ defaults_of set set.devices;
-          order = r.order;
-          each_once = r.each_once;
-          sections = r.sections;
-          footed = r.footed;
-          bare = λ f. r.machine_is ∙ bare r.footed r.agrees f;
-          spelled = r.are;
-          tail = r.tail;
-          described = r.described;
+          configured = subst (λ (m : Option (List ℕ)). IsConfiguration r.names m named) (sym d.machine_is) c;
+          one_each = ap length d.images_are ∙ q.long ∙ defaults_of r.set r.set.devices;
+          order = q.order;
+          each_once = q.each_once;
+          sections = q.sections;
+          footed = q.footed;
+          bare = λ f. d.machine_is ∙ bare q.footed q.agrees f;
+          spelled = subst (λ (l : List Image). SectionsSpell r.set q.footed l q.order q.sections) (sym d.images_are) q.sections_are;
+          tail = d.tail;
+          described = d.described;
           whole = refl;
         };
-        rest = r.after;
-        prefix = e ∙ ap (λ (l : List ℕ). stream_head ++ (named ++ l)) r.spelled
-            ∙ sym (append_assoc stream_head named (r.sections ++ (0x00 ∷ (r.tail ++ r.after))))
-            ∙ sym (append_assoc (stream_head ++ named) r.sections (end_mark ++ (r.tail ++ r.after)))
-            ∙ sym (append_assoc ((stream_head ++ named) ++ r.sections) end_mark (r.tail ++ r.after))
-            ∙ sym (append_assoc (((stream_head ++ named) ++ r.sections) ++ end_mark) r.tail r.after);
+        rest = d.after;
+        prefix = e ∙ ap (λ (l : List ℕ). stream_head ++ (named ++ l)) (q.spelled ∙ ap (λ (l : List ℕ). q.sections ++ (0x00 ∷ l)) d.spelled) ∙ rw (
+          append_assoc front d.tail d.after,
+          append_assoc ((stream_head ++ named) ++ q.sections) end_mark (d.tail ++ d.after),
+          append_assoc (stream_head ++ named) q.sections (end_mark ++ (d.tail ++ d.after)),
+          append_assoc stream_head named (q.sections ++ (0x00 ∷ (d.tail ++ d.after))),
+        );
         long = omega (
           arith,
-          r.long,
-          length-append (((stream_head ++ named) ++ r.sections) ++ end_mark) r.tail,
-          length-append ((stream_head ++ named) ++ r.sections) end_mark,
-          length-append (stream_head ++ named) r.sections,
+          d.long,
+          length-append front d.tail,
+          length-append ((stream_head ++ named) ++ q.sections) end_mark,
+          length-append (stream_head ++ named) q.sections,
           length-append stream_head named,
         );
-        all = r.all;
+        all = d.all;
       }
 
-  abbrev images_0 : List Image
-  images_0 = map (default_image set) set.devices
-
-  abbrev came_0 : List Bool
-  came_0 = map (λ (d : Device). false) set.devices
-
   -- directly after the stream head
-  without_name : (input rest : List ℕ) (n : ℕ) (end : State) → IsBytes rest → input ≡ stream_head ++ rest → OpensAt set names None images_0 came_0 Unknown 8 rest n end → Takes set names input n end.machine end.images
-  without_name input rest n end ok e o =
-      stream_of input [] rest n end Unknown None refl (λ footed a f. refl) e (rest_found None images_0 came_0 Unknown 8 rest n end (falses set.devices) (defaults_of set set.devices) ok o)
+  first_found : (rest : List ℕ) → IsBytes rest → input ≡ stream_head ++ rest → Opening r true (from None Unknown) 8 rest → IsTaken
+  first_found rest ok e (Closes more f all goes) = stream_of [] rest Unknown None ok refl (λ footed a f. refl) e (Closes more f all goes)
+  first_found rest ok e (Opens k id v d more fits f there new version goes) =
+      stream_of [] rest Unknown None ok refl (λ footed a f. refl) e (Opens k id v d more fits f there new version goes)
+  first_found rest ok e (Names name more first f one le goes) =
+      let okm : IsBytes more = bytes_rest (configuration name) more (subst IsBytes f ok) in
+      stream_of (configuration name) more Footed (Some name) okm (one, le, refl) (λ footed a b. let wrong = sym a ∙ b in cc)
+      (e ∙ ap (λ (l : List ℕ). stream_head ++ l) f)
+      (free_opens false true refl okm (falses r.set.devices) goes)
 
-  first_found : (input rest : List ℕ) (n : ℕ) (end : State) → IsBytes rest → input ≡ stream_head ++ rest
-      → Opening set names true (record { machine = None; images = images_0; came = came_0; tail = Unknown; spot = Free true false }) Unknown 8 rest n end → Takes set names input n end.machine end.images
-  first_found input rest n end ok e (Closes more f all goes) = without_name input rest n end ok e (Closed more f all goes)
-  first_found input rest n end ok e (Opens k id v d more fits f there new version goes) = without_name input rest n end ok e (Opened k id v d more fits f there new version goes)
-  first_found input rest n end ok e (Names name more first f one le goes) =
-      let okm : IsBytes more = bytes_rest (configuration name) more (subst (λ (l : List ℕ). IsBytes l) f ok) in
-      let place = 8 + length (configuration name) in
-      let o = opens_at set names (record { machine = Some name; images = images_0; came = came_0; tail = Footed; spot = Free false true }) Footed place more n end
-      (free_opens set names false true (Some name) images_0 came_0 Footed place more n end okm (falses set.devices) goes) in
-      stream_of input (configuration name) more n end Footed (Some name) (one, le, refl) (λ footed a b. let wrong = sym a ∙ b in cc) (e ∙ ap (λ (l : List ℕ). stream_head ++ l) f)
-      (rest_found (Some name) images_0 came_0 Footed place more n end (falses set.devices) (defaults_of set set.devices) okm o)
+  by_version : {rest more : List ℕ} → IsBytes rest → input ≡ magic ++ rest → (x : Piece) → May AVersion x
+      → first_of r.set r.names AVersion (known_at r.set (record (at_start r.set) { spot = Headed })) x ≡ None
+      → rest ≡ spell x ++ more → Goes r (after r.set (record (at_start r.set) { spot = Headed }) x) (4 + length (spell x)) more → IsTaken
+  by_version {more = more} ok e _ (AtVersion v f) none g goes =
+      let g3 = rw (version_is_3 r.set r.names AVersion (known_at r.set (record (at_start r.set) { spot = Headed })) v none) at g in
+      let okm : IsBytes more = bytes_rest (be32 3) more (subst IsBytes g3 ok) in
+      first_found more okm (e ∙ ap (λ (l : List ℕ). magic ++ l) g3) (free_opens true false refl okm (falses r.set.devices) goes)
 
-  by_version : (input rest more : List ℕ) (n : ℕ) (end : State) → IsBytes rest → input ≡ magic ++ rest → (x : Piece) → May AVersion x
-      → first_of set names AVersion (known_at set (record (at_start set) { spot = Headed })) x ≡ None → rest ≡ spell x ++ more
-      → reading_on (judge (by_state set names)) (after set (record (at_start set) { spot = Headed }) x) (4 + length (spell x)) more ≡ Some (Accepted n end) → Takes set names input n end.machine end.images
-  by_version input rest more n end ok e _ (AtVersion v f) none g goes =
-      let is = version_is_3 set names AVersion (known_at set (record (at_start set) { spot = Headed })) v none in
-      let g3 : rest ≡ be32 3 ++ more = g ∙ ap (λ (v : ℕ). be32 v ++ more) is in
-      let okm : IsBytes more = bytes_rest (be32 3) more (subst (λ (l : List ℕ). IsBytes l) g3 ok) in
-      first_found input more n end okm (e ∙ ap (λ (l : List ℕ). magic ++ l) g3) (free_opens set names true false None images_0 came_0 Unknown 8 more n end okm (falses set.devices) goes)
+  by_magic : {more : List ℕ} → IsBytes input → (x : Piece) → May AMagic x → first_of r.set r.names AMagic (known_at r.set (at_start r.set)) x ≡ None
+      → input ≡ spell x ++ more
+      → Goes r (after r.set (at_start r.set) x) (0 + length (spell x)) more → IsTaken
+  by_magic {more} ok _ (AtMagic bytes four) none e goes =
+      let e1 : input ≡ magic ++ more = rw (magic_is r.set r.names AMagic (known_at r.set (at_start r.set)) bytes none) at e in
+      let okm : IsBytes more = bytes_rest magic more (subst IsBytes e1 ok) in
+      let u = steps okm (rw four at goes) refl in
+      by_version okm e1 u.unit u.may u.none u.there u.goes
 
-  by_magic : (input more : List ℕ) (n : ℕ) (end : State) → IsBytes input → (x : Piece) → May AMagic x → first_of set names AMagic (known_at set (at_start set)) x ≡ None → input ≡ spell x ++ more
-      → reading_on (judge (by_state set names)) (after set (at_start set) x) (0 + length (spell x)) more ≡ Some (Accepted n end) → Takes set names input n end.machine end.images
-  by_magic input more n end ok _ (AtMagic bytes four) none e goes =
-      let is = magic_is set names AMagic (known_at set (at_start set)) bytes none in
-      let e1 : input ≡ magic ++ more = e ∙ ap (λ (l : List ℕ). l ++ more) is in
-      let okm : IsBytes more = bytes_rest magic more (subst (λ (l : List ℕ). IsBytes l) e1 ok) in
-      let s1 : State = record (at_start set) { spot = Headed } in
-      let u = steps set names s1 4 more n end okm refl (ap (λ (k : ℕ). reading_on (judge (by_state set names)) s1 k more) (sym (omega (arith, four))) ∙ goes) in
-      by_version input more u.more n end okm e1 u.unit u.may u.none u.there u.goes
-
-  -- what is accepted is taken
-  pub found : (input : List ℕ) (n : ℕ) (end : State) → IsBytes input → reading (by_state set names) (at_start set) input ≡ Some (Accepted n end) → Takes set names input n end.machine end.images
-  unfolding reading
-  found input n end ok h =
-      let u = steps set names (at_start set) 0 input n end ok refl h in
-      by_magic input u.more n end ok u.unit u.may u.none u.there u.goes
+-- what is accepted is taken
+pub found : (set : Set) (names : List (List ℕ)) → IsGood set → (input : List ℕ) (n : ℕ) (end : State) → IsBytes input
+    → reading (by_state set names) (at_start set) input ≡ Some (Accepted n end) → Takes set names input n end.machine end.images
+unfolding reading
+found set names good input n end ok h =
+    let r : Run = record { set = set; names = names; taken = n; end = end } in
+    let goes : Goes r (at_start set) 0 input = record { is = h } in
+    let u = steps ok goes refl in
+    by_magic r good input ok u.unit u.may u.none u.there u.goes

@@ -48,6 +48,7 @@ extern "C" {
     fn vmstate_board_output(board: *mut RawBoard, counter: u8) -> RawNumber;
     fn vmstate_board_room(board: *mut RawBoard) -> RawNumber;
     fn vmstate_board_character(board: *mut RawBoard) -> RawNumber;
+    fn vmstate_board_due(board: *mut RawBoard) -> RawNumber;
     fn vmstate_board_has_port(board: *mut RawBoard, port: u16) -> RawNumber;
     fn vmstate_board_now(board: *mut RawBoard) -> RawNumber;
     fn vmstate_board_save(board: *mut RawBoard, set: u8, describe: bool, room: *mut u8, size: usize) -> RawNumber;
@@ -233,6 +234,14 @@ impl Board {
     #[must_use]
     pub fn character(&mut self) -> u64 {
         unsafe { vmstate_board_character(&mut self.raw) }.number
+    }
+
+    /// Returns the least wait, in nanoseconds, after which the interrupt output has changed or bytes have left, or `None` if no
+    /// wait changes it and none lets bytes leave.
+    #[must_use]
+    pub fn due(&mut self) -> Option<u64> {
+        let wait = unsafe { vmstate_board_due(&mut self.raw) }.number;
+        (wait != u64::MAX).then_some(wait)
     }
 
     /// Tells whether a device of the board is behind a port.

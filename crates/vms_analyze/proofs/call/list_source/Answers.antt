@@ -1,7 +1,7 @@
 use Rattle.std.proofs.Common.{ℕ, List, subst}
 use Rattle.vms_io.specs.Told.{intake}
 use Rattle.vms_analyze.specs.Calls.{ListsAs}
-use Rattle.vms_analyze.proofs.Sourced.{lists_taken, is_too_much}
+use Rattle.vms_analyze.proofs.Inputs.{lists_taken, is_too_much}
 use Rattle.vms_analyze.proofs.call.list_source.Goals as goal
 
 pub returns-in-Ok : goal.returns-in-Ok
@@ -10,4 +10,5 @@ returns-in-Ok g c =
     (subst (λ (l : List ℕ). ListsAs l c.list.result) c.deref.ensures.value c.list.ensures)
 
 pub returns-in-Err-TooLong : goal.returns-in-Err-TooLong
-returns-in-Err-TooLong g c = is_too_much (intake g.S.Source c.args.source.now) (intake g.S.Source c.read_input.new.source) (rw c.in-Err-TooLong.field-0-is at c.in-Err-TooLong.ensures)
+returns-in-Err-TooLong g c =
+    is_too_much (intake g.S.Source c.args.source.now) (intake g.S.Source c.read_input.new.source) (rw c.in-Err-TooLong.field-0-is at c.in-Err-TooLong.ensures)

@@ -1,7 +1,7 @@
 use Rattle.std.proofs.Common.{ap, map, sym, ◌∙◌, Vec, Global}
 use Rattle.vms_json.specs.Nodes.{view, items_left}
 use Rattle.vms_analyze.specs.Read.{each}
-use Rattle.vms_analyze.proofs.EachRead.{before, before_none, goes_on, stops, ends}
+use Rattle.vms_analyze.proofs.Inputs.{before, before_none, goes_on, stops, ends}
 use Rattle.vms_analyze.proofs.each.each.Goals as goal
 
 pub loop-item-init : goal.loop-item-init
@@ -13,7 +13,8 @@ pub returns-in-Err : goal.returns-in-Err
 returns-in-Err g c =
     let says = g.T.Reads.says in
     let l = c.loop-item in
-    stops g.T.Reads.means (λ (v : Vec g.row.T.Denot Global). map g.T.Reads.means v.items) says (items_left l.items) (items_left c.next.new.self) (view c.in-Some.item)
+    stops g.T.Reads.means (λ (v : Vec g.row.T.Denot Global). map g.T.Reads.means v.items) says (items_left l.items) (items_left c.next.new.self)
+    (view c.in-Some.item)
     (each says (items_left c.args.items)) (map g.T.Reads.means l.list.items) c.in-Err.unread l.invariant c.in-Some.ensures.value c.in-Err.ensures
 
 pub loop-item-preserved : goal.loop-item-preserved
@@ -22,8 +23,7 @@ loop-item-preserved g c =
     let l = c.loop-item in
     let rest = items_left c.next.new.self in
     goes_on g.T.Reads.means says (items_left l.items) rest (view c.in-Some.item) (each says (items_left c.args.items)) l.list.items c.in-Ok.one
-    l.invariant c.in-Some.ensures.value c.in-Ok.ensures
-    ∙ ap (λ v. before (map g.T.Reads.means v) (each says rest)) (sym c.in_ok-push-in-Ok.ensures.items)
+    l.invariant c.in-Some.ensures.value c.in-Ok.ensures ∙ ap (λ v. before (map g.T.Reads.means v) (each says rest)) (sym c.in_ok-push-in-Ok.ensures.items)
 
 pub returns : goal.returns
 returns g c =

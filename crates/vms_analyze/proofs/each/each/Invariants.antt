@@ -1,7 +1,7 @@
-use Rattle.std.proofs.Common.{◌≡◌, ℕ, length, map}
+use Rattle.std.proofs.Common.{◌≡◌, length, map}
 use Rattle.vms_json.specs.Nodes.{items_left}
 use Rattle.vms_analyze.specs.Read.{each}
-use Rattle.vms_analyze.proofs.EachRead.{before}
+use Rattle.vms_analyze.proofs.Inputs.{before}
 use Rattle.vms_analyze.proofs.each.each.Given as goal
 
 abbrev pub invariant-loop-item : goal.invariant-loop-item

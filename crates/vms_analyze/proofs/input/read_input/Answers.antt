@@ -1,7 +1,6 @@
-use Rattle.std.proofs.Common.{rules, arith, sym, length}
-use Rattle.vms_io.specs.Told.{intake}
+use Rattle.std.proofs.Common.{rules, arith, sym}
 use Rattle.vms_io.proofs.ReadingLemmas.{takes_none, takes_as}
-use Rattle.vms_analyze.proofs.Pieces.{piece_ends, piece_takes, piece_few, piece_grows, piece_fails}
+use Rattle.vms_analyze.proofs.Inputs.{piece_ends, piece_takes, piece_few, piece_grows, piece_fails}
 use Rattle.vms_analyze.proofs.input.read_input.Goals as goal
 
 pub loop-input-init : goal.loop-input-init
@@ -11,7 +10,9 @@ loop-input-init g c = record {
 }
 
 pub returns-in-Err : goal.returns-in-Err
-returns-in-Err g c = piece_fails _ _ _ c.loop-input.input.items c.read_piece.new.input.items _ c.in-Err.none c.loop-input.invariant.takes c.in-Err.ensures (first_of (omega (arith, c.min-room.ensures), search rules))
+returns-in-Err g c =
+    piece_fails _ _ _ c.loop-input.input.items c.read_piece.new.input.items _ c.in-Err.none c.loop-input.invariant.takes c.in-Err.ensures
+    (first_of (omega (arith, c.min-room.ensures), search rules))
 
 pub returns-then-done : goal.returns-then-done
 returns-then-done g c = piece_ends c.loop-input.invariant.takes c.in-Ok.ensures c.if-done.true (first_of (omega (arith, c.min-room.ensures), search rules))

@@ -7,8 +7,8 @@ use Rattle.vms_analyze.specs.Read.{next, devices_in}
 use Rattle.vms_analyze.specs.Typed.{device_of}
 use Rattle.vms_analyze.specs.Wanted.{found, wants}
 use Rattle.vms_analyze.specs.declared.told.Device.{Device}
-use Rattle.vms_analyze.proofs.Listed.{lists_as, text_behind}
-use Rattle.vms_analyze.proofs.Tells.{tells_if, not_told}
+use Rattle.vms_analyze.proofs.Inputs.{lists_as, text_behind}
+use Rattle.vms_analyze.proofs.DevicesRead.{tells_if, not_told}
 use Rattle.vms_analyze.proofs.list.list_at.Goals as goal
 
 pub show-requires : goal.show-requires
@@ -17,7 +17,8 @@ show-requires c =
     let place = c.args.place in
     let said : next (value_in (drop (place + 5) input)) devices_in ≡ Some (map device_of c.in-Ok.devices.items) =
     ap (λ (t : List ℕ). next (value_in t) devices_in) (sym (text_behind input (place + 5))) ∙ c.in-Ok.ensures in
-    ap (λ (l : List Device). list_all is_good_device (map device_of l)) c.deref.ensures.value ∙ (tells_if input place (map device_of c.in-Ok.devices.items) said).good
+    ap (λ (l : List Device). list_all is_good_device (map device_of l)) c.deref.ensures.value ∙
+    (tells_if input place (map device_of c.in-Ok.devices.items) said).good
 
 pub returns-in-Ok : goal.returns-in-Ok
 returns-in-Ok c =
@@ -26,7 +27,8 @@ returns-in-Ok c =
     let said : next (value_in (drop (place + 5) input)) devices_in ≡ Some (map device_of c.in-Ok.devices.items) =
     ap (λ (t : List ℕ). next (value_in t) devices_in) (sym (text_behind input (place + 5))) ∙ c.in-Ok.ensures in
     let tells : Tells input place (map device_of c.deref.result.now) =
-    subst (λ (l : List Device). Tells input place (map device_of l)) (sym c.deref.ensures.value) (tells_if input place (map device_of c.in-Ok.devices.items) said) in
+    subst (λ (l : List Device). Tells input place (map device_of l)) (sym c.deref.ensures.value)
+    (tells_if input place (map device_of c.in-Ok.devices.items) said) in
     lists_as input (listing_of (found (wants (map device_of c.deref.result.now)) 0 0 (take place input))) c.show.result
     (IsRead place (map device_of c.deref.result.now) c.requires.few c.requires.last tells) c.show.ensures
 

@@ -1,7 +1,6 @@
-use Rattle.std.proofs.Common.{ℕ, List, Ok, Err, ap, subst}
+use Rattle.std.proofs.Common.{ℕ, List, Ok, Err, ◌∙◌, subst}
 use Rattle.vms_board.proofs.Restored.{content, refused_is}
 use Rattle.vms_board.specs.Restoring.{Back, Refused, Restores}
-use Rattle.vms_io.specs.Memory.{Supply}
 use Rattle.vms_board_streams.proofs.memory.restore_from.Goals as goal
 
 pub returns-in-Ok-clause-back : goal.returns-in-Ok-clause-back
@@ -10,7 +9,7 @@ returns-in-Ok-clause-back g c =
     let number = f.number c.args.board.now.state in
     let board = c.restore.new.self in
     let said = content f number board (Ok tt) c.in-Ok.ensures.reads in
-    subst (λ (l : List ℕ). Restores f number l (Back board.state board.taken)) (ap (λ (s : Supply). s.left) c.new-source.ensures) said.0
+    subst (λ (l : List ℕ). Restores f number l (Back board.state board.taken)) (c.new-source.ensures ∙ c.deref.ensures.value) said.0
 
 pub returns-in-Err-Refused-clause-refused : goal.returns-in-Err-Refused-clause-refused
 returns-in-Err-Refused-clause-refused g c =
@@ -18,5 +17,5 @@ returns-in-Err-Refused-clause-refused g c =
     let number = f.number c.args.board.now.state in
     let r = c.in-Err-Refused.refusal in
     let said = content f number c.restore.new.self (Err c.in-Err-Refused.field-0) c.in-Err-Refused.ensures.reads in
-    subst (λ (l : List ℕ). Restores f number l (Refused r.at r.section r.reason)) (ap (λ (s : Supply). s.left) c.new-source.ensures)
+    subst (λ (l : List ℕ). Restores f number l (Refused r.at r.section r.reason)) (c.new-source.ensures ∙ c.deref.ensures.value)
     (refused_is f number _ _ r (rw c.in-Err-Refused.field-0-is at said))

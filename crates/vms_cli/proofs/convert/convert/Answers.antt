@@ -26,7 +26,7 @@ returns g c =
     let behind = c.convert_to.ensures.runs in
     record {
       content = λ o has. behind.content shelf shelf' o had.asks.looks.held (had_by described (converts_after left held) step to o had.had (converts_next left held step o has));
-      so = behind_so (0 ∷ 1 ∷ 4 ∷ 5 ∷ 6 ∷ 10 ∷ 11 ∷ []) (0 ∷ 1 ∷ 5 ∷ 6 ∷ 10 ∷ 11 ∷ []) (is_on_shelf word) e had.asks.unasked had.asks.looks (behind.so shelf' (is_on_shelf word));
+      so = behind_so (0 ∷ 1 ∷ 4 ∷ 5 ∷ 6 ∷ 10 ∷ 11 ∷ []) (0 ∷ 1 ∷ 5 ∷ 6 ∷ 11 ∷ []) (is_on_shelf word) e had.asks.unasked had.asks.looks (behind.so shelf' (is_on_shelf word));
       given = gives_next described agrees step to (intake g.I.Source c.args.input.now) (intake g.I.Source c.convert_to.new.input) had.had c.convert_to.ensures.given;
       seen = λ reads. seen_next described agrees (ConvertsWell held) e step to had.had (behind.seen shelf shelf' had.asks.looks.held);
     }
@@ -45,7 +45,7 @@ returns-in_err-to g c = rw (ending_passed c.from_residual.result c.from_residual
     let e = c.in_err-to.field-0.0 in
     record {
       content = λ o has. ended_by described (converts_after input.left held) step input out out shelf shelf' e o (g.met.I.Source.counted c.args.input.now) had.asks.looks.held (quiet_same out (Some e)) had.had (converts_next input.left held step o has);
-      so = lacks_so (0 ∷ 1 ∷ 4 ∷ 5 ∷ 6 ∷ 10 ∷ 11 ∷ []) (0 ∷ 1 ∷ 5 ∷ 6 ∷ 10 ∷ 11 ∷ []) refl input out had.asks;
+      so = lacks_so (0 ∷ 1 ∷ 4 ∷ 5 ∷ 6 ∷ 10 ∷ 11 ∷ []) (0 ∷ 1 ∷ 5 ∷ 6 ∷ 11 ∷ []) refl input out had.asks;
       given = gives_none (target held word) input;
       seen = λ reads. other_seen (Some e) (set_other (is_on_shelf word) shelf shelf' (Some e) had.asks.cause);
     })

@@ -5,7 +5,6 @@ use Rattle.vms_desc.proofs.Bounds.{fit_of}
 use Rattle.vms_commands.proofs.StepLemmas.{ending_passed}
 use Rattle.vms_commands.specs.Endings.{ending_of}
 use Rattle.vms_commands.specs.declared.ending.Ending.TheVariants as endings
-use Rattle.vms_convert.specs.Calls.{AtOnce}
 use Rattle.vms_convert.specs.declared.fault.ConvertFault.TheVariants as faults
 use Rattle.vms_cli.specs.Convert.{LacksMemory}
 use Rattle.vms_cli.proofs.ConvertLemmas.{converts_stream, names_cell}
@@ -28,11 +27,11 @@ returns g c =
 pub returns-in_err-path : goal.returns-in_err-path
 returns-in_err-path g c = rw (ending_passed c.from_residual.result c.from_residual.ensures.1) (
     let to = c.args.to.now in
-    converts_stream (described to) (fit_of (described to) to.well_formed to.heads) _ _ _ _ (Err faults.NoMemory) (Some endings.NoMemory) LacksMemory (AtOnce refl refl)
+    converts_stream (described to) (fit_of (described to) to.well_formed to.heads) _ _ _ _ (Err faults.NoMemory) (Some endings.NoMemory) LacksMemory (refl, refl)
     (g.met.I.Source.octets c.args.input.now) (g.met.I.Source.counted c.args.input.now))
 
 pub returns-in_err-loader : goal.returns-in_err-loader
 returns-in_err-loader g c = rw (ending_passed c.from_residual-in_err-loader.result c.from_residual-in_err-loader.ensures.1) (
     let to = c.args.to.now in
-    converts_stream (described to) (fit_of (described to) to.well_formed to.heads) _ _ _ _ (Err faults.NoMemory) (Some endings.NoMemory) LacksMemory (AtOnce refl refl)
+    converts_stream (described to) (fit_of (described to) to.well_formed to.heads) _ _ _ _ (Err faults.NoMemory) (Some endings.NoMemory) LacksMemory (refl, refl)
     (g.met.I.Source.octets c.args.input.now) (g.met.I.Source.counted c.args.input.now))

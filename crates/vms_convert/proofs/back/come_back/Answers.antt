@@ -12,5 +12,5 @@ returns-clause-of c =
     record {
       subs = ap (λ (x : Typed). length x.came) c.mark.ensures ∙ needed_long set d (bare d c.settle.new.image.numbers) d.subs 0;
       cells = ap (λ (x : Typed). length x.numbers) c.mark.ensures ∙ c.settle.ensures.settled.long ∙ c.take_all.ensures.taken.long;
-      kinds = ap (λ (x : Typed). x.kinds) c.mark.ensures ∙ ap (λ (x : Typed). x.kinds) c.settle.ensures.rest ∙ ap (λ (x : Typed). x.kinds) c.take_all.ensures.rest ∙ ap (λ (x : Typed). x.kinds) c.in_ok-image.ensures;
+      kinds = ap (λ (x : Typed). x.kinds) c.mark.ensures ∙ ap (λ (x : Typed). x.kinds) c.settle.ensures.rest ∙ ap (λ (x : Typed). x.kinds) c.take_all.ensures.rest ∙ ap (λ (x : Typed). x.kinds) c.requires.fresh;
     }

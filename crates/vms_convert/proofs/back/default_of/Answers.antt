@@ -1,5 +1,5 @@
 use Rattle.std.specs.Int.{w128}
-use Rattle.std.proofs.Common.{rules, SFits, ◌≡◌, ◌∙◌, ap, length, get_or, pos, arith}
+use Rattle.std.proofs.Common.{rules, SFits, ◌∙◌, ap, length, get_or, pos, arith}
 use Rattle.std.proofs.lemmas.Int.{to_z-of_z}
 use Rattle.std.proofs.lemmas.List.{length-map, get_or-map}
 use Rattle.vms_spec.specs.Layout.{no_cell, device_cells}

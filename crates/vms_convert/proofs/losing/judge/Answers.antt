@@ -13,7 +13,7 @@ use Rattle.vms_convert.proofs.JudgeLaws.{ComesBack, cell_first, device_first, in
 use Rattle.vms_convert.proofs.losing.judge.Goals.{Start}
 use Rattle.vms_convert.proofs.losing.judge.Goals as goal
 
-came : (c : Start) → ComesBack (described c.args.to.now) (loads c.args.loader.now) (has c.args.loader.now) c.args.returns.now
+came : (c : Start) → ComesBack (described c.args.to.now) (loads c.args.loader.now) (has c.args.loader.now) c.args.images.now c.args.lost
 came c = record {
   fit = fit_of (described c.args.to.now) c.args.to.now.well_formed c.args.to.now.heads;
   newest = c.requires.newest;
@@ -23,24 +23,24 @@ came c = record {
 }
 
 pub returns-in-Some : goal.returns-in-Some
-returns-in-Some c = cell_first _ _ _ _ (came (goal.at.returns-in-Some c).Start) (name_of (loads c.args.loader.now) c.args.machine) c.in-Some.lost c.in-Some.is
+returns-in-Some c = cell_first _ _ _ _ _ (came (goal.at.returns-in-Some c).Start) (name_of (loads c.args.loader.now) c.args.machine) c.in-Some.lost c.in-Some.is
 
 pub first_invalid-requires : goal.first_invalid-requires
-first_invalid-requires c = writable_back _ _ _ _ (came (goal.at.first_invalid-requires c).Start) c.deref.result.now c.deref.ensures.value
+first_invalid-requires c = writable_back _ _ _ _ _ (came (goal.at.first_invalid-requires c).Start)
 
 pub returns-in-Some-first_invalid : goal.returns-in-Some-first_invalid
 returns-in-Some-first_invalid c =
     let to = described c.args.to.now in
     let new = loads c.args.loader.now in
-    let r = c.args.returns.now in
+    let images = c.args.images.now in
     let name = name_of new c.args.machine in
     let k = c.in-Some-first_invalid.device in
     let wanted = recast_each to new.devices (numbers_in (has c.args.loader.now)) in
-    let there = numbers_in (carried to new (map state_of r.images.items)) in
+    let there = numbers_in (carried to new (map state_of images)) in
     let cell : c.first_cell.result ≡ first_cell_at new k = c.first_cell.ensures ∙ ap (λ (s : Set). first_cell_at s k) c.set-in-Some-first_invalid.ensures in
-    subst (λ (o : Option ℕ). Loses to new name wanted there (map state_of r.images.items) (Some k) o) (sym cell)
-    (device_first _ _ _ _ (came (goal.at.returns-in-Some-first_invalid c).Start) name c.in_default.is k
-    (invalid_by to new r.images.items _ c.deref.result.now (Some k) c.first_invalid.result c.set.ensures c.deref.ensures.value c.first_invalid.ensures c.in-Some-first_invalid.is))
+    subst (λ (o : Option ℕ). Loses to new name wanted there (map state_of images) (Some k) o) (sym cell)
+    (device_first _ _ _ _ _ (came (goal.at.returns-in-Some-first_invalid c).Start) name c.in_default.is k
+    (invalid_by to new images _ (Some k) c.first_invalid.result c.set.ensures c.first_invalid.ensures c.in-Some-first_invalid.is))
 
 pub returns : goal.returns
 returns c =
@@ -48,6 +48,6 @@ returns c =
     let name = name_of (loads c.args.loader.now) c.args.machine in
     let machine : KeepsMachine to name c.machine_under.result =
     subst (λ (s : Set). KeepsMachine to (name_of s c.args.machine) c.machine_under.result) c.set-2.ensures c.machine_under.ensures in
-    machine_last _ _ _ _ (came (goal.at.returns c).Start) name c.in_default.is
-    (invalid_by to (loads c.args.loader.now) c.args.returns.now.images.items _ c.deref.result.now None c.first_invalid.result c.set.ensures c.deref.ensures.value c.first_invalid.ensures c.in_default-first_invalid.is)
+    machine_last _ _ _ _ _ (came (goal.at.returns c).Start) name c.in_default.is
+    (invalid_by to (loads c.args.loader.now) c.args.images.now _ None c.first_invalid.result c.set.ensures c.first_invalid.ensures c.in_default-first_invalid.is)
     c.machine_under.result machine

@@ -1,33 +1,40 @@
-use Rattle.std.proofs.Common.{◌≡◌, ◌+◌, [], ℕ, List, get_or, sym, ap, subst}
-use Rattle.std.specs.Borrow.{Bor}
-use Rattle.vms_spec.specs.Sets.{Set}
-use Rattle.vms_desc.specs.declared.set.DescSet.{DescSet}
-use Rattle.vms_desc.specs.Described.{described, device_at}
-use Rattle.vms_image.specs.Typed.{Typed}
-use Rattle.vms_load.specs.Lean.{has, loads}
-use Rattle.vms_convert.specs.Converted.{IsPairAt, recast_each}
-use Rattle.vms_convert.specs.Lost.{numbers_in}
-use Rattle.vms_convert.specs.Returning.{IsReturned}
-use Rattle.vms_convert.specs.Returns.{ArePaired, AreReturnedTo, IsEarlier}
-use Rattle.vms_convert.proofs.ReturnsLaws.{returned_next}
+use Rattle.std.proofs.Common.{◌<◌, length, arith}
+use Rattle.std.proofs.lemmas.Option.{slice_get-get_or}
+use Rattle.vms_desc.specs.Described.{described}
+use Rattle.vms_load.specs.Lean.{loads}
+use Rattle.vms_convert.proofs.RoomLaws.{midway_first, midway_last, midway_next}
+use Rattle.vms_convert.proofs.returns.return_all.Goals.{After-index-images-device}
 use Rattle.vms_convert.proofs.returns.return_all.Goals as goal
+
+pub loop-device-init : goal.loop-device-init
+loop-device-init c = midway_first (described c.args.to.now) (loads c.args.loader.now) _ c.args.routes.now c.args.images.now c.requires.routes c.requires.fresh
+
+inside : (c : After-index-images-device) → c.loop-device.device < length c.loop-device.routes
+inside c = omega (arith, c.loop-device-test.true, c.loop-device.invariant.long, c.loop-device.invariant.as_long, c.requires.fresh.count)
+
+pub return_at-cell-requires-clause-route : goal.return_at-cell-requires-clause-route
+return_at-cell-requires-clause-route c =
+    let n = c.loop-device.device in
+    c.loop-device.invariant.routes_are n _ (omega arith) (slice_get-get_or c.loop-device.routes n c.index-routes-device.result (inside (goal.at.return_at-cell-requires-clause-route c).After-index-images-device))
+
+pub return_at-cell-requires-clause-fresh : goal.return_at-cell-requires-clause-fresh
+return_at-cell-requires-clause-fresh c =
+    let n = c.loop-device.device in
+    let m = c.loop-device.invariant in
+    let lt : n < length c.loop-device.images = omega (arith, c.loop-device-test.true, m.long, c.requires.fresh.count) in
+    m.fresh n _ (omega arith) (slice_get-get_or c.loop-device.images n c.index-images-device.result lt)
 
 pub loop-device-preserved : goal.loop-device-preserved
 loop-device-preserved c =
-    let to = described c.args.to.now in
-    let new = loads c.args.loader.now in
-    let lists = numbers_in (has c.args.loader.now) in
-    let wanted = recast_each to new.devices lists in
     let n = c.loop-device.device in
-    let p = c.pair_of-pair.result in
-    let r = c.in_ok-image.field-0 in
-    let images = c.loop-device.images.items in
-    let next = c.earlier-lost.result in
-    let to_is : described p.to.now ≡ to = ap (λ (b : Bor DescSet). described b.now) c.pair_of-pair.ensures.to_is in
-    let pair : ArePaired to new n p.other = subst (λ (s : Set). IsPairAt to s n p.other (device_at to n) (device_at s p.other)) c.set.ensures c.pair_of-pair.ensures.pair in
-    let is : IsReturned to new n p.other (get_or wanted p.other []) r =
-    subst (λ (s : Set). IsReturned s new n p.other (get_or (recast_each s new.devices lists) p.other []) r) to_is
-    (subst (λ (m : ℕ). IsReturned (described p.to.now) new m p.other (get_or (recast_each (described p.to.now) new.devices lists) p.other []) r) c.pair_of-pair.ensures.device_is c.in_ok-image.ensures) in
-    let earlier : IsEarlier c.loop-device.lost p.other r.lost next = c.earlier-lost.ensures in
-    subst (λ (l : List Typed). AreReturnedTo to new wanted (n + 1) l next) (sym c.in_ok-push_image.ensures)
-    (returned_next to new wanted n p.other images c.loop-device.lost next r c.loop-device.invariant pair is earlier)
+    let m = c.loop-device.invariant in
+    let inside = inside (goal.at.loop-device-preserved c).After-index-images-device in
+    midway_next (described c.args.to.now) (loads c.args.loader.now) _ n _ c.loop-device.routes c.loop-device.images c.loop-device.lost c.earlier-lost.result
+    c.return_at-cell.new.route c.return_at-cell.new.image c.return_at-cell.result m (omega (arith, inside, m.as_long))
+    (m.routes_are n _ (omega arith) (slice_get-get_or c.loop-device.routes n c.index-routes-device.result inside)).pair c.return_at-cell.ensures c.earlier-lost.ensures
+
+pub returns : goal.returns
+returns c =
+    let m = c.loop-device.invariant in
+    midway_last (described c.args.to.now) (loads c.args.loader.now) _ c.loop-device.device c.loop-device.routes c.loop-device.images c.loop-device.lost m
+    (omega (arith, c.loop-device-test.false, c.loop-device.auto.device-end, m.long, c.requires.fresh.count))

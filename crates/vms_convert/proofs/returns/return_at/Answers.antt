@@ -1,8 +1,7 @@
-use Rattle.std.proofs.Common.{◌≡◌, ◌<◌, [], List, ℤ, Some, IfOk, get_or, length, sym, ap, subst, arith}
+use Rattle.std.proofs.Common.{◌≡◌, ◌<◌, [], List, ℤ, Some, get_or, length, sym, ap, subst, arith}
 use Rattle.std.proofs.lemmas.List.{length-map}
 use Rattle.std.proofs.lemmas.Option.{slice_get_within}
 use Rattle.std.specs.List.{slice_get}
-use Rattle.vms_spec.specs.Sets.{Set}
 use Rattle.vms_spec.specs.Images.{Image}
 use Rattle.vms_desc.specs.Described.{described, device_at}
 use Rattle.vms_image.specs.Typed.{state_of}
@@ -12,43 +11,36 @@ use Rattle.vms_convert.specs.Converted.{recast_each}
 use Rattle.vms_convert.specs.Lost.{numbers_in}
 use Rattle.vms_convert.specs.Recast.{recast}
 use Rattle.vms_convert.specs.Returning.{IsReturned}
-use Rattle.vms_convert.specs.Returns.{IsRecastFor}
 use Rattle.vms_convert.proofs.ReturnAt.{recast_for, wanted_is}
 use Rattle.vms_convert.proofs.returns.return_at.Goals.{After-index-images-pair, Start}
 use Rattle.vms_convert.proofs.returns.return_at.Goals as goal
 
-inside : (c : Start) → c.args.pair.other < length (loads c.args.loader.now).devices
-inside c = slice_get_within (loads c.args.loader.now).devices c.args.pair.other _ c.requires.pair.in_new
+inside : (c : Start) → c.args.pair.other < length (loads c.args.pair.loader.now).devices
+inside c = slice_get_within (loads c.args.pair.loader.now).devices c.args.pair.other _ c.requires.route.pair.in_new
 
 -- the image that is kept of the pair's newer device
-kept_at : (c : After-index-images-pair) → slice_get (has c.args.loader.now) c.args.pair.other ≡ Some (state_of c.index-images-pair.result)
+kept_at : (c : After-index-images-pair) → slice_get (has c.args.pair.loader.now) c.args.pair.other ≡ Some (state_of c.index-images-pair.result)
 kept_at c =
     let k = c.args.pair.other in
     let images = c.images.result.now in
     let image = c.index-images-pair.result in
-    let inside : k < length (loads c.args.loader.now).devices = slice_get_within (loads c.args.loader.now).devices k _ c.requires.pair.in_new in
+    let inside : k < length (loads c.args.pair.loader.now).devices = slice_get_within (loads c.args.pair.loader.now).devices k _ c.requires.route.pair.in_new in
     let within : k < length images = omega (arith, inside, length-map images state_of, ap length c.images.ensures.images, c.requires.kept.one_each) in
     subst (λ (l : List Image). slice_get l k ≡ Some (state_of image)) c.images.ensures.images (at_state images k image (image_at images k image within c.index-images-pair.is))
 
 pub return_image-requires-clause-recast : goal.return_image-requires-clause-recast
 return_image-requires-clause-recast c =
-    let to = described c.args.pair.to.now in
-    let new = loads c.args.loader.now in
-    let k = c.args.pair.other in
-    let image = c.index-images-pair.result in
     let p = goal.at.return_image-requires-clause-recast c in
-    subst (λ (s : Set). IsRecastFor to s k image.numbers) (sym c.requires.same)
-    (recast_for to new c.requires.newest (has c.args.loader.now) c.requires.kept k (inside p.Start) (state_of image) (kept_at p.After-index-images-pair))
+    recast_for (described c.args.pair.to.now) (loads c.args.pair.loader.now) c.requires.newest (has c.args.pair.loader.now) c.requires.kept c.args.pair.other (inside p.Start)
+    (state_of c.index-images-pair.result) (kept_at p.After-index-images-pair)
 
 pub returns : goal.returns
 returns c =
     let to = described c.args.pair.to.now in
-    let new = loads c.args.loader.now in
-    let i = c.args.pair.device in
+    let new = loads c.args.pair.loader.now in
     let k = c.args.pair.other in
     let image = c.index-images-pair.result in
     let p = goal.at.returns c in
-    let is : get_or (recast_each to new.devices (numbers_in (has c.args.loader.now))) k [] ≡ recast to (device_at new k) image.numbers =
-    wanted_is to new c.requires.newest (has c.args.loader.now) c.requires.kept k (inside p.Start) (state_of image) (kept_at p.After-index-images-pair) in
-    subst (λ (l : List ℤ). IfOk c.return_image.result (IsReturned to new i k l)) (sym is)
-    (subst (λ (s : Set). IfOk c.return_image.result (IsReturned to s i k (recast to (device_at s k) image.numbers))) c.requires.same c.return_image.ensures)
+    let is : get_or (recast_each to new.devices (numbers_in (has c.args.pair.loader.now))) k [] ≡ recast to (device_at new k) image.numbers =
+    wanted_is to new c.requires.newest (has c.args.pair.loader.now) c.requires.kept k (inside p.Start) (state_of image) (kept_at p.After-index-images-pair) in
+    subst (λ (l : List ℤ). IsReturned to new c.args.pair.device k l c.return_image.new.image c.return_image.result) (sym is) c.return_image.ensures

@@ -5,12 +5,6 @@ use Rattle.vms_board_streams.proofs.IsaBytes.{streams_are_short}
 use Rattle.vms_drill.proofs.RoundLemmas.{board_back, long_back, never_refused}
 use Rattle.vms_drill.proofs.round.come_back.Goals as goal
 
-pub stream_by-requires-clause-short : goal.stream_by-requires-clause-short
-stream_by-requires-clause-short c =
-    let m = c.args.board.now.state in
-    let may = subst (λ (l : ℕ). MaySaveUnder l c.set_of.result) c.level.ensures c.set_of.ensures.may in
-    streams_are_short.short c.set_of.result m c.requires.sound may
-
 pub unreachable-requires : goal.unreachable-requires
 unreachable-requires c =
     let m = c.args.board.now.state in

@@ -4,10 +4,10 @@ use Rattle.vms_parts.specs.declared.types.Field.{Field}
 use Rattle.vms_parts.specs.Views.{field_of, desc_of}
 use Rattle.vms_rules.specs.declared.fault.DescFault.TheVariants.{NoMemory}
 use Rattle.vms_rules.specs.Judged.{IsFirst}
-use Rattle.vms_rules.specs.NameSets.{has_name, ending}
+use Rattle.vms_rules.specs.NameSets.{has_name, key}
 use Rattle.vms_rules.specs.Walks.{at_field}
 use Rattle.vms_rules.proofs.FieldLaws.{names_more}
-use Rattle.vms_rules.proofs.EndingLaws.{same, names_known}
+use Rattle.vms_rules.proofs.KeyLaws.{same, names_known}
 use Rattle.vms_spec.specs.Names.{all_names}
 use Rattle.std.specs.List.{IsDistinct}
 use Rattle.vms_rules.proofs.WalkLaws.{stops_by, place_good, place_stops}
@@ -29,7 +29,7 @@ field_rules-rules-requires-clause-names c =
     let i = c.loop-number.number in
     let lt : i < length fields = omega (arith, ap length c.as_slice-fields.ensures) in
     let is : f ≡ get_or fields i f = c.index-fields-number.is ∙ ap (λ (l : List Field). get_or l i f) c.as_slice-fields.ensures in
-    let distinct = subst (λ (l : List Field). c.in_ok-differ.differ ≡ true → IsDistinct same (map ending (all_names (map field_of l)))) c.as_slice-fields.ensures c.in_ok-differ.ensures in
+    let distinct = subst (λ (l : List Field). c.in_ok-differ.differ ≡ true → IsDistinct same (map key (all_names (map field_of l)))) c.as_slice-fields.ensures c.in_ok-differ.ensures in
     names_known fields i f (has_name c.loop-number.names) c.in_ok-differ.differ c.in_ok-are_new.are_new lt is distinct c.loop-number.invariant.names c.in_ok-are_new.ensures.new
 
 pub returns-in_err-lowest : goal.returns-in_err-lowest

@@ -19,5 +19,5 @@ returns c =
     let a = c.args.text.now in
     let numbered = c.put_natural.new.text in
     let end = c.put_text.new.text in
-    let name = subst (λ (name : List ℕ). Puts numbered end (codes "name") (string name)) c.as_str.ensures c.in_ok-put_text.ensures in
-    record { text = further a numbered end _ _ c.in_ok-put_natural.ensures.text name.text; sound = c.in_ok-put_natural.ensures.sound }
+    let name = subst (λ (name : List ℕ). Puts numbered end (codes "name") (string name)) c.as_str.ensures c.put_text.ensures in
+    record { text = further a numbered end _ _ c.put_natural.ensures.text name.text; sound = c.put_natural.ensures.sound }

@@ -1,8 +1,6 @@
 use Rattle.std.proofs.Common.{ℕ, List, codes, sym, subst, refl}
-use Rattle.std.proofs.lemmas.Result.{on_ok_weaker}
 use Rattle.serde_json.specs.Data.{string}
-use Rattle.vms_selfdesc.specs.Drafts.{IsPlain, Puts, PutsSub}
-use Rattle.vms_selfdesc.specs.Tree.{natural}
+use Rattle.vms_selfdesc.specs.Drafts.{IsPlain, Puts}
 use Rattle.vms_selfdesc.proofs.Following.{further}
 use Rattle.vms_selfdesc.proofs.devices.put_sub_head.Goals as goal
 use Rattle.vms_selfdesc.proofs.Plain.{name_plain}
@@ -25,10 +23,9 @@ returns c =
     let named = c.put_text.new.text in
     let flagged = c.put_flag.new.text in
     let end = c.put_natural.new.text in
-    let name = subst (λ (name : List ℕ). Puts a named (codes "name") (string name)) c.as_str.ensures c.in_ok-put_text.ensures in
-    on_ok_weaker {P = Puts flagged end (codes "version") (natural c.args.desc.now.version)} {Q = PutsSub a end c.args.desc.now.name c.args.sent c.args.desc.now.version} _
-    (λ version. record {
-      text = further a named end _ _ name.text (further named flagged end _ _ c.in_ok-put_flag.ensures.text version.text);
+    let name = subst (λ (name : List ℕ). Puts a named (codes "name") (string name)) c.as_str.ensures c.put_text.ensures in
+    let version = c.put_natural.ensures in
+    record {
+      text = further a named end _ _ name.text (further named flagged end _ _ c.put_flag.ensures.text version.text);
       sound = version.sound;
-    })
-    c.put_natural.ensures
+    }

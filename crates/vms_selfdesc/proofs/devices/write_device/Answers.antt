@@ -24,7 +24,7 @@ write_fields-requires-clause-place c =
     record { has = device.is_device; few = device.few; room = omega (arith, own_inside_device set c.args.device, device.cells) }
 
 pub write_fields-requires-clause-no_path : goal.write_fields-requires-clause-no_path
-write_fields-requires-clause-no_path c = c.in_ok-begin.ensures.keeps.path ∙ c.requires.no_path
+write_fields-requires-clause-no_path c = c.begin.ensures.keeps.path ∙ c.requires.no_path
 
 pub put_name-requires : goal.put_name-requires
 put_name-requires c =
@@ -32,7 +32,7 @@ put_name-requires c =
     subst IsPlain (sym (ap (λ (d : Device). d.desc.name) c.device-described.ensures)) (device_plain set c.args.lister.now.set.now.well_formed c.args.device c.requires.device.is_device)
 
 pub write_subs-requires-clause-no_path : goal.write_subs-requires-clause-no_path
-write_subs-requires-clause-no_path c = c.in_ok-write_fields.ensures.path ∙ c.in_ok-begin.ensures.keeps.path ∙ c.requires.no_path
+write_subs-requires-clause-no_path c = c.write_fields.ensures.path ∙ c.begin.ensures.keeps.path ∙ c.requires.no_path
 
 pub put_natural-requires : goal.put_natural-requires
 put_natural-requires c = name_plain (codes "version") refl
@@ -44,19 +44,20 @@ returns c =
     let image = state_of lister.image.now in
     let d = device_at set c.args.device in
     let code = c.device-described.result.now in
-    let fields = c.in_ok-write_fields.ensures in
-    let name = c.in_ok-put_name.ensures in
-    let subs = c.in_ok-write_subs.ensures in
-    let version = c.in_ok-put_natural.ensures in
+    let fields = c.write_fields.ensures in
+    let name = c.put_name.ensures in
+    let subs = c.write_subs.ensures in
+    let version = c.put_natural.ensures in
     let entries = part_entries set d.desc true image.numbers 0 in
     let trees = sub_trees set image.numbers (own_cells set d) d.subs image.came in
     let laid = c.write_fields.new.draft in
-    let end : Draft = record { text = c.push_str-2.new.self; path = c.write_subs.new.draft.path; later = true } in
-    let last = further c.write_subs.new.draft.text c.put_natural.new.text end.text _ _ version.text c.in_ok-push_str-2.ensures.bytes in
-    let inner = further c.push_str.new.self c.write_subs.new.draft.text end.text _ _ subs.text last in
-    let rest = further laid.text c.put_name.new.text end.text _ _ name.text (further c.put_name.new.text c.push_str.new.self end.text _ _ c.in_ok-push_str.ensures.bytes inner) in
+    let end : Draft = record { text = c.push-2.new.self; path = c.write_subs.new.draft.path; later = true } in
+    let last = further c.write_subs.new.draft.text c.put_natural.new.text end.text _ _ version.text c.push-2.ensures in
+    let inner = further c.push.new.self c.write_subs.new.draft.text end.text _ _ subs.text last in
+    let rest = further laid.text c.put_name.new.text end.text _ _ name.text (further c.put_name.new.text c.push.new.self end.text _ _ c.push.ensures inner) in
     let adds = fields_adds c.args.draft.now c.begin.new.draft laid end (object (device_members entries code.instance code.desc.name trees code.desc.version)) (list_tree entry_tree entries)
-    (tail_members code.instance code.desc.name (array (items_of trees)) code.desc.version) _ c.in_ok-begin.ensures fields rest (device_text code.instance code.desc.name (array (items_of trees)) code.desc.version) refl
+    (tail_members code.instance code.desc.name (array (items_of trees)) code.desc.version) _ c.begin.ensures fields rest
+    (device_text code.instance code.desc.name (array (items_of trees)) code.desc.version) refl
     (device_sound entries code.instance code.desc.name trees code.desc.version fields.sound name.sound subs.sound version.sound) refl subs.path in
     let same = ap (λ (x : Device). object (device_members entries x.instance x.desc.name trees x.desc.version)) c.device-described.ensures in
     subst (λ (x : Data). Adds c.args.draft.now end (x ∷ [])) same adds

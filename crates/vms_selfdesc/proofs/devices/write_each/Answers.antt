@@ -28,7 +28,7 @@ loop-sub-preserved c =
     (sub_trees set image.numbers (first_cell set (parts.Sub i j)) (drop j d.subs) (drop j image.came))
     (sub_trees set image.numbers (first_cell set (parts.Sub i (j + 1))) (drop (j + 1) d.subs) (drop (j + 1) image.came))
     (sub_tree set image.numbers (first_cell set (parts.Sub i j)) (sub_at d j) (get_or image.came j None))
-    (subs_next set i image j lt (omega (arith, c.requires.device.subs))) c.loop-sub.invariant c.in_ok-write_sub.ensures
+    (subs_next set i image j lt (omega (arith, c.requires.device.subs))) c.loop-sub.invariant c.write_sub.ensures
 
 pub returns : goal.returns
 returns c =

@@ -27,7 +27,7 @@ write_fields-requires-clause-place c =
     }
 
 pub write_fields-requires-clause-no_path : goal.write_fields-requires-clause-no_path
-write_fields-requires-clause-no_path c = c.in_ok-begin.ensures.keeps.path ∙ c.requires.no_path
+write_fields-requires-clause-no_path c = c.begin.ensures.keeps.path ∙ c.requires.no_path
 
 pub put_sub_head-requires : goal.put_sub_head-requires
 put_sub_head-requires c =
@@ -42,15 +42,16 @@ returns c =
     let sent = c.is_some-sent.result in
     let cell = c.first_cell-cell.result in
     let desc = c.desc.result.now in
-    let fields = c.in_ok-write_fields.ensures in
-    let head = c.in_ok-put_sub_head.ensures in
+    let fields = c.write_fields.ensures in
+    let head = c.put_sub_head.ensures in
     let entries = λ (sent : Bool) (cell : ℕ). part_entries set (desc_at set part) sent (numbers_in lister) cell in
     let tree = λ (sent : Bool) (name : List ℕ) (version cell : ℕ). object (sub_members (entries sent cell) name sent version) in
     let laid = c.write_fields.new.draft in
-    let end : Draft = record { text = c.push_str.new.self; path = laid.path; later = true } in
+    let end : Draft = record { text = c.push.new.self; path = laid.path; later = true } in
     let adds = fields_adds c.args.draft.now c.begin.new.draft laid end (tree sent desc.name desc.version cell) (list_tree entry_tree (entries sent cell))
-    (member (codes "name") (string desc.name) (member (codes "sent") (boolean sent) (member (codes "version") (natural desc.version) no_members))) _ c.in_ok-begin.ensures fields
-    (further laid.text c.put_sub_head.new.text end.text _ _ head.text c.in_ok-push_str.ensures.bytes) (head_text desc.name sent desc.version) refl
+    (member (codes "name") (string desc.name) (member (codes "sent") (boolean sent) (member (codes "version") (natural desc.version) no_members))) _
+    c.begin.ensures fields
+    (further laid.text c.put_sub_head.new.text end.text _ _ head.text c.push.ensures) (head_text desc.name sent desc.version) refl
     (sub_sound (entries sent cell) desc.name sent desc.version fields.sound head.sound) refl refl in
     let same =
     ap (λ (x : Bool). tree x desc.name desc.version cell) (c.is_some-sent.ensures ∙ ap is_some c.came.ensures)

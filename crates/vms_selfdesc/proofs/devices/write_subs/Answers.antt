@@ -1,24 +1,19 @@
 use Rattle.std.proofs.Common.{refl}
-use Rattle.serde_json.specs.Data.{array}
-use Rattle.serde_json.specs.View.{items_of}
 use Rattle.vms_spec.specs.Images.{own_cells}
 use Rattle.vms_desc.specs.Described.{described, device_at}
 use Rattle.vms_image.specs.Typed.{state_of}
-use Rattle.vms_selfdesc.specs.Drafts.{Lays}
 use Rattle.vms_selfdesc.specs.Tree.{sub_trees}
 use Rattle.vms_selfdesc.specs.declared.draft.Draft.{Draft}
-use Rattle.vms_selfdesc.proofs.Following.{appended}
 use Rattle.vms_selfdesc.proofs.Trees.{lays}
 use Rattle.vms_selfdesc.proofs.devices.write_subs.Goals as goal
 
 pub returns : goal.returns
 returns c =
     let wrote = c.write_each.new.draft in
-    let end : Draft = record { text = c.push_str-2.new.self; path = wrote.path; later = wrote.later } in
+    let end : Draft = record { text = c.push-2.new.self; path = wrote.path; later = wrote.later } in
     let lister = c.args.lister.now in
     let set = described lister.set.now in
     let image = state_of lister.image.now in
     let d = device_at set c.args.device in
     let trees = sub_trees set image.numbers (own_cells set d) d.subs image.came in
-    appended {Q = Lays c.args.draft.now end (array (items_of trees))} _ wrote.text c.push_str-2.new.self _ c.push_str-2.ensures.bytes
-    (λ bytes. lays c.args.draft.now c.push_str.new.self wrote end _ c.in_ok-push_str.ensures.bytes c.in_ok-write_each.ensures bytes refl)
+    lays c.args.draft.now c.push.new.self wrote end trees c.push.ensures c.write_each.ensures c.push-2.ensures refl

@@ -1,4 +1,4 @@
-use Rattle.std.proofs.Common.{ℤ, true, ◌++◌, codes, refl, string_bytes, ap, ◌∙◌, subst}
+use Rattle.std.proofs.Common.{ℤ, true, codes, refl, string_bytes, subst}
 use Rattle.std.specs.Int.{w128}
 use Rattle.std.proofs.Math.Facts.{to_z-of_z}
 use Rattle.serde_json.specs.Data.{number, no_members, member}
@@ -9,7 +9,7 @@ use Rattle.vms_selfdesc.specs.Drafts.{Spells}
 use Rattle.vms_selfdesc.specs.Entries.{absent_entry}
 use Rattle.vms_selfdesc.specs.Tree.{entry_tree}
 use Rattle.vms_selfdesc.specs.declared.draft.Draft.{Draft}
-use Rattle.vms_selfdesc.proofs.Following.{further}
+use Rattle.vms_selfdesc.proofs.Following.{further, same}
 use Rattle.vms_selfdesc.proofs.MemberTexts.{entry_adds, size_members, absent_text}
 use Rattle.vms_selfdesc.proofs.ReadBack.{absent_sound}
 use Rattle.vms_selfdesc.proofs.entry.write_absent.Goals as goal
@@ -18,16 +18,17 @@ pub returns : goal.returns
 returns c =
     let a = c.args.draft.now in
     let b = c.begin_entry.new.draft in
-    let path = string_bytes a.path in
+    let path = string_bytes a.path.text in
     let type = kind_word c.args.kind in
     let value = number (of_integer c.args.default) in
     let last = member (codes "value") value no_members in
-    let mid : Draft = record { text = c.push_str.new.self; path = b.path; later = b.later } in
-    let end : Draft = record { text = c.push_str-3.new.self; path = b.path; later = true } in
-    let put = subst (λ (z : ℤ). Spells c.push_str-2.new.self c.put_integer.new.text (number (of_integer z))) (to_z-of_z {w = w128} c.ranges.default) c.in_ok-put_integer.ensures in
-    let rest = further c.push_str-2.new.self c.put_integer.new.text end.text _ _ put.text c.in_ok-push_str-3.ensures.bytes in
-    let tail = further mid.text c.push_str-2.new.self end.text _ _ (c.in_ok-push_str-2.ensures.bytes ∙ ap (λ s. string_bytes mid.text ++ s) c.absent_tail.ensures) rest in
-    entry_adds a b mid end (entry_tree (absent_entry path type c.args.default)) 0 type last (members_text true (size_members 0 type last)) c.requires.path c.in_ok-begin_entry.ensures
-    (c.in_ok-push_str.ensures.bytes ∙ ap (λ s. string_bytes b.text ++ s) c.as_str.ensures.value)
-    (tail ∙ ap (λ s. string_bytes mid.text ++ s) (absent_text c.args.kind value))
-    refl refl (absent_sound path type c.args.default put.sound) refl c.in_ok-begin_entry.ensures.keeps.path
+    let mid : Draft = record { text = c.push.new.self; path = b.path; later = b.later } in
+    let end : Draft = record { text = c.push-3.new.self; path = b.path; later = true } in
+    let put = subst (λ (z : ℤ). Spells c.push-2.new.self c.put_integer.new.text (number (of_integer z))) (to_z-of_z {w = w128} c.ranges.default)
+    c.put_integer.ensures in
+    let rest = further c.push-2.new.self c.put_integer.new.text end.text _ _ put.text c.push-3.ensures in
+    let tail = further mid.text c.push-2.new.self end.text _ _ (same mid.text c.push-2.new.self c.push-2.ensures c.absent_tail.ensures) rest in
+    entry_adds a b mid end (entry_tree (absent_entry path type c.args.default)) 0 type last (members_text true (size_members 0 type last)) c.requires.path
+    c.begin_entry.ensures
+    (same b.text mid.text c.push.ensures c.as_str.ensures) (same mid.text end.text tail (absent_text c.args.kind value))
+    refl refl (absent_sound path type c.args.default put.sound) refl c.begin_entry.ensures.keeps.path

@@ -1,4 +1,4 @@
-use Rattle.std.proofs.Common.{true, ◌++◌, refl, string_bytes, ap, ◌∙◌, arith}
+use Rattle.std.proofs.Common.{true, refl, string_bytes, ◌∙◌, arith}
 use Rattle.serde_json.specs.Data.{no_members}
 use Rattle.serde_json.specs.Written.{members_text}
 use Rattle.vms_kinds.specs.Codes.{width}
@@ -6,6 +6,7 @@ use Rattle.vms_words.specs.Words.{kind_word}
 use Rattle.vms_selfdesc.specs.Entries.{sent_entry}
 use Rattle.vms_selfdesc.specs.Tree.{entry_tree}
 use Rattle.vms_selfdesc.specs.declared.draft.Draft.{Draft}
+use Rattle.vms_selfdesc.proofs.Following.{same}
 use Rattle.vms_selfdesc.proofs.MemberTexts.{entry_adds, size_members, tail_text}
 use Rattle.vms_selfdesc.proofs.ReadBack.{natural_sound, sent_sound}
 use Rattle.vms_selfdesc.proofs.entry.write_present.Goals as goal
@@ -15,12 +16,12 @@ pub returns : goal.returns
 returns c =
     let a = c.args.draft.now in
     let b = c.begin_entry.new.draft in
-    let path = string_bytes a.path in
+    let path = string_bytes a.path.text in
     let size = width c.args.kind in
     let type = kind_word c.args.kind in
-    let mid : Draft = record { text = c.push_str.new.self; path = b.path; later = b.later } in
-    let end : Draft = record { text = c.push_str-2.new.self; path = b.path; later = true } in
-    entry_adds a b mid end (entry_tree (sent_entry path size type)) size type no_members (members_text true (size_members size type no_members)) c.requires c.in_ok-begin_entry.ensures
-    (c.in_ok-push_str.ensures.bytes ∙ ap (λ s. string_bytes b.text ++ s) c.as_str.ensures.value)
-    (c.in_ok-push_str-2.ensures.bytes ∙ ap (λ s. string_bytes mid.text ++ s) (c.cell_tail.ensures ∙ tail_text c.args.kind))
-    refl refl (sent_sound path size type (natural_sound size (omega (arith, width_small c.args.kind)))) refl c.in_ok-begin_entry.ensures.keeps.path
+    let mid : Draft = record { text = c.push.new.self; path = b.path; later = b.later } in
+    let end : Draft = record { text = c.push-2.new.self; path = b.path; later = true } in
+    entry_adds a b mid end (entry_tree (sent_entry path size type)) size type no_members (members_text true (size_members size type no_members)) c.requires
+    c.begin_entry.ensures
+    (same b.text mid.text c.push.ensures c.as_str.ensures) (same mid.text end.text c.push-2.ensures (c.cell_tail.ensures ∙ tail_text c.args.kind))
+    refl refl (sent_sound path size type (natural_sound size (omega (arith, width_small c.args.kind)))) refl c.begin_entry.ensures.keeps.path

@@ -1,10 +1,10 @@
-use Rattle.std.proofs.Common.{true, ◌++◌, codes, refl, string_bytes, ap, ◌∙◌}
+use Rattle.std.proofs.Common.{true, codes, refl, string_bytes}
 use Rattle.serde_json.specs.Data.{no_members}
 use Rattle.serde_json.specs.Written.{members_text}
 use Rattle.vms_selfdesc.specs.Entries.{sent_entry}
 use Rattle.vms_selfdesc.specs.Tree.{entry_tree}
 use Rattle.vms_selfdesc.specs.declared.draft.Draft.{Draft}
-use Rattle.vms_selfdesc.proofs.Following.{further}
+use Rattle.vms_selfdesc.proofs.Following.{further, same}
 use Rattle.vms_selfdesc.proofs.MemberTexts.{entry_adds, size_members, size_text}
 use Rattle.vms_selfdesc.proofs.ReadBack.{sent_sound}
 use Rattle.vms_selfdesc.proofs.entry.write_sent.Goals as goal
@@ -13,13 +13,14 @@ pub returns : goal.returns
 returns c =
     let a = c.args.draft.now in
     let b = c.begin_entry.new.draft in
-    let path = string_bytes a.path in
+    let path = string_bytes a.path.text in
     let size = c.args.size in
     let type = c.args.word.now in
-    let mid : Draft = record { text = c.push_str.new.self; path = b.path; later = b.later } in
-    let end : Draft = record { text = c.push_str-3.new.self; path = b.path; later = true } in
-    let tail = further c.push_str-2.new.self c.put_size.new.text c.push_str-3.new.self _ _ c.in_ok-put_size.ensures.text c.in_ok-push_str-3.ensures.bytes in
-    entry_adds a b mid end (entry_tree (sent_entry path size type)) size type no_members (members_text true (size_members size type no_members)) c.requires.path c.in_ok-begin_entry.ensures
-    (c.in_ok-push_str.ensures.bytes ∙ ap (λ s. string_bytes b.text ++ s) c.as_str.ensures.value)
-    (further mid.text c.push_str-2.new.self end.text _ _ c.in_ok-push_str-2.ensures.bytes (tail ∙ ap (λ s. string_bytes c.push_str-2.new.self ++ s) (size_text size type no_members (codes "}") refl)))
-    refl refl (sent_sound path size type c.in_ok-put_size.ensures.sound) refl c.in_ok-begin_entry.ensures.keeps.path
+    let mid : Draft = record { text = c.push.new.self; path = b.path; later = b.later } in
+    let end : Draft = record { text = c.push-3.new.self; path = b.path; later = true } in
+    let tail = further c.push-2.new.self c.put_size.new.text c.push-3.new.self _ _ c.put_size.ensures.text c.push-3.ensures in
+    entry_adds a b mid end (entry_tree (sent_entry path size type)) size type no_members (members_text true (size_members size type no_members))
+    c.requires.path c.begin_entry.ensures
+    (same b.text mid.text c.push.ensures c.as_str.ensures)
+    (further mid.text c.push-2.new.self end.text _ _ c.push-2.ensures (same c.push-2.new.self end.text tail (size_text size type no_members (codes "}") refl)))
+    refl refl (sent_sound path size type c.put_size.ensures.sound) refl c.begin_entry.ensures.keeps.path

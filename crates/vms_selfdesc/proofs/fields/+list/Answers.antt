@@ -1,4 +1,5 @@
-use Rattle.std.proofs.Common.{rules, arith, sym, ap, ◌∙◌, subst, ◌≡◌, ℕ, ◌+◌, ◌*◌, ◌-◌, ◌<◌, ◌^◌, List, ◌++◌, length, map, codes, OnOk, string_bytes, decimal, refl}
+use Rattle.std.proofs.Common.{rules, arith, sym, ap, ◌∙◌, subst, ◌≡◌, ℕ, ◌+◌, ◌*◌, ◌-◌, ◌<◌, ◌^◌, List, ◌++◌, length, length-append, map, codes}
+use Rattle.std.proofs.Common.{string_bytes, decimal, refl}
 use Rattle.vms_spec.specs.declared.Count.{Count}
 use Rattle.vms_spec.specs.Sets.{Desc, Field}
 use Rattle.vms_spec.specs.Layout.{item_size, struct_cells, capacity_of}
@@ -14,10 +15,10 @@ use Rattle.vms_selfdesc.proofs.Listed.{fields_list, fields_whole, leaves_same, l
 use Rattle.vms_selfdesc.proofs.FieldNeeds.{field_needs, some_elements, array_many, field_run, struct_place, struct_lower, struct_list, width_code}
 use Rattle.vms_selfdesc.specs.declared.draft.Draft.{Draft}
 use Rattle.vms_selfdesc.specs.Drafts.{IsPlain}
-use Rattle.vms_selfdesc.specs.Needs.{HasElements}
+use Rattle.vms_selfdesc.specs.Needs.{HasElements, item_levels}
 use Rattle.vms_selfdesc.proofs.Plain.{plain_append, element_plain, dot_plain, name_plain}
-use Rattle.vms_selfdesc.proofs.PlainNames.{field_plain}
-use Rattle.vms_selfdesc.proofs.Paths.{path_long, enters}
+use Rattle.vms_selfdesc.proofs.PlainNames.{field_name}
+use Rattle.vms_selfdesc.proofs.Paths.{enters, index_long, item_levels_are, levels_are}
 use Rattle.vms_selfdesc.proofs.fields.+list.Goals as goal
 
 -- ---- one element
@@ -30,27 +31,38 @@ list_item-list_part-requires t c =
     let j = c.in-Struct.number in
     let lower = struct_lower set well item j c.in-Struct.is c.requires.cells.reaches in
     let place = struct_place set well item j c.in-Struct.is c.requires.cells.reaches c.args.lister.now.image.now.numbers c.args.place.cell c.requires.cells.few c.requires.cells.room in
-    (search rules, (place, subst IsPlain (sym c.in_ok-push_str-in-Struct.ensures.bytes) (dot_plain (string_bytes c.args.draft.now.path) c.requires.path)))
+    let path = string_bytes c.args.draft.now.path.text in
+    let long = ap length c.enter.ensures ∙ length-append path (codes ".") in (
+      search rules,
+      (
+        place,
+        (subst IsPlain (sym c.enter.ensures) (dot_plain path c.requires.path), omega (arith, c.requires.deep, ap item_levels c.in-Struct.is, long)),
+      ),
+    )
+
+pub list_item-enter-requires : goal.list_item-enter-requires
+list_item-enter-requires t c = omega (arith, c.requires.deep, ap item_levels c.in-Struct.is)
 
 pub list_item-leave-requires-clause-text : goal.list_item-leave-requires-clause-text
 list_item-leave-requires-clause-text t c =
-    (enters c.args.draft.now.path c.list_part.new.draft.path c.len-kept.result (codes ".") (c.len-kept.ensures ∙ path_long c.args.draft.now.path)
-    (c.in_ok-list_part-in-Struct.ensures.path ∙ c.in_ok-push_str-in-Struct.ensures.bytes)).text
+    (enters c.args.draft.now.path.text c.list_part.new.draft.path.text c.len-kept.result (codes ".") c.len-kept.ensures
+    (c.list_part.ensures.path ∙ c.enter.ensures)).text
 
-pub list_item-returns-in_ok-list_part-in-Struct : goal.list_item-returns-in_ok-list_part-in-Struct
-list_item-returns-in_ok-list_part-in-Struct t c =
+pub list_item-returns-in-Struct : goal.list_item-returns-in-Struct
+list_item-returns-in-Struct t c =
     let set = described c.args.lister.now.set.now in
     let well = c.args.lister.now.set.now.well_formed in
     let item = c.args.field.now.item in
     let j = c.in-Struct.number in
     let n = c.args.lister.now.image.now.numbers in
     let draft = c.args.draft.now in
-    let same = struct_list set well item j c.in-Struct.is c.requires.cells.reaches c.args.field.now.default c.args.place.sent (string_bytes draft.path) (string_bytes c.push_str.new.self) n c.args.place.cell
-    c.in_ok-push_str-in-Struct.ensures.bytes in
-    let entered = enters draft.path c.list_part.new.draft.path c.len-kept.result (codes ".") (c.len-kept.ensures ∙ path_long c.args.draft.now.path)
-    (c.in_ok-list_part-in-Struct.ensures.path ∙ c.in_ok-push_str-in-Struct.ensures.bytes) in
-    subst (λ (l : List Entry). Lists draft (record { text = c.list_part.new.draft.text; path = c.leave.new.path; later = c.list_part.new.draft.later }) l) same
-    (leave_path draft c.push_str.new.self c.leave.new.path c.list_part.new.draft _ c.in_ok-list_part-in-Struct.ensures (c.leave.ensures ∙ entered.back))
+    let same = struct_list set well item j c.in-Struct.is c.requires.cells.reaches c.args.field.now.default c.args.place.sent (string_bytes draft.path.text)
+    (string_bytes c.enter.new.self.text) n c.args.place.cell
+    c.enter.ensures in
+    let entered = enters draft.path.text c.list_part.new.draft.path.text c.len-kept.result (codes ".") c.len-kept.ensures
+    (c.list_part.ensures.path ∙ c.enter.ensures) in
+    subst (λ (l : List Entry). Lists draft (record { text = c.list_part.new.draft.text; path = c.leave.new.self; later = c.list_part.new.draft.later }) l) same
+    (leave_path draft c.enter.new.self c.leave.new.self c.list_part.new.draft _ c.list_part.ensures (c.leave.ensures ∙ entered.back))
 
 pub list_item-list_sent-requires-clause-word : goal.list_item-list_sent-requires-clause-word
 list_item-list_sent-requires-clause-word t c = name_plain (codes "equal") refl
@@ -66,7 +78,7 @@ list_elements-list_item-requires t c =
     let cells = c.requires.cells in
     let i = c.loop-number.number in
     let inv = c.loop-number.invariant in
-    let path = string_bytes c.args.draft.now.path in
+    let path = string_bytes c.args.draft.now.path.text in
     let elements : HasElements set (field_of c.args.field.now) c.loop-number.cell 1 c.args.lister.now.image.now.numbers = record {
       reaches = cells.reaches;
       default = cells.default;
@@ -75,21 +87,27 @@ list_elements-list_item-requires t c =
       room = element_room (item_size (struct_cells set) c.args.field.now.item) c.args.place.cell i c.args.count c.loop-number.cell (length c.args.lister.now.image.now.numbers) c.loop-number-test.true inv.here cells.room;
     } in
     let small : i < 2 ^ 64 = omega (arith, c.loop-number-test.true, c.ranges.count.fits) in
-    let plain = subst IsPlain (sym (c.in_ok-enter_element.ensures ∙ ap (λ (p : List ℕ). element_path p i) inv.lists.lists.path)) (element_plain path i small c.requires.path) in
-    (search rules, (elements, plain))
+    let plain = subst IsPlain (sym (c.enter_element.ensures ∙ ap (λ (p : List ℕ). element_path p i) inv.lists.lists.path))
+    (element_plain path i small c.requires.path) in
+    let long = index_long (string_bytes c.loop-number.draft.path.text) i (omega (arith, c.loop-number-test.true, c.ranges.count.fits)) in
+    (search rules, (elements, (plain, omega (arith, c.requires.deep, ap length c.enter_element.ensures, long, ap length inv.lists.lists.path))))
+
+pub list_elements-enter_element-requires : goal.list_elements-enter_element-requires
+list_elements-enter_element-requires t c = omega (arith, c.requires.deep, ap length c.loop-number.invariant.lists.lists.path)
 
 pub list_elements-leave-requires-clause-text : goal.list_elements-leave-requires-clause-text
 list_elements-leave-requires-clause-text t c =
     let now = c.loop-number.draft.path in
-    let kept = c.len-kept.ensures ∙ path_long c.args.draft.now.path ∙ ap length (sym c.loop-number.invariant.lists.lists.path) in
-    (enters now c.list_item.new.draft.path c.len-kept.result (codes "[" ++ (decimal c.loop-number.number ++ codes "]")) kept (c.in_ok-list_item.ensures.path ∙ c.in_ok-enter_element.ensures)).text
+    let kept = c.len-kept.ensures ∙ ap length (sym c.loop-number.invariant.lists.lists.path) in
+    (enters now.text c.list_item.new.draft.path.text c.len-kept.result (codes "[" ++ (decimal c.loop-number.number ++ codes "]")) kept
+    (c.list_item.ensures.path ∙ c.enter_element.ensures)).text
 
 pub list_elements-loop-number-preserved : goal.list_elements-loop-number-preserved
 list_elements-loop-number-preserved t c =
     let set = described c.args.lister.now.set.now in
     let f = field_of c.args.field.now in
     let n = c.args.lister.now.image.now.numbers in
-    let path = string_bytes c.args.draft.now.path in
+    let path = string_bytes c.args.draft.now.path.text in
     let size = item_size (struct_cells set) f.item in
     let one = item_list set f c.args.place.sent n in
     let i = c.loop-number.number in
@@ -97,10 +115,11 @@ list_elements-loop-number-preserved t c =
     let inv = c.loop-number.invariant in
     let width : c.item_cells-size.result ≡ size = omega (arith, c.item_cells-size.ensures, c.requires.cells.small) in
     let moved : c.loop-number.cell + c.item_cells-size.result ≡ c.loop-number.cell + size = omega (arith, width) in
-    let kept = c.len-kept.ensures ∙ path_long c.args.draft.now.path ∙ ap length (sym inv.lists.lists.path) in
-    let entered = enters now.path c.list_item.new.draft.path c.len-kept.result (codes "[" ++ (decimal i ++ codes "]")) kept (c.in_ok-list_item.ensures.path ∙ c.in_ok-enter_element.ensures) in
-    let new : Draft = record { text = c.list_item.new.draft.text; path = c.leave.new.path; later = c.list_item.new.draft.later } in
-    let listed = leave_path now c.enter_element.new.path c.leave.new.path c.list_item.new.draft _ c.in_ok-list_item.ensures (c.leave.ensures ∙ entered.back) in
+    let kept = c.len-kept.ensures ∙ ap length (sym inv.lists.lists.path) in
+    let entered = enters now.path.text c.list_item.new.draft.path.text c.len-kept.result (codes "[" ++ (decimal i ++ codes "]")) kept
+    (c.list_item.ensures.path ∙ c.enter_element.ensures) in
+    let new : Draft = record { text = c.list_item.new.draft.text; path = c.leave.new.self; later = c.list_item.new.draft.later } in
+    let listed = leave_path now c.enter_element.new.self c.leave.new.self c.list_item.new.draft _ c.list_item.ensures (c.leave.ensures ∙ entered.back) in
     record {
       lists = leaves_rest c.args.draft.now now new
           (elements_list set f c.args.place.sent n path c.args.place.cell c.args.count)
@@ -111,7 +130,7 @@ list_elements-loop-number-preserved t c =
           ∙ ap (λ (x : ℕ). one (element_path path i) c.loop-number.cell ++ element_entries one path x size (i + 1) (c.args.count - (i + 1))) (sym moved))
           inv.lists
           (subst (λ (p : List ℕ). Lists now new (one p c.loop-number.cell))
-          (c.in_ok-enter_element.ensures ∙ ap (λ (p : List ℕ). element_path p i) inv.lists.lists.path) listed);
+          (c.enter_element.ensures ∙ ap (λ (p : List ℕ). element_path p i) inv.lists.lists.path) listed);
       here = moved ∙ next_element size c.args.place.cell i c.loop-number.cell inv.here;
     }
 
@@ -123,8 +142,9 @@ list_run-returns-in-One t c =
     let f = field_of c.args.field.now in
     let n = c.args.lister.now.image.now.numbers in
     let draft = c.args.draft.now in
-    subst (λ (k : Count). OnOk c.list_item.result (Lists draft c.list_item.new.draft
-    (array_entries (item_list set f c.args.place.sent n) k c.args.count (string_bytes draft.path) c.args.place.cell (item_size (struct_cells set) f.item)))) (sym c.in-One.is) c.list_item.ensures
+    subst (λ (k : Count). Lists draft c.list_item.new.draft
+    (array_entries (item_list set f c.args.place.sent n) k c.args.count (string_bytes draft.path.text) c.args.place.cell
+    (item_size (struct_cells set) f.item))) (sym c.in-One.is) c.list_item.ensures
 
 pub list_run-returns-in_default : goal.list_run-returns-in_default
 list_run-returns-in_default t c =
@@ -132,8 +152,9 @@ list_run-returns-in_default t c =
     let f = field_of c.args.field.now in
     let n = c.args.lister.now.image.now.numbers in
     let draft = c.args.draft.now in
-    subst (λ (l : List Entry). OnOk c.list_elements.result (Lists draft c.list_elements.new.draft l))
-    (sym (array_many (item_list set f c.args.place.sent n) f.count c.args.count (string_bytes draft.path) c.args.place.cell (item_size (struct_cells set) f.item) c.in_default.not-One)) c.list_elements.ensures
+    subst (λ (l : List Entry). Lists draft c.list_elements.new.draft l)
+    (sym (array_many (item_list set f c.args.place.sent n) f.count c.args.count (string_bytes draft.path.text) c.args.place.cell
+    (item_size (struct_cells set) f.item) c.in_default.not-One)) c.list_elements.ensures
 
 pub list_field-list_run-requires : goal.list_field-list_run-requires
 list_field-list_run-requires t c =
@@ -151,15 +172,31 @@ list_field-list_run-requires t c =
     let all = field_needs set well part c.args.within.cell n c.requires.place k c.args.at.cell c.elements-count.result (field_of f) c.requires.field is
     (omega (arith, fewer, c.elements-count.ensures)) c.requires.room in
     let lower = needs.lower in
-    let name = field_plain set well part k c.requires.place.has c.requires.field in
-    let plain = subst IsPlain (sym (c.in_ok-push_str.ensures.bytes ∙ ap (λ (x : List ℕ). string_bytes c.args.draft.now.path ++ x) (c.as_str.ensures ∙ ap (λ (x : Field). x.name) is)))
-    (plain_append (string_bytes c.args.draft.now.path) (field_at set part k).name c.requires.path name) in
-    (search rules, (needs.elements, (all.elements, plain)))
+    let name = field_name set well part k c.requires.place.has c.requires.field in
+    let named = c.enter.ensures ∙ ap (λ (x : List ℕ). string_bytes c.args.draft.now.path.text ++ x) (c.as_str.ensures ∙ ap (λ (x : Field). x.name) is) in
+    let plain = subst IsPlain (sym named) (plain_append (string_bytes c.args.draft.now.path.text) (field_at set part k).name c.requires.path name.plain) in
+    let long = ap length named ∙ length-append (string_bytes c.args.draft.now.path.text) (field_at set part k).name in (
+      search rules,
+      (
+        needs.elements,
+        (all.elements, (plain, omega (arith, c.requires.deep, name.short, long, needs.lower, levels_are set part, item_levels_are f.item))),
+      ),
+    )
+
+pub list_field-enter-requires : goal.list_field-enter-requires
+list_field-enter-requires t c =
+    let set = described c.args.lister.now.set.now in
+    let part = c.args.part in
+    let k = c.args.at.field in
+    let fields = ap (map field_of) c.as_slice.ensures ∙ ap (λ (d : Desc). d.fields) c.desc.ensures in
+    let is = found_field c.as_slice.result.now (desc_at set part).fields k c.index-as_slice-at.result fields c.requires.field c.index-as_slice-at.is in
+    let name = field_name set c.args.lister.now.set.now.well_formed part k c.requires.place.has c.requires.field in
+    omega (arith, c.requires.deep, name.short, ap length (c.as_str.ensures ∙ ap (λ (x : Field). x.name) is))
 
 pub list_field-leave-requires-clause-text : goal.list_field-leave-requires-clause-text
 list_field-leave-requires-clause-text t c =
-    (enters c.args.draft.now.path c.list_run.new.draft.path c.len-kept.result c.as_str.result.now (c.len-kept.ensures ∙ path_long c.args.draft.now.path)
-    (c.in_ok-list_run.ensures.path ∙ c.in_ok-push_str.ensures.bytes)).text
+    (enters c.args.draft.now.path.text c.list_run.new.draft.path.text c.len-kept.result c.as_str.result.now c.len-kept.ensures
+    (c.list_run.ensures.path ∙ c.enter.ensures)).text
 
 pub list_field-returns : goal.list_field-returns
 list_field-returns t c =
@@ -171,12 +208,13 @@ list_field-returns t c =
     let draft = c.args.draft.now in
     let fields = ap (map field_of) c.as_slice.ensures ∙ ap (λ (d : Desc). d.fields) c.desc.ensures in
     let is : field_of f ≡ field_at set part k = found_field c.as_slice.result.now (desc_at set part).fields k f fields c.requires.field c.index-as_slice-at.is in
-    let same = field_run set part c.args.within.cell k c.args.within.sent n (string_bytes draft.path) c.args.at.cell (field_of f) c.is_sent-sent.result
-    (string_bytes c.push_str.new.self) c.elements-count.result is c.is_sent-sent.ensures
-    (c.in_ok-push_str.ensures.bytes ∙ ap (λ (name : List ℕ). string_bytes draft.path ++ name) c.as_str.ensures) c.elements-count.ensures in
-    let entered = enters draft.path c.list_run.new.draft.path c.len-kept.result c.as_str.result.now (c.len-kept.ensures ∙ path_long c.args.draft.now.path) (c.in_ok-list_run.ensures.path ∙ c.in_ok-push_str.ensures.bytes) in
-    subst (λ (l : List Entry). Lists draft (record { text = c.list_run.new.draft.text; path = c.leave.new.path; later = c.list_run.new.draft.later }) l) same
-    (leave_path draft c.push_str.new.self c.leave.new.path c.list_run.new.draft _ c.in_ok-list_run.ensures (c.leave.ensures ∙ entered.back))
+    let same = field_run set part c.args.within.cell k c.args.within.sent n (string_bytes draft.path.text) c.args.at.cell (field_of f) c.is_sent-sent.result
+    (string_bytes c.enter.new.self.text) c.elements-count.result is c.is_sent-sent.ensures
+    (c.enter.ensures ∙ ap (λ (name : List ℕ). string_bytes draft.path.text ++ name) c.as_str.ensures) c.elements-count.ensures in
+    let entered = enters draft.path.text c.list_run.new.draft.path.text c.len-kept.result c.as_str.result.now c.len-kept.ensures
+    (c.list_run.ensures.path ∙ c.enter.ensures) in
+    subst (λ (l : List Entry). Lists draft (record { text = c.list_run.new.draft.text; path = c.leave.new.self; later = c.list_run.new.draft.later }) l) same
+    (leave_path draft c.enter.new.self c.leave.new.self c.list_run.new.draft _ c.list_run.ensures (c.leave.ensures ∙ entered.back))
 
 -- ---- the fields of a part
 
@@ -188,7 +226,8 @@ list_part-list_field-requires t c =
     let k = c.loop-field.field in
     let lt : k < length fs = omega (arith, c.field_count-field-end.ensures) in
     let room = field_room (struct_cells set) fs k c.loop-field.cell (length n) lt c.loop-field.invariant.room in
-    (search rules, (c.requires.place, (lt, (room.here, subst IsPlain (sym c.loop-field.invariant.lists.lists.path) c.requires.path))))
+    let same = c.loop-field.invariant.lists.lists.path in
+    (search rules, (c.requires.place, (lt, (room.here, (subst IsPlain (sym same) c.requires.path, omega (arith, c.requires.deep, ap length same))))))
 
 pub list_part-overflow_add-cell : goal.list_part-overflow_add-cell
 list_part-overflow_add-cell t c =
@@ -209,7 +248,7 @@ list_part-loop-field-init t c =
     let part = c.args.part in
     let place = c.args.place in
     let n = c.args.lister.now.image.now.numbers in
-    let path = string_bytes c.args.draft.now.path in
+    let path = string_bytes c.args.draft.now.path.text in
     record {
       lists = leaves_same c.args.draft.now (part_list set part place.sent n path place.cell) (fields_list set part place.cell 0 place.sent n path place.cell) (sym (fields_whole set part place.cell place.sent path n));
       room = c.requires.place.room;
@@ -223,7 +262,7 @@ list_part-loop-field-preserved t c =
     let d = desc_at set part in
     let k = c.loop-field.field in
     let cell = c.loop-field.cell in
-    let path = string_bytes c.args.draft.now.path in
+    let path = string_bytes c.args.draft.now.path.text in
     let lt : k < length d.fields = omega (arith, c.field_count-field-end.ensures) in
     let f = field_at set part k in
     let w = capacity_of f.count * item_size (struct_cells set) f.item in
@@ -241,6 +280,7 @@ list_part-loop-field-preserved t c =
           (fields_next set part c.args.place.cell c.args.place.sent path n cell k lt
           ∙ ap (λ (x : ℕ). field_list set part c.args.place.cell k c.args.place.sent n path cell ++ left x) (sym moved))
           inv.lists
-          (subst (λ (p : List ℕ). Lists c.loop-field.draft c.list_field.new.draft (field_list set part c.args.place.cell k c.args.place.sent n p cell)) inv.lists.lists.path c.in_ok-list_field.ensures);
+          (subst (λ (p : List ℕ). Lists c.loop-field.draft c.list_field.new.draft (field_list set part c.args.place.cell k c.args.place.sent n p cell))
+          inv.lists.lists.path c.list_field.ensures);
       room = omega (arith, moved, room.later);
     }

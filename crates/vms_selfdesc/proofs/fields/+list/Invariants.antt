@@ -28,7 +28,7 @@ invariant-list_elements-loop-number l =
     let set = described l.lister.set.now in
     let f = field_of l.field in
     let n = l.lister.image.now.numbers in
-    let path = string_bytes l.initial.draft.path in
+    let path = string_bytes l.initial.draft.path.text in
     let size = item_size (struct_cells set) f.item in
     record {
       lists : Leaves l.initial.draft l.draft (elements_list set f l.place.sent n path l.place.cell l.count)
@@ -40,7 +40,7 @@ abbrev pub invariant-list_part-loop-field : goal.invariant-list_part-loop-field
 invariant-list_part-loop-field l =
     let set = described l.lister.set.now in
     let n = l.lister.image.now.numbers in
-    let path = string_bytes l.initial.draft.path in
+    let path = string_bytes l.initial.draft.path.text in
     let d = desc_at set l.part in
     record {
       lists : Leaves l.initial.draft l.draft (part_list set l.part l.place.sent n path l.place.cell)

@@ -36,7 +36,8 @@ loop-device-preserved c =
     (device_trees set (drop k set.devices) (drop k states))
     (device_trees set (drop (k + 1) set.devices) (drop (k + 1) states))
     (device_tree set (device_at set k) (state_of image))
-    (devices_next set states k (state_of image) device lt (state_at images k image c.loop-device-test.true c.index-images-device.is)) c.loop-device.invariant c.in_ok-write_device.ensures
+    (devices_next set states k (state_of image) device lt (state_at images k image c.loop-device-test.true c.index-images-device.is)) c.loop-device.invariant
+    c.write_device.ensures
 
 pub returns : goal.returns
 returns c =

@@ -17,7 +17,7 @@ use Rattle.vms_session.proofs.line.play_line.Goals as goal
 pub event-requires : goal.event-requires
 event-requires g c =
     let level = c.args.board.now.state.level in
-    let good = subst (λ (l : Line). IsLine (Some level) (line_view l)) c.in-Event.is c.requires in
+    let good = subst (λ (l : Line). IsLine (Some level) (line_view l)) c.in-Event.is c.requires.line in
     record { wire = names c.in-Event.event (event_is c.in-Event.event (line_event (Some level) c.in-Event.event good)) }
 
 pub returns-in-Event-clause-level : goal.returns-in-Event-clause-level

@@ -11,14 +11,15 @@ pub loop-line-init : goal.loop-line-init
 loop-line-init g c = record {
   level = refl;
   lines = c.requires;
+  sets = c.new-sets.ensures;
   course = λ held parts new told plays.
       in_course (lines_view c.args.lines.now) parts new c.args.board.now.state held (outlet g.K.Sink c.args.out.now) (stock g.H.Shelf c.args.shelf.now) told plays;
   serves = serves_none (outlet g.K.Sink c.args.out.now);
   reaches = reaches_none (stock g.H.Shelf c.args.shelf.now);
 }
 
-pub play_line-requires : goal.play_line-requires
-play_line-requires g c =
+pub play_line-requires-clause-line : goal.play_line-requires-clause-line
+play_line-requires-clause-line g c =
     let lines = c.args.lines.now in
     let i = c.loop-line.line-index in
     let lt : i < length lines = omega (arith, c.loop-line-test.true) in
@@ -37,6 +38,7 @@ loop-line-preserved g c =
     record {
       level = c.in-Ok.ensures.level ∙ c.loop-line.invariant.level;
       lines = are_lines (Some c.args.board.now.state.level) (lines_view (drop i lines)) left said split c.loop-line.invariant.lines;
+      sets = c.in-Ok.ensures.sets;
       course = λ held parts new told plays.
           next_course i said left (lines_view (drop i lines)) split parts new c.loop-line.board.state c.play_line.new.board.state
           (outlet g.K.Sink c.args.out.now) (outlet g.K.Sink c.loop-line.out) (outlet g.K.Sink c.play_line.new.out)

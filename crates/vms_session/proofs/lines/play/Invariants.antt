@@ -1,4 +1,6 @@
 use Rattle.std.proofs.Common.{◌≡◌, List, Some, drop}
+use Rattle.vms_board.specs.Isa.{isa}
+use Rattle.vms_board_streams.specs.Sets.{AreOf}
 use Rattle.vms_io.specs.Shelves.{Held}
 use Rattle.vms_io.specs.Shelving.{Reaches}
 use Rattle.vms_io.specs.Told.{outlet, stock}
@@ -16,6 +18,7 @@ abbrev pub invariant-loop-line : goal.invariant-loop-line
 invariant-loop-line g l = record {
   level : l.board.state.level ≡ l.fn.board.state.level;
   lines : AreLines (Some l.fn.board.state.level) (lines_view (drop l.line-index l.lines));
+  sets : AreOf isa l.sets;
   course : (held : Held) (parts : List Part) (new : Session) → g.H.Shelf.held l.fn.shelf ≡ Some held
       → Plays (lines_view l.lines) (session_of l.fn.board.state held) parts new
       → InCourse l.line-index (lines_view (drop l.line-index l.lines)) parts new l.board.state (outlet g.K.Sink l.fn.out) (outlet g.K.Sink l.out)

@@ -1,4 +1,4 @@
-use Rattle.vms_values_laws.proofs.FewLines.{line_holds}
+use Rattle.vms_values_laws.proofs.Stated.{line_holds}
 use Rattle.vms_values_laws.proofs.laws.line_law.Goals as goal
 
 pub returns : goal.returns

@@ -1,4 +1,4 @@
-use Rattle.vms_values_laws.proofs.Rounds.{shown_holds}
+use Rattle.vms_values_laws.proofs.Stated.{shown_holds}
 use Rattle.vms_values_laws.proofs.laws.shown_law.Goals as goal
 
 pub returns : goal.returns

@@ -77,5 +77,6 @@ fn main() -> Result<(), Fault> {
     run(&mut other, 30_000_000)?;
     println!("OUT of counter 2: {}, port 60: {}", other.output(2)?, other.has_port(0x60));
     println!("character: {}", other.character());
+    println!("due: {}", other.due().unwrap_or(u64::MAX));
     Ok(())
 }

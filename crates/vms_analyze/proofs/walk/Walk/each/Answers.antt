@@ -1,7 +1,6 @@
 use Rattle.std.proofs.Common.{ap, ◌∙◌, subst}
 use Rattle.vms_analyze.specs.Walking.{Goes, WhyStopped}
-use Rattle.vms_analyze.proofs.WalkEach.{more_goes, one_stops}
-use Rattle.vms_analyze.proofs.WalkParts.{one_good}
+use Rattle.vms_analyze.proofs.Walks.{more_goes, one_stops, one_good}
 use Rattle.vms_analyze.proofs.walk.Walk.each.Goals as goal
 
 pub seek-requires-clause-inside : goal.seek-requires-clause-inside
@@ -9,14 +8,17 @@ seek-requires-clause-inside g c = c.loop-item.invariant.inside
 
 pub seek-requires-clause-good : goal.seek-requires-clause-good
 seek-requires-clause-good g c =
-    ap g.T.Sought.is_good c.item-item.is ∙ one_good g.T.Sought.is_good c.args.items.now c.loop-item.item-index c.item-item.result c.requires.good c.loop-item-test.true
+    ap g.T.Sought.is_good c.item-item.is
+    ∙ one_good g.T.Sought.is_good c.args.items.now c.loop-item.item-index c.item-item.result c.requires.good c.loop-item-test.true
 
 pub loop-item-preserved : goal.loop-item-preserved
 loop-item-preserved g c =
-    more_goes g.T.Sought.wants c.args.items.now c.loop-item.item-index c.item-item.result c.args.self.now c.loop-item.self c.seek.new.walk c.loop-item-test.true c.loop-item.invariant
+    more_goes g.T.Sought.wants c.args.items.now c.loop-item.item-index c.item-item.result
+    c.args.self.now c.loop-item.self c.seek.new.walk c.loop-item-test.true c.loop-item.invariant
     (subst (λ (x : g.row.T.Denot). Goes (g.T.Sought.wants x) c.loop-item.self c.seek.new.walk) c.item-item.is c.in_default.ensures.ok)
 
 pub returns-in-Err-clause-err : goal.returns-in-Err-clause-err
 returns-in-Err-clause-err g c =
-    one_stops g.T.Sought.wants c.args.items.now c.loop-item.item-index c.item-item.result c.args.self.now c.loop-item.self c.seek.new.walk c.in-Err.stop c.loop-item-test.true c.loop-item.invariant
+    one_stops g.T.Sought.wants c.args.items.now c.loop-item.item-index c.item-item.result
+    c.args.self.now c.loop-item.self c.seek.new.walk c.in-Err.stop c.loop-item-test.true c.loop-item.invariant
     (subst (λ (x : g.row.T.Denot). WhyStopped (g.T.Sought.wants x) c.loop-item.self c.seek.new.walk c.in-Err.stop) c.item-item.is c.in-Err.ensures.err)

@@ -19,5 +19,6 @@ returns-clause-ok c =
     let begins : begins_with (configuration name) (left walk) ≡ true =
     ap (λ (l : List ℕ). begins_with l (left walk)) (sym (c.as_slice.ensures.value ∙ items)) ∙ sym c.if-not-begins_with.ensures in
     on_ok_weaker c.print_machine.result
-    (machine_goes walk mid c.print_machine.new.self name c.in-Some.ensures.good begins refl c.requires (ap (λ (k : ℕ). walk.place + k) (c.len.ensures.value ∙ ap length items)) refl refl)
+    (machine_goes walk mid c.print_machine.new.self name c.in-Some.ensures.good begins refl c.requires
+    (ap (λ (k : ℕ). walk.place + k) (c.len.ensures.value ∙ ap length items)) refl refl)
     c.print_machine.ensures.ok

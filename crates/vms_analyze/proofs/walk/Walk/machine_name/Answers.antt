@@ -1,4 +1,4 @@
-use Rattle.std.proofs.Common.{◌≡◌, ◌≤◌, ◌+◌, ◌-◌, length, length-take, take, drop, sym, ap, ◌∙◌, arith}
+use Rattle.std.proofs.Common.{◌≤◌, ◌+◌, ◌-◌, length, length-take, take, drop, sym, ap, ◌∙◌, arith}
 use Rattle.std.specs.List.{list_all}
 use Rattle.vms_spec.specs.declared.TheConstants.{LONGEST_NAME}
 use Rattle.vms_spec.specs.Names.{is_name_byte}
@@ -12,8 +12,12 @@ returns-then-are_name_bytes c =
     let n = c.in_ok-long.field-0 in
     let rest = take (length w.input.now - (w.place + 5)) (drop (w.place + 5) w.input.now) in
     let few : n ≤ LONGEST_NAME = omega (arith, c.if-long-gt-LONGEST_NAME.false) in
-    record { there = name_there w n c.in_ok-long.ensures.1; good = is_name_of (take n rest) (omega (arith, few, length-take n rest)) (sym c.if-are_name_bytes.ensures) }
+    record {
+      there = name_there w n c.in_ok-long.ensures.1;
+      good = is_name_of (take n rest) (omega (arith, few, length-take n rest)) (sym c.if-are_name_bytes.ensures);
+    }
 
 pub returns-else-are_name_bytes : goal.returns-else-are_name_bytes
 returns-else-are_name_bytes c =
-    no_name (left c.args.self.now) (ap (list_all is_name_byte) (sym (name_there c.args.self.now c.in_ok-long.field-0 c.in_ok-long.ensures.1)) ∙ sym c.if-are_name_bytes.ensures)
+    no_name (left c.args.self.now) (ap (list_all is_name_byte) (sym (name_there c.args.self.now c.in_ok-long.field-0 c.in_ok-long.ensures.1))
+    ∙ sym c.if-are_name_bytes.ensures)

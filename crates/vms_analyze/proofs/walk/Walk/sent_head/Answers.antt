@@ -2,14 +2,14 @@ use Rattle.std.proofs.Common.{◌≡◌, ℕ, List, [], ◌∷◌, ap, ◌∙◌
 use Rattle.vms_spec.specs.Streams.{sub_head}
 use Rattle.vms_analyze.specs.Wanted.{Bytes, Line, sent_line}
 use Rattle.vms_analyze.specs.Walking.{Goes, WhyStopped}
-use Rattle.vms_analyze.proofs.Walks.{goes_then, line_goes}
-use Rattle.vms_analyze.proofs.WalkEach.{why_before}
+use Rattle.vms_analyze.proofs.Walks.{goes_then, line_goes, why_before}
 use Rattle.vms_analyze.proofs.walk.Walk.sent_head.Goals as goal
 
 pub returns-in-Err-clause-err : goal.returns-in-Err-clause-err
 returns-in-Err-clause-err c =
     let head = sub_head c.args.name.now c.args.version in
-    let same : c.as_slice.result.now ≡ head = c.as_slice.ensures.value ∙ c.sub_head-head.ensures ∙ ap (λ (n : List ℕ). sub_head n c.args.version) c.as_bytes.ensures.value in
+    let same : c.as_slice.result.now ≡ head =
+    c.as_slice.ensures.value ∙ c.sub_head-head.ensures ∙ ap (λ (n : List ℕ). sub_head n c.args.version) c.as_bytes.ensures.value in
     why_before (Bytes head ∷ []) (Line (sent_line c.args.name.now c.args.version) ∷ []) c.args.self.now c.bytes.new.self c.in-Err.stop
     (subst (λ (l : List ℕ). WhyStopped (Bytes l ∷ []) c.args.self.now c.bytes.new.self c.in-Err.stop) same c.in-Err.ensures.err)
 
@@ -17,7 +17,8 @@ pub returns-clause-ok : goal.returns-clause-ok
 returns-clause-ok c =
     let head = sub_head c.args.name.now c.args.version in
     let line = sent_line c.args.name.now c.args.version in
-    let same : c.as_slice.result.now ≡ head = c.as_slice.ensures.value ∙ c.sub_head-head.ensures ∙ ap (λ (n : List ℕ). sub_head n c.args.version) c.as_bytes.ensures.value in
-    let went : Goes (Bytes head ∷ []) c.args.self.now c.bytes.new.self = subst (λ (l : List ℕ). Goes (Bytes l ∷ []) c.args.self.now c.bytes.new.self) same c.in_default.ensures.ok in
-    goes_then (Bytes head ∷ []) (Line line ∷ []) c.args.self.now c.bytes.new.self c.print_sent.new.self went
-    (line_goes line c.bytes.new.self c.print_sent.new.self went.inside c.in_ok-print_sent.ensures.ok)
+    let same : c.as_slice.result.now ≡ head =
+    c.as_slice.ensures.value ∙ c.sub_head-head.ensures ∙ ap (λ (n : List ℕ). sub_head n c.args.version) c.as_bytes.ensures.value in
+    let went : Goes (Bytes head ∷ []) c.args.self.now c.bytes.new.self =
+    subst (λ (l : List ℕ). Goes (Bytes l ∷ []) c.args.self.now c.bytes.new.self) same c.in_default.ensures.ok in
+    goes_then went (line_goes line c.bytes.new.self c.print_sent.new.self went.inside c.in_ok-print_sent.ensures.ok)

@@ -1,6 +1,5 @@
 use Rattle.std.proofs.lemmas.Result.{on_ok_weaker}
-use Rattle.vms_analyze.proofs.WalkEach.{if_err}
-use Rattle.vms_analyze.proofs.WalkParts.{start_goes, magic_stops, version_stops, machine_stops}
+use Rattle.vms_analyze.proofs.Walks.{if_err, start_goes, magic_stops, version_stops, machine_stops}
 use Rattle.vms_analyze.proofs.walk.Walk.start.Goals as goal
 
 pub returns-in-Err-clause-err : goal.returns-in-Err-clause-err
@@ -8,12 +7,12 @@ returns-in-Err-clause-err c = magic_stops c.args.self.now c.bytes.new.self c.in-
 
 pub returns-in-Err-bytes-clause-err : goal.returns-in-Err-bytes-clause-err
 returns-in-Err-bytes-clause-err c =
-    version_stops c.args.self.now c.bytes.new.self c.bytes-2.new.self c.in-Err-bytes.stop c.in_default.ensures.ok c.in-Err-bytes.ensures.err
+    version_stops c.bytes-2.new.self c.in-Err-bytes.stop c.in_default.ensures.ok c.in-Err-bytes.ensures.err
 
 pub returns-clause-ok : goal.returns-clause-ok
 returns-clause-ok c =
-    on_ok_weaker c.machine.result (start_goes c.args.self.now c.bytes.new.self c.bytes-2.new.self c.machine.new.self c.in_default.ensures.ok c.in_default-bytes.ensures.ok) c.machine.ensures.ok
+    on_ok_weaker c.machine.result (start_goes c.in_default.ensures.ok c.in_default-bytes.ensures.ok) c.machine.ensures.ok
 
 pub returns-clause-err : goal.returns-clause-err
 returns-clause-err c =
-    if_err c.machine.result (λ stop why. machine_stops c.args.self.now c.bytes.new.self c.bytes-2.new.self c.machine.new.self stop c.in_default.ensures.ok c.in_default-bytes.ensures.ok why) c.machine.ensures.err
+    if_err c.machine.result (λ stop why. machine_stops c.machine.new.self stop c.in_default.ensures.ok c.in_default-bytes.ensures.ok why) c.machine.ensures.err

@@ -6,6 +6,7 @@ use Rattle.vms_image.specs.Typed.{state_of}
 use Rattle.vms_io.proofs.WritingLemmas.{puts_as}
 use Rattle.vms_board.proofs.Saving.{machine_named, machine_below, bare_bytes, saves_some}
 use Rattle.vms_spec.specs.Streams.{written}
+use Rattle.vms_board.specs.Family.{images_saved}
 use Rattle.vms_board.specs.Saving.{stream_with}
 use Rattle.vms_board.proofs.board.MachineBoard.save_bare_by.Given.{Over}
 use Rattle.vms_board.proofs.board.MachineBoard.save_bare_by.Goals as goal
@@ -24,7 +25,7 @@ bytes_are g c =
     let same = ap (λ b. b.state) c.self.view_is in
     let named = machine_named f g.met.M.Machine.stands c.self.inside.devices m c.args.set c.self.invariant.sound same c.requires.may in
     bare_bytes f c.args.set m (described c.args.own.now) (map state_of c.in_ok-images.images.items) (map state_of c.deref.result.now)
-    c.machine-machine.result named (c.machine-machine.ensures ∙ ap (λ x. f.number x - 1) same) c.requires.own c.in_ok-images.ensures.states (ap (map state_of) c.deref.ensures.value)
+    c.machine-machine.result named (c.machine-machine.ensures ∙ ap (λ x. f.number x - 1) same) c.requires.own (c.in_ok-images.ensures.states ∙ ap (images_saved f c.args.set) same) (ap (map state_of) c.deref.ensures.value)
 
 pub returns-in_err-write_stream : goal.returns-in_err-write_stream
 returns-in_err-write_stream g c =

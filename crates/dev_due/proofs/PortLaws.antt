@@ -1,0 +1,374 @@
+-- The serial port's line while time passes.
+use Rattle.std.proofs.Common.{◌≡◌, ℕ, zero, suc, ◌+◌, ◌*◌, ◌/◌, ◌<◌, ◌≤◌, ◌==◌, ◌⊎◌, inl, inr, Bool, true, false, not, ◌&&◌, cond, if◌then◌else◌, List, [], ◌∷◌, ◌++◌, length, Option, Some, None, refl, sym, ap, ◌∙◌, subst, arith, ⊎_elim}
+use Rattle.std.proofs.lemmas.Bool.{cases_lt, le-leb, lt-leb}
+use Rattle.std.proofs.lemmas.Bool.Decides.{nat_tests}
+use Rattle.std.specs.Prelude.{is_some, nat_le, nat_lt}
+use Rattle.dev_base.proofs.Choices.{either}
+use Rattle.dev_base.specs.Bits.{has}
+use Rattle.dev_serial.specs.Access.{advanced, is_empty, leaving}
+use Rattle.dev_serial.specs.Line.{character_time}
+use Rattle.dev_serial.specs.Parts.{ReceiverState, TransmitterState}
+use Rattle.dev_serial.specs.Port.{Port, has_come, interrupt, line_of, mode_of}
+use Rattle.dev_serial.specs.Receive.{received}
+use Rattle.dev_serial.specs.Transmit.{IsSentAfter, arrived, departures, gone, holding, run_until, staying, timetable, bytes_of}
+use Rattle.dev_serial.specs.declared.shift.Shift.{Shift}
+use Rattle.dev_due.specs.Search.{SameLine}
+use Rattle.dev_serial.proofs.SendLemmas.{bytes_of-timetable, looped_none}
+use Rattle.dev_serial.proofs.SendingLaws.{advances_in_parts, character-positive, loops_at_moment, waits_until_due}
+
+-- ---- nothing leaves
+
+no_line : (looped : Bool) → cond {A = List ℕ} looped [] [] ≡ []
+no_line true = refl
+no_line false = refl
+
+no_latch : (empty latch : Bool) → (if empty && not empty then true else latch) ≡ latch
+no_latch true latch = refl
+no_latch false latch = refl
+
+abbrev outcome : Port → List ℕ → ReceiverState → TransmitterState → Bool → List ℕ × Port
+outcome port line receiver transmitter latch = (line, record port { receiver = receiver; transmitter = transmitter; thr_empty = latch })
+
+same_outcome : (port : Port) (line line' : List ℕ) (receiver receiver' : ReceiverState) (transmitter transmitter' : TransmitterState) (latch latch' : Bool)
+    → line ≡ line' → receiver ≡ receiver' → transmitter ≡ transmitter' → latch ≡ latch' → outcome port line receiver transmitter latch ≡ outcome port line' receiver' transmitter' latch'
+same_outcome port line line' receiver receiver' transmitter transmitter' latch latch' e f g h = cc
+
+idle : (to : ℕ) (port : Port) → port.transmitter.shift ≡ None → advanced to port ≡ ([], port)
+unfolding advanced departures gone run_until arrived
+idle to port e =
+    let character = character_time port.divisor port.lcr in
+    let none : leaving to port ≡ [] = rw e refl in
+    let stays : run_until character to port.transmitter.shift port.transmitter.waiting ≡ port.transmitter =
+    ap (λ (s : Option Shift). run_until character to s port.transmitter.waiting) e
+    ∙ ap (λ (s : Option Shift). let t : TransmitterState = record { waiting = port.transmitter.waiting; shift = s } in t) (sym e) in
+    same_outcome port _ [] _ port.receiver _ port.transmitter _ port.thr_empty
+    (rw none (no_line (has port.mcr 4)))
+    (rw none (looped_none (has port.mcr 4) (mode_of port) port.receiver))
+    stays
+    (rw stays (no_latch (is_empty port.transmitter.waiting) port.thr_empty))
+
+still-by : (shift : Option Shift) (to : ℕ) (port : Port) → port.transmitter.shift ≡ shift → IsSentAfter to shift → advanced to port ≡ ([], port)
+still-by None to port e h = idle to port e
+still-by (Some shift) to port e h = waits_until_due to port shift e h
+
+still : (to : ℕ) (port : Port) → IsSentAfter to port.transmitter.shift → advanced to port ≡ ([], port)
+still to port h = still-by port.transmitter.shift to port refl h
+
+sent_after : (shift : Option Shift) (c to : ℕ) → c ≤ to → IsSentAfter to shift → IsSentAfter c shift
+sent_after None c to l h = tt
+sent_after (Some shift) c to l h = omega arith
+
+-- ---- the line of a port in which nothing leaves is one of time
+
+line-same : (c to : ℕ) (port : Port) → has_come c port.receiver.timeout ≡ has_come to port.receiver.timeout → line_of c port ≡ line_of to port
+unfolding line_of interrupt
+line-same c to port e = rw e refl
+
+-- ---- a span in which nothing leaves
+
+-- from a moment on up to a later one
+pub record IsSpan (port : Port) (base to : ℕ) : Type 0 where
+  pub upto : base ≤ to
+  pub same : (c : ℕ) → base ≤ c → c ≤ to → SameLine port c to
+
+abbrev after : ℕ → Port → Port
+after to port = (advanced to port).1
+
+more-none : (xs : List ℕ) → xs ++ [] ≡ xs
+more-none [] = refl
+more-none (x ∷ xs) = ap (λ (l : List ℕ). x ∷ l) (more-none xs)
+
+-- nothing leaves after `base` up to `c`
+stays : (base c : ℕ) (port : Port) → base ≤ c → IsSentAfter c (after base port).transmitter.shift → advanced c port ≡ advanced base port
+stays base c port l h =
+    let quiet = still c (after base port) h in
+    advances_in_parts base c port l
+    ∙ ap (λ (x : List ℕ × Port). ((advanced base port).0 ++ x.0, x.1)) quiet
+    ∙ ap (λ (xs : List ℕ). (xs, after base port)) (more-none (advanced base port).0)
+
+module _ (base to : ℕ) (port : Port) (l : base ≤ to) (h : IsSentAfter to (after base port).transmitter.shift) where
+  abbrev p : Port
+  p = after base port
+
+  at : (c : ℕ) → base ≤ c → c ≤ to → advanced c port ≡ advanced base port
+  at c low high = stays base c port low (sent_after p.transmitter.shift c to high h)
+
+  one : (c : ℕ) → base ≤ c → c ≤ to → has_come c p.receiver.timeout ≡ has_come to p.receiver.timeout → SameLine port c to
+  one c low high e = record {
+    line = ap (λ (x : List ℕ × Port). line_of c x.1) (at c low high) ∙ line-same c to p e ∙ sym (ap (λ (x : List ℕ × Port). line_of to x.1) (at to l (omega arith)));
+    sent = ap (λ (x : List ℕ × Port). x.0) (at c low high ∙ sym (at to l (omega arith)));
+  }
+
+  -- a span begins at the base, or where the port's timeout comes
+  pub record Begins : Type 0 where
+    pub begin : ℕ
+    pub from : base ≤ begin
+    pub is : (begin ≡ base) ⊎ (p.receiver.timeout ≡ Some begin)
+    pub span : IsSpan port begin to
+
+  begins-by : (timeout : Option ℕ) → p.receiver.timeout ≡ timeout → Begins
+  begins-by None e = record {
+    begin = base;
+    from = omega arith;
+    is = inl refl;
+    span = record { upto = l; same = λ c low high. one c low high (rw e refl) };
+  }
+  begins-by (Some timeout) e = ⊎_elim
+      (λ (f : to < timeout). record {
+        begin = base;
+        from = omega arith;
+        is = inl refl;
+        span = record { upto = l; same = λ c low high. one c low high (rw e (neither timeout c to high f)) };
+      })
+      (λ (f : timeout ≤ to). ⊎_elim
+      (λ (g : base < timeout). record {
+        begin = timeout;
+        from = omega arith;
+        is = inr e;
+        span = record { upto = f; same = λ c low high. one c (omega arith) high (rw e (both timeout c to low f)) };
+      })
+      (λ (g : timeout ≤ base). record {
+        begin = base;
+        from = omega arith;
+        is = inl refl;
+        span = record { upto = l; same = λ c low high. one c low high (rw e (both timeout c to (omega arith) f)) };
+      })
+      (cases_lt base timeout))
+      (cases_lt to timeout)
+    where
+      neither : (timeout c to : ℕ) → c ≤ to → to < timeout → nat_le timeout c ≡ nat_le timeout to
+      neither timeout c to h f = grind (arith, nat_tests)
+
+      both : (timeout c to : ℕ) → timeout ≤ c → timeout ≤ to → nat_le timeout c ≡ nat_le timeout to
+      both timeout c to h f = grind (arith, nat_tests)
+
+  pub begins : Begins
+  begins = begins-by p.receiver.timeout refl
+
+-- ---- a byte leaves the shift register
+
+next-stays : (character due : ℕ) (bytes : List ℕ) → 1 ≤ character → staying due (timetable character (due + character) bytes) ≡ timetable character (due + character) bytes
+unfolding staying timetable
+next-stays character due [] h = refl
+next-stays character due (byte ∷ bytes) h = rw (lt-leb (due + character) due (omega arith)) refl
+
+-- what the shift register and the list hold then
+sent-transmitter : (port : Port) (shift : Shift) → port.transmitter.shift ≡ Some shift
+    → (after shift.due port).transmitter ≡ holding (timetable (character_time port.divisor port.lcr) (shift.due + character_time port.divisor port.lcr) port.transmitter.waiting)
+unfolding advanced run_until departures timetable staying
+sent-transmitter port shift e =
+    let character = character_time port.divisor port.lcr in
+    let positive : 1 ≤ character = character-positive port.divisor port.lcr in
+    rw (e, le-leb shift.due shift.due (omega arith), next-stays character shift.due port.transmitter.waiting positive) refl
+
+-- and a timeout of the receiver that took it in
+abbrev IsTimeout : Option ℕ → ℕ → Option ℕ → Type 0
+IsTimeout old new timeout = (timeout ≡ old) ⊎ (timeout ≡ Some new)
+
+received-timeout : (port : Port) (byte at : ℕ) (receiver : ReceiverState)
+    → IsTimeout receiver.timeout (at + 4 * character_time port.divisor port.lcr) (received (mode_of port) byte at receiver).timeout
+unfolding received
+received-timeout port byte at receiver =
+    let new = at + 4 * character_time port.divisor port.lcr in
+    let P = λ (r : ReceiverState). IsTimeout receiver.timeout new r.timeout in
+    let runs : IsTimeout receiver.timeout new (if (nat_le 3 port.level && is_some port.fifos) then Some new else receiver.timeout) =
+    either (IsTimeout receiver.timeout new) (nat_le 3 port.level && is_some port.fifos) _ _ (inr refl) (inl refl) in
+    either P (is_some port.fifos) _ _ (either P (nat_lt (length receiver.held) 16) _ _ runs runs) (either P (length receiver.held == 0) _ _ (inl refl) (inl refl))
+
+sent-timeout : (port : Port) (shift : Shift) → has port.mcr 4 ≡ true → port.transmitter.shift ≡ Some shift
+    → IsTimeout port.receiver.timeout (shift.due + 4 * character_time port.divisor port.lcr) (after shift.due port).receiver.timeout
+sent-timeout port shift l e =
+    subst (λ (r : ReceiverState). IsTimeout port.receiver.timeout (shift.due + 4 * character_time port.divisor port.lcr) r.timeout)
+    (sym (loops_at_moment port shift l e).1) (received-timeout port shift.byte shift.due port.receiver)
+
+some_left : (n : ℕ) → (suc n == 0) ≡ false
+some_left n = grind (arith, nat_tests)
+
+-- without loop mode the byte leaves
+pub leaves : (port : Port) (shift : Shift) → has port.mcr 4 ≡ false → port.transmitter.shift ≡ Some shift → (length (advanced shift.due port).0 == 0) ≡ false
+unfolding advanced departures timetable gone
+leaves port shift l e = rw (l, e, le-leb shift.due shift.due (omega arith)) (some_left _)
+
+-- ---- where spans begin
+
+-- the moments of a port: the present one, the timeout, when a byte leaves the shift register, and when a timeout that begins then ends
+abbrev pub IsBase : Port → (now base : ℕ) → Type 0
+IsBase port now base =
+    (base ≡ now) ⊎ ((port.receiver.timeout ≡ Some base)
+    ⊎ ((shift : Shift) × (port.transmitter.shift ≡ Some shift) × ((k : ℕ) × (k ≤ length port.transmitter.waiting)
+    × ((base ≡ shift.due + k * character_time port.divisor port.lcr) ⊎ (base ≡ shift.due + k * character_time port.divisor port.lcr + 4 * character_time port.divisor port.lcr)))))
+
+-- a span of time up to a moment begins at one of them
+pub record Covers (port : Port) (now to : ℕ) : Type 0 where
+  pub base : ℕ
+  pub from : now ≤ base
+  pub is : IsBase port now base
+  pub span : IsSpan port base to
+
+some-same : (a b : ℕ) → Some a ≡ Some b → a ≡ b
+some-same a b e = cc
+
+-- a timeout is that of the port, or one that began with one of the first k bytes that left
+abbrev IsSince : Port → Shift → (k : ℕ) → Option ℕ → Type 0
+IsSince port shift k timeout =
+    (timeout ≡ port.receiver.timeout) ⊎ ((j : ℕ) × (j < k) × (timeout ≡ Some (shift.due + j * character_time port.divisor port.lcr + 4 * character_time port.divisor port.lcr)))
+
+module _ (port : Port) (shift : Shift) (k : ℕ) where
+  abbrev time : ℕ
+  time = character_time port.divisor port.lcr
+
+  -- that of a port after one more byte left
+  since-next : (old new : Option ℕ) (at : ℕ) → at ≡ shift.due + k * time + 4 * time → IsSince port shift k old → IsTimeout old at new → IsSince port shift (k + 1) new
+  since-next old new at d (inl own) (inl same) = inl (same ∙ own)
+  since-next old new at d (inr (j, below, is)) (inl same) = inr (j, omega arith, same ∙ is)
+  since-next old new at d since (inr same) = inr (k, omega arith, same ∙ ap (λ (n : ℕ). Some n) d)
+
+module _ (port : Port) (now to : ℕ) (looped : has port.mcr 4 ≡ true) (shift : Shift) (sends : port.transmitter.shift ≡ Some shift) where
+  abbrev character : ℕ
+  character = character_time port.divisor port.lcr
+
+  -- a timeout of these is one of the port's moments
+  since-base : (k : ℕ) (timeout : Option ℕ) (base : ℕ) → k ≤ length port.transmitter.waiting + 1 → timeout ≡ Some base → IsSince port shift k timeout → IsBase port now base
+  since-base k timeout base h e (inl own) = inr (inl (sym own ∙ e))
+  since-base k timeout base h e (inr (j, below, is)) =
+      inr (inr (shift, sends, (j, omega arith, inr (some-same base _ (sym e ∙ is)))))
+
+  -- a port in loop mode after k bytes left, and at which moment: it holds the rest
+  record Reached (k : ℕ) (base : ℕ) (p : Port) : Type 0 where
+    is : p ≡ after base port
+    loops : has p.mcr 4 ≡ true
+    time : character_time p.divisor p.lcr ≡ character
+    from : now ≤ base
+    begins_there : IsBase port now base
+    few : k ≤ length port.transmitter.waiting + 1
+    timeout : IsSince port shift k p.receiver.timeout
+
+  -- a span that begins at this moment, or where the timeout comes
+  covered : (k base : ℕ) (p : Port) → Reached k base p → base ≤ to → IsSentAfter to p.transmitter.shift → Covers port now to
+  covered k base p r l h =
+      let b = begins base to port l (subst (λ (q : Port). IsSentAfter to q.transmitter.shift) r.is h) in
+      by_begin b b.is
+    where
+      by_begin : (b : Begins base to port l (subst (λ (q : Port). IsSentAfter to q.transmitter.shift) r.is h)) → (b.begin ≡ base) ⊎ ((after base port).receiver.timeout ≡ Some b.begin) → Covers port now to
+      by_begin b (inl own) = record { base = b.begin; from = omega (arith, r.from, b.from); is = subst (IsBase port now) (sym own) r.begins_there; span = b.span }
+      by_begin b (inr timed) = record {
+        base = b.begin;
+        from = omega (arith, r.from, b.from);
+        is = since-base k p.receiver.timeout b.begin r.few (ap (λ (q : Port). q.receiver.timeout) r.is ∙ timed) r.timeout;
+        span = b.span;
+      }
+
+  -- the port after k bytes left, of which the next is due at its moment, and which holds these bytes still
+  record Holds (k : ℕ) (bytes : List ℕ) (p : Port) : Type 0 where
+    transmitter : p.transmitter ≡ holding (timetable character (shift.due + k * character) bytes)
+    all : length bytes + k ≡ length port.transmitter.waiting + 1
+
+  -- one more byte leaves
+  next-reached : (k base due : ℕ) (p : Port) (first : Shift) → Reached k base p → p.transmitter.shift ≡ Some first → first.due ≡ shift.due + k * character → k ≤ length port.transmitter.waiting
+      → base ≤ first.due → Reached (k + 1) first.due (after first.due p)
+  unfolding advanced
+  next-reached k base due p first r e d few later = record {
+    is = ap (after first.due) r.is ∙ sym (ap (λ (x : List ℕ × Port). x.1) (advances_in_parts base first.due port later));
+    loops = r.loops;
+    time = r.time;
+    from = omega (arith, r.from);
+    begins_there = inr (inr (shift, sends, (k, few, inl d)));
+    few = omega arith;
+    timeout = since-next port shift k p.receiver.timeout _ _ (ap (λ (d : ℕ). d + 4 * character_time p.divisor p.lcr) d ∙ ap (λ (c : ℕ). shift.due + k * character + 4 * c) r.time) r.timeout (sent-timeout p first r.loops e);
+  }
+
+  none-shift : (due : ℕ) → (holding (timetable character due [])).shift ≡ None
+  unfolding holding timetable
+  none-shift due = refl
+
+  first-shift : (due byte : ℕ) (bytes : List ℕ) → (holding (timetable character due (byte ∷ bytes))).shift ≡ Some (record { byte = byte; due = due })
+  unfolding holding timetable
+  first-shift due byte bytes = refl
+
+  first-waiting : (due byte : ℕ) (bytes : List ℕ) → (holding (timetable character due (byte ∷ bytes))).waiting ≡ bytes
+  unfolding holding timetable
+  first-waiting due byte bytes = bytes_of-timetable character (due + character) bytes
+
+  -- by induction on the bytes that are still held
+  cover-loop : (bytes : List ℕ) (k base : ℕ) (p : Port) → Reached k base p → Holds k bytes p → base ≤ to → base ≤ shift.due + k * character → Covers port now to
+  cover-loop [] k base p r h l later =
+      covered k base p r l (subst (IsSentAfter to) (sym (ap (λ (t : TransmitterState). t.shift) h.transmitter ∙ none-shift (shift.due + k * character))) tt)
+  cover-loop (byte ∷ bytes) k base p r h l later =
+      let due = shift.due + k * character in
+      let first : Shift = record { byte = byte; due = due } in
+      let e : p.transmitter.shift ≡ Some first = ap (λ (t : TransmitterState). t.shift) h.transmitter ∙ first-shift due byte bytes in
+      let waits : p.transmitter.waiting ≡ bytes = ap (λ (t : TransmitterState). t.waiting) h.transmitter ∙ first-waiting due byte bytes in
+      ⊎_elim
+      (λ (f : to < due). covered k base p r l (subst (IsSentAfter to) (sym e) f))
+      (λ (f : due ≤ to).
+      let few : k ≤ length port.transmitter.waiting = omega (arith, h.all) in
+      let next = next-reached k base due p first r e refl few later in
+      cover-loop bytes (k + 1) due (after due p) next (record {
+        transmitter = sent-transmitter p first e
+            ∙ ap (λ (c : ℕ). holding (timetable c (due + c) p.transmitter.waiting)) r.time
+            ∙ ap (λ (d : ℕ). holding (timetable character d p.transmitter.waiting)) (omega arith)
+            ∙ ap (λ (w : List ℕ). holding (timetable character (shift.due + (k + 1) * character) w)) waits;
+        all = omega (arith, h.all);
+      }) f (omega arith))
+      (cases_lt to due)
+
+  whole : port.transmitter ≡ holding (timetable character (shift.due + 0 * character) (shift.byte ∷ port.transmitter.waiting))
+  unfolding holding timetable
+  whole =
+      let due : shift.due + 0 * character ≡ shift.due = omega arith in
+      ap (λ (s : Option Shift). let t : TransmitterState = record { waiting = port.transmitter.waiting; shift = s } in t) sends
+      ∙ ap (λ (w : List ℕ). let t : TransmitterState = record { waiting = w; shift = Some shift } in t) (sym (bytes_of-timetable character (shift.due + 0 * character + character) port.transmitter.waiting))
+      ∙ ap (λ (d : ℕ). let t : TransmitterState = record { waiting = bytes_of (timetable character (shift.due + 0 * character + character) port.transmitter.waiting); shift = Some (record { byte = shift.byte; due = d }) } in t) (sym due)
+
+  -- from the present moment
+  cover-now : now ≤ to → now < shift.due → Covers port now to
+  cover-now l h =
+      let same : port ≡ after now port = sym (ap (λ (x : List ℕ × Port). x.1) (waits_until_due now port shift sends h)) in
+      cover-loop (shift.byte ∷ port.transmitter.waiting) 0 now port (record {
+        is = same;
+        loops = looped;
+        time = refl;
+        from = omega arith;
+        begins_there = inl refl;
+        few = omega arith;
+        timeout = inl refl;
+      }) (record { transmitter = whole; all = omega arith }) l (omega arith)
+
+-- a byte leaves at a moment not after this one
+pub record LeavesBy (port : Port) (to : ℕ) : Type 0 where
+  pub shift : Shift
+  pub sends : port.transmitter.shift ≡ Some shift
+  pub by : shift.due ≤ to
+  pub some : (length (advanced shift.due port).0 == 0) ≡ false
+
+-- nothing leaves up to a moment
+at-once : (port : Port) (now to : ℕ) → now ≤ to → IsSentAfter to port.transmitter.shift → Covers port now to
+at-once port now to l h =
+    let same : after now port ≡ port = ap (λ (x : List ℕ × Port). x.1) (still now port (sent_after port.transmitter.shift now to l h)) in
+    by_begin (begins now to port l (subst (λ (q : Port). IsSentAfter to q.transmitter.shift) (sym same) h)) same
+  where
+    by_begin : {h : IsSentAfter to (after now port).transmitter.shift} → (b : Begins now to port l h) → after now port ≡ port → Covers port now to
+    by_begin b same = ⊎_elim
+        (λ (own : b.begin ≡ now). let c : Covers port now to = record { base = b.begin; from = b.from; is = inl own; span = b.span } in c)
+        (λ (timed : (after now port).receiver.timeout ≡ Some b.begin). record {
+          base = b.begin;
+          from = b.from;
+          is = inr (inl (sym (ap (λ (q : Port). q.receiver.timeout) same) ∙ timed));
+          span = b.span;
+        })
+        b.is
+
+by-mode : (looped : Bool) (port : Port) (now to : ℕ) (shift : Shift) → has port.mcr 4 ≡ looped → port.transmitter.shift ≡ Some shift → now ≤ to → now < shift.due → shift.due ≤ to → Covers port now to ⊎ LeavesBy port to
+by-mode true port now to shift l e h d f = inl (cover-now port now to l shift e h d)
+by-mode false port now to shift l e h d f = inr (record { shift = shift; sends = e; by = f; some = leaves port shift l e })
+
+by-shift : (shift : Option Shift) (port : Port) (now to : ℕ) → port.transmitter.shift ≡ shift → now ≤ to → IsSentAfter now shift → Covers port now to ⊎ LeavesBy port to
+by-shift None port now to e h d = inl (at-once port now to h (subst (IsSentAfter to) (sym e) tt))
+by-shift (Some shift) port now to e h d = ⊎_elim
+    (λ (f : to < shift.due). inl (at-once port now to h (subst (IsSentAfter to) (sym e) f)))
+    (λ (f : shift.due ≤ to). by-mode (has port.mcr 4) port now to shift refl e h d f)
+    (cases_lt to shift.due)
+
+-- up to any moment the line stays from one of the port's moments on, or a byte left
+pub covers : (port : Port) (now to : ℕ) → now ≤ to → IsSentAfter now port.transmitter.shift → Covers port now to ⊎ LeavesBy port to
+covers port now to h d = by-shift port.transmitter.shift port now to refl h d

@@ -1,0 +1,12 @@
+use Rattle.std.proofs.Common.{◌≡◌, ap, ◌∙◌}
+use Rattle.dev_board.specs.State.{State}
+use Rattle.dev_serial.specs.Port.{Port}
+use Rattle.dev_due.specs.Boards.{devices_of}
+use Rattle.dev_due.proofs.BoardLaws.{soon}
+use Rattle.dev_due.proofs.boards.Board.shift.Goals as goal
+
+pub returns-clause-soon : goal.returns-clause-soon
+returns-clause-soon c =
+    let own : c.shift.result ≡ (devices_of c.args.self).serial.transmitter.shift =
+    c.shift.ensures ∙ ap (λ (p : Port). p.transmitter.shift) (c.serial.ensures ∙ ap (λ (m : State). m.serial) c.devices-devices.ensures.same) in
+    rw own (soon (devices_of c.args.self) c.devices-devices.ensures.sound)

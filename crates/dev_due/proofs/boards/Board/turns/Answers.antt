@@ -1,0 +1,20 @@
+use Rattle.std.proofs.Common.{ap, subst, ◌∙◌}
+use Rattle.dev_board.specs.State.{State}
+use Rattle.dev_pit.specs.Pit.{counter_of}
+use Rattle.dev_pit.specs.Turns.{AreTurns}
+use Rattle.dev_pit.specs.declared.pit.Pit.{Pit}
+use Rattle.dev_due.specs.Boards.{devices_of}
+use Rattle.dev_due.proofs.BoardLaws.{loaded_later, loaded_now}
+use Rattle.dev_due.proofs.boards.Board.turns.Goals as goal
+
+pub turns-requires-clause-loaded : goal.turns-requires-clause-loaded
+turns-requires-clause-loaded c =
+    rw (c.pit.ensures, c.devices.ensures.same) (loaded_later (devices_of c.args.self) c.devices.ensures.sound c.args.base c.requires.from)
+
+pub returns-clause-turns : goal.returns-clause-turns
+returns-clause-turns c =
+    subst (λ (p : Pit). AreTurns c.turns.result (counter_of 0 p) c.args.base)
+    (c.pit.ensures ∙ ap (λ (m : State). m.pit) c.devices.ensures.same) c.turns.ensures
+
+pub returns-clause-loaded : goal.returns-clause-loaded
+returns-clause-loaded c = loaded_now (devices_of c.args.self) c.devices.ensures.sound

@@ -1,0 +1,19 @@
+use Rattle.dev_due.proofs.Covers.{found_from}
+use Rattle.dev_due.proofs.Finding.{finds_on, keep_tried}
+use Rattle.dev_due.proofs.search.tried_from.Goals as goal
+
+pub returns-clause-finds : goal.returns-clause-finds
+returns-clause-finds c =
+    finds_on c.tried-first.ensures.finds (finds_on c.tried-first-2.ensures.finds (finds_on c.tried-first-3.ensures.finds c.tried.ensures.finds))
+
+pub returns-clause-tried : goal.returns-clause-tried
+returns-clause-tried c =
+    keep_tried (finds_on c.tried-first-2.ensures.finds (finds_on c.tried-first-3.ensures.finds c.tried.ensures.finds)) c.tried-first.ensures.tried
+
+pub returns-clause-found : goal.returns-clause-found
+returns-clause-found c =
+    let last = c.tried.ensures.finds in
+    let third = finds_on c.tried-first-3.ensures.finds last in
+    found_from c.args.board c.args.base c.turns-turns.result c.tried.result c.turns-turns.ensures.loaded c.turns-turns.ensures.turns
+    (keep_tried (finds_on c.tried-first-2.ensures.finds third) c.tried-first.ensures.tried)
+    (keep_tried third c.tried-first-2.ensures.tried) (keep_tried last c.tried-first-3.ensures.tried) c.tried.ensures.tried

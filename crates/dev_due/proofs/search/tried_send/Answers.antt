@@ -1,0 +1,14 @@
+use Rattle.std.proofs.Common.{ℕ, ◌+◌, ◌*◌, subst}
+use Rattle.dev_due.specs.Search.{Found}
+use Rattle.dev_due.proofs.Finding.{finds_on, keep_found, keep_tried}
+use Rattle.dev_due.proofs.search.tried_send.Goals as goal
+
+pub returns-clause-finds : goal.returns-clause-finds
+returns-clause-finds c = finds_on c.tried_from-first.ensures.finds c.tried_from.ensures.finds
+
+pub returns-clause-send : goal.returns-clause-send
+returns-clause-send c = record {
+  tried = keep_tried c.tried_from.ensures.finds c.tried_from-first.ensures.tried;
+  leaves = keep_found c.tried_from.ensures.finds c.tried_from-first.ensures.found;
+  ends = subst (λ (time : ℕ). Found c.args.board (c.args.sent + 4 * time) c.tried_from.result) c.character.ensures.time c.tried_from.ensures.found;
+}

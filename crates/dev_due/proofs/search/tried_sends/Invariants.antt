@@ -1,0 +1,12 @@
+use Rattle.std.proofs.Common.{◌≡◌, ℕ, ◌+◌, ◌*◌, ◌<◌, ◌≤◌}
+use Rattle.dev_due.specs.Boards.{character_of}
+use Rattle.dev_due.specs.Search.{Finds, FoundSend}
+use Rattle.dev_due.proofs.search.tried_sends.Given as goal
+
+abbrev pub invariant-loop : goal.invariant-loop
+invariant-loop l = record {
+  finds : Finds l.board l.initial.first l.first;
+  sends : (k : ℕ) → k < l.counter → FoundSend l.board (l.initial.sent + k * character_of l.board) l.first;
+  sent : l.sent ≡ l.initial.sent + l.counter * character_of l.board;
+  bound : l.sent ≤ l.initial.sent + l.counter * 6826562500;
+}

@@ -1,0 +1,3 @@
+pub mod Boards
+pub mod Due
+pub mod Search

@@ -1,0 +1,299 @@
+-- OUT of a counter, and its edges, come again at the marked ticks.
+use Rattle.std.proofs.Common.{◌≡◌, ℕ, ◌+◌, ◌-◌, ◌*◌, ◌/◌, ◌%◌, ◌<◌, ◌≤◌, ◌==◌, ◌⊎◌, inl, inr, Bool, true, false, not, ◌&&◌, ◌||◌, refl, sym, ap, ◌∙◌, arith, ⊎_elim}
+use Rattle.std.proofs.lemmas.Bool.{cases_lt, cases_Bool}
+use Rattle.std.proofs.lemmas.Bool.Decides.{nat_tests}
+use Rattle.std.proofs.lemmas.Nat.{div-add-mod', div-mul-add, mod-mul-add, le-div}
+use Rattle.std.proofs.Math.Nat.{mul-le-mul_right}
+use Rattle.std.specs.Prelude.{nat_lt, nat_le}
+use Rattle.dev_base.proofs.Quotients.{quotient_mono}
+use Rattle.dev_pit.specs.Count.{rises, out_at, period, high_part, ticks}
+use Rattle.dev_pit.specs.declared.mode.Mode.{Mode}
+use Rattle.dev_pit.specs.declared.mode.Mode.TheVariants.{TerminalCount, OneShot, RateGenerator, SquareWave, SoftwareStrobe, HardwareStrobe}
+use Rattle.dev_pit.proofs.Edges.{period-pos}
+use Rattle.dev_pit.specs.Turns.{marks_of, moment_of}
+use Rattle.dev_pit.specs.declared.turns.Marks.{Marks}
+
+-- a tick is another one, or one of the marks
+abbrev pub IsMark : (k : ℕ) → Marks → ℕ → Type 0
+IsMark k marks tick = (tick ≡ k) ⊎ ((tick ≡ marks.first) ⊎ ((tick ≡ marks.second) ⊎ (tick ≡ marks.third)))
+
+-- from tick k on a marked tick not after this one has its OUT and its edge
+pub record Marked (mode : Mode) (count n before k tick : ℕ) : Type 0 where
+  pub at : ℕ
+  pub is : IsMark k (marks_of mode n k) at
+  pub from : k ≤ at
+  pub not_after : at ≤ tick
+  pub edge : rises mode count before at ≡ rises mode count before tick
+  pub out : out_at mode count at ≡ out_at mode count tick
+
+-- a count of 1 of a mode with periods holds OUT high
+flat-rate : (count n before k tick : ℕ) → (count == 1) ≡ true → k ≤ tick → Marked RateGenerator count n before k tick
+unfolding rises out_at
+flat-rate count n before k tick one l =
+    record { at = k; is = inl refl; from = omega arith; not_after = l; edge = rw one refl; out = rw one refl }
+
+flat-square : (count n before k tick : ℕ) → (count == 1) ≡ true → k ≤ tick → Marked SquareWave count n before k tick
+unfolding rises out_at
+flat-square count n before k tick one l =
+    record { at = k; is = inl refl; from = omega arith; not_after = l; edge = rw one refl; out = rw one refl }
+
+marked-terminal : (count before k tick : ℕ) → before ≤ k → k ≤ tick → Marked TerminalCount count (period count) before k tick
+unfolding rises out_at
+marked-terminal count before k tick b l =
+    ⊎_elim
+    (λ (h : tick < period count). record { at = k; is = inl refl; from = omega arith; not_after = l; edge = grind (arith, nat_tests); out = grind (arith, nat_tests) })
+    (λ (h : period count ≤ tick). ⊎_elim
+    (λ (s : k < period count). record { at = period count; is = inr (inl refl); from = omega arith; not_after = h; edge = grind (arith, nat_tests); out = grind (arith, nat_tests) })
+    (λ (s : period count ≤ k). record { at = k; is = inl refl; from = omega arith; not_after = l; edge = grind (arith, nat_tests); out = grind (arith, nat_tests) })
+    (cases_lt k (period count)))
+    (cases_lt tick (period count))
+
+marked-strobe : (count before k tick : ℕ) → before ≤ k → k ≤ tick → Marked SoftwareStrobe count (period count) before k tick
+unfolding rises out_at
+marked-strobe count before k tick b l =
+    let n = period count in
+    ⊎_elim
+    (λ (h : tick < n). record { at = k; is = inl refl; from = omega arith; not_after = l; edge = grind (arith, nat_tests); out = grind (arith, nat_tests) })
+    (λ (h : n ≤ tick). ⊎_elim
+    (λ (s : k < n). ⊎_elim
+    (λ (e : tick < n + 1). record { at = n; is = inr (inl refl); from = omega arith; not_after = h; edge = grind (arith, nat_tests); out = grind (arith, nat_tests) })
+    (λ (e : n + 1 ≤ tick). record { at = n + 1; is = inr (inr (inl refl)); from = omega arith; not_after = e; edge = grind (arith, nat_tests); out = grind (arith, nat_tests) })
+    (cases_lt tick (n + 1)))
+    (λ (s : n ≤ k). ⊎_elim
+    (λ (e : k < n + 1). ⊎_elim
+    (λ (f : tick < n + 1). record { at = k; is = inl refl; from = omega arith; not_after = l; edge = grind (arith, nat_tests); out = grind (arith, nat_tests) })
+    (λ (f : n + 1 ≤ tick). record { at = n + 1; is = inr (inr (inl refl)); from = omega arith; not_after = f; edge = grind (arith, nat_tests); out = grind (arith, nat_tests) })
+    (cases_lt tick (n + 1)))
+    (λ (e : n + 1 ≤ k). record { at = k; is = inl refl; from = omega arith; not_after = l; edge = grind (arith, nat_tests); out = grind (arith, nat_tests) })
+    (cases_lt k (n + 1)))
+    (cases_lt k n))
+    (cases_lt tick n)
+
+-- ---- periods
+
+both_grew : (before first second : ℕ) → before < first → before < second → nat_lt before first ≡ nat_lt before second
+both_grew before first second h l = grind (arith, nat_tests)
+
+both_are : (first second last : ℕ) → first ≡ last → second ≡ last → (first == last) ≡ (second == last)
+both_are first second last h l = grind (arith, nat_tests)
+
+neither_is : (first second last : ℕ) → first < last → second < last → (first == last) ≡ (second == last)
+neither_is first second last h l = grind (arith, nat_tests)
+
+both_below : (first second high : ℕ) → first < high → second < high → nat_lt first high ≡ nat_lt second high
+both_below first second high h l = grind (arith, nat_tests)
+
+none_below : (first second high : ℕ) → high ≤ first → high ≤ second → nat_lt first high ≡ nat_lt second high
+none_below first second high h l = grind (arith, nat_tests)
+
+-- a place in a period
+record IsAt (n q r at : ℕ) : Type 0 where
+  quotient : at / n ≡ q
+  rest : at % n ≡ r
+
+place : (n q r at : ℕ) → r < n → at ≡ q * n + r → IsAt n q r at
+place n q r at h e =
+    record { quotient = ap (λ x. x / n) e ∙ div-mul-add q n r h; rest = ap (λ x. x % n) e ∙ mod-mul-add q n r h }
+
+-- the marks of the two modes with periods, of tick k
+module _ (count n before k tick : ℕ) (is_n : n ≡ period count) (b : before ≤ k) (l : k ≤ tick) where
+  positive : 0 < n
+  positive = rw is_n (period-pos count)
+
+  -- the first place of the next period
+  next : (r at : ℕ) → r < n → at ≡ k / n * n + n + r → IsAt n (k / n + 1) r at
+  next r at h e = place n (k / n + 1) r at h (omega (arith, e))
+
+  -- the same place in a later period isn't before it
+  later : (r at : ℕ) → r < n → at ≡ k / n * n + n + r → k / n < tick / n → r ≤ tick % n → at ≤ tick
+  later r at h e q f =
+      let whole : (k / n + 1) * n ≤ tick / n * n = mul-le-mul_right n (omega arith) in
+      omega (arith, div-add-mod' tick n, whole)
+
+  old : before / n ≤ k / n
+  old = quotient_mono n before k positive b
+
+  rate-edge : (at : ℕ) → nat_lt (before / n) (at / n) ≡ nat_lt (before / n) (tick / n) → rises RateGenerator count before at ≡ rises RateGenerator count before tick
+  unfolding rises
+  rate-edge at e = rw (← is_n) (ap (λ (x : Bool). not (count == 1) && x) e)
+
+  rate-out : (at : ℕ) → (at % n == n - 1) ≡ (tick % n == n - 1) → out_at RateGenerator count at ≡ out_at RateGenerator count tick
+  unfolding out_at
+  rate-out at e = rw (← is_n) (ap (λ (x : Bool). (count == 1) || not x) e)
+
+  square-edge : (at : ℕ) → nat_lt (before / n) (at / n) ≡ nat_lt (before / n) (tick / n) → rises SquareWave count before at ≡ rises SquareWave count before tick
+  unfolding rises
+  square-edge at e = rw (← is_n) (ap (λ (x : Bool). not (count == 1) && x) e)
+
+  square-out : (at : ℕ) → nat_lt (at % n) (high_part n) ≡ nat_lt (tick % n) (high_part n) → out_at SquareWave count at ≡ out_at SquareWave count tick
+  unfolding out_at
+  square-out at e = rw (← is_n) (ap (λ (x : Bool). (count == 1) || x) e)
+
+  -- the tick itself, or tick k, which is in the same period
+  abbrev Rate : Type 0
+  Rate = Marked RateGenerator count n before k tick
+
+  abbrev Square : Type 0
+  Square = Marked SquareWave count n before k tick
+
+  -- both ticks are in one period
+  rate-k : k / n ≡ tick / n → k % n < n - 1 → tick % n < n - 1 → Rate
+  rate-k here h f = record {
+    at = k;
+    is = inl refl;
+    from = omega arith;
+    not_after = l;
+    edge = rate-edge k (ap (nat_lt (before / n)) here);
+    out = rate-out k (neither_is _ _ _ h f);
+  }
+
+  rate-last : k / n ≡ tick / n → tick % n ≡ n - 1 → Rate
+  rate-last here f =
+      let p = positive in
+      let e : tick ≡ k / n * n + n - 1 = omega (arith, div-add-mod' tick n, ap (λ q. q * n) here) in
+      record { at = tick; is = inr (inl e); from = l; not_after = omega arith; edge = refl; out = refl }
+
+  -- the tick is in a later period
+  rate-first : 2 ≤ n → k / n < tick / n → tick % n < n - 1 → Rate
+  rate-first two h f =
+      let at = k / n * n + n in
+      let is : IsAt n (k / n + 1) 0 at = next 0 at (omega arith) (omega arith) in
+      record {
+        at = at;
+        is = inr (inr (inl refl));
+        from = omega (arith, div-add-mod' k n);
+        not_after = later 0 at (omega arith) (omega arith) h (omega arith);
+        edge = rate-edge at (both_grew _ _ _ (omega (arith, is.quotient, old)) (omega (arith, h, old)));
+        out = rate-out at (neither_is _ _ _ (omega (arith, is.rest)) f);
+      }
+
+  rate-again : 2 ≤ n → k / n < tick / n → tick % n ≡ n - 1 → Rate
+  rate-again two h f =
+      let at = k / n * n + n + n - 1 in
+      let is : IsAt n (k / n + 1) (n - 1) at = next (n - 1) at (omega arith) (omega arith) in
+      record {
+        at = at;
+        is = inr (inr (inr refl));
+        from = omega (arith, div-add-mod' k n);
+        not_after = later (n - 1) at (omega arith) (omega arith) h (omega arith);
+        edge = rate-edge at (both_grew _ _ _ (omega (arith, is.quotient, old)) (omega (arith, h, old)));
+        out = rate-out at (both_are _ _ _ is.rest f);
+      }
+
+  rate : 2 ≤ n → Rate
+  rate two =
+      let order : k / n ≤ tick / n = quotient_mono n k tick (omega arith) l in
+      let below : tick % n < n = omega arith in
+      ⊎_elim
+      (λ (h : k / n < tick / n). ⊎_elim
+      (λ (f : tick % n < n - 1). rate-first two h f)
+      (λ (f : n - 1 ≤ tick % n). rate-again two h (omega arith))
+      (cases_lt (tick % n) (n - 1)))
+      (λ (h : tick / n ≤ k / n). let here : k / n ≡ tick / n = omega arith in ⊎_elim
+      (λ (f : tick % n < n - 1). rate-k here (omega (arith, div-add-mod' k n, div-add-mod' tick n, ap (λ q. q * n) here)) f)
+      (λ (f : n - 1 ≤ tick % n). rate-last here (omega arith))
+      (cases_lt (tick % n) (n - 1)))
+      (cases_lt (k / n) (tick / n))
+
+  -- a square wave, high below `high_part`
+  square-k : k / n ≡ tick / n → nat_lt (k % n) (high_part n) ≡ nat_lt (tick % n) (high_part n) → Square
+  square-k here h = record {
+    at = k;
+    is = inl refl;
+    from = omega arith;
+    not_after = l;
+    edge = square-edge k (ap (nat_lt (before / n)) here);
+    out = square-out k h;
+  }
+
+  square-falls : 2 ≤ n → k / n ≡ tick / n → k % n < high_part n → high_part n ≤ tick % n → Square
+  square-falls two here g f =
+      let high : high_part n < n = omega arith in
+      let at = k / n * n + high_part n in
+      let is : IsAt n (k / n) (high_part n) at = place n (k / n) (high_part n) at high refl in
+      record {
+        at = at;
+        is = inr (inl refl);
+        from = omega (arith, div-add-mod' k n);
+        not_after = omega (arith, div-add-mod' tick n, ap (λ q. q * n) here);
+        edge = square-edge at (ap (nat_lt (before / n)) (is.quotient ∙ here));
+        out = square-out at (none_below _ _ _ (omega (arith, is.rest)) f);
+      }
+
+  square-first : 2 ≤ n → k / n < tick / n → tick % n < high_part n → Square
+  square-first two h f =
+      let at = k / n * n + n in
+      let is : IsAt n (k / n + 1) 0 at = next 0 at (omega arith) (omega arith) in
+      record {
+        at = at;
+        is = inr (inr (inl refl));
+        from = omega (arith, div-add-mod' k n);
+        not_after = later 0 at (omega arith) (omega arith) h (omega arith);
+        edge = square-edge at (both_grew _ _ _ (omega (arith, is.quotient, old)) (omega (arith, h, old)));
+        out = square-out at (both_below _ _ _ (omega (arith, is.rest)) f);
+      }
+
+  square-again : 2 ≤ n → k / n < tick / n → high_part n ≤ tick % n → Square
+  square-again two h f =
+      let high : high_part n < n = omega arith in
+      let at = k / n * n + n + high_part n in
+      let is : IsAt n (k / n + 1) (high_part n) at = next (high_part n) at high refl in
+      record {
+        at = at;
+        is = inr (inr (inr refl));
+        from = omega (arith, div-add-mod' k n);
+        not_after = later (high_part n) at high refl h f;
+        edge = square-edge at (both_grew _ _ _ (omega (arith, is.quotient, old)) (omega (arith, h, old)));
+        out = square-out at (none_below _ _ _ (omega (arith, is.rest)) f);
+      }
+
+  square : 2 ≤ n → Square
+  square two =
+      let order : k / n ≤ tick / n = quotient_mono n k tick (omega arith) l in
+      let high = high_part n in
+      ⊎_elim
+      (λ (h : k / n < tick / n). ⊎_elim
+      (λ (f : tick % n < high). square-first two h f)
+      (λ (f : high ≤ tick % n). square-again two h f)
+      (cases_lt (tick % n) high))
+      (λ (h : tick / n ≤ k / n). let here : k / n ≡ tick / n = omega arith in
+      let rests : k % n ≤ tick % n = omega (arith, div-add-mod' k n, div-add-mod' tick n, ap (λ q. q * n) here) in ⊎_elim
+      (λ (f : tick % n < high). square-k here (both_below _ _ _ (omega arith) f))
+      (λ (f : high ≤ tick % n). ⊎_elim
+      (λ (g : k % n < high). square-falls two here g f)
+      (λ (g : high ≤ k % n). square-k here (none_below _ _ _ g f))
+      (cases_lt (k % n) high))
+      (cases_lt (tick % n) high))
+      (cases_lt (k / n) (tick / n))
+
+period-two : (count : ℕ) → (count == 1) ≡ false → 2 ≤ period count
+period-two count e = grind (arith, nat_tests)
+
+periodic-rate : (one : Bool) (count before k tick : ℕ) → (count == 1) ≡ one → before ≤ k → k ≤ tick → Marked RateGenerator count (period count) before k tick
+periodic-rate true count before k tick e b l = flat-rate count (period count) before k tick e l
+periodic-rate false count before k tick e b l = rate count (period count) before k tick refl b l (period-two count e)
+
+periodic-square : (one : Bool) (count before k tick : ℕ) → (count == 1) ≡ one → before ≤ k → k ≤ tick → Marked SquareWave count (period count) before k tick
+periodic-square true count before k tick e b l = flat-square count (period count) before k tick e l
+periodic-square false count before k tick e b l = square count (period count) before k tick refl b l (period-two count e)
+
+pub marked : (mode : Mode) (count before k tick : ℕ) → before ≤ k → k ≤ tick → Marked mode count (period count) before k tick
+unfolding rises out_at
+marked TerminalCount count before k tick b l = marked-terminal count before k tick b l
+marked OneShot count before k tick b l = record { at = k; is = inl refl; from = omega arith; not_after = l; edge = refl; out = refl }
+marked RateGenerator count before k tick b l = periodic-rate (count == 1) count before k tick refl b l
+marked SquareWave count before k tick b l = periodic-square (count == 1) count before k tick refl b l
+marked SoftwareStrobe count before k tick b l = marked-strobe count before k tick b l
+marked HardwareStrobe count before k tick b l = record { at = k; is = inl refl; from = omega arith; not_after = l; edge = refl; out = refl }
+
+-- ---- moments
+
+-- so many ticks have passed at the moment of a tick
+pub ticks_at : (load tick : ℕ) → ticks load (moment_of load tick) ≡ tick
+unfolding ticks moment_of
+ticks_at load tick = omega arith
+
+-- a tick's moment has come where as many ticks have passed
+pub moment_came : (load to tick : ℕ) → load ≤ to → tick ≤ ticks load to → moment_of load tick ≤ to
+unfolding ticks moment_of
+moment_came load to tick h l = omega arith

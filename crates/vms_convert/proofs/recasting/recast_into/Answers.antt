@@ -1,0 +1,26 @@
+use Rattle.std.proofs.Common.{◌≡◌, List, ℤ, pos, length, get_or, sym, ap, ◌∙◌, subst, arith}
+use Rattle.dev_base.specs.declared.limits.TheConstants.{NEWEST}
+use Rattle.dev_serial.specs.Cells.{kinds}
+use Rattle.dev_serial.specs.Recast.{recast_cells}
+use Rattle.dev_serial.proofs.RecastKinds.{recast_kinds}
+use Rattle.vms_kinds.specs.Codes.{InRange}
+use Rattle.vms_kinds.specs.declared.Kind.{Kind}
+use Rattle.vms_kinds.specs.declared.Kind.TheVariants.{U8}
+use Rattle.vms_convert.proofs.recasting.recast_into.Goals.{After-recast-cells}
+use Rattle.vms_convert.proofs.recasting.recast_into.Goals as goal
+
+recast_is : (c : After-recast-cells) → c.recast-cells.result.items ≡ recast_cells c.args.source.now.numbers
+recast_is c = c.recast-cells.ensures.cells ∙ ap recast_cells c.image_cells.ensures
+
+pub put_cells-requires-clause-long : goal.put_cells-requires-clause-long
+put_cells-requires-clause-long c =
+    let is = recast_is (goal.at.put_cells-requires-clause-long c).After-recast-cells in
+    let of = recast_kinds c.args.source.now.numbers c.requires.cells.of_kinds in
+    omega (arith, ap length is, of.count, ap length c.requires.kinds, c.requires.long)
+
+pub put_cells-requires-clause-in_range : goal.put_cells-requires-clause-in_range
+put_cells-requires-clause-in_range c k lt =
+    let is = recast_is (goal.at.put_cells-requires-clause-in_range c).After-recast-cells in
+    let of = recast_kinds c.args.source.now.numbers c.requires.cells.of_kinds in
+    subst (λ (ks : List Kind). InRange (get_or ks k U8) (get_or c.recast-cells.result.items k (pos 0))) (sym c.requires.kinds)
+    (subst (λ (l : List ℤ). InRange (get_or (kinds NEWEST) k U8) (get_or l k (pos 0))) (sym is) (of.in_range k (omega (arith, lt, ap length is, of.count))))

@@ -1,0 +1,6 @@
+use Rattle.std.proofs.Common.{◌≡◌, ◌++◌, map, take}
+use Rattle.vms_rules.specs.NameSets.{key}
+use Rattle.vms_rules.proofs.keys.put_keys.Given as goal
+
+abbrev pub invariant-loop-name : goal.invariant-loop-name
+invariant-loop-name l = l.keys.items ≡ l.initial.keys.items ++ map key (take l.name-index l.names)
