@@ -31,7 +31,7 @@ impl Folder {
         ensures { (name : List ℕ) → held_of result name ≡ None }
     {
         Folder {
-            alloc: alloc,
+            alloc,
             entries: BTreeMap::new(alloc),
         }
     }
