@@ -9,14 +9,13 @@ use Rattle.vms_check_laws.proofs.Facade.{width, residue, code, Count, One, Part,
 use Rattle.vms_check_laws.proofs.Facade.{Number, Filler, Meaning, no_meaning, no_parent, times, counted, capacity_of, item_cells, field_cells, elements_of}
 use Rattle.vms_check_laws.proofs.Facade.{item_slots, numbers_of, kind_of, Constant, item_size, Spells, zeroed, length-code, size_same, elements_fit, ItemBelow}
 use Rattle.vms_check_laws.proofs.Facade.{Entry, same_count, same_item, is_covered, Comparer, no_comparer, pair_structs, Carrier, FitsAt, Aligns}
-use Rattle.vms_check_laws.proofs.SameTests.{Agree, presence_named}
-use Rattle.vms_check_laws.proofs.Segments.{fits_left, fits_right, fits_at}
+use Rattle.vms_check_laws.proofs.Presence.{Agree, presence_named, not_covered, steady, steady_rest, rest_none}
+use Rattle.vms_check_laws.proofs.Segments.{fits_left, fits_right, fits_at, apart, same_bytes, aligns_nil, aligns_append, aligns_number, aligns_constant}
+use Rattle.vms_check_laws.proofs.Segments.{aligns_filler, same_code, spells_split, behind_first}
 use Rattle.vms_check_laws.proofs.Pairing.{kinds_same, cells_in, slots_at, IsKnown, entries_slots, AreKnown, FitEntries, known_there}
 use Rattle.vms_check_laws.proofs.Linking.{PairGood, Matched, decoded, Zip}
-use Rattle.vms_check_laws.proofs.Describing.{not_covered, steady, steady_rest, rest_none}
 use Rattle.vms_check_laws.proofs.Premises.{Table, IsSingle, OldGood, NewGood}
 use Rattle.vms_check_laws.proofs.FieldsCarry.{EntryGood, OldEntries, covered_slots, pair_by}
-use Rattle.vms_check_laws.proofs.Aligned.{apart, same_bytes, aligns_nil, aligns_append, aligns_number, aligns_constant, aligns_filler, same_code, spells_split, behind_first}
 use Rattle.vms_check_laws.proofs.Positioned.{same_some, Above, Upto, upto_next, upto_here, upto_earlier}
 
 -- the structures below a number, if no rule fails at two of them

@@ -1,13 +1,14 @@
 -- A number that fits old's capacities fits new's.
-use Rattle.vms_check_laws.proofs.Facade.{◌≡◌, ◌⊎◌, inl, inr, ℕ, zero, suc, ◌+◌, ◌≤◌, min, Bool, true, false, ◌&&◌, ◌==◌, List, ◌∷◌, ◌++◌, length, Option, Some}
-use Rattle.vms_check_laws.proofs.Facade.{None, refl, sym, ap, ◌∙◌, subst, arith, ℤ, pos, negsuc, ◌≤ℤ◌, if◌then◌else◌, nat_le, [], AllByRecursion, slice_get}
+use Rattle.vms_check_laws.proofs.Facade.{◌≤ℤ◌, ◌≡◌, ◌⊎◌, inl, inr, ℕ, zero, suc, ◌+◌, ◌≤◌, min, Bool, true, false, ◌&&◌, ◌==◌, List, ◌∷◌, ◌++◌, length, Option}
+use Rattle.vms_check_laws.proofs.Facade.{Some}
+use Rattle.vms_check_laws.proofs.Facade.{None, refl, sym, ap, ◌∙◌, subst, arith, ℤ, pos, negsuc, if◌then◌else◌, nat_le, [], AllByRecursion, slice_get}
 use Rattle.vms_check_laws.proofs.Facade.{and_parts, eqb-true, leb-true, eq-eqb, ints, Kind, U8, Item, Num, highest, Count, One, Fixed, Counted, Formula, Field}
 use Rattle.vms_check_laws.proofs.Facade.{Desc, Cell, counted, field_cells, Part, is_one, presence, Entry, entry_of, present_from, position_from, same_place}
 use Rattle.vms_check_laws.proofs.Facade.{same_count, is_covered, holds_as_much, absent_hold, is_nothing, bound, least_of, greatest, has_room, Comparer}
 use Rattle.vms_check_laws.proofs.Linking.{PairGood, Zip, Matched, decoded}
 use Rattle.vms_check_laws.proofs.Premises.{at_or_later, IsSingle}
 use Rattle.vms_check_laws.proofs.Counts.{HasArray, counted_has}
-use Rattle.vms_check_laws.proofs.Describing.{covers_unused}
+use Rattle.vms_check_laws.proofs.Presence.{covers_unused}
 
 -- ---- positions
 

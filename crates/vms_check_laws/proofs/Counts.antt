@@ -1,11 +1,12 @@
 -- A number that fits its cell is at most every capacity that it counts.
-use Rattle.vms_check_laws.proofs.Facade.{◌≡◌, ◌⊎◌, inl, inr, ℕ, zero, suc, ◌+◌, ◌*◌, ◌^◌, ◌≤◌, Bool, true, ◌==◌, List, [], ◌∷◌, ◌++◌, length, get_or, Some}
-use Rattle.vms_check_laws.proofs.Facade.{refl, sym, subst, arith, ℤ, pos, negsuc, ◌≤ℤ◌, if◌then◌else◌, AllByRecursion, slice_get, mod-le, eq-eqb, ints, Kind}
+use Rattle.vms_check_laws.proofs.Facade.{◌≤ℤ◌, ◌≡◌, ◌⊎◌, inl, inr, ℕ, zero, suc, ◌+◌, ◌*◌, ◌^◌, ◌≤◌, Bool, true, ◌==◌, List, [], ◌∷◌, ◌++◌, length, get_or}
+use Rattle.vms_check_laws.proofs.Facade.{Some}
+use Rattle.vms_check_laws.proofs.Facade.{refl, sym, subst, arith, ℤ, pos, negsuc, if◌then◌else◌, AllByRecursion, slice_get, mod-le, eq-eqb, ints, Kind}
 use Rattle.vms_check_laws.proofs.Facade.{U8, U16, U32, Item, Num, width, residue, Count, One, Fixed, Counted, Field, Cell, times, counted, capacity_of}
 use Rattle.vms_check_laws.proofs.Facade.{item_cells, field_cells, cells_from, place_of, no_field, kind_of, FitsCell, is_num, is_one, ItemBelow, FitsAt}
 use Rattle.vms_check_laws.proofs.Facade.{all_right}
 use Rattle.vms_check_laws.proofs.Segments.{fits_right}
-use Rattle.vms_check_laws.proofs.Describing.{Steady}
+use Rattle.vms_check_laws.proofs.Presence.{Steady}
 use Rattle.vms_check_laws.proofs.Premises.{IsSingle, CountFits, OldFields}
 
 -- the number of field k of these, the first of which has the number i and begins at a place

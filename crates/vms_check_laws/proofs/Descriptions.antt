@@ -4,15 +4,14 @@ use Rattle.vms_check_laws.proofs.Facade.{◌≡◌, ℕ, ◌+◌, List, [], ◌�
 use Rattle.vms_check_laws.proofs.Facade.{desc_cells, slots_from, desc_slots, numbers_of, all_hold, Part, is_steady_in, Entry, present, position_from, Comparer}
 use Rattle.vms_check_laws.proofs.Facade.{compare_desc, compare_fields, compare_validations, Carrier, carry_desc, Holds, FitsAt, Carries, Aligns, or_else_none}
 use Rattle.vms_check_laws.proofs.Facade.{FieldsBelow, Spells, zeroed}
-use Rattle.vms_check_laws.proofs.SameTests.{Agree}
-use Rattle.vms_check_laws.proofs.Segments.{holds_at, fits_at, carries_append}
+use Rattle.vms_check_laws.proofs.Presence.{Agree}
+use Rattle.vms_check_laws.proofs.Segments.{holds_at, fits_at, carries_append, spells_split, behind_first, aligns_append, aligns_rule}
 use Rattle.vms_check_laws.proofs.Pairing.{cells_in, entries_slots, slots_entries, all_known, fit_entries, FitEntries}
 use Rattle.vms_check_laws.proofs.Linking.{zip_of, linked, Linked}
-use Rattle.vms_check_laws.proofs.Settling.{Settled, settled_more}
+use Rattle.vms_check_laws.proofs.PairLists.{Settled, settled_more}
 use Rattle.vms_check_laws.proofs.Premises.{Table, RulesNamed, OldFields, NewFields}
 use Rattle.vms_check_laws.proofs.FieldsSettle.{agree_from, fields_settle}
 use Rattle.vms_check_laws.proofs.FieldsCarry.{fields_carry, rule_carries, old_entries, new_entries, OldEntries, NewEntries}
-use Rattle.vms_check_laws.proofs.Aligned.{spells_split, behind_first, aligns_append, aligns_rule}
 use Rattle.vms_check_laws.proofs.AlignedDescs.{AlignTable, NamesEarlier, Clashes, entries_align, entries_clash}
 use Rattle.vms_check_laws.proofs.Positioned.{present_above}
 

@@ -9,11 +9,12 @@ use Rattle.vms_check_laws.proofs.Facade.{same_count, same_item, same_kind, same_
 use Rattle.vms_check_laws.proofs.Facade.{present_from, compare_validations, is_kept, same_reduced, Carrier, defaults, carry_item, carry_items, carry_field}
 use Rattle.vms_check_laws.proofs.Facade.{Holds, FitsAt, Carries, size_same, elements_fit, ItemBelow, same_number_is, here, presence, Reduced, Known, Open}
 use Rattle.vms_check_laws.proofs.Facade.{reduced, truth_of, reduced_holds, passes, zeroed}
-use Rattle.vms_check_laws.proofs.SameTests.{Agree, NamedRest, same_there, presence_named, Named, named_left, same_reduced_truth}
-use Rattle.vms_check_laws.proofs.Segments.{holds_left, holds_right, holds_at, fits_left, fits_right, fits_at, carries_nil, carries_append, carries_number, carries_constant, carries_filler, carries_rule}
+use Rattle.vms_check_laws.proofs.Presence.{Agree, NamedRest, same_there, presence_named, Named, named_left, same_reduced_truth, numbers_length, constant_length}
+use Rattle.vms_check_laws.proofs.Presence.{there_here}
+use Rattle.vms_check_laws.proofs.Segments.{holds_left, holds_right, holds_at, fits_left, fits_right, fits_at, carries_nil, carries_append, carries_number}
+use Rattle.vms_check_laws.proofs.Segments.{carries_constant, carries_filler, carries_rule}
 use Rattle.vms_check_laws.proofs.Pairing.{kinds_same, cells_in, slots_at, entries_slots, IsKnown, AreKnown, FitEntries}
 use Rattle.vms_check_laws.proofs.Linking.{PairGood, decoded, Linked, linked, carry_item_size, CoveredBy, Matched}
-use Rattle.vms_check_laws.proofs.Describing.{numbers_length, constant_length, there_here}
 use Rattle.vms_check_laws.proofs.Premises.{Table, IsSingle, CountFits, CountNamed, OldGood, NewGood, RulesNamed, OldFields, NewFields}
 
 -- what is covered is one filler, as long as the slots that it covers

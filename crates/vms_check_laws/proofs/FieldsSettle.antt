@@ -7,12 +7,11 @@ use Rattle.vms_check_laws.proofs.Facade.{cells_from, elements_of, item_slots, sl
 use Rattle.vms_check_laws.proofs.Facade.{Entry, entry_of, present_from, same_item, same_kind, Comparer, pair_structs, position_from, same_place, same_count}
 use Rattle.vms_check_laws.proofs.Facade.{Carrier, defaults, carry_item, carry_items, carry_field, carry_next, carry_from, entries_left, default_field, has_cell}
 use Rattle.vms_check_laws.proofs.Facade.{Holds, FitsAt, size_same, field_size, elements_fit, ItemBelow, FieldsBelow, width, residue, Count, One}
-use Rattle.vms_check_laws.proofs.SameTests.{Agree, same_there}
+use Rattle.vms_check_laws.proofs.Presence.{Agree, same_there, there_here, not_covered, steady, steady_rest, rest_none, one_number}
 use Rattle.vms_check_laws.proofs.Segments.{holds_left, holds_right, holds_at, fits_left, fits_right, fits_at}
 use Rattle.vms_check_laws.proofs.Pairing.{cells_in, slots_at, IsKnown, AreKnown, kinds_same, known_there}
 use Rattle.vms_check_laws.proofs.Linking.{defaults_size, PairGood, decoded, Linked, linked, carry_item_size, carry_field_size, Matched}
-use Rattle.vms_check_laws.proofs.Settling.{Settled, settled_defaults, settled_empty, settled_append, same_defaults, has_itself}
-use Rattle.vms_check_laws.proofs.Describing.{there_here, not_covered, steady, steady_rest, rest_none, one_number}
+use Rattle.vms_check_laws.proofs.PairLists.{Settled, settled_defaults, settled_empty, settled_append, same_defaults, has_itself}
 use Rattle.vms_check_laws.proofs.Premises.{covered_empty, Table, OldGood, at_or_later}
 use Rattle.vms_check_laws.proofs.FieldsCarry.{same_elements, elements_room, EntryGood, Premises}
 

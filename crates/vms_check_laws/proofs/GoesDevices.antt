@@ -9,10 +9,10 @@ use Rattle.vms_check_laws.proofs.Facade.{carrying, carry_sub, carried_sub, carri
 use Rattle.vms_check_laws.proofs.Facade.{named_partners, device_partners}
 use Rattle.std.proofs.Common.{length-append}
 use Rattle.vms_check_laws.proofs.Goes.{Goes}
-use Rattle.vms_check_laws.proofs.GoesStructs.{part_goes}
+use Rattle.vms_check_laws.proofs.GoesFields.{part_goes}
 use Rattle.vms_check_laws.proofs.PairDevices.{Found, found, cell_of_sub}
 use Rattle.vms_check_laws.proofs.PairLists.{IsBehind, at_left, at_right, at_none, before_or_behind}
-use Rattle.vms_check_laws.proofs.PairStructs.{below_of}
+use Rattle.vms_check_laws.proofs.PairFields.{below_of}
 use Rattle.vms_check_laws.proofs.PartOf.{own_or_sub}
 
 -- ---- lists that have one part for each subsection

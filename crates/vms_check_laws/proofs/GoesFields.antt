@@ -1,4 +1,4 @@
--- What is carried of a description, cell by cell.
+-- What is carried of a description, cell by cell, and of structures, each by the earlier ones.
 use Rattle.vms_check_laws.proofs.Facade.{◌≡◌, ◌⊎◌, inl, inr, ℕ, zero, suc, ◌+◌, ◌*◌, ◌<◌, ◌≤◌, Bool, true, false, List, [], ◌∷◌, ◌++◌, length, get_or}
 use Rattle.vms_check_laws.proofs.Facade.{replicate, Option, Some, None, ℤ, pos, refl, sym, ap, ◌∙◌, arith, if◌then◌else◌, slice_get, cases_lt, eq-eqb, or-false}
 use Rattle.vms_check_laws.proofs.Facade.{Kind, Item, Num, Struct, Formula, Field, Desc, is_there, Cell, no_cell, Slot, Number, Rule, Meaning, no_meaning}
@@ -8,12 +8,15 @@ use Rattle.vms_check_laws.proofs.Facade.{ItemBelow, FieldsBelow, AreCells, MeanA
 use Rattle.vms_check_laws.proofs.Facade.{items_are, field_are, named_inside, skip_long, stands_behind, names_append, cells_in, presence, Entry, entry_of}
 use Rattle.vms_check_laws.proofs.Facade.{present_from, same_kind, Carrier, no_carrier, defaults, carry_item, carry_items, carry_field, carry_next, carry_from}
 use Rattle.vms_check_laws.proofs.Facade.{carry_desc, default_field, entries_left, Pairer, no_pairer, unpaired, item_partners, array_partners, field_partners}
-use Rattle.vms_check_laws.proofs.Facade.{fields_left, partners_from, desc_partners}
+use Rattle.vms_check_laws.proofs.Facade.{fields_left, partners_from, desc_partners, subst, Set, no_desc, meanings, struct_cells, WellFormed, first_at}
+use Rattle.vms_check_laws.proofs.Facade.{struct_slots, struct_cells_at, meanings_above, meanings_are, cells_first, carriers, carrying, pairer_of, pairers}
+use Rattle.vms_check_laws.proofs.Facade.{part_partners}
 use Rattle.vms_check_laws.proofs.Presence.{there, presence_there}
-use Rattle.vms_check_laws.proofs.Settling.{same_defaults, defaults_append}
-use Rattle.vms_check_laws.proofs.PairLists.{AreFrom, paired_none}
-use Rattle.vms_check_laws.proofs.PairFields.{Structs, item_paired, array_paired}
+use Rattle.vms_check_laws.proofs.PairLists.{same_defaults, defaults_append, AreFrom, paired_none}
+use Rattle.vms_check_laws.proofs.PairFields.{Structs, item_paired, array_paired, struct_below, struct_is, tables}
 use Rattle.vms_check_laws.proofs.Goes.{Goes, IsWithin, goes_absent, goes_alone, goes_append}
+use Rattle.vms_check_laws.proofs.Premises.{by_less}
+use Rattle.vms_check_laws.proofs.Structures.{carrier_at}
 
 -- ---- slots are within their cells
 
@@ -252,3 +255,62 @@ module _ (structs : List Pairer) (cs : List Carrier) (ms : List Meaning) (y : Li
         } where
           same : (c : ℕ) → has_cell (slots ++ Rule b' ∷ []) c ≡ has_cell slots c
           same c = names_append slots (Rule b' ∷ []) c ∙ or-false (has_cell slots c)
+
+module _ (old new : Set) (good_old : WellFormed old) (good_new : WellFormed new) (numbers : List ℤ) where
+  abbrev ds : List Desc
+  ds = old.structs
+
+  abbrev es : List Desc
+  es = new.structs
+
+  abbrev ms : List Meaning
+  ms = meanings ds (length ds)
+
+  abbrev xs : List (List Cell)
+  xs = cells_in ms
+
+  abbrev y : List (List Cell)
+  y = struct_cells new
+
+  abbrev pairers_to : ℕ → List Pairer
+  pairers_to m = pairers xs y ds es m
+
+  abbrev carriers_to : ℕ → List Carrier
+  carriers_to l = carriers xs y ds es l
+
+  structs_in : (m : ℕ) → m ≤ length ds → Structs (pairers_to m) xs y m
+  structs_in m le = subst (λ (xs : List (List Cell)). Structs (pairers xs y ds es m) xs y m) (sym (cells_first ds (length ds))) (tables old new good_old good_new m le)
+
+  abbrev Go : ℕ → ℕ → Type 0
+  Go m l = StructsGo (pairers_to m) (carriers_to l) ms y numbers m l (meanings_above ds (length ds)) (meanings_are ds (length ds))
+
+  abbrev GoesAt : ℕ → ℕ → Type 0
+  GoesAt i l = (j at at' : ℕ) → j < l
+      → Goes (get_or xs i []) (get_or y j []) numbers ((get_or ms i no_meaning).slots numbers at) at at' (pairer_of (pairers_to i) xs y es (get_or ds i no_desc) j at') (get_or (carriers_to l) j no_carrier i numbers at)
+
+  last : (m : ℕ) → m < length ds → ((l : ℕ) → l ≤ length es → Go m l) → (l : ℕ) → l ≤ length es → GoesAt m l
+  last m lt h l le j at at' lt' =
+      let d = get_or ds m no_desc in
+      let e = get_or es j no_desc in
+      let below = struct_below old good_old m lt in
+      rw (carrier_at xs y ds es l j lt', struct_slots ds (length ds) m numbers at lt below, struct_cells_at ds (length ds) m lt below, struct_is new good_new j)
+      (desc_goes (pairers_to m) (carriers_to j) ms y numbers m j (meanings_above ds (length ds)) (meanings_are ds (length ds)) (structs_in m (omega arith)) (h j (omega arith)) d.version e.version d e at at' below
+      (struct_below new good_new j (omega arith)))
+
+  pairer_at : (m i : ℕ) → i < m → get_or (pairers_to m) i no_pairer ≡ pairer_of (pairers_to i) xs y es (get_or ds i no_desc)
+  pairer_at m i lt = first_at (λ earlier d. pairer_of earlier xs y es d) ds no_pairer m i lt
+
+  go_to : (m : ℕ) → m ≤ length ds → (l : ℕ) → l ≤ length es → Go m l
+  go_to m le l le' i j at at' lt lt' =
+      rw (pairer_at m i lt)
+      (by_less (λ i. i < length ds → (l : ℕ) → l ≤ length es → GoesAt i l)
+      (λ m before less. last m less (λ l le i j at at' lt lt'. rw (pairer_at m i lt) (before i lt (omega arith) l le j at at' lt'))) m i lt (omega arith) l le' j at at' lt')
+
+  -- two descriptions at one version
+  pub part_goes : (v : ℕ) (a b : Desc) (at at' : ℕ) → FieldsBelow (length ds) a.fields → FieldsBelow (length es) b.fields
+      → Goes (desc_cells (struct_cells old) a) (desc_cells (struct_cells new) b) numbers (desc_slots ms a v numbers at) at at' (part_partners old new v a b at') (carrying old new numbers v a b at)
+  part_goes v a b at at' lt lt' =
+      subst (λ (xs : List (List Cell)). Goes (desc_cells xs a) (desc_cells y b) numbers (desc_slots ms a v numbers at) at at' (desc_partners (pairers xs y ds es (length ds)) xs y v v a b at')
+      (carry_desc (carriers xs y ds es (length es)) xs y numbers v v a b at)) (cells_first ds (length ds))
+      (desc_goes (pairers_to (length ds)) (carriers_to (length es)) ms y numbers (length ds) (length es) (meanings_above ds (length ds)) (meanings_are ds (length ds)) (structs_in (length ds) (omega arith))
+      (go_to (length ds) (omega arith) (length es) (omega arith)) v v a b at at' lt lt')

@@ -6,13 +6,11 @@ use Rattle.vms_check_laws.proofs.Facade.{names_well, nobody, is_steady, is_stead
 use Rattle.vms_check_laws.proofs.Facade.{defaults_well, counts_well, has_good_count, field_rules, validation_rules, WellFormed, struct_rules, device_rules}
 use Rattle.vms_check_laws.proofs.Facade.{sub_rules, AllTrue, item_below, Clean, ranges, within, struct_clean, device_parts, sub_clean}
 use Rattle.vms_spec.specs.Sets.{Cell}
-use Rattle.vms_check_laws.proofs.SameTests.{NamedRest}
-use Rattle.vms_check_laws.proofs.Describing.{steady}
+use Rattle.vms_check_laws.proofs.Presence.{NamedRest, steady}
 use Rattle.vms_check_laws.proofs.Premises.{IsSingle, CountNamed, NewGood, NewFields, RulesNamed}
 use Rattle.vms_check_laws.proofs.Counts.{IsCounting, Counter, CountKnown, OldPlains}
-use Rattle.vms_check_laws.proofs.Fitting.{ItemDefault, DefaultsGood}
+use Rattle.vms_check_laws.proofs.Fitting.{ItemDefault, DefaultsGood, DefaultStructs}
 use Rattle.vms_check_laws.proofs.Structures.{OldStructs, NewStructs}
-use Rattle.vms_check_laws.proofs.FitStructures.{DefaultStructs}
 
 names_more : (ok ok' : ℕ → Bool) (t : Formula) → ((i : ℕ) → ok i ≡ true → ok' i ≡ true) → names_well ok nobody t ≡ true → names_well ok' nobody t ≡ true
 names_more ok ok' (AtLeast n) more h = refl

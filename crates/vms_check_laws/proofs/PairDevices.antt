@@ -7,7 +7,7 @@ use Rattle.vms_check_laws.proofs.Facade.{sub_size, sub_place_up, places_apart, d
 use Rattle.vms_check_laws.proofs.Facade.{sub_partners, named_partners, device_partners}
 use Rattle.std.proofs.Common.{length-append}
 use Rattle.vms_check_laws.proofs.PairLists.{AreFrom, IsPair, IsBehind, at_left, at_right, at_none, before_or_behind, IsOnce, Apart, once_append}
-use Rattle.vms_check_laws.proofs.PairStructs.{below_of, part_paired}
+use Rattle.vms_check_laws.proofs.PairFields.{below_of, part_paired}
 
 -- ---- what has a name, and where it is
 

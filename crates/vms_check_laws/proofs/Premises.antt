@@ -3,10 +3,9 @@ use Rattle.vms_check_laws.proofs.Facade.{◌≡◌, ◌⊎◌, inl, inr, refl, a
 use Rattle.vms_check_laws.proofs.Facade.{None, arith, ℤ, pos, if◌then◌else◌, eqb-true, Item, Equal, Unused, Count, Counted, Formula, Field, Cell, Meaning}
 use Rattle.vms_check_laws.proofs.Facade.{no_meaning, item_cells, names_well, nobody, is_one, ItemBelow, Entry, position_from, same_place, is_covered, Comparer}
 use Rattle.vms_check_laws.proofs.Facade.{no_comparer, Carrier, no_carrier, Holds, FitsAt, Carries}
-use Rattle.vms_check_laws.proofs.SameTests.{NamedRest}
-use Rattle.vms_check_laws.proofs.Describing.{covers_unused}
+use Rattle.vms_check_laws.proofs.Presence.{NamedRest, covers_unused}
 use Rattle.vms_check_laws.proofs.Pairing.{cells_in}
-use Rattle.vms_check_laws.proofs.Settling.{Settled}
+use Rattle.vms_check_laws.proofs.PairLists.{Settled}
 
 later_new : (j p q : ℕ) (fs : List Entry) → p < q → same_place (Some p) (position_from q fs j) ≡ true → ⊥
 later_new j p q [] lt h = absurd (cc)

@@ -1,15 +1,85 @@
--- Whole streams: each device's section is one of the newer set's, and the order takes each device once.
-use Rattle.vms_check_laws.proofs.Facade.{◌≡◌, inl, inr, ℕ, zero, suc, ◌+◌, ◌<◌, ◌≤◌, true, false, List, ◌∷◌, length, map, get_or, Option, Some, None, refl, sym}
-use Rattle.vms_check_laws.proofs.Facade.{ap, ◌∙◌, subst, arith, [], slice_get, list_all, first_answer, Device, Set, Image, HasSection, SectionsSpell, IsReady}
-use Rattle.vms_check_laws.proofs.Facade.{EachOnce, is_one_of, written_section, written_sections, find_device, index, is_version_of, WellFormed, here}
-use Rattle.vms_check_laws.proofs.Facade.{Compatible, failing_pair, first_mismatch, comparing, compare_device, compare_subs, is_found, is_in, carried}
-use Rattle.vms_check_laws.proofs.Facade.{carried_device, carried_at, no_image, passes, device_found, ArePaired, DeviceLaw, or_else_none}
-use Rattle.vms_spec.specs.declared.Part.TheVariants as parts
-use Rattle.vms_check_laws.proofs.Segments.{one_on, at_first, from_zero}
-use Rattle.vms_check_laws.proofs.Partnered.{found_device, found_some, compared, Pair, pair, back}
-use Rattle.vms_check_laws.proofs.Orders.{Among, NotIn, Apart, Wait, each_comes, found_same}
+-- What the older set writes is a stream of the newer, with the carried images: each device's section is one of the newer set's, and the
+-- order takes each device once.
+use Rattle.vms_check_laws.proofs.Facade.{◌≡◌, ℕ, suc, ◌+◌, Bool, true, false, ◌&&◌, ◌==◌, List, ◌∷◌, Option, Some, None, refl, ap, ◌∙◌, subst, arith}
+use Rattle.vms_check_laws.proofs.Facade.{if◌then◌else◌, [], slice_get, bytes_eq, bytes_eq-Decides, and_parts, eqb-true, first_answer, Device, Set, find_device}
+use Rattle.vms_check_laws.proofs.Facade.{index, WellFormed, here, Mismatch, failing_pair, compare_device, paired_device, is_found, is_in, passes, device_found}
+use Rattle.vms_check_laws.proofs.Facade.{inl, inr, zero, ◌<◌, ◌≤◌, length, map, get_or, sym, list_all, Image, HasSection, SectionsSpell, IsReady, EachOnce}
+use Rattle.vms_check_laws.proofs.Facade.{is_one_of, written_section, written_sections, is_version_of, Compatible, first_mismatch, comparing, compare_subs}
+use Rattle.vms_check_laws.proofs.Facade.{carried, carried_device, carried_at, no_image, ArePaired, DeviceLaw, or_else_none, IfSome, length-map, IsStream}
+use Rattle.vms_check_laws.proofs.Facade.{IsConfiguration, configuration, trailer, optional, longest_text, written, AreReady, every_one, machine_short}
+use Rattle.vms_check_laws.proofs.Facade.{few_devices, UpgradeLaw, trailed}
 use Rattle.vms_check_laws.proofs.SubFacts.{none_at, saved}
+use Rattle.vms_check_laws.proofs.Segments.{one_on, at_first, from_zero}
+use Rattle.vms_check_laws.proofs.Orders.{Among, NotIn, Apart, Wait, each_comes, found_same}
 use Rattle.vms_check_laws.proofs.Wholes.{section_whole, at_map}
+use Rattle.vms_spec.specs.declared.Part.TheVariants as parts
+
+-- ---- devices by name and instance
+
+pub record FoundDevice (devices : List Device) (name : List ℕ) (instance j : ℕ) : Type 0 where
+  pub device : Device
+  pub stands : slice_get devices j ≡ Some device
+  pub name_is : device.desc.name ≡ name
+  pub instance_is : device.instance ≡ instance
+
+pub found_device : (k : ℕ) (devices : List Device) (name : List ℕ) (instance r : ℕ) → find_device k devices name instance ≡ Some r → (j : ℕ) × (r ≡ k + j) × FoundDevice devices name instance j
+found_device k [] name instance r h = absurd (cc)
+found_device k (d ∷ devices) name instance r h =
+    let choice : (c : Bool) → (bytes_eq d.desc.name name && d.instance == instance) ≡ c → (if c then Some k else find_device (suc k) devices name instance) ≡ Some r
+    → (j : ℕ) × (r ≡ k + j) × FoundDevice (d ∷ devices) name instance j = elim [
+      | true ↦ λ e g.
+          let same : k ≡ r = cc in
+          let p = and_parts (bytes_eq d.desc.name name) (d.instance == instance) e in
+          (0, omega (arith, same), record { device = d; stands = refl; name_is = (bytes_eq-Decides d.desc.name name).0 p.0; instance_is = eqb-true d.instance instance p.1 })
+      | false ↦ λ e g.
+          let f = found_device (suc k) devices name instance r g in
+          (suc f.0, omega (arith, f.1), record { device = f.2.device; stands = f.2.stands; name_is = f.2.name_is; instance_is = f.2.instance_is })
+    ] in
+    choice (bytes_eq d.desc.name name && d.instance == instance) refl h
+
+pub found_some : (r : Option ℕ) → is_found r ≡ true → (k : ℕ) × (r ≡ Some k)
+found_some None h = absurd (cc)
+found_some (Some k) h = (k, refl)
+
+-- ---- a device of each
+
+abbrev pub compared : Set → Set → ℕ → Device → Option Mismatch
+compared old new i d = compare_device old new i d (paired_device old new d) (slice_get new.devices (index (paired_device old new d)))
+
+module _ (old new : Set) (good_old : WellFormed old) (all_in : first_answer (λ i d. failing_pair ((2, is_in new d) ∷ []) (here (parts.Device i)) (here parts.Set)) 0 old.devices ≡ None) where
+  -- the device of new that has the name and instance of old's device i
+  pub record Pair (i : ℕ) (d : Device) : Type 0 where
+    pub number : ℕ
+    pub found : find_device 0 new.devices d.desc.name d.instance ≡ Some number
+    pub device : Device
+    pub stands : slice_get new.devices number ≡ Some device
+    pub name_is : device.desc.name ≡ d.desc.name
+    pub instance_is : device.instance ≡ d.instance
+    pub compared_is : compared old new i d ≡ compare_device old new i d (Some number) (Some device)
+
+  pub pair : (i : ℕ) (d : Device) → slice_get old.devices i ≡ Some d → Pair i d
+  pair i d e =
+      let h = none_at (λ i d. failing_pair ((2, is_in new d) ∷ []) (here (parts.Device i)) (here parts.Set)) 0 old.devices i d all_in e in
+      let is : is_found (find_device 0 new.devices d.desc.name d.instance) ≡ true = (passes 2 (is_in new d) [] (here (parts.Device (0 + i))) (here parts.Set) h).0 in
+      let some_k = found_some (find_device 0 new.devices d.desc.name d.instance) is in
+      let f = found_device 0 new.devices d.desc.name d.instance some_k.0 some_k.1 in
+      let k_is : f.0 ≡ some_k.0 = omega (arith, f.1) in
+      let stands : slice_get new.devices some_k.0 ≡ Some f.2.device = subst (λ (k : ℕ). slice_get new.devices k ≡ Some f.2.device) k_is f.2.stands in
+      record {
+        number = some_k.0;
+        found = some_k.1;
+        device = f.2.device;
+        stands = stands;
+        name_is = f.2.name_is;
+        instance_is = f.2.instance_is;
+        compared_is = ap (λ (r : Option ℕ). compare_device old new i d r (slice_get new.devices (index r))) some_k.1
+            ∙ ap (λ (r : Option Device). compare_device old new i d (Some some_k.0) r) stands;
+      }
+
+  pub back : (i : ℕ) (d : Device) → slice_get old.devices i ≡ Some d → (p : Pair i d) → find_device 0 old.devices p.device.desc.name p.device.instance ≡ Some i
+  back i d e p =
+      ap (λ (n : List ℕ). find_device 0 old.devices n p.device.instance) p.name_is ∙ ap (λ (n : ℕ). find_device 0 old.devices d.desc.name n) p.instance_is
+      ∙ device_found old good_old i d e
 
 -- ---- devices by name and instance
 
@@ -157,3 +227,42 @@ module _ (old new : Set) (good_old : WellFormed old) (good_new : WellFormed new)
               (λ j. ready (suc j)) (omega arith),
           refl,
         )
+
+module _ (old new : Set) (good_old : WellFormed old) (good_new : WellFormed new) (none : Compatible old new) where
+  configured : (machine : Option (List ℕ)) → IfSome machine (λ m. is_one_of old.machines m ≡ true) → IsConfiguration new.machines machine (optional configuration machine)
+  configured None h = refl
+  configured (Some name) h =
+      let r = rules old new good_old good_new none in
+      (every_one (is_one_of new.machines) old.machines name r.machines h, omega (arith, machine_short old good_old name h), refl)
+
+  one_each : (images : List Image) → length (carried old new images) ≡ length new.devices
+  unfolding carried
+  one_each images = length-map new.devices _
+
+  stream : (machine text : Option (List ℕ)) (images : List Image) → IfSome machine (λ m. is_one_of old.machines m ≡ true) → IfSome text (λ t. length t ≤ longest_text)
+      → AreReady old images → IsStream new new.machines (written old machine images text) machine (carried old new images) text
+  stream machine text images named short ready = record {
+    named = optional configuration machine;
+    configured = configured machine named;
+    one_each = one_each images;
+    order = device_order new old.devices;
+    each_once = each_once old new good_old good_new none;
+    sections = written_sections old 0 old.devices images;
+    footed = true;
+    bare = λ e. cc;
+    spelled = spell old new good_old good_new none images 0 old.devices images ready.one_each
+        (λ j. let s : 0 + j ≡ j = omega arith in ap (λ (k : ℕ). slice_get old.devices k) s)
+        (λ j. let s : 0 + j ≡ j = omega arith in ap (λ (k : ℕ). get_or images k (no_image old new)) s)
+        ready.ready (omega (arith, few_devices old good_old));
+    tail = optional trailer text;
+    described = trailed text short;
+    whole = refl;
+  }
+
+pub upgrade_stands : UpgradeLaw
+upgrade_stands old new well_old well_new compatible machine text images named short ready =
+    let s = stream old new well_old well_new compatible machine text images named short ready in
+    record {
+      stream = s;
+      taken = λ rest all. record { bytes = written old machine images text; text = text; stream = s; rest = rest; prefix = refl; long = refl; all = all };
+    }

@@ -6,7 +6,7 @@ use Rattle.vms_check_laws.proofs.Facade.{struct_slots, struct_cells_at, presence
 use Rattle.vms_check_laws.proofs.Facade.{Carrier, no_carrier, carrier_of, carriers, carry_desc, carry_from, carry_next, entries_left, Holds, FitsAt, Carries}
 use Rattle.vms_spec.specs.declared.Part.TheVariants as parts
 use Rattle.vms_check_laws.proofs.Pairing.{cells_in}
-use Rattle.vms_check_laws.proofs.Settling.{Settled}
+use Rattle.vms_check_laws.proofs.PairLists.{Settled}
 use Rattle.vms_check_laws.proofs.Linking.{defaults_size, carry_field_size}
 use Rattle.vms_check_laws.proofs.Premises.{Table, NewFields, RulesNamed, by_less, OldFields}
 use Rattle.vms_check_laws.proofs.Descriptions.{desc_reads}

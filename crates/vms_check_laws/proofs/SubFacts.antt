@@ -8,8 +8,7 @@ use Rattle.vms_check_laws.proofs.Facade.{IsSaved, FitsAt, or_else_none}
 use Rattle.vms_spec.specs.declared.Part.TheVariants as parts
 use Rattle.vms_check_laws.proofs.Segments.{fits_left, fits_right, rules_left, rules_right, one_on, at_first, from_zero}
 use Rattle.vms_check_laws.proofs.Good.{sub_good}
-use Rattle.vms_check_laws.proofs.Parts.{good_cells}
-use Rattle.vms_check_laws.proofs.Subsections.{Came, Stayed, Facts}
+use Rattle.vms_check_laws.proofs.Parts.{good_cells, Came, Stayed, Facts}
 use Rattle.vms_check_laws.proofs.PairDevices.{found as found_sub}
 
 -- where there is no first answer, the one on each has none

@@ -7,12 +7,11 @@ use Rattle.vms_check_laws.proofs.Facade.{written_section, find_sub, index, is_ve
 use Rattle.vms_check_laws.proofs.Facade.{carried_sub, carried_device, defaults, sub_came, sub_found, defaults_at, version_is, rules_append, IsSaved, Holds}
 use Rattle.vms_check_laws.proofs.Facade.{FitsAt}
 use Rattle.vms_check_laws.proofs.Segments.{holds_left, holds_right, holds_at, fits_left, rules_left, one_on, at_first, from_zero}
-use Rattle.vms_check_laws.proofs.Settling.{Settled, settled_append}
+use Rattle.vms_check_laws.proofs.PairLists.{Settled, settled_append}
 use Rattle.vms_check_laws.proofs.Fitting.{fit_append, fit_length, are_fit}
 use Rattle.vms_check_laws.proofs.Good.{device_good}
-use Rattle.vms_check_laws.proofs.Parts.{part_carries, part_fits, part_settles}
+use Rattle.vms_check_laws.proofs.Parts.{part_carries, part_fits, part_settles, Came, Facts, subs_fit, subs_read, sub_held, sub_carries}
 use Rattle.vms_check_laws.proofs.Orders.{Among, NotIn, Apart, Come, comes_once, found_same}
-use Rattle.vms_check_laws.proofs.Subsections.{Came, Facts, subs_fit, subs_read, sub_held, sub_carries}
 use Rattle.vms_check_laws.proofs.SubFacts.{none_at, fits_whole, came_of, came_is, facts}
 use Rattle.vms_check_laws.proofs.PairDevices.{found as found_sub}
 

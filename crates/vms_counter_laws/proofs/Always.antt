@@ -29,13 +29,13 @@ use Rattle.vms_check.specs.Reducing.{presence, reduced}
 use Rattle.vms_check.specs.Comparing.{compare_device, compare_fields, comparers, Comparer, Entry, first_mismatch, is_kept, present, position_from}
 use Rattle.vms_check_laws.specs.Segments.{FitsAt}
 use Rattle.vms_check_laws.proofs.Segments.{fits_left}
-use Rattle.vms_check_laws.proofs.AlignedWholes.{devices_clash}
+use Rattle.vms_check_laws.proofs.PositionRead.{devices_clash}
 use Rattle.vms_check_laws.proofs.Wholes.{at_map}
 use Rattle.vms_counter_laws.specs.Candidates.{default_images, lacking, machine_for}
 use Rattle.vms_counter_laws.specs.Counters.{stream_of, Shows}
 use Rattle.vms_counter_laws.specs.Laws.{IsPlain, AlwaysShown, OfMachine, OfVersion, OfConstant}
 use Rattle.vms_counter_laws.proofs.Inverted.{else_some, one_rule, struct_no_device, tables_within, IsDevice, OfDevice, of_device, Version as OfItsVersion, Own, Below, IsWithin, part_within, DeviceFails, device_fails, machine_fails}
-use Rattle.vms_check_laws.proofs.Partnered.{Pair, pair, compared}
+use Rattle.vms_check_laws.proofs.Streaming.{Pair, pair, compared}
 use Rattle.vms_counter_laws.proofs.Devices.{Comes, comes}
 use Rattle.vms_counter_laws.proofs.Heads.{same_head}
 use Rattle.vms_counter_laws.proofs.Clashing.{present_fields, clashes}
