@@ -58,10 +58,10 @@ module _ (ks : List Comparer) (a b : Desc) (v w : ℕ) (part part' : Part) (o n 
   pub good_first : (k : ℕ) (es fs : List Entry) → k ≤ length es → k ≤ length fs
       → ((q : ℕ) (e f : Entry) → q < k → slice_get es q ≡ Some e → slice_get fs q ≡ Some f → PairGood ks a b v w part part' o n e f) → GoodFirst k es fs
   good_first zero es fs le le' h = tt
-  good_first (suc k) [] fs le le' h = absurd (omega (arith, le))
-  good_first (suc k) (e ∷ es) [] le le' h = absurd (omega (arith, le'))
+  good_first (suc k) [] fs le le' h = absurd (omega arith)
+  good_first (suc k) (e ∷ es) [] le le' h = absurd (omega arith)
   good_first (suc k) (e ∷ es) (f ∷ fs) le le' h =
-      (h 0 e f (omega arith) refl refl, good_first k es fs (omega (arith, le)) (omega (arith, le')) (λ q x y lt. h (suc q) x y (omega (arith, lt))))
+      (h 0 e f (omega arith) refl refl, good_first k es fs (omega arith) (omega arith) (λ q x y lt. h (suc q) x y (omega arith)))
 
   -- no rule fails before two constants that differ
   abbrev pub Clashes : List Entry → List Entry → Type 0
@@ -107,9 +107,8 @@ module _ (ks : List Comparer) (cs : List Carrier) (ms ns : List Meaning) (a b : 
   covered_aligns : (i : Item) (c : Count) (j : Item) (d : Count) (caps caps' : List ℕ) (x y step step' : ℕ) → is_covered i c j ≡ true → IsSingle i c → IsSingle j d
       → SlotsAlign (times (elements_of c own) (item_slots ms i caps numbers) x step) (times (elements_of d own') (item_slots ns j caps' numbers') y step')
   covered_aligns i c j d caps caps' x y step step' covers single single' =
-      let slots = times (elements_of c own) (item_slots ms i caps numbers) x step in
       let s = covered_slots ms ns numbers numbers' own own' i c j d caps caps' x y step step' covers single single' in
-      subst (λ (l : List Slot). SlotsAlign slots l) (sym s.1) (aligns_filler numbers numbers' slots s.0 s.2)
+      rw s.1 (aligns_filler numbers numbers' (times (elements_of c own) (item_slots ms i caps numbers) x step) s.0 s.2)
 
   abbrev pub OldSlots : Entry → List Slot
   OldSlots e = slots_at ms a.fields v own numbers at e.index e.place e.field
@@ -135,9 +134,7 @@ module _ (ks : List Comparer) (cs : List Carrier) (ms ns : List Meaning) (a b : 
   one_same k l caps caps' x y e body r r' s h =
       let z = get_or numbers x (pos 0) in
       let u = get_or numbers' y (pos 0) in
-      let same = same_bytes numbers (Number x k caps ∷ []) numbers' (Number y l caps' ∷ []) (aligns_number numbers numbers' x y k l caps caps' e) body r r' s h in
-      let codes : code l u ≡ code k z = (apart (code l u) (code k z) [] s.0 (length-code l u ∙ ap width (sym e) ∙ sym (length-code k z)) (sym s.1 ∙ same)).0 in
-      same_code k z u (sym codes ∙ ap (λ (i : Kind). code i u) (sym e)) ∙ ap (λ (i : Kind). residue (width i) u) e
+      same_code k z u (sym ((apart (code l u) (code k z) [] s.0 (length-code l u ∙ ap width (sym e) ∙ sym (length-code k z)) (sym s.1 ∙ (same_bytes numbers (Number x k caps ∷ []) numbers' (Number y l caps' ∷ []) (aligns_number numbers numbers' x y k l caps caps' e) body r r' s h))).0) ∙ ap (λ (i : Kind). code i u) (sym e)) ∙ ap (λ (i : Kind). residue (width i) u) e
 
   number_same : (j i : Item) (d c : Count) (t t' : Bool) (caps caps' : List ℕ) (x y step step' : ℕ) → is_num j ≡ true → is_one d ≡ true → same_item i j ≡ true → same_count o n c d ≡ true → t ≡ true → t' ≡ true
       → (body r r' : List ℕ) → Spells numbers' (if t' then times (elements_of d own') (item_slots ns j caps' numbers') y step' else []) body
@@ -155,15 +152,12 @@ module _ (ks : List Comparer) (cs : List Carrier) (ms ns : List Meaning) (a b : 
         | inr m ↦ m
       ] in
       let rest' : f.rest ≡ None = steady_rest w f.field.test f.field.since f.rest s.test known'.left in
-      let rest : e.rest ≡ None = rest_none o n e.rest f.rest rest' m.rest in
       let there_is : is_there e.field.test e.field.since v own no_parent ≡ true =
-      known_there ms a.fields v numbers at e known rest own no_parent in
-      let there_is' : is_there f.field.test f.field.since w own' no_parent ≡ true =
-      known_there ns b.fields w numbers' at' f known' rest' own' no_parent in
+      known_there ms a.fields v numbers at e known (rest_none o n e.rest f.rest rest' m.rest) own no_parent in
       known.number
       ∙ number_same f.field.item e.field.item f.field.count e.field.count (is_there e.field.test e.field.since v own no_parent) (is_there f.field.test f.field.since w own' no_parent)
       (counted e.index a.fields) (counted f.index b.fields) (at + e.place) (at' + f.place) (length (item_cells (cells_in ms) e.field.item [] (pos 0))) (length (item_cells (cells_in ns) f.field.item [] (pos 0)))
-      s.item s.count m.item m.count there_is there_is' body r r' spells h
+      s.item s.count m.item m.count there_is (known_there ns b.fields w numbers' at' f known' rest' own' no_parent) body r r' spells h
       ∙ sym known'.number
 
   -- ---- position by position
@@ -186,8 +180,7 @@ module _ (ks : List Comparer) (cs : List Carrier) (ms ns : List Meaning) (a b : 
 
   same_next : (p : ℕ) (e f : Entry) (es fs : List Entry) → Upto o p (e ∷ es) → Upto n p (f ∷ fs) → Same p → (is_steady_in b f.index ≡ true → own e.index ≡ own' f.index) → Same (suc p)
   same_next p e f es fs up up' same here i j q named oi nj lt =
-      let le : q ≤ p = omega arith in
-      elim (eq-or-lt_of_le le) [
+      elim (eq-or-lt_of_le (omega arith)) [
         | inl is ↦
             let ei : e.index ≡ i = upto_here o p e es up i (oi ∙ ap Some is) in
             let fj : f.index ≡ j = upto_here n p f fs up' j (nj ∙ ap Some is) in
@@ -215,8 +208,7 @@ module _ (ks : List Comparer) (cs : List Carrier) (ms ns : List Meaning) (a b : 
     front_aligns (suc k) (e ∷ es) (f ∷ fs) p i good known known' old fits up up' above same = record {
       rests = λ body r r' s h.
           let more_old = olds (take k es) in
-          let more_new = news (take k fs) in
-          let t = spells_split numbers' (NewSlots f) more_new body s in
+          let t = spells_split numbers' (NewSlots f) (news (take k fs)) body s in
           let split = behind_first numbers (OldSlots e) more_old t.0 t.1 r r' (ap (λ (l : List ℕ). l ++ r') (sym t.2) ∙ h) in
           let here = pair_aligns (λ j. is_earlier_in b f.index j) e f (earlier_agree p i f fs up' above same)
           known.0 known'.0 good.0 old.0 (good_at named f known'.0) fits.0 in
@@ -230,8 +222,8 @@ module _ (ks : List Comparer) (cs : List Carrier) (ms ns : List Meaning) (a b : 
         → FitEntries ms a.fields v numbers at es → Upto o p es → Upto n p fs → Above i fs → Same p → Aligns numbers (olds es) numbers' (news fs)
     entries_align es fs p i zip known known' old fits up up' above same =
         let whole = zip_first ks a b v w part part' o n es fs zip in
-        subst (λ (l : List Entry). Aligns numbers (olds l) numbers' (news fs)) (take_all (length es) es (omega arith))
-        (subst (λ (l : List Entry). Aligns numbers (olds (take (length es) es)) numbers' (news l)) (take_all (length es) fs (omega (arith, whole.1)))
+        rw (← (take_all (length es) es (omega arith)))
+        (rw (← (take_all (length es) fs (omega arith)))
         (front_aligns (length es) es fs p i whole.0 known known' old fits up up' above same))
 
     -- ---- two constants that differ

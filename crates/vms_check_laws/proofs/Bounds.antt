@@ -18,7 +18,7 @@ Increasing low (f ∷ fs) = (low ≤ f.index) × Increasing (suc f.index) fs
 
 increasing_lower : (low high : ℕ) (fs : List Entry) → low ≤ high → Increasing high fs → Increasing low fs
 increasing_lower low high [] le h = tt
-increasing_lower low high (f ∷ fs) le h = (omega (arith, h.0), h.1)
+increasing_lower low high (f ∷ fs) le h = (omega arith, h.1)
 
 entry_increasing : (i p : ℕ) (f : Field) (pr : Option (Option Formula)) (fs : List Entry) → Increasing (suc i) fs → Increasing i (entry_of i p f pr ++ fs)
 entry_increasing i p f None fs h = increasing_lower i (suc i) fs (omega arith) h
@@ -44,8 +44,8 @@ module _ (o n : ℕ → Option ℕ) where
       | inl here ↦ sym here.0
       | inr later ↦ let bad : true ≡ false = sym (eq-eqb f.index f.index refl) ∙ later.0 in absurd (cc)
     ],
-    indexed (suc p) (suc f.index) es fs rising.1 (λ by j le k. elim (at_or_later by j p e f es fs (h by j (omega (arith, rising.0)) k)) [
-      | inl here ↦ absurd (omega (arith, here.1))
+    indexed (suc p) (suc f.index) es fs rising.1 (λ by j le k. elim (at_or_later by j p e f es fs (h by j (omega arith) k)) [
+      | inl here ↦ absurd (omega arith)
       | inr later ↦ later.1
     ]),
   )
@@ -54,21 +54,19 @@ module _ (o n : ℕ → Option ℕ) where
 
 at_most_least : (z : ℤ) (m : ℕ) (ms : List ℕ) → z ≤ℤ pos m → AllByRecursion (λ k. z ≤ℤ pos k) ms → z ≤ℤ pos (least_of m ms)
 at_most_least z m [] h all = h
-at_most_least (pos a) m (k ∷ ms) h all =
-    let h' : pos a ≤ℤ pos (min m k) = omega (arith, ints, h, all.0) in at_most_least (pos a) (min m k) ms h' all.1
-at_most_least (negsuc a) m (k ∷ ms) h all =
-    let h' : negsuc a ≤ℤ pos (min m k) = omega (arith, ints) in at_most_least (negsuc a) (min m k) ms h' all.1
+at_most_least (pos a) m (k ∷ ms) h all = at_most_least (pos a) (min m k) ms (omega (arith, ints)) all.1
+at_most_least (negsuc a) m (k ∷ ms) h all = at_most_least (negsuc a) (min m k) ms (omega (arith, ints)) all.1
 
 greatest_kind : (kind : Kind) → highest kind ≡ pos (greatest (Num kind))
 greatest_kind U8 = refl
 greatest_kind _ = refl
 
 pub at_most_bound : (kind : Kind) (caps : List ℕ) (z : ℤ) → z ≤ℤ highest kind → AllByRecursion (λ k. z ≤ℤ pos k) caps → z ≤ℤ pos (bound (Num kind) caps)
-at_most_bound kind [] z h all = subst (λ (u : ℤ). z ≤ℤ u) (greatest_kind kind) h
+at_most_bound kind [] z h all = rw (← (greatest_kind kind)) h
 at_most_bound kind (m ∷ ms) z h all = at_most_least z m ms all.0 all.1
 
 pub at_most_more : (z : ℤ) (m k : ℕ) → z ≤ℤ pos m → m ≤ k → z ≤ℤ pos k
-at_most_more (pos a) m k h le = omega (arith, ints, h)
+at_most_more (pos a) m k h le = omega (arith, ints)
 at_most_more (negsuc a) m k h le = omega (arith, ints)
 
 all_counted : (P : ℕ → Type 0) (by : ℕ) (gs : List Field) → ((most : ℕ) → HasArray by most gs → P most) → AllByRecursion P (counted by gs)
@@ -100,7 +98,7 @@ pub record Paired (o n : ℕ → Option ℕ) (c : Count) (i most : ℕ) : Type 0
 
 paired : (o n : ℕ → Option ℕ) (c d : Count) (i most : ℕ) → d ≡ Counted i most → same_count o n c d ≡ true → holds_as_much c d ≡ true → Paired o n c i most
 paired o n c d i most e same room =
-    at_count c (subst (λ (x : Count). same_count o n c x ≡ true) e same) (subst (λ (x : Count). holds_as_much c x ≡ true) e room) where
+    at_count c (rw (← e) same) (rw (← e) room) where
       at_count : (c : Count) → same_count o n c (Counted i most) ≡ true → holds_as_much c (Counted i most) ≡ true → Paired o n c i most
       at_count (Counted by most') h k = record { by = by; most' = most'; is = refl; same = h; room = leb-true most' most k }
       at_count _ h k = absurd (cc)
@@ -129,8 +127,7 @@ module _ (ks : List Comparer) (a b : Desc) (v w : ℕ) (part part' : Part) (o n 
         | inl c ↦ absurd (no_array f.field.count j most (covered_one e.field.item e.field.count f.field.item f.field.count c.covers single) is)
         | inr m ↦
             let p = paired o n e.field.count f.field.count j most is m.count m.room in
-            let has : HasArray p.by p.most' a.fields = array_of a.fields e.index p.by p.most' e.field stands p.is in
-            let has_i : HasArray i p.most' a.fields = subst (λ (k : ℕ). HasArray k p.most' a.fields) (at_i p.by p.same) has in
+            let has_i : HasArray i p.most' a.fields = rw (← (at_i p.by p.same)) (array_of a.fields e.index p.by p.most' e.field stands p.is) in
             at_most_more z p.most' most (counted_has (λ m. z ≤ℤ pos m) i p.most' a.fields has_i all) p.room
       ]
 
@@ -183,6 +180,6 @@ module _ (ks : List Comparer) (a b : Desc) (v w : ℕ) (part part' : Part) (o n 
       → AllByRecursion (λ m. z ≤ℤ pos m) (counted f.index b.fields)
   caps_follow cs kind es e f z is at_e m high caps zipped stands single =
       let bnd = bound e.field.item (counted e.index a.fields) in
-      let le : z ≤ℤ pos bnd = subst (λ (i : Item). z ≤ℤ pos (bound i (counted e.index a.fields))) (sym is) (at_most_bound kind (counted e.index a.fields) z high caps) in
+      let le : z ≤ℤ pos bnd = rw is (at_most_bound kind (counted e.index a.fields) z high caps) in
       let arrays = fits_arrays z e.index f.index es (present_from cs b.fields w 0 0 b.fields) at_e caps zipped stands single in
       all_counted (λ m. z ≤ℤ pos m) f.index b.fields (λ most has. each_array cs b.fields z f.index bnd 0 0 b.fields le m.absent arrays most has)

@@ -11,13 +11,13 @@ is_some_of None k = inr (λ e. cc)
 is_some_of (Some j) k = go (j == k) refl where
   go : (b : Bool) → (j == k) ≡ b → (Some j ≡ Some k) ⊎ (Some j ≡ Some k → ⊥)
   go true e = inl (ap (λ (n : ℕ). Some n) (eqb-true j k e))
-  go false e = inr (λ f. (let same : j ≡ k = cc in let g = eq-eqb j k same in cc))
+  go false e = inr (λ f. (let g = eq-eqb j k cc in cc))
 
 search_in : (ps : List (Option ℕ)) (k : ℕ) → ((c : ℕ) × (slice_get ps c ≡ Some (Some k))) ⊎ ((c : ℕ) → slice_get ps c ≡ Some (Some k) → ⊥)
 search_in [] k = inr (λ c e. cc)
 search_in (o ∷ ps) k = go (is_some_of o k) (search_in ps k) where
   none : (o ≡ Some k → ⊥) → ((c : ℕ) → slice_get ps c ≡ Some (Some k) → ⊥) → (c : ℕ) → slice_get (o ∷ ps) c ≡ Some (Some k) → ⊥
-  none a b zero e = let f : o ≡ Some k = cc in a f
+  none a b zero e = a cc
   none a b (suc c) e = b c e
 
   go : ((o ≡ Some k) ⊎ (o ≡ Some k → ⊥)) → (((c : ℕ) × (slice_get ps c ≡ Some (Some k))) ⊎ ((c : ℕ) → slice_get ps c ≡ Some (Some k) → ⊥))
@@ -29,9 +29,7 @@ search_in (o ∷ ps) k = go (is_some_of o k) (search_in ps k) where
 module _ (old new : Set) (good_old : WellFormed old) (good_new : WellFormed new) (i : ℕ) (d e : Device) (there : slice_get old.devices i ≡ Some d) (image : Image) where
   one_carried : (a b : List ℤ) → IsCarried old new d e image a → IsCarried old new d e image b → a ≡ b
   one_carried a b p q =
-      let long = p.long in
-      let long' = q.long in
-      ext_get_or (pos 0) a b (omega (arith, long, long')) (λ k lt. each k (omega (arith, lt, long)) (search_in (device_partners old new d e) k))
+      ext_get_or (pos 0) a b (omega arith) (λ k lt. each k (omega arith) (search_in (device_partners old new d e) k))
     where
       by_has : (k c : ℕ) → k < length (device_cells new e) → slice_get (device_partners old new d e) c ≡ Some (Some k) → (h : Bool) → has_cell (image_slots old d image) c ≡ h → get_or a k (pos 0) ≡ get_or b k (pos 0)
       by_has k c lt f true h = p.taken c k f h ∙ sym (q.taken c k f h)

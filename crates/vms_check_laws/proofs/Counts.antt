@@ -53,13 +53,13 @@ single_at cs all [] i k numbers at g e s fits = absurd (cc)
 single_at cs all (f ∷ fs) i zero numbers at g e s fits =
     let same : f ≡ g = cc in
     let z : i ≡ i + 0 = omega arith in
-    let at_f : Steady f = subst (λ (x : Field). Steady x) (sym same) s in
-    subst (λ (x : Field). Single (kind_of x.item) (counted (i + 0) all) x.default (residue (width (kind_of f.item)) (get_or numbers at (pos 0)))) same
-    (subst (λ (k : ℕ). Single (kind_of f.item) (counted k all) f.default (residue (width (kind_of f.item)) (get_or numbers at (pos 0)))) z
+    let at_f : Steady f = rw same s in
+    rw (← same)
+    (rw (← z)
     (record { number = get_or numbers at (pos 0); fits = first_fits cs f.item f.count (counted i all) f.default (cells_from cs all (suc i) fs) numbers at at_f.item at_f.count fits; is = refl }))
 single_at cs all (f ∷ fs) i (suc k) numbers at g e s fits =
     let z : suc i + k ≡ i + suc k = omega arith in
-    subst (λ (n : ℕ). Single (kind_of g.item) (counted n all) g.default (field_number cs all fs (suc i) numbers (at + length (field_cells cs all i f)) k)) z
+    rw (← z)
     (single_at cs all fs (suc i) k numbers (at + length (field_cells cs all i f)) g e s (fits_right (field_cells cs all i f) (cells_from cs all (suc i) fs) numbers at fits))
 
 abbrev pub IsCounting : Item → Type 0
@@ -92,8 +92,7 @@ count_fits cs all numbers at by most c has fits =
     let z : 0 + by ≡ by = omega arith in
     let caps : AllByRecursion (λ m. s.number ≤ℤ pos m) (counted by all) = subst (λ (k : ℕ). AllByRecursion (λ m. s.number ≤ℤ pos m) (counted k all)) z s.fits.1 in
     let high = counted_has (λ m. s.number ≤ℤ pos m) by most all has caps in
-    let le = counting_below c.field.item (counted (0 + by) all) c.field.default s.number most c.kind s.fits high in
-    subst (λ (k : ℕ). k ≤ most) (sym s.is) le
+    rw s.is (counting_below c.field.item (counted (0 + by) all) c.field.default s.number most c.kind s.fits high)
 
 -- ---- what old's fields need, without numbers
 

@@ -66,9 +66,8 @@ module _ (ks : List Comparer) (cs : List Carrier) (ms ns : List Meaning) (a b : 
       (held : Holds numbers' at' (carry_desc cs (cells_in ms) (cells_in ns) numbers v w a b at)) where
     link : Linked ks a b v w part part' o n cs (cells_in ms) (cells_in ns) numbers numbers' own at at' below' table.sized es fs
     link =
-        let z : at' ≡ at' + 0 = omega arith in
         linked ks a b v w part part' o n cs (cells_in ms) (cells_in ns) numbers numbers' own at at' below' table.sized 0 0 b.fields es (fields_below b.fields new)
-        (zip_of ks a b v w part part' o n es fs (pairs_hold none).0) (holds_at numbers' at' (at' + 0) (carry_desc cs (cells_in ms) (cells_in ns) numbers v w a b at) z held)
+        (zip_of ks a b v w part part' o n es fs (pairs_hold none).0) (holds_at numbers' at' (at' + 0) (carry_desc cs (cells_in ms) (cells_in ns) numbers v w a b at) (omega arith) held)
 
     agree : Agree o n (is_steady_in b) own own'
     agree i j named h = agree_from ks cs ms ns a b v w part part' o n numbers numbers' at at' below below' table i j 0 es fs link (all_known ms a.fields v numbers at) (all_known ns b.fields w numbers' at') named h
@@ -100,15 +99,14 @@ module _ (ks : List Comparer) (cs : List Carrier) (ms ns : List Meaning) (a b : 
         (all_fit fits)
         (λ j q e. inr e) (λ j q e. inr e) (present_above (cells_in ns) b.fields w 0 0 b.fields) (λ i j q steady oi nj lt. absurd (omega arith)) in
         aligns_append numbers numbers' _ _ (Rule (all_hold a.validate v own) ∷ []) (Rule (all_hold b.validate w own') ∷ [])
-        (subst (λ (l : List Slot). Aligns numbers l numbers' (slots_from ns b.fields w own' numbers' 0 at' b.fields)) (sym old_same)
-        (subst (λ (l : List Slot). Aligns numbers (entries_slots ms a.fields v own numbers at es) numbers' l) (sym new_same) body))
+        (rw old_same
+        (rw new_same body))
         (aligns_rule numbers numbers' (all_hold a.validate v own) (all_hold b.validate w own'))
 
     pub desc_clashes : Clashes ks a b v w part part' o n es fs → (body r r' : List ℕ) → Spells numbers' (desc_slots ns b w numbers' at') body → body ++ r' ≡ zeroed numbers (desc_slots ms a v numbers at) ++ r → ⊥
     desc_clashes clashes body r r' s h =
         let rule = Rule (all_hold a.validate v own) ∷ [] in
-        let rule' = Rule (all_hold b.validate w own') ∷ [] in
-        let t = spells_split numbers' (slots_from ns b.fields w own' numbers' 0 at' b.fields) rule' body s in
+        let t = spells_split numbers' (slots_from ns b.fields w own' numbers' 0 at' b.fields) (Rule (all_hold b.validate w own') ∷ []) body s in
         let split = behind_first numbers (slots_from ms a.fields v own numbers 0 at a.fields) rule t.0 t.1 r r' (ap (λ (l : List ℕ). l ++ r') (sym t.2) ∙ h) in
         entries_clash ks cs ms ns a b v w part part' o n numbers numbers' at at' below below' table rows named es fs 0 0 clashes
         (all_known ms a.fields v numbers at) (all_known ns b.fields w numbers' at')
@@ -116,5 +114,5 @@ module _ (ks : List Comparer) (cs : List Carrier) (ms ns : List Meaning) (a b : 
         (all_fit fits)
         (λ j q e. inr e) (λ j q e. inr e) (present_above (cells_in ns) b.fields w 0 0 b.fields) (λ i j q steady oi nj lt. absurd (omega arith))
         t.0 (zeroed numbers rule ++ r) (t.1 ++ r')
-        (subst (λ (l : List Slot). Spells numbers' l t.0) new_same t.3)
+        (rw (← new_same) t.3)
         (split ∙ ap (λ (l : List Slot). zeroed numbers l ++ (zeroed numbers rule ++ r)) old_same)

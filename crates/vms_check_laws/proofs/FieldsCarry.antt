@@ -103,9 +103,8 @@ module _ (ks : List Comparer) (cs : List Carrier) (ms ns : List Meaning) (a b : 
   covered_carries : (i : Item) (c : Count) (j : Item) (d : Count) (caps caps' : List ℕ) (x y step step' : ℕ) → is_covered i c j ≡ true → IsSingle i c → IsSingle j d
       → Carries numbers (times (elements_of c own) (item_slots ms i caps numbers) x step) numbers' (times (elements_of d own') (item_slots ns j caps' numbers') y step')
   covered_carries i c j d caps caps' x y step step' covers single single' =
-      let slots = times (elements_of c own) (item_slots ms i caps numbers) x step in
       let s = covered_slots ms ns numbers numbers' own own' i c j d caps caps' x y step step' covers single single' in
-      subst (λ (l : List Slot). Carries numbers slots numbers' l) (sym s.1) (carries_filler numbers numbers' slots s.0 s.2)
+      rw s.1 (carries_filler numbers numbers' (times (elements_of c own) (item_slots ms i caps numbers) x step) s.0 s.2)
 
   -- a present field of new, with the rest of its test
   pub record EntryGood (f : Entry) : Type 0 where
@@ -140,7 +139,7 @@ module _ (ks : List Comparer) (cs : List Carrier) (ms ns : List Meaning) (a b : 
         elim (decoded ks a b v w part part' o n e f good) [
           | inl c ↦ when_there there_e there_f (slots_of e) (slots_in (elements_of f.field.count own') f) (same c.rest) (λ is. covers c)
           | inr m ↦ when_there there_e there_f (slots_of e) (slots_in (elements_of f.field.count own') f) (same m.rest)
-              (λ is. subst (λ (k : ℕ). P (slots_of e) (slots_in k f)) (same_elements e.field.count f.field.count agree old.count new.count m.count m.room) (items m is))
+              (λ is. rw (← (same_elements e.field.count f.field.count agree old.count new.count m.count m.room)) (items m is))
         ]
 
   pub pair_carries : (e f : Entry) → Agree o n ok own own' → IsKnown ms a.fields v numbers at e → IsKnown ns b.fields w numbers' at' f → PairGood ks a b v w part part' o n e f
@@ -149,11 +148,10 @@ module _ (ks : List Comparer) (cs : List Carrier) (ms ns : List Meaning) (a b : 
       → Carries numbers (slots_at ms a.fields v own numbers at e.index e.place e.field) numbers' (slots_at ns b.fields w own' numbers' at' f.index f.place f.field)
   pair_carries e f agree known known' good held old new fits =
       let step = length (item_cells (cells_in ms) e.field.item [] (pos 0)) in
-      let step' = length (item_cells (cells_in ns) f.field.item [] (pos 0)) in
       let caps = counted e.index a.fields in
       let caps' = counted f.index b.fields in
       pair_by (λ xs ys. Carries numbers xs numbers' ys) (carries_nil numbers numbers') e f agree known known' good old new
-      (λ c. covered_carries e.field.item e.field.count f.field.item f.field.count caps caps' (at + e.place) (at' + f.place) step step' c.covers old.single new.single)
+      (λ c. covered_carries e.field.item e.field.count f.field.item f.field.count caps caps' (at + e.place) (at' + f.place) step (length (item_cells (cells_in ns) f.field.item [] (pos 0))) c.covers old.single new.single)
       (λ m is. items_carry e.field.item f.field.item caps caps' e.field.default f.field.default (elements_of e.field.count own) (capacity_of e.field.count) (capacity_of f.field.count) 0 0
       (at + e.place) (at' + f.place) m.item m.constant good.structs old.item new.item (elements_fit e.field.count own) (elements_room e.field.count f.field.count m.count m.room) fits
       (subst (λ (t : Bool). Holds numbers' (at' + f.place) (carry_items cs (cells_in ms) (cells_in ns) numbers e.field.item f.field.item (defaults (item_cells (cells_in ns) f.field.item [] f.field.default)) step

@@ -32,9 +32,8 @@ module _ (ks : List Comparer) (cs : List Carrier) (ms ns : List Meaning) (a b : 
       → Holds numbers' y (carry_items cs (cells_in ms) (cells_in ns) numbers i j (defaults (item_cells (cells_in ns) j [] z)) step (if t then elements_of c own else 0) (capacity_of d) x)
       → residue (width (kind_of i)) (get_or numbers x (pos 0)) ≡ residue (width (kind_of j)) (get_or numbers' y (pos 0))
   number_pair (Num l) (Num k) One One z true step x y num one same counts there_is held =
-      let kinds : k ≡ l = kinds_same k l same in
       let zero_more : y + 0 ≡ y = omega arith in
-      ap (λ (i : Kind). residue (width i) (get_or numbers x (pos 0))) kinds
+      ap (λ (i : Kind). residue (width i) (get_or numbers x (pos 0))) (kinds_same k l same)
       ∙ ap (λ (u : ℤ). residue (width l) u) (sym (one_number (same_kind k l) numbers' y (get_or numbers x (pos 0)) z same held))
       ∙ ap (λ (p : ℕ). residue (width l) (get_or numbers' p (pos 0))) zero_more
   number_pair _ _ _ _ z _ step x y num one same counts there_is held = absurd (cc)
@@ -70,7 +69,7 @@ module _ (ks : List Comparer) (cs : List Carrier) (ms ns : List Meaning) (a b : 
   number_settles true l caps' caps2 z d y = record {
     each = λ c lt.
         let e : y ≡ y + c = omega arith in
-        inl (subst (λ (k : ℕ). has_cell (Number y l caps' ∷ []) k ≡ true) e (has_itself y l caps'));
+        inl (rw (← e) (has_itself y l caps'));
   }
   number_settles false l caps' caps2 z d y = settled_defaults (Number y l caps' ∷ []) y (record { kind = l; capacities = caps2; default = d } ∷ [])
 
@@ -119,8 +118,7 @@ module _ (ks : List Comparer) (cs : List Carrier) (ms ns : List Meaning) (a b : 
       → Settled (if t then times m' (item_slots ns j caps' numbers') y (length (item_cells (cells_in ns) j [] (pos 0))) else []) y (times most' (λ _. item_cells (cells_in ns) j caps2 d') 0 0)
       (carry_items cs (cells_in ms) (cells_in ns) numbers i j (defaults (item_cells (cells_in ns) j [] d')) (length (item_cells (cells_in ms) i [] (pos 0))) (if s then m else 0) most' x)
   choice_settles i j true true caps caps' caps2 d d' m m' most most' x y st mm same structs below_a below_b le le' fits held =
-      subst (λ (k : ℕ). Settled (times k (item_slots ns j caps' numbers') y (length (item_cells (cells_in ns) j [] (pos 0)))) y (times most' (λ _. item_cells (cells_in ns) j caps2 d') 0 0)
-      (carry_items cs (cells_in ms) (cells_in ns) numbers i j (defaults (item_cells (cells_in ns) j [] d')) (length (item_cells (cells_in ms) i [] (pos 0))) m most' x)) mm
+      rw (← mm)
       (items_settle i j caps caps' caps2 d d' m most most' 0 0 0 0 x y same structs below_a below_b le le' fits held)
   choice_settles i j false false caps caps' caps2 d d' m m' most most' x y st mm same structs below_a below_b le le' fits held =
       items_settle i j caps caps' caps2 d d' 0 most most' 0 0 0 0 x y same structs below_a below_b (omega arith) (omega arith) fits held
@@ -154,15 +152,12 @@ module _ (ks : List Comparer) (cs : List Carrier) (ms ns : List Meaning) (a b : 
       (carry_next cs (cells_in ms) (cells_in ns) numbers own v at b.fields i g pr es ++ rest (entries_left cs (cells_in ms) (cells_in ns) numbers pr es))
   settle_next i p g None es after slots rest cells agree lt all go =
       let size = defaults_size (field_cells (cells_in ns) b.fields i g) in
-      let e : at' + (p + length (field_cells (cells_in ns) b.fields i g)) ≡ (at' + p) + length (default_field cs (cells_in ms) (cells_in ns) numbers b.fields i g) = omega (arith, size) in
-      settled_append size (settled_defaults (slots_at ns b.fields w own' numbers' at' i p g) (at' + p) (field_cells (cells_in ns) b.fields i g)) e (go es all)
+      settled_append size (settled_defaults (slots_at ns b.fields w own' numbers' at' i p g) (at' + p) (field_cells (cells_in ns) b.fields i g)) (omega arith) (go es all)
   settle_next i p g (Some left) [] after slots rest cells agree lt all go = absurd all.linked
   settle_next i p g (Some left) (x ∷ es) after slots rest cells agree lt all go =
-      let first = carry_field cs (cells_in ms) (cells_in ns) numbers own v at x g in
-      let size : length first ≡ length (field_cells (cells_in ns) b.fields i g) =
+      let size : length (carry_field cs (cells_in ms) (cells_in ns) numbers own v at x g) ≡ length (field_cells (cells_in ns) b.fields i g) =
       carry_field_size ks a b v w part part' o n cs (cells_in ms) (cells_in ns) numbers numbers' own at at' below' table.sized x b.fields i g lt in
-      let e : at' + (p + length (field_cells (cells_in ns) b.fields i g)) ≡ (at' + p) + length first = omega (arith, size) in
-      settled_append size (pair_settles x (record { index = i; place = p; field = g; rest = left }) agree all.known.0 all.known'.0 all.linked.0.0 all.linked.0.1 all.old.0 all.new.0 all.fits.0) e
+      settled_append size (pair_settles x (record { index = i; place = p; field = g; rest = left }) agree all.known.0 all.known'.0 all.linked.0.0 all.linked.0.1 all.old.0 all.new.0 all.fits.0) (omega arith)
       (go es (record { linked = all.linked.1; known = all.known.1; known' = all.known'.1; old = all.old.1; new = all.new.1; fits = all.fits.1 }))
 
   pub fields_settle : (i p : ℕ) (gs : List Field) (es : List Entry) → Agree o n ok own own' → FieldsBelow below' gs
@@ -172,7 +167,5 @@ module _ (ks : List Comparer) (cs : List Carrier) (ms ns : List Meaning) (a b : 
   fields_settle i p (g ∷ gs) es agree lt all =
       let len = length (field_cells (cells_in ns) b.fields i g) in
       let e : at' + (p + len) ≡ (at' + p) + len = omega arith in
-      let after = present_from (cells_in ns) b.fields w (suc i) (p + len) gs in
-      let slots = slots_from ns b.fields w own' numbers' (suc i) (at' + (p + len)) gs in
-      rw e at (settle_next i p g (presence w g.test g.since) es after slots (λ es'. carry_from cs (cells_in ms) (cells_in ns) numbers own v w at b.fields (suc i) gs es')
+      rw e at (settle_next i p g (presence w g.test g.since) es (present_from (cells_in ns) b.fields w (suc i) (p + len) gs) (slots_from ns b.fields w own' numbers' (suc i) (at' + (p + len)) gs) (λ es'. carry_from cs (cells_in ms) (cells_in ns) numbers own v w at b.fields (suc i) gs es')
       (cells_from (cells_in ns) b.fields (suc i) gs) agree lt.0 all (λ es' all. fields_settle (suc i) (p + len) gs es' agree lt.1 all))

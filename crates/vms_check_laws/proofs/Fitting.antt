@@ -29,7 +29,7 @@ pub fit_length : (xs : List Cell) (zs : List ℤ) → FitCells xs zs → length 
 fit_length [] [] h = refl
 fit_length [] (z ∷ zs) h = absurd h
 fit_length (x ∷ xs) [] h = absurd h
-fit_length (x ∷ xs) (z ∷ zs) h = ap (λ (n : ℕ). suc n) (fit_length xs zs h.1)
+fit_length (x ∷ xs) (z ∷ zs) h = rw (fit_length xs zs h.1)
 
 fit_each : (xs : List Cell) (zs : List ℤ) → FitCells xs zs → (c : ℕ) → c < length xs → FitsCell (get_or xs c no_cell) (get_or zs c (pos 0))
 fit_each [] zs h c lt = absurd (omega arith)
@@ -93,7 +93,7 @@ module _ (ks : List Comparer) (cs : List Carrier) (x y : List (List Cell)) (ms :
     (below below' : ℕ) (table : FitTable ks cs x y numbers below below') where
   number_fits : (c : Bool) (k l : Kind) (caps caps' : List ℕ) (d' z : ℤ) → same_kind k l ≡ c → FitsCell (record { kind = l; capacities = caps'; default = d' }) d' → InRange k z
       → (c ≡ true → AllByRecursion (λ m. z ≤ℤ pos m) caps') → FitCells (record { kind = l; capacities = caps'; default = d' } ∷ []) (if c then z ∷ [] else d' ∷ [])
-  number_fits true k l caps caps' d' z same good range follow = ((subst (λ (i : Kind). InRange i z) (kinds_same k l same) range, follow refl), tt)
+  number_fits true k l caps caps' d' z same good range follow = ((rw (← (kinds_same k l same)) range, follow refl), tt)
   number_fits false k l caps caps' d' z same good range follow = (good, tt)
 
   fallback_fits : (j : Item) (caps' : List ℕ) (d' : ℤ) → GoodCells (item_cells y j caps' d') → FitCells (item_cells y j caps' d') (defaults (item_cells y j [] d'))
@@ -247,9 +247,8 @@ module _ (ks : List Comparer) (cs : List Carrier) (ms : List Meaning) (y : List 
   readies i p (g ∷ gs) h fits =
       let first = field_cells x a.fields i g in
       let more = cells_from x a.fields (suc i) gs in
-      let e : (at + p) + length first ≡ at + (p + length first) = omega arith in
       ready_entry i p g (presence v g.test g.since) _ h.0 (fits_left first more numbers (at + p) fits)
-      (readies (suc i) (p + length first) gs h.1 (fits_at more numbers _ _ e (fits_right first more numbers (at + p) fits)))
+      (readies (suc i) (p + length first) gs h.1 (fits_at more numbers _ _ (omega arith) (fits_right first more numbers (at + p) fits)))
 
   pub desc_fits : compare_desc ks x y a b v w part part' ≡ None → OldFields below own a.fields → NewFields below' (is_steady_in b) b.fields → DefaultsGood b.fields 0 b.fields
       → FitsAt (desc_cells x a) numbers at → FitCells (desc_cells y b) (carry_desc cs x y numbers v w a b at)

@@ -23,8 +23,7 @@ use Rattle.vms_check_laws.proofs.Structures.{carrier_at}
 within_of : (at : ℕ) (cells : List Cell) (slots : List Slot) → IsAbove at slots → AreCells (replicate at no_cell ++ cells) slots → IsWithin at (length cells) slots
 within_of at cells slots above are = record {
   in_range = λ c e.
-      let high = named_inside (replicate at no_cell ++ cells) slots c are e in
-      (low c e (cases_lt c at), omega (arith, high, skip_long at cells));
+      (low c e (cases_lt c at), omega (arith, named_inside (replicate at no_cell ++ cells) slots c are e, skip_long at cells));
 } where
   low : (c : ℕ) → has_cell slots c ≡ true → (c < at) ⊎ (at ≤ c) → at ≤ c
   low c e (inl lt) = let f = above.below c lt in absurd (cc)
@@ -80,9 +79,7 @@ module _ (structs : List Pairer) (cs : List Carrier) (ms : List Meaning) (y : Li
     carry_none : (a b : Item) (caps' : List ℕ) (d' : ℤ) (step m at q t : ℕ) → carry_items cs x y numbers a b (defaults (item_cells y b [] d')) step 0 m at ≡ defaults (times m (λ _. item_cells y b caps' d') q t)
     carry_none a b caps' d' step zero at q t = refl
     carry_none a b caps' d' step (suc m) at q t =
-        ap (λ (l : List ℤ). l ++ carry_items cs x y numbers a b (defaults (item_cells y b [] d')) step 0 m at) (same_defaults y b [] caps' d')
-        ∙ ap (λ (l : List ℤ). defaults (item_cells y b caps' d') ++ l) (carry_none a b caps' d' step m at (q + t) t)
-        ∙ sym (defaults_append (item_cells y b caps' d') (times m (λ _. item_cells y b caps' d') (q + t) t))
+        rw (same_defaults y b [] caps' d', carry_none a b caps' d' step m at (q + t) t) (sym (defaults_append (item_cells y b caps' d') (times m (λ _. item_cells y b caps' d') (q + t) t)))
 
     array_goes : (a b : Item) (caps caps' : List ℕ) (d d' : ℤ) (most n m at at' p s q t : ℕ) → n ≤ most → ItemBelow k a → ItemBelow k' b
         → Goes (times most (λ _. item_cells x a caps d) p s) (times m (λ _. item_cells y b caps' d') q t) numbers (times n (item_slots ms a caps numbers) at (item_size x a)) at at'
@@ -92,7 +89,7 @@ module _ (structs : List Pairer) (cs : List Carrier) (ms : List Meaning) (y : Li
     array_goes a b caps caps' d d' zero (suc n) m at at' p s q t le lt lt' = absurd (omega arith)
     array_goes a b caps caps' d d' (suc most) (suc n) zero at at' p s q t le lt lt' =
         let e : item_size x a ≡ length (item_cells x a caps d) = sym (size_same x a caps d) in
-        goes_append (goes_alone {others = []} (item_size x a) e (item_within a caps d at) refl) (omega (arith, e)) (omega arith) (none_left a b caps caps' d d' most n (at + item_size x a) at' (p + s) s q t (omega arith) lt lt')
+        goes_append (goes_alone {others = []} (item_size x a) e (item_within a caps d at) refl) (omega arith) (omega arith) (none_left a b caps caps' d d' most n (at + item_size x a) at' (p + s) s q t (omega arith) lt lt')
       where
         none_left : (a b : Item) (caps caps' : List ℕ) (d d' : ℤ) (most n at at' p s q t : ℕ) → n ≤ most → ItemBelow k a → ItemBelow k' b
             → Goes (times most (λ _. item_cells x a caps d) p s) [] numbers (times n (item_slots ms a caps numbers) at (item_size x a)) at at' (array_partners structs x y a b most 0 at') []
@@ -101,13 +98,11 @@ module _ (structs : List Pairer) (cs : List Carrier) (ms : List Meaning) (y : Li
           within = within_of at (times most (λ _. item_cells x a caps d) p s) (times n (item_slots ms a caps numbers) at (item_size x a)) (items_above ms above a caps numbers n at (item_size x a))
               (items_are ms means a caps d (replicate at no_cell ++ times most (λ _. item_cells x a caps d) p s) most n at p s numbers le (stands_behind at (times most (λ _. item_cells x a caps d) p s)));
           long = refl;
-          taken = λ c r e f. (let i = (array_paired structs x y k table a b caps caps' d d' most 0 at' p q s t lt).pairs c (at' + r) e in let l = i.inside in absurd (omega (arith, l)));
+          taken = λ c r e f. (let i = (array_paired structs x y k table a b caps caps' d d' most 0 at' p q s t lt).pairs c (at' + r) e in absurd (omega arith));
           other = λ r l f. absurd (omega arith);
         }
     array_goes a b caps caps' d d' (suc most) (suc n) (suc m) at at' p s q t le lt lt' =
-        let e : item_size x a ≡ length (item_cells x a caps d) = sym (size_same x a caps d) in
-        let e' : item_size y b ≡ length (item_cells y b caps' d') = sym (size_same y b caps' d') in
-        goes_append (item_goes a b caps caps' d d' at at' lt lt') (omega (arith, e)) (omega (arith, e'))
+        goes_append (item_goes a b caps caps' d d' at at' lt lt') (omega (arith, sym (size_same x a caps d))) (omega (arith, sym (size_same y b caps' d')))
         (array_goes a b caps caps' d d' most n m (at + item_size x a) (at' + item_size y b) (p + s) s (q + t) t (omega arith) lt lt')
 
     -- ---- fields
@@ -124,8 +119,7 @@ module _ (structs : List Pairer) (cs : List Carrier) (ms : List Meaning) (y : Li
       -- a field that the older version doesn't have
       not_there : (i p : ℕ) (f : Field) → presence v f.test f.since ≡ None → slots_of i p f ≡ []
       not_there i p f e =
-          ap (λ (b : Bool). if b then times (elements_of f.count own) (item_slots ms f.item (counted i all) numbers) (at + p) (item_size x f.item) else [])
-          (presence_there f.test f.since v own no_parent ∙ ap (λ (o : Option (Option Formula)). there o v own no_parent) e)
+          rw (presence_there f.test f.since v own no_parent ∙ ap (λ (o : Option (Option Formula)). there o v own no_parent) e)
 
       -- two present fields of one position
       pair_goes : (i i' p p' : ℕ) (f g : Field) (rest rest' : Option Formula) → ItemBelow k f.item → ItemBelow k' g.item
@@ -279,7 +273,7 @@ module _ (old new : Set) (good_old : WellFormed old) (good_new : WellFormed new)
   carriers_to l = carriers xs y ds es l
 
   structs_in : (m : ℕ) → m ≤ length ds → Structs (pairers_to m) xs y m
-  structs_in m le = subst (λ (xs : List (List Cell)). Structs (pairers xs y ds es m) xs y m) (sym (cells_first ds (length ds))) (tables old new good_old good_new m le)
+  structs_in m le = rw (cells_first ds (length ds)) (tables old new good_old good_new m le)
 
   abbrev Go : ℕ → ℕ → Type 0
   Go m l = StructsGo (pairers_to m) (carriers_to l) ms y numbers m l (meanings_above ds (length ds)) (meanings_are ds (length ds))
@@ -310,7 +304,6 @@ module _ (old new : Set) (good_old : WellFormed old) (good_new : WellFormed new)
   pub part_goes : (v : ℕ) (a b : Desc) (at at' : ℕ) → FieldsBelow (length ds) a.fields → FieldsBelow (length es) b.fields
       → Goes (desc_cells (struct_cells old) a) (desc_cells (struct_cells new) b) numbers (desc_slots ms a v numbers at) at at' (part_partners old new v a b at') (carrying old new numbers v a b at)
   part_goes v a b at at' lt lt' =
-      subst (λ (xs : List (List Cell)). Goes (desc_cells xs a) (desc_cells y b) numbers (desc_slots ms a v numbers at) at at' (desc_partners (pairers xs y ds es (length ds)) xs y v v a b at')
-      (carry_desc (carriers xs y ds es (length es)) xs y numbers v v a b at)) (cells_first ds (length ds))
+      rw (← (cells_first ds (length ds)))
       (desc_goes (pairers_to (length ds)) (carriers_to (length es)) ms y numbers (length ds) (length es) (meanings_above ds (length ds)) (meanings_are ds (length ds)) (structs_in (length ds) (omega arith))
       (go_to (length ds) (omega arith) (length es) (omega arith)) v v a b at at' lt lt')

@@ -99,7 +99,7 @@ module _ (k : ℕ) (d : Desc) where
   facts_here i f fs h = let z : i + 0 ≡ i = omega arith in field_facts k d i f (subst (λ (n : ℕ). AllTrue (field_rules k d n f)) z (h 0 f refl))
 
   hold_next : (i : ℕ) (f : Field) (fs : List Field) → HoldFrom i (f ∷ fs) → HoldFrom (suc i) fs
-  hold_next i f fs h j g e = let s : i + suc j ≡ suc i + j = omega arith in subst (λ (n : ℕ). AllTrue (field_rules k d n g)) s (h (suc j) g e)
+  hold_next i f fs h j g e = let s : i + suc j ≡ suc i + j = omega arith in rw (← s) (h (suc j) g e)
 
   old_plains : (i : ℕ) (fs : List Field) → HoldFrom i fs → OldPlains k d.fields fs
   old_plains i [] h = tt
@@ -140,7 +140,7 @@ module _ (k : ℕ) (d : Desc) where
 
   desc_good : (rules : List Bool) → Clean k d rules → DescGood
   desc_good rules c =
-      let hold : HoldFrom 0 d.fields = λ j f e. let z : j ≡ 0 + j = omega arith in subst (λ (n : ℕ). AllTrue (field_rules k d n f)) z (c.fields j f e) in
+      let hold : HoldFrom 0 d.fields = λ j f e. let z : j ≡ 0 + j = omega arith in rw (← z) (c.fields j f e) in
       record { old = old_plains 0 d.fields hold; new = new_fields 0 d.fields hold; earlier = λ i f e. earlier_good i f (c.fields i f e); defaults = defaults_good 0 d.fields hold; rules = rules_named d.validate c.validations }
 
 module _ (set : Set) (well : WellFormed set) where

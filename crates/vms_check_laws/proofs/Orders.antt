@@ -36,8 +36,7 @@ still xs j k order done x y e ne h covers = by (k == j) refl
     by true s =
         let gone = at_set xs j done y e in
         let here : slice_get (slice_set xs j done) j ≡ Some x = ap (slice_get (slice_set xs j done)) (sym (eqb-true k j s)) ∙ h in
-        let bad : x ≡ done = cc in
-        absurd (ne bad)
+        absurd (ne cc)
     by false s =
         let other : k ≡ j → ⊥ = λ q. let bad : (k == j) ≡ true = eq-eqb k j q in absurd (cc) in
         elim (covers (sym (at_other xs j k done other) ∙ h)) [

@@ -57,7 +57,7 @@ module _ (structs : List Pairer) (x y : List (List Cell)) (k : ℕ) (table : Str
     once = λ b c n e f. both b c n e f;
   } where
     pair : (c n : ℕ) → slice_get (Some at ∷ []) c ≡ Some (Some n) → IsPair (record { kind = l; capacities = caps; default = d } ∷ []) (record { kind = m; capacities = caps'; default = d' } ∷ []) at c n
-    pair zero n e = let s : at ≡ n = cc in record { r = 0; is = omega (arith, s); inside = omega arith; kind = kinds_same l m same }
+    pair zero n e = let s : at ≡ n = cc in record { r = 0; is = omega arith; inside = omega arith; kind = kinds_same l m same }
     pair (suc c) n e = absurd (cc)
 
     both : (b c n : ℕ) → slice_get (Some at ∷ []) b ≡ Some (Some n) → slice_get (Some at ∷ []) c ≡ Some (Some n) → b ≡ c
@@ -75,8 +75,7 @@ module _ (structs : List Pairer) (x y : List (List Cell)) (k : ℕ) (table : Str
   array_paired a b caps caps' d d' zero m at p q s t lt = paired_none [] _ at 0 refl
   array_paired a b caps caps' d d' (suc n) zero at p q s t lt = paired_skip (item_cells x a caps d) (item_size x a) (sym (size_same x a caps d)) (array_paired a b caps caps' d d' n zero at (p + s) q s t lt)
   array_paired a b caps caps' d d' (suc n) (suc m) at p q s t lt =
-      let e : item_size y b ≡ length (item_cells y b caps' d') = sym (size_same y b caps' d') in
-      paired_append (item_paired a b caps caps' d d' at lt) (omega (arith, e)) (array_paired a b caps caps' d d' n m (at + item_size y b) (p + s) (q + t) s t lt)
+      paired_append (item_paired a b caps caps' d d' at lt) (omega (arith, sym (size_same y b caps' d'))) (array_paired a b caps caps' d d' n m (at + item_size y b) (p + s) (q + t) s t lt)
 
   module _ (all all' : List Field) (v : ℕ) where
     fields_paired : (i at p : ℕ) (fs : List Field) (es : List Entry) (others : List Cell) → FieldsBelow k fs → Laid y all' others p es
@@ -125,11 +124,10 @@ module _ (set : Set) (well : WellFormed set) where
         first_at desc_cells ds [] k j lt
         ∙ desc_cells_same j (first desc_cells ds j) (first desc_cells ds k) (λ i l. first_same desc_cells ds [] j k i (omega arith) l) (get_or ds j no_desc) (struct_below j lt)
     go false e =
-        let ds = set.structs in
         let k = length set.structs in
         let le : k ≤ j = ltb-false j k e in
-        let long = first_long desc_cells ds k in
-        get_or_past (struct_cells set) j [] (omega (arith, le, long)) ∙ sym (ap (λ (d : Desc). desc_cells (struct_cells set) d) (get_or_past ds j no_desc le))
+        let long = first_long desc_cells set.structs k in
+        get_or_past (struct_cells set) j [] (omega arith) ∙ sym (ap (λ (d : Desc). desc_cells (struct_cells set) d) (get_or_past set.structs j no_desc le))
 
 -- ---- their partners
 

@@ -55,7 +55,7 @@ pub before_or_behind : (n c : ℕ) → (c < n) ⊎ IsBehind n c
 before_or_behind n c = go (cases_lt c n) where
   go : (c < n) ⊎ (n ≤ c) → (c < n) ⊎ IsBehind n c
   go (inl lt) = inl lt
-  go (inr le) = inr (record { more = c - n; is = omega (arith, le) })
+  go (inr le) = inr (record { more = c - n; is = omega arith })
 
 -- no number is the partner of one before and of one after
 abbrev pub Apart : List (Option ℕ) → List (Option ℕ) → Type 0
@@ -67,7 +67,7 @@ module _ (p q : List (Option ℕ)) (first : IsOnce p) (second : IsOnce q) (apart
   once_either b c k e f (inl lb) (inr dc) = absurd (apart b c k lb dc e f)
   once_either b c k e f (inr db) (inl lc) = absurd (apart c b k lc db f e)
   once_either b c k e f (inr db) (inr dc) =
-      omega (arith, db.is, dc.is, second db.more dc.more k (sym (at_right p q db.more) ∙ ap (slice_get (p ++ q)) (sym db.is) ∙ e) (sym (at_right p q dc.more) ∙ ap (slice_get (p ++ q)) (sym dc.is) ∙ f))
+      omega (arith, second db.more dc.more k (sym (at_right p q db.more) ∙ ap (slice_get (p ++ q)) (sym db.is) ∙ e) (sym (at_right p q dc.more) ∙ ap (slice_get (p ++ q)) (sym dc.is) ∙ f))
 
   pub once_append : IsOnce (p ++ q)
   once_append b c k e f = once_either b c k e f (before_or_behind (length p) b) (before_or_behind (length p) c)
@@ -86,15 +86,15 @@ module _ (xs ys us vs : List Cell) (at : ℕ) (p q : List (Option ℕ)) (h : Are
         r = i.r;
         is = i.is;
         inside = omega (arith, length-append us vs);
-        kind = rw (get_or_append_left xs ys no_cell c (omega (arith, h.long)), get_or_append_left us vs no_cell i.r i.inside) i.kind;
+        kind = rw (get_or_append_left xs ys no_cell c (omega arith), get_or_append_left us vs no_cell i.r i.inside) i.kind;
       }
   pair_either c k e (inr b) =
       let i = pair_right c k b e in
-      let place : c ≡ length xs + b.more = omega (arith, h.long, b.is) in
+      let place : c ≡ length xs + b.more = omega arith in
       record {
         r = length us + i.r;
-        is = omega (arith, i.is);
-        inside = omega (arith, i.inside, length-append us vs);
+        is = omega arith;
+        inside = omega (arith, length-append us vs);
         kind = ap (λ (n : ℕ). (get_or (xs ++ ys) n no_cell).kind) place ∙ rw (get_or-append-add xs ys b.more no_cell, get_or-append-add us vs i.r no_cell) i.kind;
       }
 
@@ -102,11 +102,11 @@ module _ (xs ys us vs : List Cell) (at : ℕ) (p q : List (Option ℕ)) (h : Are
   apart b c k lt d e f =
       let i = pair_left b k lt e in
       let j = pair_right c k d f in
-      omega (arith, i.is, i.inside, j.is)
+      omega arith
 
   joined : AreFrom (xs ++ ys) (us ++ vs) at (p ++ q)
   joined = record {
-    long = omega (arith, h.long, g.long, length-append p q, length-append xs ys);
+    long = omega (arith, length-append p q, length-append xs ys);
     pairs = λ c k e. pair_either c k e (before_or_behind (length p) c);
     once = once_append p q h.once g.once apart;
   }
@@ -151,7 +151,7 @@ settled_append {s} {t} {at} {next} {xs} {ys} {zs} {us} size h e k = record { eac
       ])
   by c lt (inr b) =
       let place : next + b.more ≡ at + (length (defaults xs) + b.more) = omega (arith, sizes) in
-      rw (defaults_append, b.is, get_or-append-add zs us b.more (pos 0), ← sizes, get_or-append-add (defaults xs) (defaults ys) b.more (pos 0)) (elim (k.each b.more (omega (arith, b.is, length-append zs us))) [
+      rw (defaults_append, b.is, get_or-append-add zs us b.more (pos 0), ← sizes, get_or-append-add (defaults xs) (defaults ys) b.more (pos 0)) (elim (k.each b.more (omega (arith, length-append zs us))) [
         | inl has ↦ inl (has_right s t (at + (length (defaults xs) + b.more)) (rw place at has))
         | inr is ↦ inr is
       ])

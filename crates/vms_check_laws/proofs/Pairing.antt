@@ -38,8 +38,7 @@ module _ (structs : List Meaning) (all : List Field) (v : ℕ) (own : ℕ → �
 
   entry_slots : (i p : ℕ) (f : Field) (pr : Option (Option Formula)) (es : List Entry) → presence v f.test f.since ≡ pr
       → slots_at i p f ++ entries_slots es ≡ entries_slots (entry_of i p f pr ++ es)
-  entry_slots i p f None es h =
-      rw (presence_there f.test f.since v own no_parent, h)
+  entry_slots i p f None es h = rw (presence_there f.test f.since v own no_parent, h)
   entry_slots i p f (Some rest) es h = refl
 
   pub slots_entries : (i p : ℕ) (fs : List Field) → slots_from structs all v own numbers i (base + p) fs ≡ entries_slots (present_from (cells_in structs) all v i p fs)
@@ -118,7 +117,6 @@ module _ (structs : List Meaning) (all : List Field) (v : ℕ) (numbers : List �
   fit_entries i p (f ∷ fs) fits =
       let here_cells = field_cells (cells_in structs) all i f in
       let more_cells = cells_from (cells_in structs) all (suc i) fs in
-      let e : (base + p) + length here_cells ≡ base + (p + length here_cells) = omega arith in
       fit_entry i p f (presence v f.test f.since) (present_from (cells_in structs) all v (suc i) (p + length here_cells) fs)
       (fits_left here_cells more_cells numbers (base + p) fits)
-      (fit_entries (suc i) (p + length here_cells) fs (fits_at more_cells numbers _ _ e (fits_right here_cells more_cells numbers (base + p) fits)))
+      (fit_entries (suc i) (p + length here_cells) fs (fits_at more_cells numbers _ _ (omega arith) (fits_right here_cells more_cells numbers (base + p) fits)))

@@ -30,13 +30,13 @@ module _ (old new : Set) (good_old : WellFormed old) (good_new : WellFormed new)
   -- the cells of structures, made either way
   to_meanings : (P : (x y : List (List Cell)) → Type 0) → P (struct_cells old) (struct_cells new) → P (cells_in ms) (cells_in ns)
   to_meanings P h =
-      subst (λ (x : List (List Cell)). P x (cells_in ns)) (sym (cells_first old.structs (length old.structs)))
-      (subst (λ (y : List (List Cell)). P (struct_cells old) y) (sym (cells_first new.structs (length new.structs))) h)
+      rw (cells_first old.structs (length old.structs))
+      (rw (cells_first new.structs (length new.structs)) h)
 
   pub to_cells : (P : (x y : List (List Cell)) → Type 0) → P (cells_in ms) (cells_in ns) → P (struct_cells old) (struct_cells new)
   to_cells P h =
-      subst (λ (x : List (List Cell)). P x (struct_cells new)) (cells_first old.structs (length old.structs))
-      (subst (λ (y : List (List Cell)). P (cells_in ms) y) (cells_first new.structs (length new.structs)) h)
+      rw (← (cells_first old.structs (length old.structs)))
+      (rw (← (cells_first new.structs (length new.structs))) h)
 
   -- the default of each cell of a description of new fits it
   pub good_cells : (b : Desc) → DescGood (length new.structs) b → GoodCells (desc_cells (struct_cells new) b)
@@ -136,13 +136,13 @@ module _ (old new : Set) (good_old : WellFormed old) (good_new : WellFormed new)
       → Carries image.numbers (sub_slots old c.sub c.version image.numbers c.place) numbers' (sub_slots new t c.version numbers' place')
   sub_carries t c place' held =
       part_carries old new good_old good_new c.sub.desc t.desc c.version c.part c.part' c.good c.good' c.same image.numbers c.place c.fits numbers' place'
-      (subst (λ (l : List ℤ). Holds numbers' place' l) c.numbers held)
+      (rw (← c.numbers) held)
 
   sub_settles : (t : Sub) (c : Came t) (place' : ℕ) → Holds numbers' place' (carried_of t) → Settled (sub_slots new t c.version numbers' place') place' (cells_of t) (carried_of t)
   sub_settles t c place' held =
-      subst (λ (l : List ℤ). Settled (sub_slots new t c.version numbers' place') place' (cells_of t) l) (sym c.numbers)
+      rw c.numbers
       (part_settles old new good_old good_new c.sub.desc t.desc c.version c.part c.part' c.good c.good' c.same image.numbers c.place c.fits numbers' place'
-      (subst (λ (l : List ℤ). Holds numbers' place' l) c.numbers held))
+      (rw (← c.numbers) held))
 
   next_place : (t : Sub) (ts : List Sub) (place : ℕ) → Stayed t ⊎ Came t → Holds numbers' place (flat_map carried_of (t ∷ ts)) → Holds numbers' (place + length (cells_of t)) (flat_map carried_of ts)
   next_place t ts place f held =
@@ -174,5 +174,5 @@ module _ (old new : Set) (good_old : WellFormed old) (good_new : WellFormed new)
   sub_held [] place l t is h held = absurd (cc)
   sub_held (u ∷ ts) place zero t is h held =
       let same : u ≡ t = cc in
-      subst (λ (x : Sub). Holds numbers' place (carried_of x)) same (holds_left numbers' place (carried_of u) (flat_map carried_of ts) held)
+      rw (← same) (holds_left numbers' place (carried_of u) (flat_map carried_of ts) held)
   sub_held (u ∷ ts) place (suc l) t is h held = sub_held ts (place + length (cells_of u)) l t is h.1 (next_place u ts place h.0 held)

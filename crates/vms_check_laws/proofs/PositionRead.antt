@@ -63,29 +63,27 @@ devices_clash old new good_old good_new i k d e in_old in_new v part part' numbe
         let m' = length new.structs in
         let ms = meanings old.structs m in
         let ns = meanings new.structs m' in
-        let ks = comparers (cells_in ms) (cells_in ns) old.structs new.structs m' in
         let olds = old_structs old good_old in
         let news = new_structs new good_new in
-        let table = tables old.structs new.structs numbers numbers' olds news m' (omega arith) in
         let rows = align_rows old.structs new.structs numbers numbers' olds news (λ j lt. (struct_good new good_new j lt).earlier) m' (omega arith) in
         let plain = old_fields (cells_in ms) m d.desc.fields numbers 0 fits d.desc.fields (λ by most x. x) (device_good old good_old i d in_old).old in
-        desc_clashes ks (carriers (cells_in ms) (cells_in ns) old.structs new.structs m') ms ns d.desc e.desc v v part part' numbers numbers' 0 0 m m' table rows plain
+        desc_clashes (comparers (cells_in ms) (cells_in ns) old.structs new.structs m') (carriers (cells_in ms) (cells_in ns) old.structs new.structs m') ms ns d.desc e.desc v v part part' numbers numbers' 0 0 m m' (tables old.structs new.structs numbers numbers' olds news m' (omega arith)) rows plain
         (device_good new good_new k e in_new).earlier fits clash
 
 pub part_good : (set : Set) → WellFormed set → (d : Desc) → IsPartOf set d → DescGood (length set.structs) d
-part_good set well d (inl p) = subst (λ (x : Desc). DescGood (length set.structs) x) p.is (device_good set well p.i p.device p.there)
-part_good set well d (inr p) = subst (λ (x : Desc). DescGood (length set.structs) x) p.is (sub_good set well p.i p.j p.device p.sub p.there p.below)
+part_good set well d (inl p) = rw (← p.is) (device_good set well p.i p.device p.there)
+part_good set well d (inr p) = rw (← p.is) (sub_good set well p.i p.j p.device p.sub p.there p.below)
 
 module _ (structs : List Meaning) (all : List Field) (v : ℕ) (numbers : List ℤ) (base : ℕ) where
   known_at : (es : List Entry) (p : ℕ) (e : Entry) → slice_get es p ≡ Some e → AreKnown structs all v numbers base es → IsKnown structs all v numbers base e
   known_at [] p e h k = cc
-  known_at (x ∷ es) zero e h k = let same : x ≡ e = cc in subst (λ (u : Entry). IsKnown structs all v numbers base u) same k.0
+  known_at (x ∷ es) zero e h k = let same : x ≡ e = cc in rw (← same) k.0
   known_at (x ∷ es) (suc p) e h k = known_at es p e h k.1
 
   fit_at : (es : List Entry) (p : ℕ) (e : Entry) → slice_get es p ≡ Some e → FitEntries structs all v numbers base es → FitsAt (field_cells (cells_in structs) all e.index e.field) numbers (base + e.place)
   fit_at [] p e h k = cc
   fit_at (x ∷ es) zero e h k =
-      let same : x ≡ e = cc in subst (λ (u : Entry). FitsAt (field_cells (cells_in structs) all u.index u.field) numbers (base + u.place)) same k.0
+      let same : x ≡ e = cc in rw (← same) k.0
   fit_at (x ∷ es) (suc p) e h k = fit_at es p e h k.1
 
 module _ (ks : List Comparer) (cs : List Carrier) (ms ns : List Meaning) (a b : Desc) (v w : ℕ) (part part' : Part) (o n : ℕ → Option ℕ)
@@ -93,7 +91,7 @@ module _ (ks : List Comparer) (cs : List Carrier) (ms ns : List Meaning) (a b : 
   old_at : (es : List Entry) (p : ℕ) (e : Entry) → slice_get es p ≡ Some e → OldEntries ks cs ms ns a b v w part part' o n numbers numbers' at at' below below' table ok es
       → OldGood below (λ k. numbers_of (cells_in ms) a numbers at k) e.field
   old_at [] p e h k = cc
-  old_at (x ∷ es) zero e h k = let same : x ≡ e = cc in subst (λ (u : Entry). OldGood below (λ k. numbers_of (cells_in ms) a numbers at k) u.field) same k.0
+  old_at (x ∷ es) zero e h k = let same : x ≡ e = cc in rw (← same) k.0
   old_at (x ∷ es) (suc p) e h k = old_at es p e h k.1
 
   -- a field of new names only earlier ones
@@ -105,7 +103,7 @@ module _ (ks : List Comparer) (cs : List Carrier) (ms ns : List Meaning) (a b : 
 entries_flat : (ms : List Meaning) (all : List Field) (v : ℕ) (own : ℕ → ℕ) (numbers : List ℤ) (at : ℕ) (es : List Entry)
     → entries_slots ms all v own numbers at es ≡ flat_map (λ (e : Entry). field_slots ms all v own numbers e.index (at + e.place) e.field) es
 entries_flat ms all v own numbers at [] = refl
-entries_flat ms all v own numbers at (e ∷ es) = ap (λ (l : List Slot). field_slots ms all v own numbers e.index (at + e.place) e.field ++ l) (entries_flat ms all v own numbers at es)
+entries_flat ms all v own numbers at (e ∷ es) = rw (entries_flat ms all v own numbers at es)
 
 module _ (old new : Set) (good_old : WellFormed old) (good_new : WellFormed new) (a b : Desc) (of_old : IsPartOf old a) (of_new : IsPartOf new b) (v : ℕ) (part part' : Part)
     (numbers numbers' : List ℤ) (at at' : ℕ) where
@@ -172,8 +170,8 @@ module _ (old new : Set) (good_old : WellFormed old) (good_new : WellFormed new)
       let own : ℕ → ℕ = λ i. numbers_of (cells_in ms) a numbers at i in
       let own' : ℕ → ℕ = λ j. numbers_of (cells_in ns) b numbers' at' j in
       let read : List Slot = flat_map (λ (e : Entry). field_slots ns b.fields v own' numbers' e.index (at' + e.place) e.field) (take p fs) in
-      subst (λ (l : List Slot). Aligns numbers l numbers' read) (entries_flat ms a.fields v own numbers at (take p es))
-      (subst (λ (l : List Slot). Aligns numbers (entries_slots ms a.fields v own numbers at (take p es)) numbers' l) (entries_flat ns b.fields v own' numbers' at' (take p fs)) aligned)
+      rw (← (entries_flat ms a.fields v own numbers at (take p es)))
+      (rw (← (entries_flat ns b.fields v own' numbers' at' (take p fs))) aligned)
 
 pub position_stands : PositionLaw
 position_stands old new good_old good_new a b of_old of_new v part part' numbers numbers' at at' =

@@ -37,7 +37,7 @@ at_or_later i j p e f es fs h = by (e.index == i) (f.index == j) refl refl h whe
   by false false x y k = inr (y, k)
 
 pub covered_empty : (y : List (List Cell)) (i : Item) (c : Count) (j : Item) → is_covered i c j ≡ true → length (item_cells y j [] (pos 0)) ≡ 0
-covered_empty y i c j covers = ap (λ (x : Item). length (item_cells y x [] (pos 0))) (covers_unused i c j covers).1
+covered_empty y i c j covers = rw (covers_unused i c j covers).1
 
 -- what follows of a number from all below it holds of each
 pub by_less : (P : ℕ → Type 0) → ((k : ℕ) → ((j : ℕ) → j < k → P j) → P k) → (k j : ℕ) → j < k → P j

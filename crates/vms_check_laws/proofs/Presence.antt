@@ -71,7 +71,7 @@ module _ (ok : ℕ → Bool) where
   left_named (Known true) (Some t) named h = cc
   left_named (Known false) rest named h = cc
   left_named (Open t) None named h = tt
-  left_named (Open t) (Some s) named h = let e : t ≡ s = cc in subst (λ (u : Formula). names_well ok nobody u ≡ true) e named
+  left_named (Open t) (Some s) named h = let e : t ≡ s = cc in rw (← e) named
 
   since_named : (b : Bool) (rest : Option Formula) → (if b then Some None else None) ≡ Some rest → NamedRest rest
   since_named true None h = tt
@@ -89,14 +89,10 @@ module _ (o n : ℕ → Option ℕ) (ok : ℕ → Bool) (own own' parent parent'
       let r = and_parts (same_place (o i) (n j) && mask == mask' && rel_number rel == rel_number rel') (value == value') h in
       let q = and_parts (same_place (o i) (n j) && mask == mask') (rel_number rel == rel_number rel') r.0 in
       let p = and_parts (same_place (o i) (n j)) (mask == mask') q.0 in
-      let numbers : own i ≡ own' j = agree i j good p.0 in
-      let masks : mask ≡ mask' = eqb-true mask mask' p.1 in
-      let rels : rel ≡ rel' = same_rel rel rel' q.1 in
-      let values : value ≡ value' = eqb-true value value' r.1 in
-      ap (λ (k : ℕ). compares rel (bit_and k mask) value) numbers
-      ∙ ap (λ (k : ℕ). compares rel (bit_and (own' j) k) value) masks
-      ∙ ap (λ (x : Rel). compares x (bit_and (own' j) mask') value) rels
-      ∙ ap (λ (k : ℕ). compares rel' (bit_and (own' j) mask') k) values
+      ap (λ (k : ℕ). compares rel (bit_and k mask) value) (agree i j good p.0)
+      ∙ ap (λ (k : ℕ). compares rel (bit_and (own' j) k) value) (eqb-true mask mask' p.1)
+      ∙ ap (λ (x : Rel). compares x (bit_and (own' j) mask') value) (same_rel rel rel' q.1)
+      ∙ ap (λ (k : ℕ). compares rel' (bit_and (own' j) mask') k) (eqb-true value value' r.1)
   same_truth (Not s) (Not t) good h = ap not (same_truth s t good h)
   same_truth (And s s') (And t t') good h =
       let p = and_parts (same_test o n s t) (same_test o n s' t') h in
@@ -156,7 +152,7 @@ steady minimum (Some g) f e h =
     let p = and_parts (is_num g.item && is_one g.count && has_no_test g.test) (nat_le g.since minimum) h in
     let q = and_parts (is_num g.item && is_one g.count) (has_no_test g.test) p.0 in
     let r = and_parts (is_num g.item) (is_one g.count) q.0 in
-    subst (λ (x : Field). Steady x) same (record { item = r.0; count = r.1; test = q.1 })
+    rw (← same) (record { item = r.0; count = r.1; test = q.1 })
 
 no_rest : (b : Bool) (rest : Option Formula) → (if b then Some None else None) ≡ Some rest → rest ≡ None
 no_rest true rest h = cc

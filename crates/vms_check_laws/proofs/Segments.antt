@@ -88,19 +88,17 @@ carries_rule x y r s f = record { spells = refl; rules = λ h. (f h.0, tt) }
 
 pub apart : (xs ys r r' : List ℕ) → length xs ≡ length ys → xs ++ r' ≡ ys ++ r → (xs ≡ ys) × (r' ≡ r)
 apart [] [] r r' e h = (refl, h)
-apart [] (y ∷ ys) r r' e h = absurd (omega (arith, e))
-apart (x ∷ xs) [] r r' e h = absurd (omega (arith, e))
+apart [] (y ∷ ys) r r' e h = absurd (omega arith)
+apart (x ∷ xs) [] r r' e h = absurd (omega arith)
 apart (x ∷ xs) (y ∷ ys) r r' e h =
     let heads : x ≡ y = cc in
-    let tails : xs ++ r' ≡ ys ++ r = cc in
-    let more = apart xs ys r r' (omega (arith, e)) tails in
+    let more = apart xs ys r r' (omega arith) cc in
     (ap (λ (z : ℕ). z ∷ xs) heads ∙ ap (λ (l : List ℕ). y ∷ l) more.0, more.1)
 
 -- the bytes are the same
 pub same_bytes : (x : List ℤ) (a : List Slot) (y : List ℤ) (b : List Slot) → Aligns x a y b → (body r r' : List ℕ) → Spells y b body → body ++ r' ≡ zeroed x a ++ r → body ≡ zeroed x a
 same_bytes x a y b al body r r' s h =
-    let e = al.rests body r r' s h in
-    (apart body (zeroed x a) r r' (omega (arith, ap length h, length-append body r', length-append (zeroed x a) r, ap length e)) h).0
+    (apart body (zeroed x a) r r' (omega (arith, ap length h, length-append body r', length-append (zeroed x a) r, ap length (al.rests body r r' s h))) h).0
 
 pub spells_split : (y : List ℤ) (b c : List Slot) (body : List ℕ) → Spells y (b ++ c) body → (front rest : List ℕ) × (body ≡ front ++ rest) × Spells y b front × Spells y c rest
 spells_split y [] c body s = ([], body, refl, refl, s)
@@ -150,7 +148,7 @@ aligns_constant x y k l z u e = aligns_sized x (Constant k z ∷ []) y (Constant
 
 pub aligns_filler : (x y : List ℤ) (a : List Slot) (n : ℕ) → length (zeroed x a) ≡ n → Aligns x a y (Filler n ∷ [])
 aligns_filler x y a n e = aligns_sized x a y (Filler n ∷ [])
-    (λ body s. omega (arith, ap length s.3, length-append s.0 s.1, s.2, ap length s.4, e))
+    (λ body s. omega (arith, ap length s.3, length-append s.0 s.1, ap length s.4))
 
 pub aligns_rule : (x y : List ℤ) (r s : Bool) → Aligns x (Rule r ∷ []) y (Rule s ∷ [])
 aligns_rule x y r s = aligns_sized x (Rule r ∷ []) y (Rule s ∷ []) (λ body t. ap length t)

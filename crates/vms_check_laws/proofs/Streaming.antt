@@ -30,10 +30,10 @@ found_device k (d ∷ devices) name instance r h =
       | true ↦ λ e g.
           let same : k ≡ r = cc in
           let p = and_parts (bytes_eq d.desc.name name) (d.instance == instance) e in
-          (0, omega (arith, same), record { device = d; stands = refl; name_is = (bytes_eq-Decides d.desc.name name).0 p.0; instance_is = eqb-true d.instance instance p.1 })
+          (0, omega arith, record { device = d; stands = refl; name_is = (bytes_eq-Decides d.desc.name name).0 p.0; instance_is = eqb-true d.instance instance p.1 })
       | false ↦ λ e g.
           let f = found_device (suc k) devices name instance r g in
-          (suc f.0, omega (arith, f.1), record { device = f.2.device; stands = f.2.stands; name_is = f.2.name_is; instance_is = f.2.instance_is })
+          (suc f.0, omega arith, record { device = f.2.device; stands = f.2.stands; name_is = f.2.name_is; instance_is = f.2.instance_is })
     ] in
     choice (bytes_eq d.desc.name name && d.instance == instance) refl h
 
@@ -60,10 +60,9 @@ module _ (old new : Set) (good_old : WellFormed old) (all_in : first_answer (λ 
   pub pair : (i : ℕ) (d : Device) → slice_get old.devices i ≡ Some d → Pair i d
   pair i d e =
       let h = none_at (λ i d. failing_pair ((2, is_in new d) ∷ []) (here (parts.Device i)) (here parts.Set)) 0 old.devices i d all_in e in
-      let is : is_found (find_device 0 new.devices d.desc.name d.instance) ≡ true = (passes 2 (is_in new d) [] (here (parts.Device (0 + i))) (here parts.Set) h).0 in
-      let some_k = found_some (find_device 0 new.devices d.desc.name d.instance) is in
+      let some_k = found_some (find_device 0 new.devices d.desc.name d.instance) ((passes 2 (is_in new d) [] (here (parts.Device (0 + i))) (here parts.Set) h).0) in
       let f = found_device 0 new.devices d.desc.name d.instance some_k.0 some_k.1 in
-      let k_is : f.0 ≡ some_k.0 = omega (arith, f.1) in
+      let k_is : f.0 ≡ some_k.0 = omega arith in
       let stands : slice_get new.devices some_k.0 ≡ Some f.2.device = subst (λ (k : ℕ). slice_get new.devices k ≡ Some f.2.device) k_is f.2.stands in
       record {
         number = some_k.0;
@@ -77,9 +76,7 @@ module _ (old new : Set) (good_old : WellFormed old) (all_in : first_answer (λ 
       }
 
   pub back : (i : ℕ) (d : Device) → slice_get old.devices i ≡ Some d → (p : Pair i d) → find_device 0 old.devices p.device.desc.name p.device.instance ≡ Some i
-  back i d e p =
-      ap (λ (n : List ℕ). find_device 0 old.devices n p.device.instance) p.name_is ∙ ap (λ (n : ℕ). find_device 0 old.devices d.desc.name n) p.instance_is
-      ∙ device_found old good_old i d e
+  back i d e p = rw (p.name_is, p.instance_is) (device_found old good_old i d e)
 
 -- ---- devices by name and instance
 
@@ -96,9 +93,8 @@ device_order new (d ∷ devices) = index (find_device 0 new.devices d.desc.name 
 pub device_stands : DeviceLaw
 device_stands old new good_old good_new i k d e paired image id saved lt =
     let p = or_else_none (failing_pair ((4, is_version_of e.desc d.desc.version) ∷ []) (here (parts.Device i)) (here (parts.Device k))) _ paired.rules in
-    let version = (passes 4 (is_version_of e.desc d.desc.version) [] (here (parts.Device i)) (here (parts.Device k)) p.0).0 in
     let q = or_else_none (comparing old new d.desc e.desc d.desc.version (parts.Device i) (parts.Device k)) (first_answer (compare_subs old new i k e) 0 d.subs) p.1 in
-    section_whole old new good_old good_new i k d e paired.in_old paired.in_new q.1 image saved (parts.Device i) (parts.Device k) q.0 version paired.names paired.instances id lt
+    section_whole old new good_old good_new i k d e paired.in_old paired.in_new q.1 image saved (parts.Device i) (parts.Device k) q.0 ((passes 4 (is_version_of e.desc d.desc.version) [] (here (parts.Device i)) (here (parts.Device k)) p.0).0) paired.names paired.instances id lt
 
 module _ (old new : Set) (good_old : WellFormed old) (good_new : WellFormed new) (none : Compatible old new) where
   -- what the rules on sets give
@@ -154,7 +150,7 @@ module _ (old new : Set) (good_old : WellFormed old) (good_new : WellFormed new)
   order_waits i [] h = tt
   order_waits i (d ∷ ds) h =
       let p = pair old new good_old all_in i d (at_first (slice_get old.devices) i h) in (
-        subst (λ (k : ℕ). slice_get (map (λ (d : Device). false) new.devices) k ≡ Some false) (sym (ap index p.found)) (at_map (λ (d : Device). false) new.devices p.number p.device p.stands),
+        rw (ap index p.found) (at_map (λ (d : Device). false) new.devices p.number p.device p.stands),
         order_waits (suc i) ds (one_on (slice_get old.devices) i h),
       )
 
@@ -208,18 +204,15 @@ module _ (old new : Set) (good_old : WellFormed old) (good_new : WellFormed new)
         let im_is : get_or images i (no_image old new) ≡ im = at_first (λ k. get_or images k (no_image old new)) i images_are in
         let p = pair old new good_old all_in i d e in
         let front = written_section old d im i in
-        let rest = written_sections old (suc i) ds ims in
         let image_is : slice_get (carried old new images) p.number ≡ Some (carried_device old new d p.device im) =
         image_at i d e p ∙ ap (λ (m : Image). Some (carried_device old new d p.device m)) im_is in
         let paired : ArePaired old new i p.number d p.device = record { in_old = e; in_new = p.stands; names = sym p.name_is; instances = sym p.instance_is; rules = compared_none i d e p } in
-        let one = device_stands old new good_old good_new i p.number d p.device paired im i (saved old d im (ready 0 d im refl refl)) (omega arith) in
         let at_number : HasSection new true p.number (slice_get new.devices p.number) (slice_get (carried old new images) p.number) front =
-        subst (λ (r : Option Device). HasSection new true p.number r (slice_get (carried old new images) p.number) front) (sym p.stands)
-        (subst (λ (r : Option Image). HasSection new true p.number (Some p.device) r front) (sym image_is) (i, one)) in
-        let number_is : p.number ≡ index (find_device 0 new.devices d.desc.name d.instance) = sym (ap index p.found) in
-        let here_section = subst (λ (k : ℕ). HasSection new true k (slice_get new.devices k) (slice_get (carried old new images) k) front) number_is at_number in (
+        rw p.stands
+        (rw image_is (i, device_stands old new good_old good_new i p.number d p.device paired im i (saved old d im (ready 0 d im refl refl)) (omega arith))) in
+        let here_section = subst (λ (k : ℕ). HasSection new true k (slice_get new.devices k) (slice_get (carried old new images) k) front) (sym (ap index p.found)) at_number in (
           front,
-          rest,
+          (written_sections old (suc i) ds ims),
           here_section,
           spell (suc i) ds ims (omega arith)
               (one_on (slice_get old.devices) i devices_are)

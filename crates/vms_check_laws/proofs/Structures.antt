@@ -46,7 +46,7 @@ item_further : (j k : ℕ) (i : Item) → j ≤ k → ItemBelow j i → ItemBelo
 item_further j k (Num kind) le h = tt
 item_further j k (Equal kind z) le h = tt
 item_further j k (Unused n) le h = tt
-item_further j k (Struct i) le h = omega (arith, h)
+item_further j k (Struct i) le h = omega arith
 
 pub plains_further : (j k : ℕ) (all fs : List Field) → j ≤ k → OldPlains j all fs → OldPlains k all fs
 plains_further j k all [] le h = tt
@@ -132,9 +132,8 @@ module _ (olds news : List Desc) (numbers numbers' : List ℤ) where
     from_size i [] es lt = refl
     from_size i (g ∷ gs) es lt =
         let pr = presence w g.test g.since in
-        let first = carry_next (carries_to olds news k) (cells_of olds) (cells_of news) numbers own v at b.fields i g pr es in
         let more = carry_from (carries_to olds news k) (cells_of olds) (cells_of news) numbers own v w at b.fields (suc i) gs (entries_left (carries_to olds news k) (cells_of olds) (cells_of news) numbers pr es) in
-        length-append first more
+        length-append (carry_next (carries_to olds news k) (cells_of olds) (cells_of news) numbers own v at b.fields i g pr es) more
         ∙ ap (λ (n : ℕ). n + length more) (next_size i g pr es lt.0)
         ∙ ap (λ (n : ℕ). length (field_cells (cells_of news) b.fields i g) + n) (from_size (suc i) gs (entries_left (carries_to olds news k) (cells_of olds) (cells_of news) numbers pr es) lt.1)
         ∙ sym (length-append (field_cells (cells_of news) b.fields i g) (cells_from (cells_of news) b.fields (suc i) gs))

@@ -17,16 +17,16 @@ none_at f i [] j x h e = absurd (cc)
 none_at f i (y ∷ xs) zero x h e =
     let same : y ≡ x = cc in
     let z : i ≡ i + 0 = omega arith in
-    subst (λ u. f (i + 0) u ≡ None) same (subst (λ (n : ℕ). f n y ≡ None) z (or_else_none (f i y) (first_answer f (suc i) xs) h).0)
+    rw (← same) (rw (← z) (or_else_none (f i y) (first_answer f (suc i) xs) h).0)
 none_at f i (y ∷ xs) (suc j) x h e =
     let z : suc i + j ≡ i + suc j = omega arith in
-    subst (λ (n : ℕ). f n x ≡ None) z (none_at f (suc i) xs j x (or_else_none (f i y) (first_answer f (suc i) xs) h).1 e)
+    rw (← z) (none_at f (suc i) xs j x (or_else_none (f i y) (first_answer f (suc i) xs) h).1 e)
 
 pub fits_whole : (cells : List Cell) (numbers : List ℤ) → FitCells cells numbers → FitsAt cells numbers 0
 fits_whole cells numbers h = record {
   each = λ c lt.
       let z : c ≡ 0 + c = omega arith in
-      subst (λ (k : ℕ). FitsCell (get_or cells c no_cell) (get_or numbers k (pos 0))) z (h.fits c lt);
+      rw (← z) (h.fits c lt);
 }
 
 pub came_at : (subs : List Sub) (came : List (Option ℕ)) (j : ℕ) (s : Sub) → AreVersionsOf subs came → slice_get subs j ≡ Some s → (o : Option ℕ) × (slice_get came j ≡ Some o)
@@ -61,7 +61,7 @@ pub sub_fits : (set : Set) (numbers : List ℤ) (place : ℕ) (subs : List Sub) 
 sub_fits set numbers place [] j s h e = absurd (cc)
 sub_fits set numbers place (x ∷ subs) zero s h e =
     let same : x ≡ s = cc in
-    subst (λ (u : Sub). FitsAt (desc_cells (struct_cells set) u.desc) numbers place) same
+    rw (← same)
     (fits_left (desc_cells (struct_cells set) x.desc) (flat_map (λ u. desc_cells (struct_cells set) u.desc) subs) numbers place h)
 sub_fits set numbers place (x ∷ subs) (suc j) s h e =
     sub_fits set numbers (place + length (desc_cells (struct_cells set) x.desc)) subs j s
@@ -73,7 +73,7 @@ sub_rules_hold set d numbers place (x ∷ subs) (Some u ∷ came) zero s v h e e
     let same : x ≡ s = cc in
     let same' : u ≡ v = cc in
     let one = rules_left (sub_slots set x u numbers place) (came_slots set d numbers (place + length (desc_cells (struct_cells set) x.desc)) subs came) h in
-    subst (λ (y : Sub). RulesHold (sub_slots set y v numbers place)) same (subst (λ (w : ℕ). RulesHold (sub_slots set x w numbers place)) same' one)
+    rw (← same) (rw (← same') one)
 sub_rules_hold set d numbers place (x ∷ subs) (None ∷ came) (suc j) s v h e e' = sub_rules_hold set d numbers (place + length (desc_cells (struct_cells set) x.desc)) subs came j s v h e e'
 sub_rules_hold set d numbers place (x ∷ subs) (Some u ∷ came) (suc j) s v h e e' =
     sub_rules_hold set d numbers (place + length (desc_cells (struct_cells set) x.desc)) subs came j s v
@@ -108,14 +108,13 @@ module _ (old new : Set) (good_old : WellFormed old) (good_new : WellFormed new)
       let c = compared j l s t at_j at_l names in
       let v_is : v ≡ s.desc.version = ready.subs j s v at_j at_came in
       let versions = and_parts (nat_le t.desc.minimum s.desc.version) (nat_le s.desc.version t.desc.version) c.0 in
-      let low : t.desc.minimum ≤ v = omega (arith, leb-true t.desc.minimum s.desc.version versions.0, v_is) in
-      let high : v ≤ t.desc.version = omega (arith, leb-true s.desc.version t.desc.version versions.1, v_is) in
+      let low : t.desc.minimum ≤ v = omega (arith, leb-true t.desc.minimum s.desc.version versions.0) in
+      let high : v ≤ t.desc.version = omega (arith, leb-true s.desc.version t.desc.version versions.1) in
       let z : 0 + own_cells old d ≡ own_cells old d = omega arith in
       let whole : FitsAt (device_cells old d) image.numbers 0 = fits_whole (device_cells old d) image.numbers ready.normal.cells in
       let subs_fit : FitsAt (flat_map (λ u. desc_cells (struct_cells old) u.desc) d.subs) image.numbers (own_cells old d) =
-      subst (λ (q : ℕ). FitsAt (flat_map (λ u. desc_cells (struct_cells old) u.desc) d.subs) image.numbers q) z
+      rw (← z)
       (fits_right (desc_cells (struct_cells old) d.desc) (flat_map (λ u. desc_cells (struct_cells old) u.desc) d.subs) image.numbers 0 whole) in
-      let subs_hold = rules_right (own_slots old d image.version image.numbers) (came_slots old d image.numbers (own_cells old d) d.subs image.came) ready.valid in
       record {
         sub = s;
         version = v;
@@ -128,9 +127,9 @@ module _ (old new : Set) (good_old : WellFormed old) (good_new : WellFormed new)
             ∙ ap (λ (r : Option (Option ℕ)). carry_sub old new d image t (Some j) (Some s) r) at_came;
         good = sub_good old good_old i j d s at_i at_j;
         good' = sub_good new good_new k l e t at_k at_l;
-        same = subst (λ (u : ℕ). comparing old new s.desc t.desc u (parts.Sub i j) (parts.Sub k l) ≡ None) (sym v_is) c.1;
+        same = rw v_is c.1;
         fits = sub_fits old image.numbers (own_cells old d) d.subs j s subs_fit at_j;
-        rules = sub_rules_hold old d image.numbers (own_cells old d) d.subs image.came j s v subs_hold at_j at_came;
+        rules = sub_rules_hold old d image.numbers (own_cells old d) d.subs image.came j s v (rules_right (own_slots old d image.version image.numbers) (came_slots old d image.numbers (own_cells old d) d.subs image.came) ready.valid) at_j at_came;
         within = (low, high);
       }
 
@@ -155,8 +154,7 @@ module _ (old new : Set) (good_old : WellFormed old) (good_new : WellFormed new)
 
   facts_from : (l : ℕ) (ts : List Sub) → ((m : ℕ) → slice_get e.subs (l + m) ≡ slice_get ts m) → Facts old new good_old good_new d e image numbers' came_of ts
   facts_from l [] h = tt
-  facts_from l (t ∷ ts) h =
-      (fact l t (at_first (slice_get e.subs) l h), facts_from (suc l) ts (one_on (slice_get e.subs) l h))
+  facts_from l (t ∷ ts) h = (fact l t (at_first (slice_get e.subs) l h), facts_from (suc l) ts (one_on (slice_get e.subs) l h))
 
   -- all subsections of new
   pub facts : Facts old new good_old good_new d e image numbers' came_of e.subs

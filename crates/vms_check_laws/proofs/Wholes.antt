@@ -65,8 +65,7 @@ module _ (old new : Set) (good_old : WellFormed old) (good_new : WellFormed new)
   all_facts = facts old new good_old good_new i k d e at_i at_k none image ready numbers'
 
   back : (j : ℕ) (s : Sub) → slice_get d.subs j ≡ Some s → (p : SubPair e s) → find_sub 0 d.subs p.sub.desc.name ≡ Some j
-  back j s at_j p =
-      ap (λ (n : List ℕ). find_sub 0 d.subs n) p.name_is ∙ sub_found old good_old i j d s at_i at_j
+  back j s at_j p = rw p.name_is (sub_found old good_old i j d s at_i at_j)
 
   abbrev came_here : (j : ℕ) (s : Sub) (v : ℕ) (at_j : slice_get d.subs j ≡ Some s) → slice_get image.came j ≡ Some (Some v) → (p : SubPair e s) → Came old new good_old good_new d e image numbers' came p.sub
   came_here j s v at_j at_came p =
@@ -77,14 +76,12 @@ module _ (old new : Set) (good_old : WellFormed old) (good_new : WellFormed new)
         → SubSpells new e image' p.number (slice_get e.subs p.number) (slice_get image'.came p.number) (sub_head s.desc.name v ++ zeroed image.numbers (sub_slots old s v image.numbers (sub_place old (own_cells old d) d.subs j)))
     one_spell j s v at_j at_came p =
         let c = came_here j s v at_j at_came p in
-        let place' = sub_place new (own_cells new e) e.subs p.number in
         let body = zeroed image.numbers (sub_slots old s v image.numbers (sub_place old (own_cells old d) d.subs j)) in
         let held_t = sub_held old new good_old good_new d e image numbers' came e.subs (own_cells new e) p.number p.sub p.stands all_facts held in
-        let spells = (sub_carries old new good_old good_new d e image numbers' came p.sub c place' held_t).spells in
-        let came_t : slice_get image'.came p.number ≡ Some (Some v) = at_map came e.subs p.number p.sub p.stands ∙ ap Some c.came in
+        let spells = (sub_carries old new good_old good_new d e image numbers' came p.sub c (sub_place new (own_cells new e) e.subs p.number) held_t).spells in
         let bytes = sub_head s.desc.name v ++ body in
-        subst (λ (r : Option Sub). SubSpells new e image' p.number r (slice_get image'.came p.number) bytes) (sym p.stands)
-        (subst (λ (r : Option (Option ℕ)). SubSpells new e image' p.number (Some p.sub) r bytes) (sym came_t)
+        rw p.stands
+        (rw (at_map came e.subs p.number p.sub p.stands ∙ ap Some c.came)
         (body, spells, ap (λ (name : List ℕ). sub_head name v ++ body) (sym p.name_is)))
 
     spell_subs : (j place : ℕ) (subs : List Sub) (cs : List (Option ℕ)) → ((m : ℕ) → slice_get d.subs (j + m) ≡ slice_get subs m) → ((m : ℕ) → slice_get image.came (j + m) ≡ slice_get cs m)
@@ -98,18 +95,12 @@ module _ (old new : Set) (good_old : WellFormed old) (good_new : WellFormed new)
         (one_on (sub_place old (own_cells old d) d.subs) j h'')
     spell_subs j place (s ∷ subs) (Some v ∷ cs) h h' h'' =
         let at_j : slice_get d.subs j ≡ Some s = at_first (slice_get d.subs) j h in
-        let at_came : slice_get image.came j ≡ Some (Some v) = at_first (slice_get image.came) j h' in
-        let place_is : sub_place old (own_cells old d) d.subs j ≡ place = at_first (sub_place old (own_cells old d) d.subs) j h'' in
         let p = sub_pair j s at_j in
-        let body = zeroed image.numbers (sub_slots old s v image.numbers place) in
-        let front = sub_head s.desc.name v ++ body in
-        let after = written_subs old d image (place + length (desc_cells (struct_cells old) s.desc)) subs cs in
-        let one = subst (λ (q : ℕ). SubSpells new e image' p.number (slice_get e.subs p.number) (slice_get image'.came p.number) (sub_head s.desc.name v ++ zeroed image.numbers (sub_slots old s v image.numbers q))) place_is
-        (one_spell j s v at_j at_came p) in
-        let number_is : p.number ≡ index (find_sub 0 e.subs s.desc.name) = sym (ap index p.found) in (
-          front,
-          after,
-          subst (λ (l : ℕ). SubSpells new e image' l (slice_get e.subs l) (slice_get image'.came l) front) number_is one,
+        let one = subst (λ (q : ℕ). SubSpells new e image' p.number (slice_get e.subs p.number) (slice_get image'.came p.number) (sub_head s.desc.name v ++ zeroed image.numbers (sub_slots old s v image.numbers q))) (at_first (sub_place old (own_cells old d) d.subs) j h'')
+        (one_spell j s v at_j (at_first (slice_get image.came) j h') p) in (
+          (sub_head s.desc.name v ++ (zeroed image.numbers (sub_slots old s v image.numbers place))),
+          (written_subs old d image (place + length (desc_cells (struct_cells old) s.desc)) subs cs),
+          rw (← (sym (ap index p.found))) one,
           spell_subs (suc j) (place + length (desc_cells (struct_cells old) s.desc)) subs cs
               (one_on (slice_get d.subs) j h)
               (one_on (slice_get image.came) j h')
@@ -164,12 +155,9 @@ module _ (old new : Set) (good_old : WellFormed old) (good_new : WellFormed new)
       (one_on (slice_get image.came) j h')
   order_within j (s ∷ subs) (Some v ∷ cs) h h' =
       let at_j : slice_get d.subs j ≡ Some s = at_first (slice_get d.subs) j h in
-      let at_came : slice_get image.came j ≡ Some (Some v) = at_first (slice_get image.came) j h' in
       let p = sub_pair j s at_j in
-      let c = came_here j s v at_j at_came p in
-      let came_t : slice_get image'.came p.number ≡ Some (Some v) = at_map came e.subs p.number p.sub p.stands ∙ ap Some c.came in
-      let l_is : p.number ≡ index (find_sub 0 e.subs s.desc.name) = sym (ap index p.found) in (
-        (v, ap (λ (n : ℕ). slice_get image'.came n) (sym l_is) ∙ came_t),
+      let c = came_here j s v at_j (at_first (slice_get image.came) j h') p in (
+        (v, ap (λ (n : ℕ). slice_get image'.came n) (sym (sym (ap index p.found))) ∙ (at_map came e.subs p.number p.sub p.stands ∙ ap Some c.came)),
         order_within (suc j) subs cs (one_on (slice_get d.subs) j h)
             (one_on (slice_get image.came) j h'),
       )
@@ -222,13 +210,12 @@ module _ (old new : Set) (good_old : WellFormed old) (good_new : WellFormed new)
       let good_a = device_good old good_old i d at_i in
       let good_b = device_good new good_new k e at_k in
       let sub_cells = flat_map (λ s. desc_cells (struct_cells new) s.desc) e.subs in
-      let same_v : comparing old new d.desc e.desc v part part' ≡ None = subst (λ (u : ℕ). comparing old new d.desc e.desc u part part' ≡ None) (sym ready.version) same in
-      let whole : FitsAt (device_cells old d) numbers 0 = fits_whole (device_cells old d) numbers ready.normal.cells in
-      let fits : FitsAt (desc_cells (struct_cells old) d.desc) numbers 0 = fits_left (desc_cells (struct_cells old) d.desc) (flat_map (λ s. desc_cells (struct_cells old) s.desc) d.subs) numbers 0 whole in
+      let same_v : comparing old new d.desc e.desc v part part' ≡ None = rw ready.version same in
+      let fits : FitsAt (desc_cells (struct_cells old) d.desc) numbers 0 = fits_left (desc_cells (struct_cells old) d.desc) (flat_map (λ s. desc_cells (struct_cells old) s.desc) d.subs) numbers 0 (fits_whole (device_cells old d) numbers ready.normal.cells) in
       let held_own : Holds numbers' 0 own = holds_left numbers' 0 own rest (holds_whole numbers') in
       let own_fit = part_fits old new good_old good_new d.desc e.desc v part part' good_a good_b same_v numbers 0 fits in
       let own_size = fit_length cells own own_fit in
-      let place_is : 0 + length own ≡ own_cells new e = omega (arith, own_size) in
+      let place_is : 0 + length own ≡ own_cells new e = omega arith in
       let held_rest : Holds numbers' (own_cells new e) rest = holds_at numbers' (0 + length own) (own_cells new e) rest place_is (holds_right numbers' 0 own rest (holds_whole numbers')) in
       let carries = part_carries old new good_old good_new d.desc e.desc v part part' good_a good_b same_v numbers 0 fits numbers' 0 held_own in
       let settles = part_settles old new good_old good_new d.desc e.desc v part part' good_a good_b same_v numbers 0 fits numbers' 0 held_own in
@@ -239,13 +226,12 @@ module _ (old new : Set) (good_old : WellFormed old) (good_new : WellFormed new)
       let rules_old = rules_left (own_slots old d v numbers) (came_slots old d numbers (own_cells old d) d.subs image.came) ready.valid in
       let body = zeroed numbers (own_slots old d v numbers) in
       let tail = written_subs old d image (own_cells old d) d.subs image.came in
-      let fit = are_fit (device_cells new e) numbers' (fit_append cells sub_cells own rest own_fit (subs_fit old new good_old good_new d e image numbers' came e.subs all_facts)) in
       record {
         fits = lt;
         normal = record {
-          version = subst (λ (u : ℕ). IsVersionOf e.desc u) (sym ready.version) (version_is e.desc d.desc.version version);
+          version = rw ready.version (version_is e.desc d.desc.version version);
           subs = subs.versions;
-          cells = fit;
+          cells = (are_fit (device_cells new e) numbers' (fit_append cells sub_cells own rest own_fit (subs_fit old new good_old good_new d e image numbers' came e.subs all_facts)));
           absent = λ c below absent.
               let z : 0 + c ≡ c = omega arith in
               absent_default (slots ++ more) c
