@@ -85,7 +85,7 @@ module _ (ks : List Comparer) (cs : List Carrier) (ms ns : List Meaning) (a b : 
   item_aligns (Num k) (Num l) caps caps' d x y same structs below_a below_b fits = aligns_number numbers numbers' x y k l caps caps' (kinds_same k l same)
   item_aligns (Equal k z) (Equal l u) caps caps' d x y same structs below_a below_b fits = aligns_constant numbers numbers' k l z u (kinds_same k l same)
   item_aligns (Unused m) (Unused r) caps caps' d x y same structs below_a below_b fits =
-      aligns_filler numbers numbers' (Filler m ∷ []) r (length-append (replicate m 0) [] ∙ ap (λ (k : ℕ). k + 0) (length-replicate m 0) ∙ omega (arith, eqb-true m r same))
+      aligns_filler numbers numbers' _ r (length-append (replicate m 0) [] ∙ ap (λ (k : ℕ). k + 0) (length-replicate m 0) ∙ omega (arith, eqb-true m r same))
   item_aligns (Struct i) (Struct j) caps caps' d x y same structs below_a below_b fits = rows i j below_a below_b structs x y fits
   item_aligns _ _ caps caps' d x y same structs below_a below_b fits = absurd (cc)
 
@@ -97,10 +97,10 @@ module _ (ks : List Comparer) (cs : List Carrier) (ms ns : List Meaning) (a b : 
   items_align i j caps caps' d (suc m) (suc most) p step x y step' same structs below_a below_b le fits =
       let cells = item_cells (cells_in ms) i caps d in
       let size = length (item_cells (cells_in ms) i [] (pos 0)) in
-      let more_cells = times most (λ _. item_cells (cells_in ms) i caps d) (p + step) step in
+      let more_cells = times most (λ _. item_cells (cells_in ms) i caps d) _ step in
       let e : x + length cells ≡ x + size = ap (λ (k : ℕ). x + k) (size_same (cells_in ms) i caps d) in
-      aligns_append numbers numbers' (item_slots ms i caps numbers x) (item_slots ns j caps' numbers' y)
-      (times m (item_slots ms i caps numbers) (x + size) size) (times m (item_slots ns j caps' numbers') (y + step') step')
+      aligns_append numbers numbers' _ _
+      _ _
       (item_aligns i j caps caps' d x y same structs below_a below_b (fits_left cells more_cells numbers x fits))
       (items_align i j caps caps' d m most (p + step) step (x + size) (y + step') step' same structs below_a below_b (omega arith) (fits_at more_cells numbers _ _ e (fits_right cells more_cells numbers x fits)))
 
@@ -108,7 +108,7 @@ module _ (ks : List Comparer) (cs : List Carrier) (ms ns : List Meaning) (a b : 
       → SlotsAlign (times (elements_of c own) (item_slots ms i caps numbers) x step) (times (elements_of d own') (item_slots ns j caps' numbers') y step')
   covered_aligns i c j d caps caps' x y step step' covers single single' =
       let s = covered_slots ms ns numbers numbers' own own' i c j d caps caps' x y step step' covers single single' in
-      rw s.1 (aligns_filler numbers numbers' (times (elements_of c own) (item_slots ms i caps numbers) x step) s.0 s.2)
+      rw s.1 (aligns_filler numbers numbers' _ s.0 s.2)
 
   abbrev pub OldSlots : Entry → List Slot
   OldSlots e = slots_at ms a.fields v own numbers at e.index e.place e.field
@@ -123,9 +123,9 @@ module _ (ks : List Comparer) (cs : List Carrier) (ms ns : List Meaning) (a b : 
       let step = length (item_cells (cells_in ms) e.field.item [] (pos 0)) in
       let step' = length (item_cells (cells_in ns) f.field.item [] (pos 0)) in
       pair_by ks cs ms ns a b v w part part' o n numbers numbers' at at' below below' table ok (λ xs ys. Aligns numbers xs numbers' ys) (aligns_nil numbers numbers') e f agree known known' good old new
-      (λ c. covered_aligns e.field.item e.field.count f.field.item f.field.count (counted e.index a.fields) (counted f.index b.fields) (at + e.place) (at' + f.place) step step' c.covers old.single new.single)
-      (λ m is. items_align e.field.item f.field.item (counted e.index a.fields) (counted f.index b.fields) e.field.default (elements_of e.field.count own) (capacity_of e.field.count) 0 0
-      (at + e.place) (at' + f.place) step' m.item good.structs old.item new.item (elements_fit e.field.count own) fits)
+      (λ c. covered_aligns e.field.item e.field.count f.field.item f.field.count _ _ _ _ step step' c.covers old.single new.single)
+      (λ m is. items_align e.field.item f.field.item _ _ e.field.default _ _ 0 0
+      _ _ step' m.item good.structs old.item new.item (elements_fit e.field.count own) fits)
 
   -- ---- numbers that may be named
 
@@ -134,7 +134,7 @@ module _ (ks : List Comparer) (cs : List Carrier) (ms ns : List Meaning) (a b : 
   one_same k l caps caps' x y e body r r' s h =
       let z = get_or numbers x (pos 0) in
       let u = get_or numbers' y (pos 0) in
-      same_code k z u (sym ((apart (code l u) (code k z) [] s.0 (length-code l u ∙ ap width (sym e) ∙ sym (length-code k z)) (sym s.1 ∙ (same_bytes numbers (Number x k caps ∷ []) numbers' (Number y l caps' ∷ []) (aligns_number numbers numbers' x y k l caps caps' e) body r r' s h))).0) ∙ ap (λ (i : Kind). code i u) (sym e)) ∙ ap (λ (i : Kind). residue (width i) u) e
+      same_code k z u (sym ((apart (code l u) (code k z) [] s.0 (length-code l u ∙ ap width (sym e) ∙ sym (length-code k z)) (sym s.1 ∙ (same_bytes numbers _ numbers' _ (aligns_number numbers numbers' x y k l caps caps' e) body r r' s h))).0) ∙ ap (λ (i : Kind). code i u) (sym e)) ∙ ap (λ (i : Kind). residue (width i) u) e
 
   number_same : (j i : Item) (d c : Count) (t t' : Bool) (caps caps' : List ℕ) (x y step step' : ℕ) → is_num j ≡ true → is_one d ≡ true → same_item i j ≡ true → same_count o n c d ≡ true → t ≡ true → t' ≡ true
       → (body r r' : List ℕ) → Spells numbers' (if t' then times (elements_of d own') (item_slots ns j caps' numbers') y step' else []) body
@@ -155,8 +155,8 @@ module _ (ks : List Comparer) (cs : List Carrier) (ms ns : List Meaning) (a b : 
       let there_is : is_there e.field.test e.field.since v own no_parent ≡ true =
       known_there ms a.fields v numbers at e known (rest_none o n e.rest f.rest rest' m.rest) own no_parent in
       known.number
-      ∙ number_same f.field.item e.field.item f.field.count e.field.count (is_there e.field.test e.field.since v own no_parent) (is_there f.field.test f.field.since w own' no_parent)
-      (counted e.index a.fields) (counted f.index b.fields) (at + e.place) (at' + f.place) (length (item_cells (cells_in ms) e.field.item [] (pos 0))) (length (item_cells (cells_in ns) f.field.item [] (pos 0)))
+      ∙ number_same f.field.item e.field.item f.field.count e.field.count _ _
+      _ _ _ _ _ _
       s.item s.count m.item m.count there_is (known_there ns b.fields w numbers' at' f known' rest' own' no_parent) body r r' spells h
       ∙ sym known'.number
 
@@ -232,7 +232,7 @@ module _ (ks : List Comparer) (cs : List Carrier) (ms ns : List Meaning) (a b : 
         → Spells numbers' (if t' then times (elements_of d own') (item_slots ns (Equal k u) caps' numbers') y step' else []) body
         → body ++ r' ≡ zeroed numbers (if t then times (elements_of c own) (item_slots ms (Equal k z) caps numbers) x step else []) ++ r → code k z ≡ code k u
     constants_same k z u true true One One caps caps' x y step step' one one' is is' body r r' s h =
-        let same = same_bytes numbers (Constant k z ∷ []) numbers' (Constant k u ∷ []) (aligns_constant numbers numbers' k k z u refl) body r r' s h in
+        let same = same_bytes numbers _ numbers' _ (aligns_constant numbers numbers' k k z u refl) body r r' s h in
         sym (apart (code k u) (code k z) [] s.0 (length-code k u ∙ sym (length-code k z)) (sym s.1 ∙ same)).0
     constants_same k z u _ _ _ _ caps caps' x y step step' one one' is is' body r r' s h = absurd (cc)
 
@@ -244,13 +244,13 @@ module _ (ks : List Comparer) (cs : List Carrier) (ms ns : List Meaning) (a b : 
         let t' = is_there f.field.test f.field.since w own' no_parent in
         let there_is : t ≡ true = known_there ms a.fields v numbers at e known clash.rest own no_parent in
         let there_is' : t' ≡ true = known_there ns b.fields w numbers' at' f known' clash.rest' own' no_parent in
-        let one : IsSingle (Equal differs.kind differs.value) e.field.count = subst (λ (i : Item). IsSingle i e.field.count) differs.item single in
-        let one' : IsSingle (Equal differs.kind differs.other) f.field.count = subst (λ (i : Item). IsSingle i f.field.count) differs.item' (good_at named f known').single in
+        let one : IsSingle (Equal differs.kind differs.value) e.field.count = rw (differs.item) at single in
+        let one' : IsSingle (Equal differs.kind differs.other) f.field.count = rw (differs.item') at (good_at named f known').single in
         let caps = counted e.index a.fields in
         let caps' = counted f.index b.fields in
-        let spells' = subst (λ (i : Item). Spells numbers' (if t' then times (elements_of f.field.count own') (item_slots ns i caps' numbers') (at' + f.place) (item_size (cells_in ns) i) else []) body) differs.item' spells in
-        let h' = subst (λ (i : Item). body ++ r' ≡ zeroed numbers (if t then times (elements_of e.field.count own) (item_slots ms i caps numbers) (at + e.place) (item_size (cells_in ms) i) else []) ++ r) differs.item h in
-        differs.differ (constants_same differs.kind differs.value differs.other t t' e.field.count f.field.count caps caps' (at + e.place) (at' + f.place) 0 0 one one' there_is there_is' body r r' spells' h')
+        let spells' = rw (differs.item') at spells in
+        let h' = rw (differs.item) at h in
+        differs.differ (constants_same differs.kind differs.value differs.other t t' e.field.count f.field.count caps caps' _ _ 0 0 one one' there_is there_is' body r r' spells' h')
 
     pub entries_clash : (es fs : List Entry) (p i : ℕ) → Clashes ks a b v w part part' o n es fs → AreKnown ms a.fields v numbers at es → AreKnown ns b.fields w numbers' at' fs → OldGoods es
         → FitEntries ms a.fields v numbers at es → Upto o p es → Upto n p fs → Above i fs → Same p → (body r r' : List ℕ) → Spells numbers' (news fs) body → body ++ r' ≡ zeroed numbers (olds es) ++ r → ⊥
@@ -260,7 +260,7 @@ module _ (ks : List Comparer) (cs : List Carrier) (ms ns : List Meaning) (a b : 
         let t = spells_split numbers' (NewSlots f) (news fs) body s in
         let split = behind_first numbers (OldSlots e) (olds es) t.0 t.1 r r' (ap (λ (l : List ℕ). l ++ r') (sym t.2) ∙ h) in
         elim clashes [
-          | inl clash ↦ clash_refuses e f clash known.0 known'.0 old.0.single t.0 (zeroed numbers (olds es) ++ r) (t.1 ++ r') t.3 split
+          | inl clash ↦ clash_refuses e f clash known.0 known'.0 old.0.single t.0 _ _ t.3 split
           | inr more ↦
               let here = pair_aligns (λ j. is_earlier_in b f.index j) e f (earlier_agree p i f fs up' above same)
               known.0 known'.0 more.0 old.0 (good_at named f known'.0) fits.0 in

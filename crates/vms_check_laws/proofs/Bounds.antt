@@ -26,7 +26,7 @@ entry_increasing i p f (Some rest) fs h = (omega arith, h)
 
 pub present_increasing : (cs : List (List Cell)) (all : List Field) (w i p : ℕ) (gs : List Field) → Increasing i (present_from cs all w i p gs)
 present_increasing cs all w i p [] = tt
-present_increasing cs all w i p (g ∷ gs) = entry_increasing i p g (presence w g.test g.since) _ (present_increasing cs all w (suc i) (p + length (field_cells cs all i g)) gs)
+present_increasing cs all w i p (g ∷ gs) = entry_increasing i p g _ _ (present_increasing cs all w (suc i) (p + length (field_cells cs all i g)) gs)
 
 module _ (o n : ℕ → Option ℕ) where
   -- what is on old's side at the position of new's field is old's field of the pair
@@ -66,8 +66,7 @@ at_most_bound kind [] z h all = rw (← (greatest_kind kind)) h
 at_most_bound kind (m ∷ ms) z h all = at_most_least z m ms all.0 all.1
 
 pub at_most_more : (z : ℤ) (m k : ℕ) → z ≤ℤ pos m → m ≤ k → z ≤ℤ pos k
-at_most_more (pos a) m k h le = omega (arith, ints)
-at_most_more (negsuc a) m k h le = omega (arith, ints)
+at_most_more _ m k h le = omega (arith, ints)
 
 all_counted : (P : ℕ → Type 0) (by : ℕ) (gs : List Field) → ((most : ℕ) → HasArray by most gs → P most) → AllByRecursion P (counted by gs)
 all_counted P by [] h = tt
@@ -82,7 +81,7 @@ all_counted P by (g ∷ gs) h = head g.count refl (all_counted P by gs (λ most 
   head (Counted by' most) e rest = caps (by' == by) most (λ is. h most (inl (e ∙ ap (λ (k : ℕ). Counted k most) (eqb-true by' by is)))) rest
 
 pub covered_one : (i : Item) (c : Count) (j : Item) (d : Count) → is_covered i c j ≡ true → IsSingle j d → is_one d ≡ true
-covered_one i c j d is_so single = subst (λ (x : Item). IsSingle x d) (covers_unused i c j is_so).1 single
+covered_one i c j d is_so single = rw ((covers_unused i c j is_so).1) at single
 
 array_of : (fs : List Field) (i by most : ℕ) (f : Field) → slice_get fs i ≡ Some f → f.count ≡ Counted by most → HasArray by most fs
 array_of [] i by most f is e = absurd (cc)
@@ -118,7 +117,7 @@ module _ (ks : List Comparer) (a b : Desc) (v w : ℕ) (part part' : Part) (o n 
   NewSingle (f ∷ fs) = IsSingle f.field.item f.field.count × NewSingle fs
 
   no_array : (d : Count) (i most : ℕ) → is_one d ≡ true → d ≡ Counted i most → ⊥
-  no_array d i most one e = let k : is_one (Counted i most) ≡ true = subst (λ (x : Count). is_one x ≡ true) e one in absurd (cc)
+  no_array d i most one e = let k : is_one (Counted i most) ≡ true = rw (e) at one in absurd (cc)
 
   fits_array : (z : ℤ) (i j : ℕ) (e f : Entry) → ((by : ℕ) → same_place (o by) (n j) ≡ true → by ≡ i) → AllByRecursion (λ m. z ≤ℤ pos m) (counted i a.fields)
       → PairGood ks a b v w part part' o n e f → slice_get a.fields e.index ≡ Some e.field → IsSingle f.field.item f.field.count → (most : ℕ) → f.field.count ≡ Counted j most → z ≤ℤ pos most
@@ -141,12 +140,12 @@ module _ (ks : List Comparer) (a b : Desc) (v w : ℕ) (part part' : Part) (o n 
 
   absent_array : (z : ℤ) (j n most : ℕ) (g : Field) (gs : List Field) → g.count ≡ Counted j most → presence w g.test g.since ≡ None → z ≤ℤ pos n → absent_hold w j n (g ∷ gs) ≡ true → z ≤ℤ pos most
   absent_array z j n most g gs is none le h =
-      let at_count : (has_room w j n g (Counted j most) && absent_hold w j n gs) ≡ true = subst (λ (c : Count). (has_room w j n g c && absent_hold w j n gs) ≡ true) is h in
+      let at_count : (has_room w j n g (Counted j most) && absent_hold w j n gs) ≡ true = rw (is) at h in
       let first : ((if j == j && is_nothing (presence w g.test g.since) then nat_le n most else true) && absent_hold w j n gs) ≡ true = at_count in
       let at_true : ((if true && is_nothing (presence w g.test g.since) then nat_le n most else true) && absent_hold w j n gs) ≡ true =
-      subst (λ (c : Bool). ((if c && is_nothing (presence w g.test g.since) then nat_le n most else true) && absent_hold w j n gs) ≡ true) (eq-eqb j j refl) first in
+      rw (eq-eqb j j refl) at first in
       let at_none : (nat_le n most && absent_hold w j n gs) ≡ true =
-      subst (λ (q : Option (Option Formula)). ((if true && is_nothing q then nat_le n most else true) && absent_hold w j n gs) ≡ true) none at_true in
+      rw (none) at at_true in
       at_most_more z n most le (leb-true n most (and_parts (nat_le n most) (absent_hold w j n gs) at_none).0)
 
   absent_rest : (j n : ℕ) (g : Field) (gs : List Field) → absent_hold w j n (g ∷ gs) ≡ true → absent_hold w j n gs ≡ true
@@ -180,6 +179,6 @@ module _ (ks : List Comparer) (a b : Desc) (v w : ℕ) (part part' : Part) (o n 
       → AllByRecursion (λ m. z ≤ℤ pos m) (counted f.index b.fields)
   caps_follow cs kind es e f z is at_e m high caps zipped stands single =
       let bnd = bound e.field.item (counted e.index a.fields) in
-      let le : z ≤ℤ pos bnd = rw is (at_most_bound kind (counted e.index a.fields) z high caps) in
-      let arrays = fits_arrays z e.index f.index es (present_from cs b.fields w 0 0 b.fields) at_e caps zipped stands single in
+      let le : z ≤ℤ pos bnd = rw is (at_most_bound kind _ z high caps) in
+      let arrays = fits_arrays z e.index f.index es _ at_e caps zipped stands single in
       all_counted (λ m. z ≤ℤ pos m) f.index b.fields (λ most has. each_array cs b.fields z f.index bnd 0 0 b.fields le m.absent arrays most has)

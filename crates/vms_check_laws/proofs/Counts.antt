@@ -20,9 +20,9 @@ HasArray by most (f ∷ fs) = (f.count ≡ Counted by most) ⊎ HasArray by most
 
 counted_head : (P : ℕ → Type 0) (by most : ℕ) (f : Field) (fs : List Field) → f.count ≡ Counted by most → AllByRecursion P (counted by (f ∷ fs)) → P most
 counted_head P by most f fs e h =
-    let k : AllByRecursion P (counted by (record f { count = Counted by most } ∷ fs)) = subst (λ (c : Count). AllByRecursion P (counted by (record f { count = c } ∷ fs))) e h in
+    let k : AllByRecursion P (counted by (record f { count = Counted by most } ∷ fs)) = rw (e) at h in
     let l : AllByRecursion P ((if by == by then most ∷ [] else []) ++ counted by fs) = k in
-    let m : AllByRecursion P (most ∷ counted by fs) = subst (λ (b : Bool). AllByRecursion P ((if b then most ∷ [] else []) ++ counted by fs)) (eq-eqb by by refl) l in
+    let m : AllByRecursion P (most ∷ counted by fs) = rw (eq-eqb by by refl) at l in
     m.0
 
 pub counted_has : (P : ℕ → Type 0) (by most : ℕ) (fs : List Field) → HasArray by most fs → AllByRecursion P (counted by fs) → P most
@@ -38,7 +38,7 @@ first_fits : (cs : List (List Cell)) (item : Item) (count : Count) (caps : List 
     → FitsAt (times (capacity_of count) (λ _. item_cells cs item caps d) 0 0 ++ more) numbers at → FitsCell (record { kind = kind_of item; capacities = caps; default = d }) (get_or numbers at (pos 0))
 first_fits cs (Num kind) One caps d more numbers at num one fits =
     let z : at + 0 ≡ at = omega arith in
-    subst (λ (k : ℕ). FitsCell (record { kind = kind; capacities = caps; default = d }) (get_or numbers k (pos 0))) z (fits.each 0 (omega arith))
+    rw (z) at (fits.each 0 (omega arith))
 first_fits cs _ _ caps d more numbers at num one fits = absurd (cc)
 
 -- the number of a single field, and that it fits
@@ -56,11 +56,11 @@ single_at cs all (f ∷ fs) i zero numbers at g e s fits =
     let at_f : Steady f = rw same s in
     rw (← same)
     (rw (← z)
-    (record { number = get_or numbers at (pos 0); fits = first_fits cs f.item f.count (counted i all) f.default (cells_from cs all (suc i) fs) numbers at at_f.item at_f.count fits; is = refl }))
+    (record { number = get_or numbers at (pos 0); fits = first_fits cs f.item f.count _ f.default _ numbers at at_f.item at_f.count fits; is = refl }))
 single_at cs all (f ∷ fs) i (suc k) numbers at g e s fits =
     let z : suc i + k ≡ i + suc k = omega arith in
     rw (← z)
-    (single_at cs all fs (suc i) k numbers (at + length (field_cells cs all i f)) g e s (fits_right (field_cells cs all i f) (cells_from cs all (suc i) fs) numbers at fits))
+    (single_at cs all fs (suc i) k numbers (at + length (field_cells cs all i f)) g e s (fits_right _ _ numbers at fits))
 
 abbrev pub IsCounting : Item → Type 0
 IsCounting (Num U8) = Unit {0}
@@ -90,9 +90,9 @@ pub count_fits : (cs : List (List Cell)) (all : List Field) (numbers : List ℤ)
 count_fits cs all numbers at by most c has fits =
     let s = single_at cs all all 0 by numbers at c.field c.stands c.steady fits in
     let z : 0 + by ≡ by = omega arith in
-    let caps : AllByRecursion (λ m. s.number ≤ℤ pos m) (counted by all) = subst (λ (k : ℕ). AllByRecursion (λ m. s.number ≤ℤ pos m) (counted k all)) z s.fits.1 in
+    let caps : AllByRecursion (λ m. s.number ≤ℤ pos m) (counted by all) = rw (z) at s.fits.1 in
     let high = counted_has (λ m. s.number ≤ℤ pos m) by most all has caps in
-    rw s.is (counting_below c.field.item (counted (0 + by) all) c.field.default s.number most c.kind s.fits high)
+    rw s.is (counting_below c.field.item _ c.field.default s.number most c.kind s.fits high)
 
 -- ---- what old's fields need, without numbers
 

@@ -50,7 +50,7 @@ module _ (ks : List Comparer) (cs : List Carrier) (ms ns : List Meaning) (a b : 
   pairs_hold none = or_else_none (compare_fields ks a b v w part part' o n es fs) (compare_validations ks a b v w part part' o n) none
 
   all_fit : Fit → FitEntries ms a.fields v numbers at es
-  all_fit fits = let z : at ≡ at + 0 = omega arith in fit_entries ms a.fields v numbers at 0 0 a.fields (fits_at (desc_cells (cells_in ms) a) numbers at (at + 0) z fits)
+  all_fit fits = let z : at ≡ at + 0 = omega arith in fit_entries ms a.fields v numbers at 0 0 a.fields (fits_at _ numbers at (at + 0) z fits)
 
   olds : OldFields below own a.fields → OldEntries ks cs ms ns a b v w part part' o n numbers numbers' at at' below below' table (is_steady_in b) es
   olds old = old_entries ks cs ms ns a b v w part part' o n numbers numbers' at at' below below' table (is_steady_in b) 0 0 a.fields old
@@ -67,7 +67,7 @@ module _ (ks : List Comparer) (cs : List Carrier) (ms ns : List Meaning) (a b : 
     link : Linked ks a b v w part part' o n cs (cells_in ms) (cells_in ns) numbers numbers' own at at' below' table.sized es fs
     link =
         linked ks a b v w part part' o n cs (cells_in ms) (cells_in ns) numbers numbers' own at at' below' table.sized 0 0 b.fields es (fields_below b.fields new)
-        (zip_of ks a b v w part part' o n es fs (pairs_hold none).0) (holds_at numbers' at' (at' + 0) (carry_desc cs (cells_in ms) (cells_in ns) numbers v w a b at) (omega arith) held)
+        (zip_of ks a b v w part part' o n es fs (pairs_hold none).0) (holds_at numbers' at' _ _ (omega arith) held)
 
     agree : Agree o n (is_steady_in b) own own'
     agree i j named h = agree_from ks cs ms ns a b v w part part' o n numbers numbers' at at' below below' table i j 0 es fs link (all_known ms a.fields v numbers at) (all_known ns b.fields w numbers' at') named h
@@ -82,10 +82,10 @@ module _ (ks : List Comparer) (cs : List Carrier) (ms ns : List Meaning) (a b : 
         let known = all_known ms a.fields v numbers at in
         let known' = all_known ns b.fields w numbers' at' in
         let z : at' + 0 ≡ at' = omega arith in (
-          carries_append numbers numbers' (slots_from ms a.fields v own numbers 0 at a.fields) (slots_from ns b.fields w own' numbers' 0 at' b.fields) (Rule (all_hold a.validate v own) ∷ []) (Rule (all_hold b.validate w own') ∷ [])
+          carries_append numbers numbers' _ _ _ _
               (rw (old_same, new_same) (fields_carry ks cs ms ns a b v w part part' o n numbers numbers' at at' below below' table (is_steady_in b) es fs agree link known known' (olds old) news (all_fit fits)))
               (rule_carries ks cs ms ns a b v w part part' o n numbers numbers' at at' below below' table (is_steady_in b) (pairs_hold none).1 rules agree),
-          settled_more (slots_from ns b.fields w own' numbers' 0 at' b.fields) _ at' _ _
+          settled_more _ _ at' _ _
               (rw z at (fields_settle ks cs ms ns a b v w part part' o n numbers numbers' at at' below below' table 0 0 b.fields es agree (fields_below b.fields new)
               (record { linked = link; known = known; known' = known'; old = olds old; new = news; fits = all_fit fits }))),
         )
@@ -97,11 +97,11 @@ module _ (ks : List Comparer) (cs : List Carrier) (ms ns : List Meaning) (a b : 
         (all_known ms a.fields v numbers at) (all_known ns b.fields w numbers' at')
         (olds old)
         (all_fit fits)
-        (λ j q e. inr e) (λ j q e. inr e) (present_above (cells_in ns) b.fields w 0 0 b.fields) (λ i j q steady oi nj lt. absurd (omega arith)) in
-        aligns_append numbers numbers' _ _ (Rule (all_hold a.validate v own) ∷ []) (Rule (all_hold b.validate w own') ∷ [])
+        (λ j q e. inr e) (λ j q e. inr e) (present_above _ b.fields w 0 0 b.fields) (λ i j q steady oi nj lt. absurd (omega arith)) in
+        aligns_append numbers numbers' _ _ _ _
         (rw old_same
         (rw new_same body))
-        (aligns_rule numbers numbers' (all_hold a.validate v own) (all_hold b.validate w own'))
+        (aligns_rule numbers numbers' _ _)
 
     pub desc_clashes : Clashes ks a b v w part part' o n es fs → (body r r' : List ℕ) → Spells numbers' (desc_slots ns b w numbers' at') body → body ++ r' ≡ zeroed numbers (desc_slots ms a v numbers at) ++ r → ⊥
     desc_clashes clashes body r r' s h =

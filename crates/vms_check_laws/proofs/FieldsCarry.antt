@@ -14,7 +14,7 @@ use Rattle.vms_check_laws.proofs.Presence.{there_here}
 use Rattle.vms_check_laws.proofs.Segments.{holds_left, holds_right, holds_at, fits_left, fits_right, fits_at, carries_nil, carries_append, carries_number}
 use Rattle.vms_check_laws.proofs.Segments.{carries_constant, carries_filler, carries_rule}
 use Rattle.vms_check_laws.proofs.Pairing.{kinds_same, cells_in, slots_at, entries_slots, IsKnown, AreKnown, FitEntries}
-use Rattle.vms_check_laws.proofs.Linking.{PairGood, decoded, Linked, linked, carry_item_size, CoveredBy, Matched}
+use Rattle.vms_check_laws.proofs.Linking.{Pairs, PairGood, decoded, Linked, linked, carry_item_size, CoveredBy, Matched}
 use Rattle.vms_check_laws.proofs.Premises.{Table, IsSingle, CountFits, CountNamed, OldGood, NewGood, RulesNamed, OldFields, NewFields}
 
 -- what is covered is one filler, as long as the slots that it covers
@@ -34,6 +34,28 @@ module _ (ks : List Comparer) (cs : List Carrier) (ms ns : List Meaning) (a b : 
   abbrev own' : ℕ → ℕ
   own' k = numbers_of (cells_in ns) b numbers' at' k
 
+  abbrev Pair : Item → Item → Type 0
+  Pair i j = Pairs ks a b v w part part' o n below below' i j
+
+  abbrev old_size : Item → ℕ
+  old_size i = length (item_cells (cells_in ms) i [] (pos 0))
+
+  abbrev new_size : Item → ℕ
+  new_size j = length (item_cells (cells_in ns) j [] (pos 0))
+
+  abbrev fallback : Item → ℤ → List ℤ
+  fallback j d = defaults (item_cells (cells_in ns) j [] d)
+
+  -- what is carried of an item, of several, and of a field
+  abbrev one_item : Item → Item → ℤ → ℕ → List ℤ
+  one_item i j d x = carry_item cs (cells_in ms) (cells_in ns) numbers i j (fallback j d) x
+
+  abbrev some_items : Item → Item → ℤ → ℕ → ℕ → ℕ → List ℤ
+  some_items i j d m most x = carry_items cs (cells_in ms) (cells_in ns) numbers i j (fallback j d) (old_size i) m most x
+
+  abbrev one_field : Entry → Field → List ℤ
+  one_field e g = carry_field cs (cells_in ms) (cells_in ns) numbers own v at e g
+
   abbrev AllLinked : List Entry → List Entry → Type 0
   AllLinked es fs = Linked ks a b v w part part' o n cs (cells_in ms) (cells_in ns) numbers numbers' own at at' below' table.sized es fs
 
@@ -52,39 +74,35 @@ module _ (ks : List Comparer) (cs : List Carrier) (ms ns : List Meaning) (a b : 
       carries_number numbers numbers' x y k l caps caps' (kinds_same k l same) (sym (held.each 0 (omega arith)) ∙ ap (λ (p : ℕ). get_or numbers' p (pos 0)) e)
   number_item false k l caps caps' d x y same is held = absurd (cc)
 
-  item_carries : (i j : Item) (caps caps' : List ℕ) (d d' : ℤ) (x y : ℕ) → same_item i j ≡ true → same_constant i j ≡ true → pair_structs ks a b v w part part' o n i j ≡ None
-      → ItemBelow below i → ItemBelow below' j → FitsAt (item_cells (cells_in ms) i caps d) numbers x
-      → Holds numbers' y (carry_item cs (cells_in ms) (cells_in ns) numbers i j (defaults (item_cells (cells_in ns) j [] d')) x)
+  item_carries : (i j : Item) (caps caps' : List ℕ) (d d' : ℤ) (x y : ℕ) → Pair i j → same_constant i j ≡ true
+      → FitsAt (item_cells (cells_in ms) i caps d) numbers x
+      → Holds numbers' y (one_item i j d' x)
       → Carries numbers (item_slots ms i caps numbers x) numbers' (item_slots ns j caps' numbers' y)
-  item_carries (Num k) (Num l) caps caps' d d' x y same constant structs below_a below_b fits held = number_item (same_kind k l) k l caps caps' d' x y same same held
-  item_carries (Equal k z) (Equal l u) caps caps' d d' x y same constant structs below_a below_b fits held = carries_constant numbers numbers' k l z u (kinds_same k l same) (same_number_is z u constant)
-  item_carries (Unused m) (Unused r) caps caps' d d' x y same constant structs below_a below_b fits held =
-      carries_filler numbers numbers' (Filler m ∷ []) r (length-append (replicate m 0) [] ∙ ap (λ (k : ℕ). k + 0) (length-replicate m 0) ∙ omega (arith, eqb-true m r same))
-  item_carries (Struct i) (Struct j) caps caps' d d' x y same constant structs below_a below_b fits held = table.carried i j below_a below_b structs x y fits held
-  item_carries _ _ caps caps' d d' x y same constant structs below_a below_b fits held = absurd (cc)
+  item_carries (Num k) (Num l) caps caps' d d' x y pair constant fits held = number_item (same_kind k l) k l caps caps' d' x y pair.same pair.same held
+  item_carries (Equal k z) (Equal l u) caps caps' d d' x y pair constant fits held = carries_constant numbers numbers' k l z u (kinds_same k l pair.same) (same_number_is z u constant)
+  item_carries (Unused m) (Unused r) caps caps' d d' x y pair constant fits held =
+      carries_filler numbers numbers' (Filler m ∷ []) r (length-append (replicate m 0) [] ∙ ap (λ (k : ℕ). k + 0) (length-replicate m 0) ∙ omega (arith, eqb-true m r pair.same))
+  item_carries (Struct i) (Struct j) caps caps' d d' x y pair constant fits held = table.carried i j pair.low pair.low' pair.structs x y fits held
+  item_carries _ _ caps caps' d d' x y pair constant fits held = absurd (cc)
 
-  items_carry : (i j : Item) (caps caps' : List ℕ) (d d' : ℤ) (m most most' p step x y : ℕ) → same_item i j ≡ true → same_constant i j ≡ true → pair_structs ks a b v w part part' o n i j ≡ None
-      → ItemBelow below i → ItemBelow below' j → m ≤ most → m ≤ most' → FitsAt (times most (λ _. item_cells (cells_in ms) i caps d) p step) numbers x
-      → Holds numbers' y (carry_items cs (cells_in ms) (cells_in ns) numbers i j (defaults (item_cells (cells_in ns) j [] d')) (length (item_cells (cells_in ms) i [] (pos 0))) m most' x)
-      → Carries numbers (times m (item_slots ms i caps numbers) x (length (item_cells (cells_in ms) i [] (pos 0))))
-      numbers' (times m (item_slots ns j caps' numbers') y (length (item_cells (cells_in ns) j [] (pos 0))))
-  items_carry i j caps caps' d d' zero most most' p step x y same constant structs below_a below_b le le' fits held = carries_nil numbers numbers'
-  items_carry i j caps caps' d d' (suc m) zero most' p step x y same constant structs below_a below_b le le' fits held = absurd (omega arith)
-  items_carry i j caps caps' d d' (suc m) (suc most) zero p step x y same constant structs below_a below_b le le' fits held = absurd (omega arith)
-  items_carry i j caps caps' d d' (suc m) (suc most) (suc most') p step x y same constant structs below_a below_b le le' fits held =
+  items_carry : (i j : Item) (caps caps' : List ℕ) (d d' : ℤ) (m most most' p step x y : ℕ) → Pair i j → same_constant i j ≡ true → m ≤ most → m ≤ most'
+      → FitsAt (times most (λ _. item_cells (cells_in ms) i caps d) p step) numbers x
+      → Holds numbers' y (some_items i j d' m most' x) → Carries numbers (times m (item_slots ms i caps numbers) x (old_size i)) numbers' (times m (item_slots ns j caps' numbers') y (new_size j))
+  items_carry i j caps caps' d d' zero most most' p step x y pair constant le le' fits held = carries_nil numbers numbers'
+  items_carry i j caps caps' d d' (suc m) zero most' p step x y pair constant le le' fits held = absurd (omega arith)
+  items_carry i j caps caps' d d' (suc m) (suc most) zero p step x y pair constant le le' fits held = absurd (omega arith)
+  items_carry i j caps caps' d d' (suc m) (suc most) (suc most') p step x y pair constant le le' fits held =
       let cells = item_cells (cells_in ms) i caps d in
-      let size = length (item_cells (cells_in ms) i [] (pos 0)) in
-      let size' = length (item_cells (cells_in ns) j [] (pos 0)) in
-      let fallback = defaults (item_cells (cells_in ns) j [] d') in
-      let first = carry_item cs (cells_in ms) (cells_in ns) numbers i j fallback x in
+      let first = one_item i j d' x in
       let more_cells = times most (λ _. item_cells (cells_in ms) i caps d) (p + step) step in
-      let after = carry_items cs (cells_in ms) (cells_in ns) numbers i j fallback size m most' (x + size) in
-      let e : x + length cells ≡ x + size = ap (λ (k : ℕ). x + k) (size_same (cells_in ms) i caps d) in
-      let e' : y + length first ≡ y + size' = ap (λ (k : ℕ). y + k) (carry_item_size ks a b v w part part' o n cs (cells_in ms) (cells_in ns) numbers numbers' own at at' below' table.sized i j d' x below_b) in
+      let after = some_items i j d' m most' (x + old_size i) in
+      let e : x + length cells ≡ x + old_size i = omega (arith, size_same (cells_in ms) i caps d) in
+      let sized = carry_item_size ks a b v w part part' o n cs (cells_in ms) (cells_in ns) numbers numbers' own at at' below' table.sized i j d' x pair.low' in
+      let e' : y + length first ≡ y + new_size j = omega (arith, sized) in
       carries_append numbers numbers' (item_slots ms i caps numbers x) (item_slots ns j caps' numbers' y)
-      (times m (item_slots ms i caps numbers) (x + size) size) (times m (item_slots ns j caps' numbers') (y + size') size')
-      (item_carries i j caps caps' d d' x y same constant structs below_a below_b (fits_left cells more_cells numbers x fits) (holds_left numbers' y first after held))
-      (items_carry i j caps caps' d d' m most most' (p + step) step (x + size) (y + size') same constant structs below_a below_b (omega arith) (omega arith)
+      (times m (item_slots ms i caps numbers) (x + old_size i) (old_size i)) (times m (item_slots ns j caps' numbers') (y + new_size j) (new_size j))
+      (item_carries i j caps caps' d d' x y pair constant (fits_left cells more_cells numbers x fits) (holds_left numbers' y first after held))
+      (items_carry i j caps caps' d d' m most most' (p + step) step (x + old_size i) (y + new_size j) pair constant (omega arith) (omega arith)
       (fits_at more_cells numbers _ _ e (fits_right cells more_cells numbers x fits))
       (holds_at numbers' _ _ after e' (holds_right numbers' y first after held)))
 
@@ -114,10 +132,10 @@ module _ (ks : List Comparer) (cs : List Carrier) (ms ns : List Meaning) (a b : 
     pub rest : NamedRest ok f.rest
 
   abbrev slots_of : Entry → List Slot
-  slots_of e = times (elements_of e.field.count own) (item_slots ms e.field.item (counted e.index a.fields) numbers) (at + e.place) (length (item_cells (cells_in ms) e.field.item [] (pos 0)))
+  slots_of e = times (elements_of e.field.count own) (item_slots ms e.field.item (counted e.index a.fields) numbers) (at + e.place) (old_size e.field.item)
 
   abbrev slots_in : ℕ → Entry → List Slot
-  slots_in k f = times k (item_slots ns f.field.item (counted f.index b.fields) numbers') (at' + f.place) (length (item_cells (cells_in ns) f.field.item [] (pos 0)))
+  slots_in k f = times k (item_slots ns f.field.item (counted f.index b.fields) numbers') (at' + f.place) (new_size f.field.item)
 
   -- a property of slots on both sides, at two fields where no rule fails: of none, of what is covered, and of as many elements
   module _ (P : List Slot → List Slot → Type 0) (nothing : P [] []) where
@@ -143,18 +161,18 @@ module _ (ks : List Comparer) (cs : List Carrier) (ms ns : List Meaning) (a b : 
         ]
 
   pub pair_carries : (e f : Entry) → Agree o n ok own own' → IsKnown ms a.fields v numbers at e → IsKnown ns b.fields w numbers' at' f → PairGood ks a b v w part part' o n e f
-      → Holds numbers' (at' + f.place) (carry_field cs (cells_in ms) (cells_in ns) numbers own v at e f.field)
+      → Holds numbers' (at' + f.place) (one_field e f.field)
       → OldGood below own e.field → EntryGood f → FitsAt (field_cells (cells_in ms) a.fields e.index e.field) numbers (at + e.place)
       → Carries numbers (slots_at ms a.fields v own numbers at e.index e.place e.field) numbers' (slots_at ns b.fields w own' numbers' at' f.index f.place f.field)
   pair_carries e f agree known known' good held old new fits =
-      let step = length (item_cells (cells_in ms) e.field.item [] (pos 0)) in
+      let step = old_size e.field.item in
       let caps = counted e.index a.fields in
       let caps' = counted f.index b.fields in
       pair_by (λ xs ys. Carries numbers xs numbers' ys) (carries_nil numbers numbers') e f agree known known' good old new
-      (λ c. covered_carries e.field.item e.field.count f.field.item f.field.count caps caps' (at + e.place) (at' + f.place) step (length (item_cells (cells_in ns) f.field.item [] (pos 0))) c.covers old.single new.single)
+      (λ c. covered_carries e.field.item e.field.count f.field.item f.field.count caps caps' (at + e.place) (at' + f.place) step (new_size f.field.item) c.covers old.single new.single)
       (λ m is. items_carry e.field.item f.field.item caps caps' e.field.default f.field.default (elements_of e.field.count own) (capacity_of e.field.count) (capacity_of f.field.count) 0 0
-      (at + e.place) (at' + f.place) m.item m.constant good.structs old.item new.item (elements_fit e.field.count own) (elements_room e.field.count f.field.count m.count m.room) fits
-      (subst (λ (t : Bool). Holds numbers' (at' + f.place) (carry_items cs (cells_in ms) (cells_in ns) numbers e.field.item f.field.item (defaults (item_cells (cells_in ns) f.field.item [] f.field.default)) step
+      (at + e.place) (at' + f.place) (record { same = m.item; structs = good.structs; low = old.item; low' = new.item }) m.constant (elements_fit e.field.count own) (elements_room e.field.count f.field.count m.count m.room) fits
+      (subst (λ (t : Bool). Holds numbers' (at' + f.place) (carry_items cs (cells_in ms) (cells_in ns) numbers e.field.item f.field.item (fallback f.field.item f.field.default) step
       (if t then elements_of e.field.count own else 0) (capacity_of f.field.count) (at + e.place))) is held))
 
   abbrev pub OldEntries : List Entry → Type 0

@@ -61,7 +61,7 @@ good_append (x ∷ xs) ys h k = (h.0, good_append xs ys h.1 k)
 
 pub good_times : (n : ℕ) (xs : List Cell) (at step : ℕ) → GoodCells xs → GoodCells (times n (λ _. xs) at step)
 good_times zero xs at step h = tt
-good_times (suc n) xs at step h = good_append xs (times n (λ _. xs) (at + step) step) h (good_times n xs (at + step) step h)
+good_times (suc n) xs at step h = good_append xs _ h (good_times n xs (at + step) step h)
 
 -- defaults are in range, and within what they count
 abbrev pub ItemDefault : Item → List ℕ → ℤ → Type 0
@@ -85,8 +85,8 @@ good_item y k (Struct i) caps d good below h = good i below
 pub good_fields : (y : List (List Cell)) (k : ℕ) (all : List Field) (i : ℕ) (gs : List Field) → ((i : ℕ) → i < k → GoodCells (get_or y i [])) → FieldsBelow k gs → DefaultsGood all i gs → GoodCells (cells_from y all i gs)
 good_fields y k all i [] good below h = tt
 good_fields y k all i (g ∷ gs) good below h =
-    good_append (field_cells y all i g) (cells_from y all (suc i) gs)
-    (good_times (capacity_of g.count) (item_cells y g.item (counted i all) g.default) 0 0 (good_item y k g.item (counted i all) g.default good below.0 h.0))
+    good_append _ _
+    (good_times _ _ 0 0 (good_item y k g.item _ g.default good below.0 h.0))
     (good_fields y k all (suc i) gs good below.1 h.1)
 
 module _ (ks : List Comparer) (cs : List Carrier) (x y : List (List Cell)) (ms : List Meaning) (a b : Desc) (v w : ℕ) (part part' : Part) (o n : ℕ → Option ℕ) (numbers : List ℤ) (own : ℕ → ℕ) (at : ℕ)
@@ -98,7 +98,7 @@ module _ (ks : List Comparer) (cs : List Carrier) (x y : List (List Cell)) (ms :
 
   fallback_fits : (j : Item) (caps' : List ℕ) (d' : ℤ) → GoodCells (item_cells y j caps' d') → FitCells (item_cells y j caps' d') (defaults (item_cells y j [] d'))
   fallback_fits (Num l) caps' d' good = (good.0, tt)
-  fallback_fits (Struct j) caps' d' good = fit_defaults (get_or y j []) good
+  fallback_fits (Struct j) caps' d' good = fit_defaults _ good
   fallback_fits _ caps' d' good = tt
 
   fit_item : (i j : Item) (caps caps' : List ℕ) (d d' : ℤ) (p : ℕ) → ItemBelow below i → ItemBelow below' j → pair_structs ks a b v w part part' o n i j ≡ None → GoodCells (item_cells y j caps' d')
@@ -108,8 +108,8 @@ module _ (ks : List Comparer) (cs : List Carrier) (x y : List (List Cell)) (ms :
   fit_item (Num k) (Num l) caps caps' d d' p below_a below_b none good fits follow =
       let z : p + 0 ≡ p = omega arith in
       let f : FitsCell (record { kind = k; capacities = caps; default = d }) (get_or numbers p (pos 0)) =
-      subst (λ (q : ℕ). FitsCell (record { kind = k; capacities = caps; default = d }) (get_or numbers q (pos 0))) z (fits.each 0 (omega arith)) in
-      number_fits (same_kind k l) k l caps caps' d' (get_or numbers p (pos 0)) refl good.0 f.0 (λ same. follow k refl refl (get_or numbers p (pos 0)) f.0.1 f.1)
+      rw (z) at (fits.each 0 (omega arith)) in
+      number_fits _ k l caps caps' d' _ refl good.0 f.0 (λ same. follow k refl refl (get_or numbers p (pos 0)) f.0.1 f.1)
   fit_item (Struct i) (Struct j) caps caps' d d' p below_a below_b none good fits follow = table.fits i j below_a below_b none p fits
   fit_item _ j caps caps' d d' p below_a below_b none good fits follow = fallback_fits j caps' d' good
 
@@ -119,7 +119,7 @@ module _ (ks : List Comparer) (cs : List Carrier) (x y : List (List Cell)) (ms :
       → FitCells (times most' (λ _. item_cells y j caps' d') q' st') (carry_items cs x y numbers i j (defaults (item_cells y j [] d')) (length (item_cells x i [] (pos 0))) m most' p)
   fit_items i j caps caps' d d' m most zero q st q' st' p le below_a below_b none good fits follow = tt
   fit_items i j caps caps' d d' zero most (suc most') q st q' st' p le below_a below_b none good fits follow =
-      fit_append (item_cells y j caps' d') (times most' (λ _. item_cells y j caps' d') (q' + st') st') (defaults (item_cells y j [] d')) _
+      fit_append _ _ _ _
       (fallback_fits j caps' d' good)
       (fit_items i j caps caps' d d' zero most most' q st (q' + st') st' p (omega arith) below_a below_b none good fits follow)
   fit_items i j caps caps' d d' (suc m) zero (suc most') q st q' st' p le below_a below_b none good fits follow = absurd (omega arith)
@@ -128,7 +128,7 @@ module _ (ks : List Comparer) (cs : List Carrier) (x y : List (List Cell)) (ms :
       let size = length (item_cells x i [] (pos 0)) in
       let more_cells = times most (λ _. item_cells x i caps d) (q + st) st in
       let e : p + length cells ≡ p + size = ap (λ (k : ℕ). p + k) (size_same x i caps d) in
-      fit_append (item_cells y j caps' d') (times most' (λ _. item_cells y j caps' d') (q' + st') st') (carry_item cs x y numbers i j (defaults (item_cells y j [] d')) p) _
+      fit_append _ _ _ _
       (fit_item i j caps caps' d d' p below_a below_b none good (fits_left cells more_cells numbers p fits) follow)
       (fit_items i j caps caps' d d' m most most' (q + st) st (q' + st') st' (p + size) (omega arith) below_a below_b none good
       (fits_at more_cells numbers _ _ e (fits_right cells more_cells numbers p fits)) follow)
@@ -153,12 +153,12 @@ module _ (ks : List Comparer) (cs : List Carrier) (x y : List (List Cell)) (ms :
   fit_next : (i q : ℕ) (g : Field) (pr : Option (Option Formula)) (es after : List Entry) → ItemBelow below' g.item → GoodCells (item_cells y g.item (counted i b.fields) g.default)
       → Zip ks a b v w part part' o n es (entry_of i q g pr ++ after) → FollowAll es (entry_of i q g pr ++ after) → OldReady es
       → FitCells (field_cells y b.fields i g) (carry_next cs x y numbers own v at b.fields i g pr es)
-  fit_next i q g None es after lt good zipped follow ready = fit_defaults (field_cells y b.fields i g) (good_times (capacity_of g.count) (item_cells y g.item (counted i b.fields) g.default) 0 0 good)
+  fit_next i q g None es after lt good zipped follow ready = fit_defaults _ (good_times _ _ 0 0 good)
   fit_next i q g (Some rest) [] after lt good zipped follow ready = absurd zipped
   fit_next i q g (Some rest) (e ∷ es) after lt good zipped follow ready =
-      fit_items e.field.item g.item (counted e.index a.fields) (counted i b.fields) e.field.default g.default (if is_there e.field.test e.field.since v own no_parent then elements_of e.field.count own else 0)
-      (capacity_of e.field.count) (capacity_of g.count) 0 0 0 0 (at + e.place)
-      (if_least (is_there e.field.test e.field.since v own no_parent) (elements_of e.field.count own) (capacity_of e.field.count) (elements_fit e.field.count own))
+      fit_items e.field.item g.item _ _ e.field.default g.default _
+      _ _ 0 0 0 0 _
+      (if_least _ _ _ (elements_fit e.field.count own))
       ready.0.0 lt zipped.0.structs good ready.0.1 follow.0
 
   zip_left : (i q : ℕ) (g : Field) (pr : Option (Option Formula)) (es after : List Entry) → Zip ks a b v w part part' o n es (entry_of i q g pr ++ after) → Zip ks a b v w part part' o n (entries_left cs x y numbers pr es) after
@@ -184,8 +184,8 @@ module _ (ks : List Comparer) (cs : List Carrier) (x y : List (List Cell)) (ms :
       let pr = presence w g.test g.since in
       let q' = q + length (field_cells y b.fields i g) in
       let after = present_from y b.fields w (suc i) q' gs in
-      fit_append (field_cells y b.fields i g) (cells_from y b.fields (suc i) gs) _ _
-      (fit_next i q g pr es after lt.0 (good_item y below' g.item (counted i b.fields) g.default table.good lt.0 good.0) zipped follow ready)
+      fit_append _ _ _ _
+      (fit_next i q g pr es after lt.0 (good_item y below' g.item _ g.default table.good lt.0 good.0) zipped follow ready)
       (fit_from (suc i) q' gs (entries_left cs x y numbers pr es) lt.1 good.1 (zip_left i q g pr es after zipped) (follow_left i q g pr es after follow) (ready_left pr es ready))
 
   -- each pair's numbers follow
@@ -233,7 +233,7 @@ module _ (ks : List Comparer) (cs : List Carrier) (ms : List Meaning) (y : List 
 
   singles : (i p : ℕ) (gs : List Field) → NewFields below' (is_steady_in b) gs → NewSingle ks a b v w part part' o n (present_from y b.fields w i p gs)
   singles i p [] h = tt
-  singles i p (g ∷ gs) h = single_entry i p g (presence w g.test g.since) _ h.0 (singles (suc i) (p + length (field_cells y b.fields i g)) gs h.1)
+  singles i p (g ∷ gs) h = single_entry i p g _ _ h.0 (singles (suc i) (p + length (field_cells y b.fields i g)) gs h.1)
 
   abbrev Ready : List Entry → Type 0
   Ready es = OldReady ks cs x y ms a b v w part part' o n numbers own at below below' table es
@@ -247,7 +247,7 @@ module _ (ks : List Comparer) (cs : List Carrier) (ms : List Meaning) (y : List 
   readies i p (g ∷ gs) h fits =
       let first = field_cells x a.fields i g in
       let more = cells_from x a.fields (suc i) gs in
-      ready_entry i p g (presence v g.test g.since) _ h.0 (fits_left first more numbers (at + p) fits)
+      ready_entry i p g _ _ h.0 (fits_left first more numbers (at + p) fits)
       (readies (suc i) (p + length first) gs h.1 (fits_at more numbers _ _ (omega arith) (fits_right first more numbers (at + p) fits)))
 
   pub desc_fits : compare_desc ks x y a b v w part part' ≡ None → OldFields below own a.fields → NewFields below' (is_steady_in b) b.fields → DefaultsGood b.fields 0 b.fields
@@ -259,8 +259,8 @@ module _ (ks : List Comparer) (cs : List Carrier) (ms : List Meaning) (y : List 
       let at_e = indexed o n 0 0 es fs (present_increasing y b.fields w 0 0 b.fields) (λ by j le h. h) in
       let follow = follow_all ks cs x y ms a b v w part part' o n numbers own at below below' table es es fs zipped
       (stands es (all_known ms a.fields v numbers at)) (singles 0 0 b.fields new) zipped at_e in
-      fit_from ks cs x y ms a b v w part part' o n numbers own at below below' table 0 0 b.fields es (new_below below' (is_steady_in b) b.fields new) defaults_good zipped follow
-      (readies 0 0 a.fields old (fits_at (desc_cells x a) numbers at (at + 0) z fits))
+      fit_from ks cs x y ms a b v w part part' o n numbers own at below below' table 0 0 b.fields es (new_below below' _ b.fields new) defaults_good zipped follow
+      (readies 0 0 a.fields old (fits_at _ numbers at (at + 0) z fits))
 
 -- ---- structures
 
@@ -297,7 +297,7 @@ module _ (olds news : List Desc) (numbers : List ℤ) (old : OldStructs olds) (n
   row k lt rows =
       let b = get_or news k no_desc in
       let table = table_of k rows in
-      let below = new_below k (is_steady_in b) b.fields (new k lt).fields in
+      let below = new_below k _ b.fields (new k lt).fields in
       rw (struct_cells_at news (length news) k lt below) (
         good_fields ys k b.fields 0 b.fields table.good below (defaults_good k lt),
         λ i lt_i none p fits.

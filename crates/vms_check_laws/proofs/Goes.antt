@@ -25,7 +25,7 @@ none_within at size = record { in_range = λ c h. absurd (cc) }
 pub goes_absent : {cells others : List Cell} {numbers : List ℤ} {at at' : ℕ} {partners : List (Option ℕ)} → AreFrom cells others at' partners → Goes cells others numbers [] at at' partners (defaults others)
 goes_absent {cells} {others} {numbers} {at} {at'} h = record {
   paired = h;
-  within = none_within at (length cells);
+  within = none_within at _;
   long = defaults_long others;
   taken = λ c r e f. absurd (cc);
   other = λ r lt f. defaults_at others r;
@@ -43,7 +43,7 @@ goes_alone {cells} {others} {numbers} {slots} {at} {at'} n e w is = record {
 }
 
 within_append : (at m n : ℕ) (xs ys : List Slot) → IsWithin at m xs → IsWithin (at + m) n ys → IsWithin at (m + n) (xs ++ ys)
-within_append at m n xs ys p q = record { in_range = λ c h. go c (has_cell xs c) refl (sym (names_append xs ys c) ∙ h) } where
+within_append at m n xs ys p q = record { in_range = λ c h. go c _ refl (sym (names_append xs ys c) ∙ h) } where
   go : (c : ℕ) (b : Bool) → has_cell xs c ≡ b → (has_cell xs c || has_cell ys c) ≡ true → (at ≤ c) × (c < at + (m + n))
   go c true e h = let r = p.in_range c e in (r.0, omega arith)
   go c false e h =
@@ -57,10 +57,10 @@ module _ (cells_a cells_b others_a others_b : List Cell) (numbers : List ℤ) (x
 
   -- before the seam the second slots have none, and after it the first
   second_none : (c : ℕ) → c < next → has_cell ys c ≡ false
-  second_none c lt = false_from_ne_true (has_cell ys c) (λ e. omega (arith, (g.within.in_range c e).0))
+  second_none c lt = false_from_ne_true _ (λ e. omega (arith, (g.within.in_range c e).0))
 
   first_none : (c : ℕ) → next ≤ c → has_cell xs c ≡ false
-  first_none c le = false_from_ne_true (has_cell xs c) (λ e. omega (arith, (h.within.in_range c e).1))
+  first_none c le = false_from_ne_true _ (λ e. omega (arith, (h.within.in_range c e).1))
 
   has_first : (c : ℕ) → c < next → has_cell (xs ++ ys) c ≡ has_cell xs c
   has_first c lt = names_append xs ys c ∙ ap (λ (b : Bool). has_cell xs c || b) (second_none c lt) ∙ or-false (has_cell xs c)
@@ -95,7 +95,7 @@ module _ (cells_a cells_b others_a others_b : List Cell) (numbers : List ℤ) (x
       → get_or (s ++ t) r (pos 0) ≡ (get_or (others_a ++ others_b) r no_cell).default
   other_at r lt f (inl less) =
       get_or_append_left s t (pos 0) r (omega arith)
-      ∙ h.other r less (λ c e. (or_parts (has_cell xs (at + c)) (has_cell ys (at + c)) (sym (names_append xs ys (at + c)) ∙ f c (at_left p q c (in_p c e) ∙ e))).0)
+      ∙ h.other r less (λ c e. (or_parts _ _ (sym (names_append xs ys (at + c)) ∙ f c (at_left p q c (in_p c e) ∙ e))).0)
       ∙ sym (ap (λ (x : Cell). x.default) (get_or_append_left others_a others_b no_cell r less))
     where
       in_p : (c : ℕ) → slice_get p c ≡ Some (Some (at' + r)) → c < length p
@@ -106,7 +106,7 @@ module _ (cells_a cells_b others_a others_b : List Cell) (numbers : List ℤ) (x
       ∙ g.other b.more (omega (arith, length-append others_a others_b)) (λ c e.
       let k_is : (at' + length others_a) + b.more ≡ at' + r = omega arith in
       let c_is : at + (length p + c) ≡ next + c = omega arith in
-      ap (has_cell ys) (sym c_is) ∙ sym (has_second (at + (length p + c)) (omega arith))
+      ap (has_cell ys) (sym c_is) ∙ sym (has_second _ (omega arith))
       ∙ f (length p + c) (at_right p q c ∙ rw (← k_is) e))
       ∙ sym (ap (λ (x : Cell). x.default) (ap (λ (i : ℕ). get_or (others_a ++ others_b) i no_cell) b.is ∙ get_or-append-add others_a others_b b.more no_cell))
 
@@ -114,10 +114,10 @@ module _ (cells_a cells_b others_a others_b : List Cell) (numbers : List ℤ) (x
   joined =
       record {
         paired = paired;
-        within = rw length-append (within_append at (length cells_a) (length cells_b) xs ys h.within g.within);
+        within = rw length-append (within_append at _ _ xs ys h.within g.within);
         long = omega (arith, length-append s t, length-append others_a others_b);
-        taken = λ c r e f. taken_at c r e f (before_or_behind (length p) c);
-        other = λ r lt f. other_at r lt f (before_or_behind (length others_a) r);
+        taken = λ c r e f. taken_at c r e f (before_or_behind _ c);
+        other = λ r lt f. other_at r lt f (before_or_behind _ r);
       }
 
 -- one run after the other

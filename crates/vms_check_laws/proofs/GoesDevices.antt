@@ -34,14 +34,14 @@ module _ {A : Type 0} (set : Set) (f : Sub → List A) where
   pub stands_in : (from : ℕ) (subs : List Sub) (b : ℕ) (o : A) → Sized subs → slice_get (flat_map f subs) b ≡ Some o → StandsIn from subs b o
   stands_in from [] b o size e = absurd (cc)
   stands_in from (s ∷ subs) b o size e =
-      go (before_or_behind (length (f s)) b) (λ b' e'. stands_in (from + sub_size set s) subs b' o (λ m t h. size (suc m) t h) e')
+      go (before_or_behind _ b) (λ b' e'. stands_in (from + sub_size set s) subs b' o (λ m t h. size (suc m) t h) e')
     where
       go : (b < length (f s)) ⊎ IsBehind (length (f s)) b → ((b' : ℕ) → slice_get (flat_map f subs) b' ≡ Some o → StandsIn (from + sub_size set s) subs b' o) → StandsIn from (s ∷ subs) b o
       go (inl lt) more =
           let long = size 0 s refl in
-          record { m = 0; sub = s; there = refl; c = b; is = refl; inside = omega arith; here = sym (at_left (f s) (flat_map f subs) b lt) ∙ e }
+          record { m = 0; sub = s; there = refl; c = b; is = refl; inside = omega arith; here = sym (at_left (f s) _ b lt) ∙ e }
       go (inr behind) more =
-          let h = more behind.more (sym (at_right (f s) (flat_map f subs) behind.more) ∙ ap (slice_get (f s ++ flat_map f subs)) (sym behind.is) ∙ e) in
+          let h = more behind.more (sym (at_right (f s) _ behind.more) ∙ ap (slice_get (f s ++ flat_map f subs)) (sym behind.is) ∙ e) in
           record { m = suc h.m; sub = h.sub; there = h.there; c = h.c; is = omega (arith, size 0 s refl); inside = h.inside; here = h.here }
 
   -- a part is at its subsection's place
@@ -56,7 +56,7 @@ module _ {A : Type 0} (set : Set) (f : Sub → List A) where
         0,
         omega arith,
         λ c lt. let z : 0 + c ≡ c = omega arith in
-            ap (slice_get (f t ++ flat_map f subs)) z ∙ at_left (f t) (flat_map f subs) c (omega arith) ∙ ap (λ (u : Sub). slice_get (f u) c) same,
+            ap (slice_get (f t ++ flat_map f subs)) z ∙ at_left (f t) _ c (omega arith) ∙ ap (λ (u : Sub). slice_get (f u) c) same,
         λ x c lt. let z : 0 + c ≡ c = omega arith in
             ap (λ (n : ℕ). get_or (f t ++ flat_map f subs) n x) z ∙ get_or_append_left (f t) (flat_map f subs) x c (omega arith) ∙ ap (λ (u : Sub). get_or (f u) c x) same,
       )
@@ -65,7 +65,7 @@ module _ {A : Type 0} (set : Set) (f : Sub → List A) where
         length (f t) + h.0,
         omega (arith, size 0 t refl),
         λ c lt. let z : (length (f t) + h.0) + c ≡ length (f t) + (h.0 + c) = omega arith in
-            ap (slice_get (f t ++ flat_map f subs)) z ∙ at_right (f t) (flat_map f subs) (h.0 + c) ∙ h.2 c lt,
+            ap (slice_get (f t ++ flat_map f subs)) z ∙ at_right (f t) _ _ ∙ h.2 c lt,
         λ x c lt. let z : (length (f t) + h.0) + c ≡ length (f t) + (h.0 + c) = omega arith in
             ap (λ (n : ℕ). get_or (f t ++ flat_map f subs) n x) z ∙ get_or-append-add (f t) (flat_map f subs) (h.0 + c) x ∙ h.3 x c lt,
       )
@@ -143,8 +143,8 @@ module _ (old new : Set) (good_old : WellFormed old) (good_new : WellFormed new)
   own_goes : Goes (desc_cells (struct_cells old) d.desc) (desc_cells (struct_cells new) e.desc) numbers (own_slots old d image.version numbers) 0 0 (part_partners old new d.desc.version d.desc e.desc 0) own_segment
   own_goes =
       rw versions.version
-      (part_goes old new good_old good_new numbers d.desc.version d.desc e.desc 0 0 (below_of (length old.structs) d.desc (device_rules old i d) (device_parts old good_old i d at_i).0)
-      (below_of (length new.structs) e.desc (device_rules new i' e) (device_parts new good_new i' e at_k).0))
+      (part_goes old new good_old good_new numbers d.desc.version d.desc e.desc 0 0 (below_of _ d.desc _ (device_parts old good_old i d at_i).0)
+      (below_of _ e.desc _ (device_parts new good_new i' e at_k).0))
 
   abbrev SubGoes : ℕ → ℕ → Sub → Sub → ℕ → Type 0
   SubGoes m l s t v =
@@ -153,8 +153,8 @@ module _ (old new : Set) (good_old : WellFormed old) (good_new : WellFormed new)
   sub_goes : (m l : ℕ) (s t : Sub) (v : ℕ) → slice_get d.subs m ≡ Some s → slice_get e.subs l ≡ Some t → v ≡ s.desc.version → SubGoes m l s t v
   sub_goes m l s t v at_m at_l v_is =
       rw v_is
-      (part_goes old new good_old good_new numbers s.desc.version s.desc t.desc (place m) (place' l) (below_of (length old.structs) s.desc (sub_rules d m s) (sub_clean old good_old i m d s at_i at_m))
-      (below_of (length new.structs) t.desc (sub_rules e l t) (sub_clean new good_new i' l e t at_k at_l)))
+      (part_goes old new good_old good_new numbers s.desc.version s.desc t.desc _ _ (below_of _ s.desc _ (sub_clean old good_old i m d s at_i at_m))
+      (below_of _ t.desc _ (sub_clean new good_new i' l e t at_k at_l)))
 
   -- the older one of a name, which came
   pub record Comes (t : Sub) : Type 0 where
@@ -174,17 +174,17 @@ module _ (old new : Set) (good_old : WellFormed old) (good_new : WellFormed new)
   comes t = by_name (find_sub 0 d.subs t.desc.name) refl where
     by_came : (m : ℕ) (f : Found d.subs t.desc.name m) → find_sub 0 d.subs t.desc.name ≡ Some m → (o : Option (Option ℕ)) → slice_get image.came m ≡ o → (carried_sub old new d image t ≡ defaults (new_cells t)) ⊎ Comes t
     by_came m f h None g = inl (carried_is t m f.sub None h f.there g)
-    by_came m f h (Some None) g = inl (carried_is t m f.sub (Some None) h f.there g)
-    by_came m f h (Some (Some v)) g = inr (record { m = m; s = f.sub; v = v; at_m = f.there; name_is = f.name_is; is_come = g; segment = carried_is t m f.sub (Some (Some v)) h f.there g })
+    by_came m f h (Some None) g = inl (carried_is t m f.sub _ h f.there g)
+    by_came m f h (Some (Some v)) g = inr (record { m = m; s = f.sub; v = v; at_m = f.there; name_is = f.name_is; is_come = g; segment = carried_is t m f.sub _ h f.there g })
 
     by_name : (r : Option ℕ) → find_sub 0 d.subs t.desc.name ≡ r → (carried_sub old new d image t ≡ defaults (new_cells t)) ⊎ Comes t
     by_name None h = inl (ap (λ (r : Option ℕ). carry_sub old new d image t r (slice_get d.subs (index r)) (slice_get image.came (index r))) h)
-    by_name (Some m) h = by_came m (found d.subs t.desc.name m h) h (slice_get image.came m) refl
+    by_name (Some m) h = by_came m (found d.subs t.desc.name m h) h _ refl
 
   sized' : (l : ℕ) (t : Sub) → slice_get e.subs l ≡ Some t → length (carried_sub old new d image t) ≡ sub_size new t
   sized' l t at_l = go (comes t) where
     go : (carried_sub old new d image t ≡ defaults (new_cells t)) ⊎ Comes t → length (carried_sub old new d image t) ≡ sub_size new t
-    go (inl h) = ap length h ∙ defaults_long (new_cells t)
+    go (inl h) = ap length h ∙ defaults_long _
     go (inr h) = ap length h.segment ∙ (sub_goes h.m l h.s t h.v h.at_m at_l (versions.subs h.m h.s h.v h.at_m h.is_come)).long
 
   -- ---- the partners of a subsection
@@ -251,7 +251,7 @@ module _ (old new : Set) (good_old : WellFormed old) (good_new : WellFormed new)
     paired_sub : (s : Sub) (c k : ℕ) → slice_get (named_partners old new e s) c ≡ Some (Some k) → PairedSub s c k
     paired_sub s c k h = by_name (find_sub 0 e.subs s.desc.name) refl where
       by_name : (o : Option ℕ) → find_sub 0 e.subs s.desc.name ≡ o → PairedSub s c k
-      by_name None g = absurd (at_none (length (old_cells s)) c k (subst (λ (o : Option ℕ). slice_get (sub_partners old new e s o (at_option e.subs o)) c ≡ Some (Some k)) g h))
+      by_name None g = absurd (at_none (length (old_cells s)) c k (rw (g) at h))
       by_name (Some l) g =
           let f = found e.subs s.desc.name l g in
           let names : s.desc.name ≡ f.sub.desc.name = sym f.name_is in
@@ -261,9 +261,9 @@ module _ (old new : Set) (good_old : WellFormed old) (good_new : WellFormed new)
         → get_or (own_segment ++ rest) k (pos 0) ≡ get_or numbers (own_cells old d + c) (pos 0)
     taken_sub c k w has =
         let x = own_cells old d + c in
-        let h = has_part old d numbers (own_cells old d) d.subs image.came x (came_has x has (omega arith)) in
-        let range = its_in old h.sub.desc h.version (place h.j) numbers x h.has in
-        let same : h.j ≡ w.m = one_part old (own_cells old d) d.subs h.j w.m x h.sub w.sub h.there w.there range.0 range.1 (omega arith) (omega arith) in
+        let h = has_part old d numbers _ d.subs image.came x (came_has x has (omega arith)) in
+        let range = its_in old h.sub.desc h.version _ numbers x h.has in
+        let same : h.j ≡ w.m = one_part old _ d.subs h.j w.m x h.sub w.sub h.there w.there range.0 range.1 (omega arith) (omega arith) in
         let some_same : Some h.sub ≡ Some w.sub = sym h.there ∙ ap (slice_get d.subs) same ∙ w.there in
         let sub_same : h.sub ≡ w.sub = cc in
         let is_come : slice_get image.came w.m ≡ Some (Some h.version) = ap (slice_get image.came) (sym same) ∙ h.is_come in
@@ -274,14 +274,14 @@ module _ (old new : Set) (good_old : WellFormed old) (good_new : WellFormed new)
         let has_here : has_cell (sub_slots old w.sub h.version numbers (place w.m)) (place w.m + w.c) ≡ true =
         ap (has_cell (sub_slots old w.sub h.version numbers (place w.m))) (sym w.is)
         ∙ rw (← same) (rw (← sub_same) h.has) in
-        ap (λ (n : ℕ). get_or (own_segment ++ rest) n (pos 0)) pair.is ∙ rest_at p.l p.t pair.r p.at_l pair.inside ∙ ap (λ (z : List ℤ). get_or z pair.r (pos 0)) (carried_is p.t w.m w.sub (Some (Some h.version)) back w.there is_come)
+        ap (λ (n : ℕ). get_or (own_segment ++ rest) n (pos 0)) pair.is ∙ rest_at p.l p.t pair.r p.at_l pair.inside ∙ ap (λ (z : List ℤ). get_or z pair.r (pos 0)) (carried_is p.t w.m w.sub _ back w.there is_come)
         ∙ goes.taken w.c pair.r (p.here ∙ ap (λ (n : ℕ). Some (Some n)) pair.is) has_here ∙ ap (λ (n : ℕ). get_or numbers n (pos 0)) (sym w.is)
 
     taken : (c k : ℕ) → slice_get (ps ++ qs) c ≡ Some (Some k) → has_cell (image_slots old d image) c ≡ true → (c < length ps) ⊎ IsBehind (length ps) c → get_or (own_segment ++ rest) k (pos 0) ≡ get_or numbers c (pos 0)
     taken c k f has (inl lt) = taken_own c k (sym (at_left ps qs c lt) ∙ f) (own_has c has (omega (arith, own_goes.paired.long)))
     taken c k f has (inr b) =
         let c_is : c ≡ own_cells old d + b.more = omega (arith, own_goes.paired.long) in
-        taken_sub b.more k (stands_in old (named_partners old new e) (own_cells old d) d.subs b.more (Some k) sized (sym (at_right ps qs b.more) ∙ ap (slice_get (ps ++ qs)) (sym b.is) ∙ f)) (ap (has_cell (image_slots old d image)) (sym c_is) ∙ has) ∙ ap (λ (n : ℕ). get_or numbers n (pos 0)) (sym c_is)
+        taken_sub b.more k (stands_in old _ _ d.subs b.more (Some k) sized (sym (at_right ps qs b.more) ∙ ap (slice_get (ps ++ qs)) (sym b.is) ∙ f)) (ap (has_cell (image_slots old d image)) (sym c_is) ∙ has) ∙ ap (λ (n : ℕ). get_or numbers n (pos 0)) (sym c_is)
 
     -- ---- all others
 
@@ -323,21 +323,20 @@ module _ (old new : Set) (good_old : WellFormed old) (good_new : WellFormed new)
     other_sub : (l : ℕ) (t : Sub) (r : ℕ) → slice_get e.subs l ≡ Some t → r < sub_size new t → NoneHas (place' l + r) → get_or (own_segment ++ rest) (place' l + r) (pos 0) ≡ (get_or (device_cells new e) (place' l + r) no_cell).default
     other_sub l t r at_l lt none = rest_at l t r at_l lt ∙ go (comes t) ∙ sym (default_at l t r at_l lt) where
       go : (carried_sub old new d image t ≡ defaults (new_cells t)) ⊎ Comes t → get_or (carried_sub old new d image t) r (pos 0) ≡ (get_or (new_cells t) r no_cell).default
-      go (inl h) = ap (λ (z : List ℤ). get_or z r (pos 0)) h ∙ defaults_at (new_cells t) r
+      go (inl h) = ap (λ (z : List ℤ). get_or z r (pos 0)) h ∙ defaults_at _ r
       go (inr h) = other_come l t r at_l lt none h
 
     other : (k : ℕ) → k < length (device_cells new e) → NoneHas k → (k < own_cells new e) ⊎ ((l : ℕ) × (t : Sub) × IsCellOf new e l t k) → get_or (own_segment ++ rest) k (pos 0) ≡ (get_or (device_cells new e) k no_cell).default
     other k lt none (inl own) = other_own k own none
     other k lt none (inr h) =
         let k_is : place' h.0 + (k - place' h.0) ≡ k = omega arith in
-        subst (λ (n : ℕ). get_or (own_segment ++ rest) n (pos 0) ≡ (get_or (device_cells new e) n no_cell).default) k_is
-        (other_sub h.0 h.1 (k - place' h.0) h.2.is (omega arith) (rw k_is none))
+        rw (← k_is) (other_sub h.0 h.1 (k - place' h.0) h.2.is (omega arith) (rw k_is none))
 
     pub carried_by_cell : IsCarried old new d e image (carried_device old new d e image).numbers
     unfolding device_partners
     carried_by_cell =
         record {
-          long = omega (arith, own_goes.long, all_long new (carried_sub old new d image) e.subs sized', length-append own_segment rest, length-append (desc_cells (struct_cells new) e.desc) (flat_map new_cells e.subs));
-          taken = λ c k f has. taken c k f has (before_or_behind (length ps) c);
+          long = omega (arith, own_goes.long, all_long new _ e.subs sized', length-append own_segment rest, length-append (desc_cells (struct_cells new) e.desc) (flat_map new_cells e.subs));
+          taken = λ c k f has. taken c k f has (before_or_behind _ c);
           other = λ k lt none. other k lt none (own_or_sub new e k lt);
         }

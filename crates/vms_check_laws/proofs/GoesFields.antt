@@ -23,7 +23,7 @@ use Rattle.vms_check_laws.proofs.Structures.{carrier_at}
 within_of : (at : ℕ) (cells : List Cell) (slots : List Slot) → IsAbove at slots → AreCells (replicate at no_cell ++ cells) slots → IsWithin at (length cells) slots
 within_of at cells slots above are = record {
   in_range = λ c e.
-      (low c e (cases_lt c at), omega (arith, named_inside (replicate at no_cell ++ cells) slots c are e, skip_long at cells));
+      (low c e (cases_lt c at), omega (arith, named_inside _ slots c are e, skip_long at cells));
 } where
   low : (c : ℕ) → has_cell slots c ≡ true → (c < at) ⊎ (at ≤ c) → at ≤ c
   low c e (inl lt) = let f = above.below c lt in absurd (cc)
@@ -40,8 +40,8 @@ module _ (structs : List Pairer) (cs : List Carrier) (ms : List Meaning) (y : Li
   module _ (table : Structs structs x y k) (go : StructsGo) where
     item_within : (a : Item) (caps : List ℕ) (d : ℤ) (at : ℕ) → IsWithin at (length (item_cells x a caps d)) (item_slots ms a caps numbers at)
     item_within a caps d at =
-        within_of at (item_cells x a caps d) (item_slots ms a caps numbers at) (item_above ms above a caps numbers at)
-        (item_are ms means a caps d (replicate at no_cell ++ item_cells x a caps d) at numbers (stands_behind at (item_cells x a caps d)))
+        within_of at _ _ (item_above ms above a caps numbers at)
+        (item_are ms means a caps d _ at numbers (stands_behind at _))
 
     -- ---- one element that is in the bytes
 
@@ -70,9 +70,9 @@ module _ (structs : List Pairer) (cs : List Carrier) (ms : List Meaning) (y : Li
     item_goes : (a b : Item) (caps caps' : List ℕ) (d d' : ℤ) (at at' : ℕ) → ItemBelow k a → ItemBelow k' b
         → Goes (item_cells x a caps d) (item_cells y b caps' d') numbers (item_slots ms a caps numbers at) at at' (item_partners structs x y a b at') (carry_item cs x y numbers a b (defaults (item_cells y b [] d')) at)
     item_goes (Num l) (Num m) caps caps' d d' at at' lt lt' =
-        one_goes l m caps caps' d d' at at' (same_kind l m) refl (item_paired structs x y k table (Num l) (Num m) caps caps' d d' at' lt) (item_within (Num l) caps d at)
+        one_goes l m caps caps' d d' at at' _ refl (item_paired structs x y k table (Num l) (Num m) caps caps' d d' at' lt) (item_within (Num l) caps d at)
     item_goes (Struct i) (Struct j) caps caps' d d' at at' lt lt' = go i j at at' lt lt'
-    item_goes a b caps caps' d d' at at' lt lt' = goes_alone (item_size x a) refl (item_within a caps d at) (same_defaults y b [] caps' d')
+    item_goes a b caps caps' d d' at at' lt lt' = goes_alone _ refl (item_within a caps d at) (same_defaults y b [] caps' d')
 
     -- ---- a number of elements, of which the first n are in the bytes
 
@@ -85,7 +85,7 @@ module _ (structs : List Pairer) (cs : List Carrier) (ms : List Meaning) (y : Li
         → Goes (times most (λ _. item_cells x a caps d) p s) (times m (λ _. item_cells y b caps' d') q t) numbers (times n (item_slots ms a caps numbers) at (item_size x a)) at at'
         (array_partners structs x y a b most m at') (carry_items cs x y numbers a b (defaults (item_cells y b [] d')) (item_size x a) n m at)
     array_goes a b caps caps' d d' most zero m at at' p s q t le lt lt' =
-        rw (carry_none a b caps' d' (item_size x a) m at q t) (goes_absent (array_paired structs x y k table a b caps caps' d d' most m at' p q s t lt))
+        rw (carry_none a b caps' d' _ m at q t) (goes_absent (array_paired structs x y k table a b caps caps' d d' most m at' p q s t lt))
     array_goes a b caps caps' d d' zero (suc n) m at at' p s q t le lt lt' = absurd (omega arith)
     array_goes a b caps caps' d d' (suc most) (suc n) zero at at' p s q t le lt lt' =
         let e : item_size x a ≡ length (item_cells x a caps d) = sym (size_same x a caps d) in
@@ -95,8 +95,8 @@ module _ (structs : List Pairer) (cs : List Carrier) (ms : List Meaning) (y : Li
             → Goes (times most (λ _. item_cells x a caps d) p s) [] numbers (times n (item_slots ms a caps numbers) at (item_size x a)) at at' (array_partners structs x y a b most 0 at') []
         none_left a b caps caps' d d' most n at at' p s q t le lt lt' = record {
           paired = array_paired structs x y k table a b caps caps' d d' most 0 at' p q s t lt;
-          within = within_of at (times most (λ _. item_cells x a caps d) p s) (times n (item_slots ms a caps numbers) at (item_size x a)) (items_above ms above a caps numbers n at (item_size x a))
-              (items_are ms means a caps d (replicate at no_cell ++ times most (λ _. item_cells x a caps d) p s) most n at p s numbers le (stands_behind at (times most (λ _. item_cells x a caps d) p s)));
+          within = within_of at _ _ (items_above ms above a caps numbers n at _)
+              (items_are ms means a caps d _ most n at p s numbers le (stands_behind at _));
           long = refl;
           taken = λ c r e f. (let i = (array_paired structs x y k table a b caps caps' d d' most 0 at' p q s t lt).pairs c (at' + r) e in absurd (omega arith));
           other = λ r l f. absurd (omega arith);
@@ -113,8 +113,8 @@ module _ (structs : List Pairer) (cs : List Carrier) (ms : List Meaning) (y : Li
 
       field_within : (i p : ℕ) (f : Field) → IsWithin (at + p) (length (field_cells x all i f)) (slots_of i p f)
       field_within i p f =
-          within_of (at + p) (field_cells x all i f) (slots_of i p f) (field_above ms above all v own numbers i (at + p) f)
-          (field_are ms means all v own numbers i (at + p) f (replicate (at + p) no_cell ++ field_cells x all i f) (stands_behind (at + p) (field_cells x all i f)))
+          within_of (at + p) _ _ (field_above ms above all v own numbers i (at + p) f)
+          (field_are ms means all v own numbers i (at + p) f _ (stands_behind (at + p) _))
 
       -- a field that the older version doesn't have
       not_there : (i p : ℕ) (f : Field) → presence v f.test f.since ≡ None → slots_of i p f ≡ []
@@ -132,9 +132,9 @@ module _ (structs : List Pairer) (cs : List Carrier) (ms : List Meaning) (y : Li
             (array_partners structs x y f.item g.item (capacity_of f.count) (capacity_of g.count) (at' + p'))
             (carry_items cs x y numbers f.item g.item (defaults (item_cells y g.item [] g.default)) (item_size x f.item) (if b then elements_of f.count own else 0) (capacity_of g.count) (at + p))
         by_there true =
-            array_goes f.item g.item (counted i all) (counted i' all') f.default g.default (capacity_of f.count) (elements_of f.count own) (capacity_of g.count) (at + p) (at' + p') 0 0 0 0 (elements_fit f.count own) lt lt'
+            array_goes f.item g.item _ _ f.default g.default _ _ _ (at + p) _ 0 0 0 0 (elements_fit f.count own) lt lt'
         by_there false =
-            array_goes f.item g.item (counted i all) (counted i' all') f.default g.default (capacity_of f.count) 0 (capacity_of g.count) (at + p) (at' + p') 0 0 0 0 (omega arith) lt lt'
+            array_goes f.item g.item _ _ f.default g.default _ 0 _ (at + p) _ 0 0 0 0 (omega arith) lt lt'
 
       -- ---- all fields from one on, on each side
 
@@ -170,10 +170,10 @@ module _ (structs : List Pairer) (cs : List Carrier) (ms : List Meaning) (y : Li
       new_alone : (i' p p' : ℕ) (g : Field) (gs : List Field) {cells : List Cell} {slots : List Slot} {partners : List (Option ℕ)} {segment : List ℤ}
           → Goes cells (cells_from y all' (suc i') gs) numbers slots (at + p) (at' + (p' + size_at' i' g)) partners segment
           → Goes cells (cells_from y all' i' (g ∷ gs)) numbers slots (at + p) (at' + p') partners (default_field cs x y numbers all' i' g ++ segment)
-      new_alone i' p p' g gs h = goes_append (goes_absent (paired_none [] (field_cells y all' i' g) (at' + p') 0 refl)) (omega arith) (omega arith) h
+      new_alone i' p p' g gs h = goes_append (goes_absent (paired_none [] _ _ 0 refl)) (omega arith) (omega arith) h
 
       no_olds : (i i' p p' : ℕ) (gs : List Field) → GoFrom i i' p p' [] gs
-      no_olds i i' p p' [] = goes_absent (paired_none [] [] (at' + p') 0 refl)
+      no_olds i i' p p' [] = goes_absent (paired_none [] [] _ 0 refl)
       no_olds i i' p p' (g ∷ gs) = by_new (presence w g.test g.since) (no_olds i (suc i') p (p' + size_at' i' g) gs) where
         by_new : (o : Option (Option Formula)) → Goes [] (cells_from y all' (suc i') gs) numbers [] (at + p) (at' + (p' + size_at' i' g)) [] (carry_on (suc i') gs [])
             → Goes [] (cells_from y all' i' (g ∷ gs)) numbers [] (at + p) (at' + p') [] (carry_next cs x y numbers own v at all' i' g o [] ++ carry_on (suc i') gs (entries_left cs x y numbers o []))
@@ -236,7 +236,7 @@ module _ (structs : List Pairer) (cs : List Carrier) (ms : List Meaning) (y : Li
     desc_goes v w a b at at' lt lt' =
         let z : at + 0 ≡ at = omega arith in
         let z' : at' + 0 ≡ at' = omega arith in
-        more_rules (all_hold a.validate v (numbers_of x a numbers at)) (rw (z, z') at (fields_go a.fields b.fields v w (numbers_of x a numbers at) at at' 0 0 a.fields lt 0 0 b.fields lt'))
+        more_rules _ (rw (z, z') at (fields_go a.fields b.fields v w (numbers_of x a numbers at) at at' 0 0 a.fields lt 0 0 b.fields lt'))
       where
         more_rules : {slots : List Slot} (b' : Bool) → Goes (desc_cells x a) (desc_cells y b) numbers slots at at' (desc_partners structs x y v w a b at') (carry_desc cs x y numbers v w a b at)
             → Goes (desc_cells x a) (desc_cells y b) numbers (slots ++ Rule b' ∷ []) at at' (desc_partners structs x y v w a b at') (carry_desc cs x y numbers v w a b at)
@@ -248,7 +248,7 @@ module _ (structs : List Pairer) (cs : List Carrier) (ms : List Meaning) (y : Li
           other = λ r l f. h.other r l (λ c e. sym (same (at + c)) ∙ f c e);
         } where
           same : (c : ℕ) → has_cell (slots ++ Rule b' ∷ []) c ≡ has_cell slots c
-          same c = names_append slots (Rule b' ∷ []) c ∙ or-false (has_cell slots c)
+          same c = names_append slots _ c ∙ or-false (has_cell slots c)
 
 module _ (old new : Set) (good_old : WellFormed old) (good_new : WellFormed new) (numbers : List ℤ) where
   abbrev ds : List Desc
@@ -273,10 +273,10 @@ module _ (old new : Set) (good_old : WellFormed old) (good_new : WellFormed new)
   carriers_to l = carriers xs y ds es l
 
   structs_in : (m : ℕ) → m ≤ length ds → Structs (pairers_to m) xs y m
-  structs_in m le = rw (cells_first ds (length ds)) (tables old new good_old good_new m le)
+  structs_in m le = rw (cells_first ds _) (tables old new good_old good_new m le)
 
   abbrev Go : ℕ → ℕ → Type 0
-  Go m l = StructsGo (pairers_to m) (carriers_to l) ms y numbers m l (meanings_above ds (length ds)) (meanings_are ds (length ds))
+  Go m l = StructsGo (pairers_to m) (carriers_to l) ms y numbers m l (meanings_above ds _) (meanings_are ds _)
 
   abbrev GoesAt : ℕ → ℕ → Type 0
   GoesAt i l = (j at at' : ℕ) → j < l
@@ -288,7 +288,7 @@ module _ (old new : Set) (good_old : WellFormed old) (good_new : WellFormed new)
       let e = get_or es j no_desc in
       let below = struct_below old good_old m lt in
       rw (carrier_at xs y ds es l j lt', struct_slots ds (length ds) m numbers at lt below, struct_cells_at ds (length ds) m lt below, struct_is new good_new j)
-      (desc_goes (pairers_to m) (carriers_to j) ms y numbers m j (meanings_above ds (length ds)) (meanings_are ds (length ds)) (structs_in m (omega arith)) (h j (omega arith)) d.version e.version d e at at' below
+      (desc_goes _ _ ms y numbers m j (meanings_above ds _) (meanings_are ds _) (structs_in m (omega arith)) (h j (omega arith)) d.version e.version d e at at' below
       (struct_below new good_new j (omega arith)))
 
   pairer_at : (m i : ℕ) → i < m → get_or (pairers_to m) i no_pairer ≡ pairer_of (pairers_to i) xs y es (get_or ds i no_desc)
@@ -304,6 +304,6 @@ module _ (old new : Set) (good_old : WellFormed old) (good_new : WellFormed new)
   pub part_goes : (v : ℕ) (a b : Desc) (at at' : ℕ) → FieldsBelow (length ds) a.fields → FieldsBelow (length es) b.fields
       → Goes (desc_cells (struct_cells old) a) (desc_cells (struct_cells new) b) numbers (desc_slots ms a v numbers at) at at' (part_partners old new v a b at') (carrying old new numbers v a b at)
   part_goes v a b at at' lt lt' =
-      rw (← (cells_first ds (length ds)))
-      (desc_goes (pairers_to (length ds)) (carriers_to (length es)) ms y numbers (length ds) (length es) (meanings_above ds (length ds)) (meanings_are ds (length ds)) (structs_in (length ds) (omega arith))
-      (go_to (length ds) (omega arith) (length es) (omega arith)) v v a b at at' lt lt')
+      rw (← (cells_first ds _))
+      (desc_goes _ _ ms y numbers _ _ (meanings_above ds _) (meanings_are ds _) (structs_in _ (omega arith))
+      (go_to _ (omega arith) _ (omega arith)) v v a b at at' lt lt')

@@ -20,17 +20,17 @@ names_more ok ok' (Cell Parent i mask rel value) more h = h
 names_more ok ok' (Not t) more h = names_more ok ok' t more h
 names_more ok ok' (And s t) more h =
     let p = and_parts (names_well ok nobody s) (names_well ok nobody t) h in
-    and_from (names_well ok' nobody s) (names_well ok' nobody t) (names_more ok ok' s more p.0) (names_more ok ok' t more p.1)
+    and_from _ _ (names_more ok ok' s more p.0) (names_more ok ok' t more p.1)
 names_more ok ok' (Or s t) more h =
     let p = and_parts (names_well ok nobody s) (names_well ok nobody t) h in
-    and_from (names_well ok' nobody s) (names_well ok' nobody t) (names_more ok ok' s more p.0) (names_more ok ok' t more p.1)
+    and_from _ _ (names_more ok ok' s more p.0) (names_more ok ok' t more p.1)
 
 earlier_steady : (d : Desc) (k i : ℕ) → is_earlier_in d k i ≡ true → is_steady_in d i ≡ true
 earlier_steady d k i h = (and_parts (nat_lt i k) (is_steady_in d i) h).1
 
 test_named : (d : Desc) (k : ℕ) (t : Option Formula) → test_names_well d k t ≡ true → NamedRest (is_steady_in d) t
 test_named d k None h = tt
-test_named d k (Some t) h = names_more (is_earlier_in d k) (is_steady_in d) t (λ i e. earlier_steady d k i e) h
+test_named d k (Some t) h = names_more _ _ t (λ i e. earlier_steady d k i e) h
 
 count_named : (d : Desc) (k : ℕ) (c : Count) → count_names_well d k c ≡ true → CountNamed (is_steady_in d) c
 count_named d k One h = tt
@@ -71,9 +71,7 @@ single (Struct j) c h = tt
 
 default_good : (i : Item) (caps : List ℕ) (z : ℤ) → defaults_well i z ≡ true → counts_well caps z ≡ true → ItemDefault i caps z
 default_good (Num kind) caps z h k = (ranges kind z h, within caps z k)
-default_good (Equal kind y) caps z h k = tt
-default_good (Unused n) caps z h k = tt
-default_good (Struct j) caps z h k = tt
+default_good _ caps z h k = tt
 
 -- the rules 4, 5, 6 and 8 at a field
 pub record FieldFacts (k : ℕ) (d : Desc) (i : ℕ) (f : Field) : Type 0 where
@@ -96,7 +94,7 @@ module _ (k : ℕ) (d : Desc) where
   HoldFrom i fs = (j : ℕ) (f : Field) → slice_get fs j ≡ Some f → AllTrue (field_rules k d (i + j) f)
 
   facts_here : (i : ℕ) (f : Field) (fs : List Field) → HoldFrom i (f ∷ fs) → FieldFacts k d i f
-  facts_here i f fs h = let z : i + 0 ≡ i = omega arith in field_facts k d i f (subst (λ (n : ℕ). AllTrue (field_rules k d n f)) z (h 0 f refl))
+  facts_here i f fs h = let z : i + 0 ≡ i = omega arith in field_facts k d i f (rw (z) at (h 0 f refl))
 
   hold_next : (i : ℕ) (f : Field) (fs : List Field) → HoldFrom i (f ∷ fs) → HoldFrom (suc i) fs
   hold_next i f fs h j g e = let s : i + suc j ≡ suc i + j = omega arith in rw (← s) (h (suc j) g e)
@@ -124,7 +122,7 @@ module _ (k : ℕ) (d : Desc) where
   defaults_good : (i : ℕ) (fs : List Field) → HoldFrom i fs → DefaultsGood d.fields i fs
   defaults_good i [] h = tt
   defaults_good i (f ∷ fs) h =
-      let q = facts_here i f fs h in (default_good f.item (counted i d.fields) f.default q.default q.counts, defaults_good (suc i) fs (hold_next i f fs h))
+      let q = facts_here i f fs h in (default_good f.item _ f.default q.default q.counts, defaults_good (suc i) fs (hold_next i f fs h))
 
   rules_named : (ts : List Formula) → ((i : ℕ) (t : Formula) → slice_get ts i ≡ Some t → AllTrue (validation_rules d t)) → RulesNamed (is_steady_in d) ts
   rules_named [] h = tt
@@ -147,7 +145,7 @@ module _ (set : Set) (well : WellFormed set) where
   pub struct_good : (j : ℕ) → j < length set.structs → DescGood j (get_or set.structs j no_desc)
   struct_good j lt =
       let d = get_or set.structs j no_desc in
-      desc_good j d (struct_rules set.structs j d) (struct_clean set well j d (slice_get-get_or set.structs j no_desc lt))
+      desc_good j d _ (struct_clean set well j d (slice_get-get_or set.structs j no_desc lt))
 
   pub old_structs : OldStructs set.structs
   old_structs i lt = record { fields = (struct_good i lt).old }
@@ -159,7 +157,7 @@ module _ (set : Set) (well : WellFormed set) where
   default_structs j lt = (struct_good j lt).defaults
 
   pub device_good : (i : ℕ) (d : Device) → slice_get set.devices i ≡ Some d → DescGood (length set.structs) d.desc
-  device_good i d e = desc_good (length set.structs) d.desc (device_rules set i d) (device_parts set well i d e).0
+  device_good i d e = desc_good _ d.desc _ (device_parts set well i d e).0
 
   pub sub_good : (i j : ℕ) (d : Device) (s : Sub) → slice_get set.devices i ≡ Some d → slice_get d.subs j ≡ Some s → DescGood (length set.structs) s.desc
-  sub_good i j d s e f = desc_good (length set.structs) s.desc (sub_rules d j s) (sub_clean set well i j d s e f)
+  sub_good i j d s e f = desc_good _ s.desc _ (sub_clean set well i j d s e f)

@@ -64,7 +64,7 @@ comes_once left [] apart come covers = none_left left covers
 comes_once left (j ∷ order) apart come covers = (
   come.0,
   comes_once (slice_set left j None) order apart.1 (come_left left j order apart.0 come.1)
-      (λ k v e. still left j k order None (Some v) (Some come.0.0) come.0.1 (λ q. cc) e (covers k v)),
+      (λ k v e. still left j k order None (Some v) _ come.0.1 (λ q. cc) e (covers k v)),
 )
 
 -- ---- devices

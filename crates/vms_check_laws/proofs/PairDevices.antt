@@ -94,12 +94,12 @@ module _ (old new : Set) (good_old : WellFormed old) (good_new : WellFormed new)
   }
 
   pub one_sub : (j : ℕ) (s : Sub) → slice_get d.subs j ≡ Some s → OneSub s (named_partners old new e s)
-  one_sub j s at_j = by_name (find_sub 0 e.subs s.desc.name) refl where
+  one_sub j s at_j = by_name _ refl where
     by_name : (o : Option ℕ) → find_sub 0 e.subs s.desc.name ≡ o → OneSub s (named_partners old new e s)
     by_name None h = rw h (no_sub s)
     by_name (Some l) h =
         let f = found e.subs s.desc.name l h in
-        let p = part_paired old new good_old good_new s.desc.version s.desc f.sub.desc (place' l) (below_of (length old.structs) s.desc (sub_rules d j s) (sub_clean old good_old i j d s at_i at_j)) in
+        let p = part_paired old new good_old good_new s.desc.version s.desc f.sub.desc _ (below_of _ s.desc _ (sub_clean old good_old i j d s at_i at_j)) in
         rw h
         (rw f.there
         (record {
@@ -131,7 +131,7 @@ module _ (old new : Set) (good_old : WellFormed old) (good_new : WellFormed new)
 
   -- two newer subsections that have one cell are one
   names_of : (cells cells' : List Cell) (name name' : List ℕ) (c c' k : ℕ) → IsSubPair cells name c k → IsSubPair cells' name' c' k → name ≡ name'
-  names_of cells cells' name name' c c' k p q = by_order (nat_lt p.l q.l) refl (nat_lt q.l p.l) refl where
+  names_of cells cells' name name' c c' k p q = by_order _ refl _ refl where
     by_order : (x : Bool) → nat_lt p.l q.l ≡ x → (z : Bool) → nat_lt q.l p.l ≡ z → name ≡ name'
     by_order true x z h =
         absurd (omega (arith, places_apart new (own_cells new e) e.subs p.l q.l p.t p.there (ltb-true p.l q.l x)))
@@ -155,7 +155,7 @@ module _ (old new : Set) (good_old : WellFormed old) (good_new : WellFormed new)
     apart : Apart p q
     apart b c k lt behind f f' =
         let z = right c k behind f' in
-        absurd (omega (arith, distinct 0 (suc z.m) s z.sub refl z.is (names_of (old_cells s) (flat_map old_cells subs) s.desc.name z.sub.desc.name b behind.more k (left b k lt f) z.pair)))
+        absurd (omega (arith, distinct 0 (suc z.m) s z.sub refl z.is (names_of _ _ s.desc.name z.sub.desc.name b behind.more k (left b k lt f) z.pair)))
 
     pair_at : (c k : ℕ) → slice_get (p ++ q) c ≡ Some (Some k) → (c < length p) ⊎ IsBehind (length p) c → SomeSub (s ∷ subs) c k
     pair_at c k f (inl lt) =
@@ -163,7 +163,7 @@ module _ (old new : Set) (good_old : WellFormed old) (good_new : WellFormed new)
           m = 0;
           sub = s;
           is = refl;
-          pair = at_kind (old_cells s) (old_cells s ++ flat_map old_cells subs) s.desc.name c c k (left c k lt f)
+          pair = at_kind _ _ s.desc.name c c k (left c k lt f)
               (ap (λ (u : Cell). u.kind) (get_or_append_left (old_cells s) (flat_map old_cells subs) no_cell c (omega arith)));
         }
     pair_at c k f (inr behind) =
@@ -173,7 +173,7 @@ module _ (old new : Set) (good_old : WellFormed old) (good_new : WellFormed new)
           m = suc z.m;
           sub = z.sub;
           is = z.is;
-          pair = at_kind (flat_map old_cells subs) (old_cells s ++ flat_map old_cells subs) z.sub.desc.name behind.more c k z.pair
+          pair = at_kind _ _ z.sub.desc.name behind.more c k z.pair
               (ap (λ (n : ℕ). (get_or (old_cells s ++ flat_map old_cells subs) n no_cell).kind) place
               ∙ ap (λ (u : Cell). u.kind) (get_or-append-add (old_cells s) (flat_map old_cells subs) behind.more no_cell));
         }
@@ -182,14 +182,14 @@ module _ (old new : Set) (good_old : WellFormed old) (good_new : WellFormed new)
     joined =
         record {
           long = omega (arith, length-append p q, length-append (old_cells s) (flat_map old_cells subs));
-          pairs = λ c k f. pair_at c k f (before_or_behind (length p) c);
+          pairs = λ c k f. pair_at c k f (before_or_behind _ c);
           once = once_append p q h.once g.once apart;
         }
 
   all_subs : (subs : List Sub) → AreDistinct subs → ((m : ℕ) (s : Sub) → slice_get subs m ≡ Some s → OneSub s (named_partners old new e s)) → AllSubs subs (flat_map (named_partners old new e) subs)
   all_subs [] distinct h = record { long = refl; pairs = λ c k f. absurd (cc); once = λ b c k f g. absurd (cc) }
   all_subs (s ∷ subs) distinct h =
-      joined s subs (named_partners old new e s) (flat_map (named_partners old new e) subs) distinct (h 0 s refl)
+      joined s subs _ _ distinct (h 0 s refl)
       (all_subs subs (λ m m' t t' f f' n. omega (arith, distinct (suc m) (suc m') t t' f f' n)) (λ m t f. h (suc m) t f))
 
   distinct : AreDistinct d.subs
@@ -200,7 +200,7 @@ module _ (old new : Set) (good_old : WellFormed old) (good_new : WellFormed new)
   -- ---- the device
 
   own : AreFrom (desc_cells (struct_cells old) d.desc) (desc_cells (struct_cells new) e.desc) 0 (part_partners old new d.desc.version d.desc e.desc 0)
-  own = part_paired old new good_old good_new d.desc.version d.desc e.desc 0 (below_of (length old.structs) d.desc (device_rules old i d) (device_parts old good_old i d at_i).0)
+  own = part_paired old new good_old good_new d.desc.version d.desc e.desc 0 (below_of _ d.desc _ (device_parts old good_old i d at_i).0)
 
   rest : AllSubs d.subs (flat_map (named_partners old new e) d.subs)
   rest = all_subs d.subs distinct (λ m s f. one_sub m s f)
@@ -263,7 +263,7 @@ module _ (old new : Set) (good_old : WellFormed old) (good_new : WellFormed new)
   device_paired =
       record {
         long = omega (arith, own.long, rest.long, length-append ps qs, length-append xs (flat_map old_cells d.subs));
-        kinds = λ c k f. kinds c k f (before_or_behind (length ps) c);
+        kinds = λ c k f. kinds c k f (before_or_behind _ c);
         once = once_append ps qs own.once rest.once apart_own;
       }
 

@@ -39,7 +39,7 @@ module _ (y : List (List Cell)) (all : List Field) where
   laid v i p (g ∷ gs) = go (presence v g.test g.since) (laid v (suc i) (p + length (field_cells y all i g)) gs) where
     go : (o : Option (Option Formula)) → Laid (cells_from y all (suc i) gs) (p + length (field_cells y all i g)) (present_from y all v (suc i) (p + length (field_cells y all i g)) gs)
         → Laid (cells_from y all i (g ∷ gs)) p (entry_of i p g o ++ present_from y all v (suc i) (p + length (field_cells y all i g)) gs)
-    go None h = laid_behind (field_cells y all i g) (cells_from y all (suc i) gs) p _ (present_from y all v (suc i) (p + length (field_cells y all i g)) gs) refl h
+    go None h = laid_behind _ _ p _ _ refl h
     go (Some rest) h = (record { gap = []; rest = cells_from y all (suc i) gs; is = refl; place = omega arith }, h)
 
 -- ---- items, arrays, fields
@@ -66,14 +66,14 @@ module _ (structs : List Pairer) (x y : List (List Cell)) (k : ℕ) (table : Str
   one_pair l m caps caps' d d' at false same = paired_none _ _ at 1 refl
 
   pub item_paired : (a b : Item) (caps caps' : List ℕ) (d d' : ℤ) (at : ℕ) → ItemBelow k a → AreFrom (item_cells x a caps d) (item_cells y b caps' d') at (item_partners structs x y a b at)
-  item_paired (Num l) (Num m) caps caps' d d' at lt = one_pair l m caps caps' d d' at (same_kind l m) refl
+  item_paired (Num l) (Num m) caps caps' d d' at lt = one_pair l m caps caps' d d' at _ refl
   item_paired (Struct i) (Struct j) caps caps' d d' at lt = table i j at lt
-  item_paired a _ caps caps' d d' at lt = paired_none _ _ at (item_size x a) refl
+  item_paired a _ caps caps' d d' at lt = paired_none _ _ at _ refl
 
   pub array_paired : (a b : Item) (caps caps' : List ℕ) (d d' : ℤ) (n m at p q s t : ℕ) → ItemBelow k a
       → AreFrom (times n (λ _. item_cells x a caps d) p s) (times m (λ _. item_cells y b caps' d') q t) at (array_partners structs x y a b n m at)
   array_paired a b caps caps' d d' zero m at p q s t lt = paired_none [] _ at 0 refl
-  array_paired a b caps caps' d d' (suc n) zero at p q s t lt = paired_skip (item_cells x a caps d) (item_size x a) (sym (size_same x a caps d)) (array_paired a b caps caps' d d' n zero at (p + s) q s t lt)
+  array_paired a b caps caps' d d' (suc n) zero at p q s t lt = paired_skip _ _ (sym (size_same x a caps d)) (array_paired a b caps caps' d d' n zero at (p + s) q s t lt)
   array_paired a b caps caps' d d' (suc n) (suc m) at p q s t lt =
       paired_append (item_paired a b caps caps' d d' at lt) (omega (arith, sym (size_same y b caps' d'))) (array_paired a b caps caps' d d' n m (at + item_size y b) (p + s) (q + t) s t lt)
 
@@ -84,7 +84,7 @@ module _ (structs : List Pairer) (x y : List (List Cell)) (k : ℕ) (table : Str
     fields_paired i at p (f ∷ fs) es others lt h = go (presence v f.test f.since) es others h (λ p' es' others' h'. fields_paired (suc i) at p' fs es' others' lt.1 h') where
       skip : (es' : List Entry) (others' : List Cell) → AreFrom (cells_from x all (suc i) fs) others' (at + p) (partners_from structs x y v at fs es')
           → AreFrom (cells_from x all i (f ∷ fs)) others' (at + p) (unpaired (capacity_of f.count * item_size x f.item) ++ partners_from structs x y v at fs es')
-      skip es' others' g = paired_skip (field_cells x all i f) (capacity_of f.count * item_size x f.item) (sym (field_size x all i f)) g
+      skip es' others' g = paired_skip _ _ (sym (field_size x all i f)) g
 
       go : (o : Option (Option Formula)) (es : List Entry) (others : List Cell) → Laid y all' others p es
           → ((p' : ℕ) (es' : List Entry) (others' : List Cell) → Laid y all' others' p' es' → AreFrom (cells_from x all (suc i) fs) others' (at + p') (partners_from structs x y v at fs es'))
@@ -94,13 +94,13 @@ module _ (structs : List Pairer) (x y : List (List Cell)) (k : ℕ) (table : Str
       go (Some rest) (e ∷ es) others h more =
           let front = h.0 in
           let z : at + e.place ≡ (at + p) + length front.gap = omega (arith, front.place) in
-          let here = array_paired f.item e.field.item (counted i all) (counted e.index all') f.default e.field.default (capacity_of f.count) (capacity_of e.field.count) (at + e.place) 0 0 0 0 lt.0 in
+          let here = array_paired f.item e.field.item _ _ f.default e.field.default _ _ _ 0 0 0 0 lt.0 in
           rw front.is (paired_behind front.gap z (paired_append here (omega arith) (more (e.place + length (cells_at y all' e)) es front.rest h.1)))
 
   pub desc_paired : (v w : ℕ) (a b : Desc) (at : ℕ) → FieldsBelow k a.fields → AreFrom (desc_cells x a) (desc_cells y b) at (desc_partners structs x y v w a b at)
   desc_paired v w a b at lt =
       let z : at + 0 ≡ at = omega arith in
-      rw z at (fields_paired a.fields b.fields v 0 at 0 a.fields (present_from y b.fields w 0 0 b.fields) (desc_cells y b) lt (laid y b.fields w 0 0 b.fields))
+      rw z at (fields_paired a.fields b.fields v 0 at 0 a.fields _ _ lt (laid y b.fields w 0 0 b.fields))
 
 -- ---- the cells of a structure
 
@@ -112,7 +112,7 @@ below_of k d rules c = go d.fields (λ i f e. (c.fields i f e).1.1.1.1.0) where
 
 module _ (set : Set) (well : WellFormed set) where
   pub struct_below : (j : ℕ) → j < length set.structs → FieldsBelow j (get_or set.structs j no_desc).fields
-  struct_below j lt = below_of j (get_or set.structs j no_desc) (struct_rules set.structs j (get_or set.structs j no_desc)) (struct_clean set well j (get_or set.structs j no_desc) (slice_get-get_or set.structs j no_desc lt))
+  struct_below j lt = below_of j _ _ (struct_clean set well j (get_or set.structs j no_desc) (slice_get-get_or set.structs j no_desc lt))
 
   pub struct_is : (j : ℕ) → get_or (struct_cells set) j [] ≡ desc_cells (struct_cells set) (get_or set.structs j no_desc)
   struct_is j = go (nat_lt j (length set.structs)) refl where
@@ -127,7 +127,7 @@ module _ (set : Set) (well : WellFormed set) where
         let k = length set.structs in
         let le : k ≤ j = ltb-false j k e in
         let long = first_long desc_cells set.structs k in
-        get_or_past (struct_cells set) j [] (omega arith) ∙ sym (ap (λ (d : Desc). desc_cells (struct_cells set) d) (get_or_past set.structs j no_desc le))
+        get_or_past _ j [] (omega arith) ∙ sym (ap (λ (d : Desc). desc_cells (struct_cells set) d) (get_or_past set.structs j no_desc le))
 
 -- ---- their partners
 
@@ -145,7 +145,7 @@ module _ (old new : Set) (good_old : WellFormed old) (good_new : WellFormed new)
   last m lt h j at =
       let d = get_or old.structs m no_desc in
       let e = get_or new.structs j no_desc in
-      rw (struct_is old good_old m, struct_is new good_new j) (desc_paired (table m) x y m h d.version e.version d e at (struct_below old good_old m lt))
+      rw (struct_is old good_old m, struct_is new good_new j) (desc_paired _ x y m h d.version e.version d e at (struct_below old good_old m lt))
 
   pairer_at : (m i : ℕ) → i < m → get_or (table m) i no_pairer ≡ pairer_of (table i) x y new.structs (get_or old.structs i no_desc)
   pairer_at m i lt = first_at (λ earlier d. pairer_of earlier x y new.structs d) old.structs no_pairer m i lt
@@ -158,4 +158,4 @@ module _ (old new : Set) (good_old : WellFormed old) (good_new : WellFormed new)
 
   -- two descriptions
   pub part_paired : (v : ℕ) (a b : Desc) (at : ℕ) → FieldsBelow (length old.structs) a.fields → AreFrom (desc_cells x a) (desc_cells y b) at (part_partners old new v a b at)
-  part_paired v a b at lt = desc_paired (table (length old.structs)) x y (length old.structs) (tables (length old.structs) (omega arith)) v v a b at lt
+  part_paired v a b at lt = desc_paired _ x y _ (tables _ (omega arith)) v v a b at lt

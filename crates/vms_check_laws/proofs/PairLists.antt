@@ -70,7 +70,7 @@ module _ (p q : List (Option ℕ)) (first : IsOnce p) (second : IsOnce q) (apart
       omega (arith, second db.more dc.more k (sym (at_right p q db.more) ∙ ap (slice_get (p ++ q)) (sym db.is) ∙ e) (sym (at_right p q dc.more) ∙ ap (slice_get (p ++ q)) (sym dc.is) ∙ f))
 
   pub once_append : IsOnce (p ++ q)
-  once_append b c k e f = once_either b c k e f (before_or_behind (length p) b) (before_or_behind (length p) c)
+  once_append b c k e f = once_either b c k e f (before_or_behind _ b) (before_or_behind _ c)
 
 module _ (xs ys us vs : List Cell) (at : ℕ) (p q : List (Option ℕ)) (h : AreFrom xs us at p) (g : AreFrom ys vs (at + length us) q) where
   pair_left : (c k : ℕ) → c < length p → slice_get (p ++ q) c ≡ Some (Some k) → IsPair xs us at c k
@@ -107,7 +107,7 @@ module _ (xs ys us vs : List Cell) (at : ℕ) (p q : List (Option ℕ)) (h : Are
   joined : AreFrom (xs ++ ys) (us ++ vs) at (p ++ q)
   joined = record {
     long = omega (arith, length-append p q, length-append xs ys);
-    pairs = λ c k e. pair_either c k e (before_or_behind (length p) c);
+    pairs = λ c k e. pair_either c k e (before_or_behind _ c);
     once = once_append p q h.once g.once apart;
   }
 
@@ -139,7 +139,7 @@ has_itself y k caps = rw (eq-eqb y y refl)
 
 pub settled_append : {s t : List Slot} {at next : ℕ} {xs ys : List Cell} {zs us : List ℤ} → length zs ≡ length xs → Settled s at xs zs → next ≡ at + length zs → Settled t next ys us
     → Settled (s ++ t) at (xs ++ ys) (zs ++ us)
-settled_append {s} {t} {at} {next} {xs} {ys} {zs} {us} size h e k = record { each = λ c lt. by c lt (before_or_behind (length zs) c) } where
+settled_append {s} {t} {at} {next} {xs} {ys} {zs} {us} size h e k = record { each = λ c lt. by c lt (before_or_behind _ c) } where
   sizes : length (defaults xs) ≡ length zs
   sizes = length-map xs (λ (x : Cell). x.default) ∙ sym size
 
@@ -152,7 +152,7 @@ settled_append {s} {t} {at} {next} {xs} {ys} {zs} {us} size h e k = record { eac
   by c lt (inr b) =
       let place : next + b.more ≡ at + (length (defaults xs) + b.more) = omega (arith, sizes) in
       rw (defaults_append, b.is, get_or-append-add zs us b.more (pos 0), ← sizes, get_or-append-add (defaults xs) (defaults ys) b.more (pos 0)) (elim (k.each b.more (omega (arith, length-append zs us))) [
-        | inl has ↦ inl (has_right s t (at + (length (defaults xs) + b.more)) (rw place at has))
+        | inl has ↦ inl (has_right s t _ (rw place at has))
         | inr is ↦ inr is
       ])
 

@@ -46,7 +46,7 @@ module _ (structs : List Meaning) (all : List Field) (v : ℕ) (own : ℕ → �
   slots_entries i p (f ∷ fs) =
       let len = length (field_cells (cells_in structs) all i f) in
       let e : (base + p) + len ≡ base + (p + len) = omega arith in
-      rw (e, slots_entries (suc i) (p + len) fs) (entry_slots i p f (presence v f.test f.since) (present_from (cells_in structs) all v (suc i) (p + len) fs) refl)
+      rw (e, slots_entries (suc i) (p + len) fs) (entry_slots i p f _ _ refl)
 
 -- ---- what is known of entries
 
@@ -117,6 +117,6 @@ module _ (structs : List Meaning) (all : List Field) (v : ℕ) (numbers : List �
   fit_entries i p (f ∷ fs) fits =
       let here_cells = field_cells (cells_in structs) all i f in
       let more_cells = cells_from (cells_in structs) all (suc i) fs in
-      fit_entry i p f (presence v f.test f.since) (present_from (cells_in structs) all v (suc i) (p + length here_cells) fs)
-      (fits_left here_cells more_cells numbers (base + p) fits)
-      (fit_entries (suc i) (p + length here_cells) fs (fits_at more_cells numbers _ _ (omega arith) (fits_right here_cells more_cells numbers (base + p) fits)))
+      fit_entry i p f _ _
+      (fits_left here_cells more_cells numbers _ fits)
+      (fit_entries (suc i) (p + length here_cells) fs (fits_at more_cells numbers _ _ (omega arith) (fits_right here_cells more_cells numbers _ fits)))

@@ -34,5 +34,5 @@ module _ (set : Set) where
     go true e = inl (ltb-true c (own_cells set d) e)
     go false e =
         let le = ltb-false c (own_cells set d) e in
-        let i = in_one (own_cells set d) d.subs c le (omega (arith, length-append (desc_cells (struct_cells set) d.desc) (flat_map cells_of d.subs))) in
+        let i = in_one _ d.subs c le (omega (arith, length-append (desc_cells (struct_cells set) d.desc) (flat_map cells_of d.subs))) in
         inr (i.j, i.sub, record { is = i.is; low = i.low; high = i.high })

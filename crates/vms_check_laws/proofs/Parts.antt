@@ -30,20 +30,20 @@ module _ (old new : Set) (good_old : WellFormed old) (good_new : WellFormed new)
   -- the cells of structures, made either way
   to_meanings : (P : (x y : List (List Cell)) → Type 0) → P (struct_cells old) (struct_cells new) → P (cells_in ms) (cells_in ns)
   to_meanings P h =
-      rw (cells_first old.structs (length old.structs))
-      (rw (cells_first new.structs (length new.structs)) h)
+      rw (cells_first old.structs _)
+      (rw (cells_first new.structs _) h)
 
   pub to_cells : (P : (x y : List (List Cell)) → Type 0) → P (cells_in ms) (cells_in ns) → P (struct_cells old) (struct_cells new)
   to_cells P h =
-      rw (← (cells_first old.structs (length old.structs)))
-      (rw (← (cells_first new.structs (length new.structs))) h)
+      rw (← (cells_first old.structs _))
+      (rw (← (cells_first new.structs _)) h)
 
   -- the default of each cell of a description of new fits it
   pub good_cells : (b : Desc) → DescGood (length new.structs) b → GoodCells (desc_cells (struct_cells new) b)
   good_cells b good =
       let k = length new.structs in
       let table = fit_tables old.structs new.structs [] (old_structs old good_old) (new_structs new good_new) (default_structs new good_new) k (omega arith) in
-      to_cells (λ x y. GoodCells (desc_cells y b)) (good_fields (cells_in ns) k b.fields 0 b.fields table.good (new_below k (is_steady_in b) b.fields good.new) good.defaults)
+      to_cells (λ x y. GoodCells (desc_cells y b)) (good_fields _ k b.fields 0 b.fields table.good (new_below k _ b.fields good.new) good.defaults)
 
   module _ (a b : Desc) (v : ℕ) (part part' : Part)
       (good_a : DescGood (length old.structs) a) (good_b : DescGood (length new.structs) b) (same : comparing old new a b v part part' ≡ None) where
@@ -62,7 +62,7 @@ module _ (old new : Set) (good_old : WellFormed old) (good_new : WellFormed new)
           (desc_fits (ks (cells_in ms) (cells_in ns)) (cs (cells_in ms) (cells_in ns)) ms (cells_in ns) a b v v part part' numbers at (length old.structs) k
           (fit_tables old.structs new.structs numbers (old_structs old good_old) (new_structs new good_new) (default_structs new good_new) k (omega arith))
           same_in
-          (old_fields (cells_in ms) (length old.structs) a.fields numbers at fits_in a.fields (λ by most h. h) good_a.old)
+          (old_fields _ _ a.fields numbers at fits_in a.fields (λ by most h. h) good_a.old)
           good_b.new good_b.defaults fits_in)
 
       module _ (numbers' : List ℤ) (at' : ℕ) (held : Holds numbers' at' (carrying old new numbers v a b at)) where
@@ -76,7 +76,7 @@ module _ (old new : Set) (good_old : WellFormed old) (good_new : WellFormed new)
             desc_reads (ks (cells_in ms) (cells_in ns)) (cs (cells_in ms) (cells_in ns)) ms ns a b v v part part' numbers numbers' at at' (length old.structs) k
             (tables old.structs new.structs numbers numbers' (old_structs old good_old) (new_structs new good_new) k (omega arith))
             same_in
-            (old_fields (cells_in ms) (length old.structs) a.fields numbers at fits_in a.fields (λ by most h. h) good_a.old)
+            (old_fields _ _ a.fields numbers at fits_in a.fields (λ by most h. h) good_a.old)
             good_b.new fits_in held_in good_b.rules
 
         -- what old writes is new's, and validations that hold go on to hold
@@ -120,12 +120,12 @@ module _ (old new : Set) (good_old : WellFormed old) (good_new : WellFormed new)
   carried_of t = carried_sub old new d image t
 
   one_fit : (t : Sub) → Stayed t ⊎ Came t → FitCells (cells_of t) (carried_of t)
-  one_fit t (inl s) = rw s.numbers (fit_defaults (cells_of t) s.good)
+  one_fit t (inl s) = rw s.numbers (fit_defaults _ s.good)
   one_fit t (inr c) =
       rw c.numbers (part_fits old new good_old good_new c.sub.desc t.desc c.version c.part c.part' c.good c.good' c.same image.numbers c.place c.fits)
 
   one_size : (t : Sub) → Stayed t ⊎ Came t → length (carried_of t) ≡ length (cells_of t)
-  one_size t f = fit_length (cells_of t) (carried_of t) (one_fit t f)
+  one_size t f = fit_length _ _ (one_fit t f)
 
   pub subs_fit : (ts : List Sub) → Facts ts → FitCells (flat_map cells_of ts) (flat_map carried_of ts)
   subs_fit [] h = tt
@@ -146,7 +146,7 @@ module _ (old new : Set) (good_old : WellFormed old) (good_new : WellFormed new)
 
   next_place : (t : Sub) (ts : List Sub) (place : ℕ) → Stayed t ⊎ Came t → Holds numbers' place (flat_map carried_of (t ∷ ts)) → Holds numbers' (place + length (cells_of t)) (flat_map carried_of ts)
   next_place t ts place f held =
-      holds_at numbers' _ _ (flat_map carried_of ts) (ap (λ (n : ℕ). place + n) (one_size t f)) (holds_right numbers' place (carried_of t) (flat_map carried_of ts) held)
+      holds_at numbers' _ _ _ (ap (λ (n : ℕ). place + n) (one_size t f)) (holds_right numbers' place _ _ held)
 
   -- what is read of the subsections from one on, whose cells begin at a place
   pub record Reads (ts : List Sub) (place : ℕ) : Type 0 where
@@ -167,12 +167,12 @@ module _ (old new : Set) (good_old : WellFormed old) (good_new : WellFormed new)
   pub subs_read : (ts : List Sub) (place : ℕ) → Facts ts → Holds numbers' place (flat_map carried_of ts) → Reads ts place
   subs_read [] place h held = record { versions = tt; rules = tt; settled = settled_empty [] place [] [] refl }
   subs_read (t ∷ ts) place h held =
-      one_reads t ts place h.0 (holds_left numbers' place (carried_of t) (flat_map carried_of ts) held) (one_size t h.0) (subs_read ts (place + length (cells_of t)) h.1 (next_place t ts place h.0 held))
+      one_reads t ts place h.0 (holds_left numbers' place _ _ held) (one_size t h.0) (subs_read ts (place + length (cells_of t)) h.1 (next_place t ts place h.0 held))
 
   -- each subsection of new is where its cells begin
   pub sub_held : (ts : List Sub) (place l : ℕ) (t : Sub) → slice_get ts l ≡ Some t → Facts ts → Holds numbers' place (flat_map carried_of ts) → Holds numbers' (sub_place new place ts l) (carried_of t)
   sub_held [] place l t is h held = absurd (cc)
   sub_held (u ∷ ts) place zero t is h held =
       let same : u ≡ t = cc in
-      rw (← same) (holds_left numbers' place (carried_of u) (flat_map carried_of ts) held)
+      rw (← same) (holds_left numbers' place _ _ held)
   sub_held (u ∷ ts) place (suc l) t is h held = sub_held ts (place + length (cells_of u)) l t is h.1 (next_place u ts place h.0 held)

@@ -66,7 +66,7 @@ devices_clash old new good_old good_new i k d e in_old in_new v part part' numbe
         let olds = old_structs old good_old in
         let news = new_structs new good_new in
         let rows = align_rows old.structs new.structs numbers numbers' olds news (λ j lt. (struct_good new good_new j lt).earlier) m' (omega arith) in
-        let plain = old_fields (cells_in ms) m d.desc.fields numbers 0 fits d.desc.fields (λ by most x. x) (device_good old good_old i d in_old).old in
+        let plain = old_fields _ m d.desc.fields numbers 0 fits d.desc.fields (λ by most x. x) (device_good old good_old i d in_old).old in
         desc_clashes (comparers (cells_in ms) (cells_in ns) old.structs new.structs m') (carriers (cells_in ms) (cells_in ns) old.structs new.structs m') ms ns d.desc e.desc v v part part' numbers numbers' 0 0 m m' (tables old.structs new.structs numbers numbers' olds news m' (omega arith)) rows plain
         (device_good new good_new k e in_new).earlier fits clash
 
@@ -129,12 +129,12 @@ module _ (old new : Set) (good_old : WellFormed old) (good_new : WellFormed new)
   table = tables old.structs new.structs numbers numbers' (old_structs old good_old) (new_structs new good_new) (length new.structs) (omega arith)
 
   plain : FitsAt (desc_cells (cells_in ms) a) numbers at → OldFields (length old.structs) (λ k. numbers_of (cells_in ms) a numbers at k) a.fields
-  plain fits = old_fields (cells_in ms) (length old.structs) a.fields numbers at fits a.fields (λ by most x. x) (part_good old good_old a of_old).old
+  plain fits = old_fields _ _ a.fields numbers at fits a.fields (λ by most x. x) (part_good old good_old a of_old).old
 
   all_fit : FitsAt (desc_cells (cells_in ms) a) numbers at → FitEntries ms a.fields v numbers at es
   all_fit fits =
       let z : at ≡ at + 0 = omega arith in
-      fit_entries ms a.fields v numbers at 0 0 a.fields (fits_at (desc_cells (cells_in ms) a) numbers at (at + 0) z fits)
+      fit_entries ms a.fields v numbers at 0 0 a.fields (fits_at _ numbers at (at + 0) z fits)
 
   read_in : IsRead old new a b v part part' numbers numbers' at at' (cells_in ms) (cells_in ns)
   read_in p e f h =
@@ -166,12 +166,12 @@ module _ (old new : Set) (good_old : WellFormed old) (good_new : WellFormed new)
       (all_known ms a.fields v numbers at) (all_known ns b.fields v numbers' at')
       (old_entries ks cs ms ns a b v v part part' o n numbers numbers' at at' k k' table (λ j. is_steady_in b j) 0 0 a.fields (plain h.fits))
       (all_fit h.fits)
-      (λ j q e. inr e) (λ j q e. inr e) (present_above (cells_in ns) b.fields v 0 0 b.fields) (λ i j q steady oi nj lt. absurd (omega arith)) in
+      (λ j q e. inr e) (λ j q e. inr e) (present_above _ b.fields v 0 0 b.fields) (λ i j q steady oi nj lt. absurd (omega arith)) in
       let own : ℕ → ℕ = λ i. numbers_of (cells_in ms) a numbers at i in
       let own' : ℕ → ℕ = λ j. numbers_of (cells_in ns) b numbers' at' j in
       let read : List Slot = flat_map (λ (e : Entry). field_slots ns b.fields v own' numbers' e.index (at' + e.place) e.field) (take p fs) in
-      rw (← (entries_flat ms a.fields v own numbers at (take p es)))
-      (rw (← (entries_flat ns b.fields v own' numbers' at' (take p fs))) aligned)
+      rw (← (entries_flat ms a.fields v own numbers at _))
+      (rw (← (entries_flat ns b.fields v own' numbers' at' _)) aligned)
 
 pub position_stands : PositionLaw
 position_stands old new good_old good_new a b of_old of_new v part part' numbers numbers' at at' =

@@ -28,7 +28,7 @@ later_old i p q (e ∷ es) lt h =
 -- two at one position are the first of both sides, or later ones
 pub at_or_later : (i j p : ℕ) (e f : Entry) (es fs : List Entry) → same_place (position_from p (e ∷ es) i) (position_from p (f ∷ fs) j) ≡ true
     → ((e.index ≡ i) × (f.index ≡ j)) ⊎ (((f.index == j) ≡ false) × (same_place (position_from (suc p) es i) (position_from (suc p) fs j) ≡ true))
-at_or_later i j p e f es fs h = by (e.index == i) (f.index == j) refl refl h where
+at_or_later i j p e f es fs h = by _ _ refl refl h where
   by : (c d : Bool) → (e.index == i) ≡ c → (f.index == j) ≡ d → same_place (if c then Some p else position_from (suc p) es i) (if d then Some p else position_from (suc p) fs j) ≡ true
       → ((e.index ≡ i) × (f.index ≡ j)) ⊎ (((f.index == j) ≡ false) × (same_place (position_from (suc p) es i) (position_from (suc p) fs j) ≡ true))
   by true true x y k = inl (eqb-true e.index i x, eqb-true f.index j y)

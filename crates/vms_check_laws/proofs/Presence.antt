@@ -54,8 +54,8 @@ module _ (ok : ℕ → Bool) where
   named_by_parts : IsByParts IsNamed
   named_by_parts = record {
     of_not = λ t h. h;
-    of_and = λ s t h g. and_from (names_well ok nobody s) (names_well ok nobody t) h g;
-    of_or = λ s t h g. and_from (names_well ok nobody s) (names_well ok nobody t) h g;
+    of_and = λ s t h g. and_from _ _ h g;
+    of_or = λ s t h g. and_from _ _ h g;
   }
 
   -- the rest of a test names what the test names
@@ -75,13 +75,12 @@ module _ (ok : ℕ → Bool) where
 
   since_named : (b : Bool) (rest : Option Formula) → (if b then Some None else None) ≡ Some rest → NamedRest rest
   since_named true None h = tt
-  since_named true (Some t) h = cc
-  since_named false rest h = cc
+  since_named _ _ h = cc
 
   -- the rest of a field's test names what its test names
   pub presence_named : (w : ℕ) (test : Option Formula) (since : ℕ) (rest : Option Formula) → NamedRest test → presence w test since ≡ Some rest → NamedRest rest
-  presence_named w None since rest named h = since_named (nat_le since w) rest h
-  presence_named w (Some t) since rest named h = left_named (reduced w t) rest (named_left w t named) h
+  presence_named w None since rest named h = since_named _ rest h
+  presence_named w (Some t) since rest named h = left_named _ rest (named_left w t named) h
 
 module _ (o n : ℕ → Option ℕ) (ok : ℕ → Bool) (own own' parent parent' : ℕ → ℕ) (v w : ℕ) (agree : Agree o n ok own own') where
   pub same_truth : (s t : Formula) → names_well ok nobody t ≡ true → same_test o n s t ≡ true → truth s v own parent ≡ truth t w own' parent'
@@ -125,7 +124,7 @@ covers_unused _ _ _ covers = absurd (cc)
 
 pub not_covered : (i : Item) (c : Count) (j : Item) → is_covered i c j ≡ true → is_num j ≡ true → ⊥
 not_covered i c j covers number =
-    let unused : is_num (Unused (covers_unused i c j covers).0) ≡ true = subst (λ (x : Item). is_num x ≡ true) (covers_unused i c j covers).1 number in
+    let unused : is_num (Unused (covers_unused i c j covers).0) ≡ true = rw ((covers_unused i c j covers).1) at number in
     absurd (cc)
 
 -- the bytes of n numbers
@@ -159,7 +158,7 @@ no_rest true rest h = cc
 no_rest false rest h = cc
 
 pub steady_rest : (w : ℕ) (test : Option Formula) (since : ℕ) (rest : Option Formula) → has_no_test test ≡ true → presence w test since ≡ Some rest → rest ≡ None
-steady_rest w None since rest h k = no_rest (nat_le since w) rest k
+steady_rest w None since rest h k = no_rest _ rest k
 steady_rest w (Some t) since rest h k = absurd (cc)
 
 pub rest_none : (o n : ℕ → Option ℕ) (r s : Option Formula) → s ≡ None → same_rest o n r s ≡ true → r ≡ None

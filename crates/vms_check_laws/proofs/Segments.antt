@@ -67,7 +67,7 @@ carries_nil x y = record { spells = refl; rules = λ h. h }
 
 pub carries_append : (x y : List ℤ) (a b c d : List Slot) → Carries x a y b → Carries x c y d → Carries x (a ++ c) y (b ++ d)
 carries_append x y a b c d h k = record {
-  spells = rw zeroed_append (spells_append y b d (zeroed x a) (zeroed x c) h.spells k.spells);
+  spells = rw zeroed_append (spells_append y b d _ _ h.spells k.spells);
   rules = λ r. rules_append b d (h.rules (rules_left a c r)) (k.rules (rules_right a c r));
 }
 
@@ -98,7 +98,7 @@ apart (x ∷ xs) (y ∷ ys) r r' e h =
 -- the bytes are the same
 pub same_bytes : (x : List ℤ) (a : List Slot) (y : List ℤ) (b : List Slot) → Aligns x a y b → (body r r' : List ℕ) → Spells y b body → body ++ r' ≡ zeroed x a ++ r → body ≡ zeroed x a
 same_bytes x a y b al body r r' s h =
-    (apart body (zeroed x a) r r' (omega (arith, ap length h, length-append body r', length-append (zeroed x a) r, ap length (al.rests body r r' s h))) h).0
+    (apart body _ r r' (omega (arith, ap length h, length-append body r', length-append (zeroed x a) r, ap length (al.rests body r r' s h))) h).0
 
 pub spells_split : (y : List ℤ) (b c : List Slot) (body : List ℕ) → Spells y (b ++ c) body → (front rest : List ℕ) × (body ≡ front ++ rest) × Spells y b front × Spells y c rest
 spells_split y [] c body s = ([], body, refl, refl, s)
@@ -122,7 +122,7 @@ behind_first x a c front rest r r' h =
 -- ---- slots
 
 aligns_sized : (x : List ℤ) (a : List Slot) (y : List ℤ) (b : List Slot) → ((body : List ℕ) → Spells y b body → length body ≡ length (zeroed x a)) → Aligns x a y b
-aligns_sized x a y b long = record { rests = λ body r r' s h. (apart body (zeroed x a) r r' (long body s) h).1 }
+aligns_sized x a y b long = record { rests = λ body r r' s h. (apart body _ r r' (long body s) h).1 }
 
 pub aligns_nil : (x y : List ℤ) → Aligns x [] y []
 aligns_nil x y = aligns_sized x [] y [] (λ body s. ap length s)
@@ -139,19 +139,19 @@ code_alone : (kind : Kind) (z : ℤ) (body rest : List ℕ) → body ≡ code ki
 code_alone kind z body rest e f = omega (arith, ap length e, length-append (code kind z) rest, length-code kind z, ap length f)
 
 pub aligns_number : (x y : List ℤ) (c d : ℕ) (k l : Kind) (p q : List ℕ) → k ≡ l → Aligns x (Number c k p ∷ []) y (Number d l q ∷ [])
-aligns_number x y c d k l p q e = aligns_sized x (Number c k p ∷ []) y (Number d l q ∷ [])
-    (λ body s. code_alone l (get_or y d (pos 0)) body s.0 s.1 s.2 ∙ ap width (sym e) ∙ sym (code_alone k (get_or x c (pos 0)) (code k (get_or x c (pos 0)) ++ []) [] refl refl))
+aligns_number x y c d k l p q e = aligns_sized x _ y _
+    (λ body s. code_alone l _ body s.0 s.1 s.2 ∙ ap width (sym e) ∙ sym (code_alone k _ _ [] refl refl))
 
 pub aligns_constant : (x y : List ℤ) (k l : Kind) (z u : ℤ) → k ≡ l → Aligns x (Constant k z ∷ []) y (Constant l u ∷ [])
-aligns_constant x y k l z u e = aligns_sized x (Constant k z ∷ []) y (Constant l u ∷ [])
-    (λ body s. code_alone l u body s.0 s.1 s.2 ∙ ap width (sym e) ∙ sym (code_alone k z (code k z ++ []) [] refl refl))
+aligns_constant x y k l z u e = aligns_sized x _ y _
+    (λ body s. code_alone l u body s.0 s.1 s.2 ∙ ap width (sym e) ∙ sym (code_alone k z _ [] refl refl))
 
 pub aligns_filler : (x y : List ℤ) (a : List Slot) (n : ℕ) → length (zeroed x a) ≡ n → Aligns x a y (Filler n ∷ [])
-aligns_filler x y a n e = aligns_sized x a y (Filler n ∷ [])
+aligns_filler x y a n e = aligns_sized x a y _
     (λ body s. omega (arith, ap length s.3, length-append s.0 s.1, ap length s.4))
 
 pub aligns_rule : (x y : List ℤ) (r s : Bool) → Aligns x (Rule r ∷ []) y (Rule s ∷ [])
-aligns_rule x y r s = aligns_sized x (Rule r ∷ []) y (Rule s ∷ []) (λ body t. ap length t)
+aligns_rule x y r s = aligns_sized x _ y _ (λ body t. ap length t)
 
 -- ---- numbers by their bytes
 

@@ -60,10 +60,10 @@ module _ (old new : Set) (good_old : WellFormed old) (all_in : first_answer (λ 
   pub pair : (i : ℕ) (d : Device) → slice_get old.devices i ≡ Some d → Pair i d
   pair i d e =
       let h = none_at (λ i d. failing_pair ((2, is_in new d) ∷ []) (here (parts.Device i)) (here parts.Set)) 0 old.devices i d all_in e in
-      let some_k = found_some (find_device 0 new.devices d.desc.name d.instance) ((passes 2 (is_in new d) [] (here (parts.Device (0 + i))) (here parts.Set) h).0) in
+      let some_k = found_some _ ((passes 2 (is_in new d) [] (here (parts.Device (0 + i))) (here parts.Set) h).0) in
       let f = found_device 0 new.devices d.desc.name d.instance some_k.0 some_k.1 in
       let k_is : f.0 ≡ some_k.0 = omega arith in
-      let stands : slice_get new.devices some_k.0 ≡ Some f.2.device = subst (λ (k : ℕ). slice_get new.devices k ≡ Some f.2.device) k_is f.2.stands in
+      let stands : slice_get new.devices some_k.0 ≡ Some f.2.device = rw (k_is) at f.2.stands in
       record {
         number = some_k.0;
         found = some_k.1;
@@ -138,7 +138,7 @@ module _ (old new : Set) (good_old : WellFormed old) (good_new : WellFormed new)
       let e = x.0 in
       let h = none_at (λ i d. failing_pair ((3, is_in old d) ∷ []) (here parts.Set) (here (parts.Device i))) 0 new.devices k e rules.news x.1 in
       let is : is_found (find_device 0 old.devices e.desc.name e.instance) ≡ true = (passes 3 (is_in old e) [] (here parts.Set) (here (parts.Device (0 + k))) h).0 in
-      let r = found_some (find_device 0 old.devices e.desc.name e.instance) is in
+      let r = found_some _ is in
       let f = found_device 0 old.devices e.desc.name e.instance r.0 r.1 in
       let d = f.2.device in
       let found : find_device 0 new.devices d.desc.name d.instance ≡ Some k =
@@ -180,7 +180,7 @@ module _ (old new : Set) (good_old : WellFormed old) (good_new : WellFormed new)
   pub each_once : EachOnce (map (λ (d : Device). false) new.devices) (device_order new old.devices)
   each_once =
       let all : (j : ℕ) → slice_get old.devices (0 + j) ≡ slice_get old.devices j = from_zero (slice_get old.devices) in
-      each_comes (map (λ (d : Device). false) new.devices) (device_order new old.devices) (order_apart 0 old.devices all) (order_waits 0 old.devices all) each_new
+      each_comes _ _ (order_apart 0 old.devices all) (order_waits 0 old.devices all) each_new
 
   module _ (images : List Image) where
     -- the image of new's device is old's of this name, carried

@@ -102,13 +102,13 @@ module _ (olds news : List Desc) (numbers : List ℤ) (k i p : ℕ) where
   beside old new lt lt_i none fits =
       let below = plain_below i old_one.fields old_one.fields (old i lt_i).fields in
       let fits' : FitsAt (desc_cells (cells_of olds) old_one) numbers p = rw (struct_cells_at olds (length olds) i lt_i below) at fits in
-      let plain = plains_further i (length olds) old_one.fields old_one.fields (omega arith) (old i lt_i).fields in
+      let plain = plains_further i _ old_one.fields old_one.fields (omega arith) (old i lt_i).fields in
       record {
         below = below;
-        below' = new_below k (is_steady_in new_one) new_one.fields (new k lt).fields;
+        below' = new_below k _ new_one.fields (new k lt).fields;
         none = none;
         fits = fits';
-        old = old_fields (cells_of olds) (length olds) old_one.fields numbers p fits' old_one.fields (λ by most h. h) plain;
+        old = old_fields _ _ old_one.fields numbers p fits' old_one.fields (λ by most h. h) plain;
       }
 
 module _ (olds news : List Desc) (numbers numbers' : List ℤ) where
@@ -122,8 +122,8 @@ module _ (olds news : List Desc) (numbers numbers' : List ℤ) where
 
     next_size : (i : ℕ) (g : Field) (pr : Option (Option Formula)) (es : List Entry) → ItemBelow k g.item
         → length (carry_next (carries_to olds news k) (cells_of olds) (cells_of news) numbers own v at b.fields i g pr es) ≡ length (field_cells (cells_of news) b.fields i g)
-    next_size i g None es lt = defaults_size (field_cells (cells_of news) b.fields i g)
-    next_size i g (Some rest) [] lt = defaults_size (field_cells (cells_of news) b.fields i g)
+    next_size i g None es lt = defaults_size _
+    next_size i g (Some rest) [] lt = defaults_size _
     next_size i g (Some rest) (e ∷ es) lt =
         carry_field_size (rules_to olds news k) a b v w (parts.Struct 0) (parts.Struct 0) (λ _. None) (λ _. None) (carries_to olds news k) (cells_of olds) (cells_of news) numbers numbers' own at 0 k table.sized e b.fields i g lt
 
@@ -139,7 +139,7 @@ module _ (olds news : List Desc) (numbers numbers' : List ℤ) where
         ∙ sym (length-append (field_cells (cells_of news) b.fields i g) (cells_from (cells_of news) b.fields (suc i) gs))
 
     pub carry_desc_size : FieldsBelow k b.fields → length (carry_desc (carries_to olds news k) (cells_of olds) (cells_of news) numbers v w a b at) ≡ length (desc_cells (cells_of news) b)
-    carry_desc_size lt = from_size 0 b.fields (present (cells_of olds) a v) lt
+    carry_desc_size lt = from_size 0 b.fields _ lt
 
   module _ (old : OldStructs olds) (new : NewStructs news) where
     -- structure j of new with its comparer and its carrier

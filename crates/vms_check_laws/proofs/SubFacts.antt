@@ -62,7 +62,7 @@ sub_fits set numbers place [] j s h e = absurd (cc)
 sub_fits set numbers place (x ∷ subs) zero s h e =
     let same : x ≡ s = cc in
     rw (← same)
-    (fits_left (desc_cells (struct_cells set) x.desc) (flat_map (λ u. desc_cells (struct_cells set) u.desc) subs) numbers place h)
+    (fits_left _ _ numbers place h)
 sub_fits set numbers place (x ∷ subs) (suc j) s h e =
     sub_fits set numbers (place + length (desc_cells (struct_cells set) x.desc)) subs j s
     (fits_right (desc_cells (struct_cells set) x.desc) (flat_map (λ u. desc_cells (struct_cells set) u.desc) subs) numbers place h) e
@@ -95,11 +95,11 @@ module _ (old new : Set) (good_old : WellFormed old) (good_new : WellFormed new)
       → (is_version_of t.desc s.desc.version ≡ true) × (comparing old new s.desc t.desc s.desc.version (parts.Sub i j) (parts.Sub k l) ≡ None)
   compared j l s t at_j at_l names =
       let z : 0 + j ≡ j = omega arith in
-      let at_s : compare_subs old new i k e j s ≡ None = subst (λ (n : ℕ). compare_subs old new i k e n s ≡ None) z (none_at (compare_subs old new i k e) 0 d.subs j s none at_j) in
+      let at_s : compare_subs old new i k e j s ≡ None = rw (z) at (none_at _ 0 d.subs j s none at_j) in
       let found : find_sub 0 e.subs s.desc.name ≡ Some l =
       ap (λ (n : List ℕ). find_sub 0 e.subs n) names ∙ sub_found new good_new k l e t at_k at_l in
-      let at_l' : compare_sub old new i k j s (Some l) (slice_get e.subs l) ≡ None = subst (λ (r : Option ℕ). compare_sub old new i k j s r (slice_get e.subs (index r)) ≡ None) found at_s in
-      let at_t : compare_sub old new i k j s (Some l) (Some t) ≡ None = subst (λ (r : Option Sub). compare_sub old new i k j s (Some l) r ≡ None) at_l at_l' in
+      let at_l' : compare_sub old new i k j s (Some l) (slice_get e.subs l) ≡ None = rw (found) at at_s in
+      let at_t : compare_sub old new i k j s (Some l) (Some t) ≡ None = rw (at_l) at at_l' in
       let p = or_else_none (failing_pair ((14, is_version_of t.desc s.desc.version) ∷ []) (here (parts.Sub i j)) (here (parts.Sub k l))) _ at_t in
       ((passes 14 (is_version_of t.desc s.desc.version) [] (here (parts.Sub i j)) (here (parts.Sub k l)) p.0).0, p.1)
 
@@ -134,7 +134,7 @@ module _ (old new : Set) (good_old : WellFormed old) (good_new : WellFormed new)
       }
 
   fact : (l : ℕ) (t : Sub) → slice_get e.subs l ≡ Some t → FactOf t
-  fact l t at_l = by_found (find_sub 0 d.subs t.desc.name) refl where
+  fact l t at_l = by_found _ refl where
     by_came : (j : ℕ) (s : Sub) (o : Option ℕ) → slice_get d.subs j ≡ Some s → s.desc.name ≡ t.desc.name → slice_get image.came j ≡ Some o → find_sub 0 d.subs t.desc.name ≡ Some j → FactOf t
     by_came j s None at_j names at_came found = stayed l t at_l
         (ap (λ (r : Option ℕ). sub_came old new r (slice_get image.came (index r))) found ∙ ap (λ (r : Option (Option ℕ)). sub_came old new (Some j) r) at_came)

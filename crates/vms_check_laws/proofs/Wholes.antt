@@ -39,9 +39,9 @@ pub record SubPair (e : Device) (s : Sub) : Type 0 where
 module _ (old new : Set) (good_old : WellFormed old) (good_new : WellFormed new) (i k : ℕ) (d e : Device) (at_i : slice_get old.devices i ≡ Some d) (at_k : slice_get new.devices k ≡ Some e)
     (none : first_answer (compare_subs old new i k e) 0 d.subs ≡ None) (image : Image) (ready : IsSaved old d image) where
   sub_pair : (j : ℕ) (s : Sub) → slice_get d.subs j ≡ Some s → SubPair e s
-  sub_pair j s at_j = by_found (find_sub 0 e.subs s.desc.name) refl (none_at (compare_subs old new i k e) 0 d.subs j s none at_j) where
+  sub_pair j s at_j = by_found _ refl (none_at _ 0 d.subs j s none at_j) where
     by_found : (r : Option ℕ) → find_sub 0 e.subs s.desc.name ≡ r → compare_sub old new i k (0 + j) s (find_sub 0 e.subs s.desc.name) (slice_get e.subs (index (find_sub 0 e.subs s.desc.name))) ≡ None → SubPair e s
-    by_found None h c = let bad : compare_sub old new i k (0 + j) s None (slice_get e.subs 0) ≡ None = subst (λ (r : Option ℕ). compare_sub old new i k (0 + j) s r (slice_get e.subs (index r)) ≡ None) h c in absurd (cc)
+    by_found None h c = let bad : compare_sub old new i k (0 + j) s None (slice_get e.subs 0) ≡ None = rw (h) at c in absurd (cc)
     by_found (Some r) h c =
         let f = found_sub e.subs s.desc.name r h in
         record { number = r; sub = f.sub; found = h; stands = f.there; name_is = f.name_is }
@@ -77,8 +77,8 @@ module _ (old new : Set) (good_old : WellFormed old) (good_new : WellFormed new)
     one_spell j s v at_j at_came p =
         let c = came_here j s v at_j at_came p in
         let body = zeroed image.numbers (sub_slots old s v image.numbers (sub_place old (own_cells old d) d.subs j)) in
-        let held_t = sub_held old new good_old good_new d e image numbers' came e.subs (own_cells new e) p.number p.sub p.stands all_facts held in
-        let spells = (sub_carries old new good_old good_new d e image numbers' came p.sub c (sub_place new (own_cells new e) e.subs p.number) held_t).spells in
+        let held_t = sub_held old new good_old good_new d e image numbers' came e.subs _ p.number p.sub p.stands all_facts held in
+        let spells = (sub_carries old new good_old good_new d e image numbers' came p.sub c _ held_t).spells in
         let bytes = sub_head s.desc.name v ++ body in
         rw p.stands
         (rw (at_map came e.subs p.number p.sub p.stands ∙ ap Some c.came)
@@ -140,7 +140,7 @@ module _ (old new : Set) (good_old : WellFormed old) (good_new : WellFormed new)
             let s = g.sub in
             let at_j = g.there in
             let came_j : sub_came old new (Some r) (slice_get image.came r) ≡ Some v = ap (λ (q : Option ℕ). sub_came old new q (slice_get image.came (index q))) (sym is) ∙ f.2 in
-            let at_came = came_from (slice_get image.came r) r v came_j in
+            let at_came = came_from _ r v came_j in
             let found : find_sub 0 e.subs s.desc.name ≡ Some l =
             ap (λ (n : List ℕ). find_sub 0 e.subs n) g.name_is ∙ sub_found new good_new k l e t at_k f.1 in
             order_has d.subs image.came r l v s at_j at_came (ap index found)
@@ -192,14 +192,14 @@ module _ (old new : Set) (good_old : WellFormed old) (good_new : WellFormed new)
   each_once =
       let all : (m : ℕ) → slice_get d.subs (0 + m) ≡ slice_get d.subs m = from_zero (slice_get d.subs) in
       let all' : (m : ℕ) → slice_get image.came (0 + m) ≡ slice_get image.came m = from_zero (slice_get image.came) in
-      comes_once image'.came (sub_order e d.subs image.came) (order_apart 0 d.subs image.came all) (order_within 0 d.subs image.came all all') each_come
+      comes_once image'.came _ (order_apart 0 d.subs image.came all) (order_within 0 d.subs image.came all all') each_come
 
   -- ---- the section
 
   absent_default : (slots : List Slot) (c : ℕ) → (has_cell slots c ≡ true) ⊎ (get_or numbers' c (pos 0) ≡ get_or (defaults (device_cells new e)) c (pos 0)) → has_cell slots c ≡ false
       → get_or numbers' c (pos 0) ≡ (get_or (device_cells new e) c no_cell).default
   absent_default slots c (inl has) absent = let bad : true ≡ false = sym has ∙ absent in absurd (cc)
-  absent_default slots c (inr is) absent = is ∙ defaults_at (device_cells new e) c
+  absent_default slots c (inr is) absent = is ∙ defaults_at _ c
 
   pub section_whole : (part part' : Part) → comparing old new d.desc e.desc d.desc.version part part' ≡ None → is_version_of e.desc d.desc.version ≡ true
       → d.desc.name ≡ e.desc.name → d.instance ≡ e.instance → (id : ℕ) → id < 4294967296 → IsSection new e image' id true (written_section old d image id)
