@@ -101,8 +101,8 @@ module _ (ks : List Comparer) (cs : List Carrier) (ms ns : List Meaning) (a b : 
       let e : x + length cells ≡ x + size = ap (λ (k : ℕ). x + k) (size_same (cells_in ms) i caps d) in
       aligns_append numbers numbers' _ _
       _ _
-      (item_aligns i j caps caps' d x y same structs below_a below_b (fits_left cells more_cells numbers x fits))
-      (items_align i j caps caps' d m most (p + step) step (x + size) (y + step') step' same structs below_a below_b (omega arith) (fits_at more_cells numbers _ _ e (fits_right cells more_cells numbers x fits)))
+      (item_aligns i j caps caps' d x y same structs below_a below_b (fits_left more_cells fits))
+      (items_align i j caps caps' d m most (p + step) step (x + size) (y + step') step' same structs below_a below_b (omega arith) (fits_at e (fits_right cells fits)))
 
   covered_aligns : (i : Item) (c : Count) (j : Item) (d : Count) (caps caps' : List ℕ) (x y step step' : ℕ) → is_covered i c j ≡ true → IsSingle i c → IsSingle j d
       → SlotsAlign (times (elements_of c own) (item_slots ms i caps numbers) x step) (times (elements_of d own') (item_slots ns j caps' numbers') y step')

@@ -60,7 +60,7 @@ single_at cs all (f ∷ fs) i zero numbers at g e s fits =
 single_at cs all (f ∷ fs) i (suc k) numbers at g e s fits =
     let z : suc i + k ≡ i + suc k = omega arith in
     rw (← z)
-    (single_at cs all fs (suc i) k numbers (at + length (field_cells cs all i f)) g e s (fits_right _ _ numbers at fits))
+    (single_at cs all fs (suc i) k numbers (at + length (field_cells cs all i f)) g e s (fits_right _ fits))
 
 abbrev pub IsCounting : Item → Type 0
 IsCounting (Num U8) = Unit {0}

@@ -50,7 +50,7 @@ module _ (ks : List Comparer) (cs : List Carrier) (ms ns : List Meaning) (a b : 
   pairs_hold none = or_else_none (compare_fields ks a b v w part part' o n es fs) (compare_validations ks a b v w part part' o n) none
 
   all_fit : Fit → FitEntries ms a.fields v numbers at es
-  all_fit fits = let z : at ≡ at + 0 = omega arith in fit_entries ms a.fields v numbers at 0 0 a.fields (fits_at _ numbers at (at + 0) z fits)
+  all_fit fits = let z : at ≡ at + 0 = omega arith in fit_entries ms a.fields v numbers at 0 0 a.fields (fits_at z fits)
 
   olds : OldFields below own a.fields → OldEntries ks cs ms ns a b v w part part' o n numbers numbers' at at' below below' table (is_steady_in b) es
   olds old = old_entries ks cs ms ns a b v w part part' o n numbers numbers' at at' below below' table (is_steady_in b) 0 0 a.fields old
@@ -67,7 +67,7 @@ module _ (ks : List Comparer) (cs : List Carrier) (ms ns : List Meaning) (a b : 
     link : Linked ks a b v w part part' o n cs (cells_in ms) (cells_in ns) numbers numbers' own at at' below' table.sized es fs
     link =
         linked ks a b v w part part' o n cs (cells_in ms) (cells_in ns) numbers numbers' own at at' below' table.sized 0 0 b.fields es (fields_below b.fields new)
-        (zip_of ks a b v w part part' o n es fs (pairs_hold none).0) (holds_at numbers' at' _ _ (omega arith) held)
+        (zip_of ks a b v w part part' o n es fs (pairs_hold none).0) (holds_at (omega arith) held)
 
     agree : Agree o n (is_steady_in b) own own'
     agree i j named h = agree_from ks cs ms ns a b v w part part' o n numbers numbers' at at' below below' table i j 0 es fs link (all_known ms a.fields v numbers at) (all_known ns b.fields w numbers' at') named h
@@ -82,9 +82,7 @@ module _ (ks : List Comparer) (cs : List Carrier) (ms ns : List Meaning) (a b : 
         let known = all_known ms a.fields v numbers at in
         let known' = all_known ns b.fields w numbers' at' in
         let z : at' + 0 ≡ at' = omega arith in (
-          carries_append numbers numbers' _ _ _ _
-              (rw (old_same, new_same) (fields_carry ks cs ms ns a b v w part part' o n numbers numbers' at at' below below' table (is_steady_in b) es fs agree link known known' (olds old) news (all_fit fits)))
-              (rule_carries ks cs ms ns a b v w part part' o n numbers numbers' at at' below below' table (is_steady_in b) (pairs_hold none).1 rules agree),
+          carries_append (rw (old_same, new_same) (fields_carry ks cs ms ns a b v w part part' o n numbers numbers' at at' below below' table (is_steady_in b) es fs agree link known known' (olds old) news (all_fit fits))) (rule_carries ks cs ms ns a b v w part part' o n numbers numbers' at at' below below' table (is_steady_in b) (pairs_hold none).1 rules agree),
           settled_more _ _ at' _ _
               (rw z at (fields_settle ks cs ms ns a b v w part part' o n numbers numbers' at at' below below' table 0 0 b.fields es agree (fields_below b.fields new)
               (record { linked = link; known = known; known' = known'; old = olds old; new = news; fits = all_fit fits }))),

@@ -88,7 +88,7 @@ module _ (ks : List Comparer) (cs : List Carrier) (ms ns : List Meaning) (a b : 
   items_carry : (i j : Item) (caps caps' : List ℕ) (d d' : ℤ) (m most most' p step x y : ℕ) → Pair i j → same_constant i j ≡ true → m ≤ most → m ≤ most'
       → FitsAt (times most (λ _. item_cells (cells_in ms) i caps d) p step) numbers x
       → Holds numbers' y (some_items i j d' m most' x) → Carries numbers (times m (item_slots ms i caps numbers) x (old_size i)) numbers' (times m (item_slots ns j caps' numbers') y (new_size j))
-  items_carry i j caps caps' d d' zero most most' p step x y pair constant le le' fits held = carries_nil numbers numbers'
+  items_carry i j caps caps' d d' zero most most' p step x y pair constant le le' fits held = carries_nil
   items_carry i j caps caps' d d' (suc m) zero most' p step x y pair constant le le' fits held = absurd (omega arith)
   items_carry i j caps caps' d d' (suc m) (suc most) zero p step x y pair constant le le' fits held = absurd (omega arith)
   items_carry i j caps caps' d d' (suc m) (suc most) (suc most') p step x y pair constant le le' fits held =
@@ -99,12 +99,9 @@ module _ (ks : List Comparer) (cs : List Carrier) (ms ns : List Meaning) (a b : 
       let e : x + length cells ≡ x + old_size i = omega (arith, size_same (cells_in ms) i caps d) in
       let sized = carry_item_size ks a b v w part part' o n cs (cells_in ms) (cells_in ns) numbers numbers' own at at' below' table.sized i j d' x pair.low' in
       let e' : y + length first ≡ y + new_size j = omega (arith, sized) in
-      carries_append numbers numbers' (item_slots ms i caps numbers x) (item_slots ns j caps' numbers' y)
-      (times m (item_slots ms i caps numbers) (x + old_size i) (old_size i)) (times m (item_slots ns j caps' numbers') (y + new_size j) (new_size j))
-      (item_carries i j caps caps' d d' x y pair constant (fits_left cells more_cells numbers x fits) (holds_left numbers' y first after held))
-      (items_carry i j caps caps' d d' m most most' (p + step) step (x + old_size i) (y + new_size j) pair constant (omega arith) (omega arith)
-      (fits_at more_cells numbers _ _ e (fits_right cells more_cells numbers x fits))
-      (holds_at numbers' _ _ after e' (holds_right numbers' y first after held)))
+      carries_append (item_carries i j caps caps' d d' x y pair constant (fits_left more_cells fits) (holds_left after held)) (items_carry i j caps caps' d d' m most most' (p + step) step (x + old_size i) (y + new_size j) pair constant (omega arith) (omega arith)
+      (fits_at e (fits_right cells fits))
+      (holds_at e' (holds_right first held)))
 
   pub same_elements : (c d : Count) → Agree o n ok own own' → CountFits own c → CountNamed ok d → same_count o n c d ≡ true → holds_as_much c d ≡ true → elements_of c own ≡ elements_of d own'
   same_elements One One agree fits named same room = refl
@@ -168,7 +165,7 @@ module _ (ks : List Comparer) (cs : List Carrier) (ms ns : List Meaning) (a b : 
       let step = old_size e.field.item in
       let caps = counted e.index a.fields in
       let caps' = counted f.index b.fields in
-      pair_by (λ xs ys. Carries numbers xs numbers' ys) (carries_nil numbers numbers') e f agree known known' good old new
+      pair_by (λ xs ys. Carries numbers xs numbers' ys) carries_nil e f agree known known' good old new
       (λ c. covered_carries e.field.item e.field.count f.field.item f.field.count caps caps' (at + e.place) (at' + f.place) step (new_size f.field.item) c.covers old.single new.single)
       (λ m is. items_carry e.field.item f.field.item caps caps' e.field.default f.field.default (elements_of e.field.count own) (capacity_of e.field.count) (capacity_of f.field.count) 0 0
       (at + e.place) (at' + f.place) (record { same = m.item; structs = good.structs; low = old.item; low' = new.item }) m.constant (elements_fit e.field.count own) (elements_room e.field.count f.field.count m.count m.room) fits
@@ -194,14 +191,11 @@ module _ (ks : List Comparer) (cs : List Carrier) (ms ns : List Meaning) (a b : 
 
   pub fields_carry : (es fs : List Entry) → Agree o n ok own own' → AllLinked es fs → KnownOld es → KnownNew fs → OldEntries es → NewEntries fs → FitEntries ms a.fields v numbers at es
       → Carries numbers (entries_slots ms a.fields v own numbers at es) numbers' (entries_slots ns b.fields w own' numbers' at' fs)
-  fields_carry [] [] agree linked known known' old new fits = carries_nil numbers numbers'
+  fields_carry [] [] agree linked known known' old new fits = carries_nil
   fields_carry [] (f ∷ fs) agree linked known known' old new fits = absurd linked
   fields_carry (e ∷ es) [] agree linked known known' old new fits = absurd linked
   fields_carry (e ∷ es) (f ∷ fs) agree linked known known' old new fits =
-      carries_append numbers numbers' (slots_at ms a.fields v own numbers at e.index e.place e.field) (slots_at ns b.fields w own' numbers' at' f.index f.place f.field)
-      (entries_slots ms a.fields v own numbers at es) (entries_slots ns b.fields w own' numbers' at' fs)
-      (pair_carries e f agree known.0 known'.0 linked.0.0 linked.0.1 old.0 new.0 fits.0)
-      (fields_carry es fs agree linked.1 known.1 known'.1 old.1 new.1 fits.1)
+      carries_append (pair_carries e f agree known.0 known'.0 linked.0.0 linked.0.1 old.0 new.0 fits.0) (fields_carry es fs agree linked.1 known.1 known'.1 old.1 new.1 fits.1)
 
   -- ---- validations
 

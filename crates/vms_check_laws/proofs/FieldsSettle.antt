@@ -112,7 +112,7 @@ module _ (ks : List Comparer) (cs : List Carrier) (ms ns : List Meaning) (a b : 
       let after = some_items i j d' zero most' x in
       let first : Settled [] y (item_cells (cells_in ns) j caps2 d') (fallback j d') = rw (same_defaults (cells_in ns) j [] caps2 d') (settled_defaults [] y (item_cells (cells_in ns) j caps2 d')) in
       settled_append (defaults_size (item_cells (cells_in ns) j [] d') ∙ size_same (cells_in ns) j [] d' ∙ sym (size_same (cells_in ns) j caps2 d')) first refl
-      (items_settle i j caps caps' caps2 d d' zero most most' p step (p' + step') step' x _ pair (omega arith) (omega arith) fits (holds_right numbers' y (fallback j d') after held))
+      (items_settle i j caps caps' caps2 d d' zero most most' p step (p' + step') step' x _ pair (omega arith) (omega arith) fits (holds_right (fallback j d') held))
   items_settle i j caps caps' caps2 d d' (suc m) zero (suc most') p step p' step' x y pair le le' fits held = absurd (omega arith)
   items_settle i j caps caps' caps2 d d' (suc m) (suc most) (suc most') p step p' step' x y pair le le' fits held =
       let cells = item_cells (cells_in ms) i caps d in
@@ -122,9 +122,9 @@ module _ (ks : List Comparer) (cs : List Carrier) (ms ns : List Meaning) (a b : 
       let e : x + length cells ≡ x + old_size i = omega (arith, size_same (cells_in ms) i caps d) in
       let sized : length first ≡ new_size j = carry_item_size ks a b v w part part' o n cs (cells_in ms) (cells_in ns) numbers numbers' own at at' below' table.sized i j d' x pair.low' in
       let e' : y + length first ≡ y + new_size j = omega arith in
-      settled_append (sized ∙ sym (size_same (cells_in ns) j caps2 d')) (item_settles i j caps caps' caps2 d d' x y pair (fits_left cells more_cells numbers x fits) (holds_left numbers' y first after held)) (sym e')
+      settled_append (sized ∙ sym (size_same (cells_in ns) j caps2 d')) (item_settles i j caps caps' caps2 d d' x y pair (fits_left more_cells fits) (holds_left after held)) (sym e')
       (items_settle i j caps caps' caps2 d d' m most most' (p + step) step (p' + step') step' (x + old_size i) (y + new_size j) pair (omega arith) (omega arith)
-      (fits_at more_cells numbers _ _ e (fits_right cells more_cells numbers x fits)) (holds_at numbers' _ _ after e' (holds_right numbers' y first after held)))
+      (fits_at e (fits_right cells fits)) (holds_at e' (holds_right first held)))
 
   -- for the same number of elements on both sides if the field is present, and else for none
   choice_settles : (i j : Item) (s t : Bool) (caps caps' caps2 : List ℕ) (d d' : ℤ) (m m' most most' x y : ℕ) → s ≡ t → m ≡ m' → Pair i j → m ≤ most → m ≤ most' → FitsAt (times most (λ _. item_cells (cells_in ms) i caps d) 0 0) numbers x
@@ -155,7 +155,7 @@ module _ (ks : List Comparer) (cs : List Carrier) (ms ns : List Meaning) (a b : 
             ∙ sym (there_here w f.field.test f.field.since f.rest own' no_parent known'.left) in
             choice_settles e.field.item f.field.item (is_there e.field.test e.field.since v own no_parent) (is_there f.field.test f.field.since w own' no_parent)
             (counted e.index a.fields) (counted f.index b.fields) (counted f.index b.fields) e.field.default f.field.default (elements_of e.field.count own) (elements_of f.field.count own')
-            (capacity_of e.field.count) (capacity_of f.field.count) (at + e.place) (at' + f.place) same (same_elements ks cs ms ns a b v w part part' o n numbers numbers' at at' below below' table ok e.field.count f.field.count agree old.count new.count m.count m.room) (record { same = m.item; structs = good.structs; low = old.item; low' = new.item })
+            (capacity_of e.field.count) (capacity_of f.field.count) (at + e.place) (at' + f.place) same (same_elements ks cs ms ns a b v w part part' o n numbers numbers' at at' below below' table ok _ _ agree old.count new.count m.count m.room) (record { same = m.item; structs = good.structs; low = old.item; low' = new.item })
             (elements_fit e.field.count own) (elements_room ks cs ms ns a b v w part part' o n numbers numbers' at at' below below' table ok e.field.count f.field.count m.count m.room) fits held
       ]
 

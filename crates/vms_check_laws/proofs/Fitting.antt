@@ -129,9 +129,9 @@ module _ (ks : List Comparer) (cs : List Carrier) (x y : List (List Cell)) (ms :
       let more_cells = times most (λ _. item_cells x i caps d) (q + st) st in
       let e : p + length cells ≡ p + size = ap (λ (k : ℕ). p + k) (size_same x i caps d) in
       fit_append _ _ _ _
-      (fit_item i j caps caps' d d' p below_a below_b none good (fits_left cells more_cells numbers p fits) follow)
+      (fit_item i j caps caps' d d' p below_a below_b none good (fits_left more_cells fits) follow)
       (fit_items i j caps caps' d d' m most most' (q + st) st (q' + st') st' (p + size) (omega arith) below_a below_b none good
-      (fits_at more_cells numbers _ _ e (fits_right cells more_cells numbers p fits)) follow)
+      (fits_at e (fits_right cells fits)) follow)
 
   abbrev pub Follows : Entry → Entry → Type 0
   Follows e f = (k : Kind) → e.field.item ≡ Num k → is_num f.field.item ≡ true → (z : ℤ) → z ≤ℤ highest k → AllByRecursion (λ m. z ≤ℤ pos m) (counted e.index a.fields) → AllByRecursion (λ m. z ≤ℤ pos m) (counted f.index b.fields)
@@ -247,8 +247,8 @@ module _ (ks : List Comparer) (cs : List Carrier) (ms : List Meaning) (y : List 
   readies i p (g ∷ gs) h fits =
       let first = field_cells x a.fields i g in
       let more = cells_from x a.fields (suc i) gs in
-      ready_entry i p g _ _ h.0 (fits_left first more numbers (at + p) fits)
-      (readies (suc i) (p + length first) gs h.1 (fits_at more numbers _ _ (omega arith) (fits_right first more numbers (at + p) fits)))
+      ready_entry i p g _ _ h.0 (fits_left more fits)
+      (readies (suc i) (p + length first) gs h.1 (fits_at (omega arith) (fits_right first fits)))
 
   pub desc_fits : compare_desc ks x y a b v w part part' ≡ None → OldFields below own a.fields → NewFields below' (is_steady_in b) b.fields → DefaultsGood b.fields 0 b.fields
       → FitsAt (desc_cells x a) numbers at → FitCells (desc_cells y b) (carry_desc cs x y numbers v w a b at)
@@ -260,7 +260,7 @@ module _ (ks : List Comparer) (cs : List Carrier) (ms : List Meaning) (y : List 
       let follow = follow_all ks cs x y ms a b v w part part' o n numbers own at below below' table es es fs zipped
       (stands es (all_known ms a.fields v numbers at)) (singles 0 0 b.fields new) zipped at_e in
       fit_from ks cs x y ms a b v w part part' o n numbers own at below below' table 0 0 b.fields es (new_below below' _ b.fields new) defaults_good zipped follow
-      (readies 0 0 a.fields old (fits_at _ numbers at (at + 0) z fits))
+      (readies 0 0 a.fields old (fits_at z fits))
 
 -- ---- structures
 

@@ -114,14 +114,14 @@ module _ (ks : List Comparer) (a b : Desc) (v w : ℕ) (part part' : Part) (o n 
     link_next i p g None es after rest lt zipped held go =
         let e : (at' + p) + length (default_field cs x y numbers b.fields i g) ≡ at' + (p + length (field_cells y b.fields i g)) =
         ap (λ (k : ℕ). (at' + p) + k) (defaults_size (field_cells y b.fields i g)) ∙ omega arith in
-        go es zipped (holds_at numbers' _ _ _ e (holds_right numbers' _ _ _ held))
+        go es zipped (holds_at e (holds_right _ held))
     link_next i p g (Some left) [] after rest lt zipped held go = absurd zipped
     link_next i p g (Some left) (e ∷ es) after rest lt zipped held go =
         let part = carry_field cs x y numbers own v at e g in
         let s : (at' + p) + length part ≡ at' + (p + length (field_cells y b.fields i g)) =
         ap (λ (k : ℕ). (at' + p) + k) (carry_field_size e b.fields i g lt) ∙ omega arith in (
-          (zipped.0, holds_left numbers' _ part _ held),
-          go es zipped.1 (holds_at numbers' _ _ _ s (holds_right numbers' _ part _ held)),
+          (zipped.0, holds_left _ held),
+          go es zipped.1 (holds_at s (holds_right part held)),
         )
 
     pub linked : (i p : ℕ) (gs : List Field) (es : List Entry) → FieldsBelow below' gs → Zip es (present_from y b.fields w i p gs)

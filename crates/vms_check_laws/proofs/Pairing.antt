@@ -118,5 +118,5 @@ module _ (structs : List Meaning) (all : List Field) (v : â„•) (numbers : List â
       let here_cells = field_cells (cells_in structs) all i f in
       let more_cells = cells_from (cells_in structs) all (suc i) fs in
       fit_entry i p f _ _
-      (fits_left here_cells more_cells numbers _ fits)
-      (fit_entries (suc i) (p + length here_cells) fs (fits_at more_cells numbers _ _ (omega arith) (fits_right here_cells more_cells numbers _ fits)))
+      (fits_left more_cells fits)
+      (fit_entries (suc i) (p + length here_cells) fs (fits_at (omega arith) (fits_right here_cells fits)))

@@ -146,7 +146,7 @@ module _ (old new : Set) (good_old : WellFormed old) (good_new : WellFormed new)
 
   next_place : (t : Sub) (ts : List Sub) (place : ℕ) → Stayed t ⊎ Came t → Holds numbers' place (flat_map carried_of (t ∷ ts)) → Holds numbers' (place + length (cells_of t)) (flat_map carried_of ts)
   next_place t ts place f held =
-      holds_at numbers' _ _ _ (ap (λ (n : ℕ). place + n) (one_size t f)) (holds_right numbers' place _ _ held)
+      holds_at (ap (λ (n : ℕ). place + n) (one_size t f)) (holds_right _ held)
 
   -- what is read of the subsections from one on, whose cells begin at a place
   pub record Reads (ts : List Sub) (place : ℕ) : Type 0 where
@@ -167,12 +167,12 @@ module _ (old new : Set) (good_old : WellFormed old) (good_new : WellFormed new)
   pub subs_read : (ts : List Sub) (place : ℕ) → Facts ts → Holds numbers' place (flat_map carried_of ts) → Reads ts place
   subs_read [] place h held = record { versions = tt; rules = tt; settled = settled_empty [] place [] [] refl }
   subs_read (t ∷ ts) place h held =
-      one_reads t ts place h.0 (holds_left numbers' place _ _ held) (one_size t h.0) (subs_read ts (place + length (cells_of t)) h.1 (next_place t ts place h.0 held))
+      one_reads t ts place h.0 (holds_left _ held) (one_size t h.0) (subs_read ts (place + length (cells_of t)) h.1 (next_place t ts place h.0 held))
 
   -- each subsection of new is where its cells begin
   pub sub_held : (ts : List Sub) (place l : ℕ) (t : Sub) → slice_get ts l ≡ Some t → Facts ts → Holds numbers' place (flat_map carried_of ts) → Holds numbers' (sub_place new place ts l) (carried_of t)
   sub_held [] place l t is h held = absurd (cc)
   sub_held (u ∷ ts) place zero t is h held =
       let same : u ≡ t = cc in
-      rw (← same) (holds_left numbers' place _ _ held)
+      rw (← same) (holds_left _ held)
   sub_held (u ∷ ts) place (suc l) t is h held = sub_held ts (place + length (cells_of u)) l t is h.1 (next_place u ts place h.0 held)

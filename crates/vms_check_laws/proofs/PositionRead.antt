@@ -134,7 +134,7 @@ module _ (old new : Set) (good_old : WellFormed old) (good_new : WellFormed new)
   all_fit : FitsAt (desc_cells (cells_in ms) a) numbers at → FitEntries ms a.fields v numbers at es
   all_fit fits =
       let z : at ≡ at + 0 = omega arith in
-      fit_entries ms a.fields v numbers at 0 0 a.fields (fits_at _ numbers at (at + 0) z fits)
+      fit_entries ms a.fields v numbers at 0 0 a.fields (fits_at z fits)
 
   read_in : IsRead old new a b v part part' numbers numbers' at at' (cells_in ms) (cells_in ns)
   read_in p e f h =

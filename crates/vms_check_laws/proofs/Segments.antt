@@ -15,35 +15,35 @@ one_on f j h m = let z : suc j + m ≡ j + suc m = omega arith in rw z (h (suc m
 pub from_zero : {A : Type 0} (f : ℕ → A) (m : ℕ) → f (0 + m) ≡ f m
 from_zero f m = let z : 0 + m ≡ m = omega arith in rw z
 
-pub holds_left : (numbers : List ℤ) (at : ℕ) (xs ys : List ℤ) → Holds numbers at (xs ++ ys) → Holds numbers at xs
-holds_left numbers at xs ys h = record {
+pub holds_left : {numbers : List ℤ} {at : ℕ} {xs : List ℤ} (ys : List ℤ) → Holds numbers at (xs ++ ys) → Holds numbers at xs
+holds_left {xs = xs} ys h = record {
   each = λ c lt. h.each c (omega (arith, length-append xs ys)) ∙ get_or_append_left xs ys (pos 0) c lt;
 }
 
-pub holds_right : (numbers : List ℤ) (at : ℕ) (xs ys : List ℤ) → Holds numbers at (xs ++ ys) → Holds numbers (at + length xs) ys
-holds_right numbers at xs ys h = record {
+pub holds_right : {numbers : List ℤ} {at : ℕ} (xs : List ℤ) {ys : List ℤ} → Holds numbers at (xs ++ ys) → Holds numbers (at + length xs) ys
+holds_right {at = at} xs {ys = ys} h = record {
   each = λ c lt.
       let e : (at + length xs) + c ≡ at + (length xs + c) = omega arith in
       rw e (h.each (length xs + c) (omega (arith, length-append xs ys)) ∙ get_or-append-add xs ys c (pos 0));
 }
 
-pub holds_at : (numbers : List ℤ) (at at' : ℕ) (xs : List ℤ) → at ≡ at' → Holds numbers at xs → Holds numbers at' xs
-holds_at numbers at at' xs e h = rw e at h
+pub holds_at : {numbers : List ℤ} {at at' : ℕ} {xs : List ℤ} → at ≡ at' → Holds numbers at xs → Holds numbers at' xs
+holds_at e h = rw e at h
 
-pub fits_left : (xs ys : List Cell) (numbers : List ℤ) (at : ℕ) → FitsAt (xs ++ ys) numbers at → FitsAt xs numbers at
-fits_left xs ys numbers at h = record {
+pub fits_left : {xs : List Cell} (ys : List Cell) {numbers : List ℤ} {at : ℕ} → FitsAt (xs ++ ys) numbers at → FitsAt xs numbers at
+fits_left {xs = xs} ys h = record {
   each = λ c lt. rw (get_or_append_left xs ys no_cell c lt) at (h.each c (omega (arith, length-append xs ys)));
 }
 
-pub fits_right : (xs ys : List Cell) (numbers : List ℤ) (at : ℕ) → FitsAt (xs ++ ys) numbers at → FitsAt ys numbers (at + length xs)
-fits_right xs ys numbers at h = record {
+pub fits_right : (xs : List Cell) {ys : List Cell} {numbers : List ℤ} {at : ℕ} → FitsAt (xs ++ ys) numbers at → FitsAt ys numbers (at + length xs)
+fits_right xs {ys = ys} {at = at} h = record {
   each = λ c lt.
       let e : at + (length xs + c) ≡ (at + length xs) + c = omega arith in
       rw (get_or-append-add xs ys c no_cell, e) at (h.each (length xs + c) (omega (arith, length-append xs ys)));
 }
 
-pub fits_at : (cells : List Cell) (numbers : List ℤ) (at at' : ℕ) → at ≡ at' → FitsAt cells numbers at → FitsAt cells numbers at'
-fits_at cells numbers at at' e h = rw e at h
+pub fits_at : {cells : List Cell} {numbers : List ℤ} {at at' : ℕ} → at ≡ at' → FitsAt cells numbers at → FitsAt cells numbers at'
+fits_at e h = rw e at h
 
 -- ---- slots
 
@@ -62,11 +62,11 @@ rules_right [] b h = h
 rules_right (Rule r ∷ a) b h = rules_right a b h.1
 rules_right (_ ∷ a) b h = rules_right a b h
 
-pub carries_nil : (x y : List ℤ) → Carries x [] y []
-carries_nil x y = record { spells = refl; rules = λ h. h }
+pub carries_nil : {x y : List ℤ} → Carries x [] y []
+carries_nil = record { spells = refl; rules = λ h. h }
 
-pub carries_append : (x y : List ℤ) (a b c d : List Slot) → Carries x a y b → Carries x c y d → Carries x (a ++ c) y (b ++ d)
-carries_append x y a b c d h k = record {
+pub carries_append : {x y : List ℤ} {a b c d : List Slot} → Carries x a y b → Carries x c y d → Carries x (a ++ c) y (b ++ d)
+carries_append {x = x} {y = y} {a = a} {b = b} {c = c} {d = d} h k = record {
   spells = rw zeroed_append (spells_append y b d _ _ h.spells k.spells);
   rules = λ r. rules_append b d (h.rules (rules_left a c r)) (k.rules (rules_right a c r));
 }

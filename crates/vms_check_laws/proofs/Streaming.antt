@@ -30,7 +30,8 @@ found_device k (d ∷ devices) name instance r h =
       | true ↦ λ e g.
           let same : k ≡ r = cc in
           let p = and_parts (bytes_eq d.desc.name name) (d.instance == instance) e in
-          (0, omega arith, record { device = d; stands = refl; name_is = (bytes_eq-Decides d.desc.name name).0 p.0; instance_is = eqb-true d.instance instance p.1 })
+          let name_is = (bytes_eq-Decides d.desc.name name).0 p.0 in
+          (0, omega arith, record { device = d; stands = refl; name_is = name_is; instance_is = eqb-true d.instance instance p.1 })
       | false ↦ λ e g.
           let f = found_device (suc k) devices name instance r g in
           (suc f.0, omega arith, record { device = f.2.device; stands = f.2.stands; name_is = f.2.name_is; instance_is = f.2.instance_is })

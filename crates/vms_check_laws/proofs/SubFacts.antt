@@ -62,10 +62,10 @@ sub_fits set numbers place [] j s h e = absurd (cc)
 sub_fits set numbers place (x ∷ subs) zero s h e =
     let same : x ≡ s = cc in
     rw (← same)
-    (fits_left _ _ numbers place h)
+    (fits_left _ h)
 sub_fits set numbers place (x ∷ subs) (suc j) s h e =
     sub_fits set numbers (place + length (desc_cells (struct_cells set) x.desc)) subs j s
-    (fits_right (desc_cells (struct_cells set) x.desc) (flat_map (λ u. desc_cells (struct_cells set) u.desc) subs) numbers place h) e
+    (fits_right (desc_cells (struct_cells set) x.desc) h) e
 
 pub sub_rules_hold : (set : Set) (d : Device) (numbers : List ℤ) (place : ℕ) (subs : List Sub) (came : List (Option ℕ)) (j : ℕ) (s : Sub) (v : ℕ) → RulesHold (came_slots set d numbers place subs came)
     → slice_get subs j ≡ Some s → slice_get came j ≡ Some (Some v) → RulesHold (sub_slots set s v numbers (sub_place set place subs j))
@@ -114,7 +114,7 @@ module _ (old new : Set) (good_old : WellFormed old) (good_new : WellFormed new)
       let whole : FitsAt (device_cells old d) image.numbers 0 = fits_whole (device_cells old d) image.numbers ready.normal.cells in
       let subs_fit : FitsAt (flat_map (λ u. desc_cells (struct_cells old) u.desc) d.subs) image.numbers (own_cells old d) =
       rw (← z)
-      (fits_right (desc_cells (struct_cells old) d.desc) (flat_map (λ u. desc_cells (struct_cells old) u.desc) d.subs) image.numbers 0 whole) in
+      (fits_right (desc_cells (struct_cells old) d.desc) whole) in
       record {
         sub = s;
         version = v;

@@ -211,12 +211,12 @@ module _ (old new : Set) (good_old : WellFormed old) (good_new : WellFormed new)
       let good_b = device_good new good_new k e at_k in
       let sub_cells = flat_map (λ s. desc_cells (struct_cells new) s.desc) e.subs in
       let same_v : comparing old new d.desc e.desc v part part' ≡ None = rw ready.version same in
-      let fits : FitsAt (desc_cells (struct_cells old) d.desc) numbers 0 = fits_left (desc_cells (struct_cells old) d.desc) (flat_map (λ s. desc_cells (struct_cells old) s.desc) d.subs) numbers 0 (fits_whole (device_cells old d) numbers ready.normal.cells) in
-      let held_own : Holds numbers' 0 own = holds_left numbers' 0 own rest (holds_whole numbers') in
+      let fits : FitsAt (desc_cells (struct_cells old) d.desc) numbers 0 = fits_left (flat_map (λ s. desc_cells (struct_cells old) s.desc) d.subs) (fits_whole (device_cells old d) numbers ready.normal.cells) in
+      let held_own : Holds numbers' 0 own = holds_left rest (holds_whole numbers') in
       let own_fit = part_fits old new good_old good_new d.desc e.desc v part part' good_a good_b same_v numbers 0 fits in
       let own_size = fit_length cells own own_fit in
       let place_is : 0 + length own ≡ own_cells new e = omega arith in
-      let held_rest : Holds numbers' (own_cells new e) rest = holds_at numbers' (0 + length own) (own_cells new e) rest place_is (holds_right numbers' 0 own rest (holds_whole numbers')) in
+      let held_rest : Holds numbers' (own_cells new e) rest = holds_at place_is (holds_right own (holds_whole numbers')) in
       let carries = part_carries old new good_old good_new d.desc e.desc v part part' good_a good_b same_v numbers 0 fits numbers' 0 held_own in
       let settles = part_settles old new good_old good_new d.desc e.desc v part part' good_a good_b same_v numbers 0 fits numbers' 0 held_own in
       let slots = own_slots new e v numbers' in

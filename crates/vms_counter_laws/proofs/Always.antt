@@ -162,11 +162,13 @@ module _ (old new : Set) (good_old : WellFormed old) (good_new : WellFormed new)
     -- ---- a constant
 
     own_fits : FitsAt (desc_cells (struct_cells old) d.desc) image.numbers 0
-    own_fits = fits_left (desc_cells (struct_cells old) d.desc) (flat_map (λ s. desc_cells (struct_cells old) s.desc) d.subs) image.numbers 0 (record {
-      each = λ c lt.
-          let z : c ≡ 0 + c = omega arith in
-          subst (λ (k : ℕ). FitsCell (get_or (device_cells old d) c no_cell) (get_or image.numbers k (pos 0))) z (image_ready.normal.cells.fits c lt);
-    })
+    own_fits =
+        let all : FitsAt (desc_cells (struct_cells old) d.desc ++ flat_map (λ s. desc_cells (struct_cells old) s.desc) d.subs) image.numbers 0 = record {
+          each = λ c lt.
+              let z : c ≡ 0 + c = omega arith in
+              subst (λ (k : ℕ). FitsCell (get_or (device_cells old d) c no_cell) (get_or image.numbers k (pos 0))) z (image_ready.normal.cells.fits c lt);
+        } in
+        fits_left (flat_map (λ s. desc_cells (struct_cells old) s.desc) d.subs) all
 
     abbrev v : ℕ
     v = d.desc.version
