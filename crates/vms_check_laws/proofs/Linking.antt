@@ -67,7 +67,8 @@ module _ (ks : List Comparer) (a b : Desc) (v w : ℕ) (part part' : Part) (o n 
       let r8 = passes 8 (same_item e.field.item f.field.item) _ p q r7.1 in
       let r9 = passes 9 (same_rest o n e.rest f.rest) _ p q r8.1 in
       let r10 = passes 10 (names_match e.field f.field) _ p q r9.1 in
-      let r11 = passes 11 (holds_as_much e.field.count f.field.count && absent_hold w f.index (bound e.field.item (counted e.index a.fields)) b.fields) _ p q r10.1 in
+      let r11 =
+      passes 11 (holds_as_much e.field.count f.field.count && absent_hold w f.index (bound e.field.item (counted e.index a.fields)) b.fields) _ p q r10.1 in
       let r12 = passes 12 (same_constant e.field.item f.field.item) [] p q r11.1 in
       let both = and_parts (holds_as_much e.field.count f.field.count) (absent_hold w f.index (bound e.field.item (counted e.index a.fields)) b.fields) r11.0 in
       inr (record { count = r7.0; item = r8.0; rest = r9.0; room = both.0; absent = both.1; constant = r12.0 })
@@ -84,7 +85,8 @@ module _ (ks : List Comparer) (a b : Desc) (v w : ℕ) (part part' : Part) (o n 
     Linked (e ∷ es) (f ∷ fs) = (PairGood e f × Holds numbers' (at' + f.place) (carry_field cs x y numbers own v at e f.field)) × Linked es fs
     Linked _ _ = ⊥
 
-    pub carry_item_size : (i j : Item) (d : ℤ) (k : ℕ) → ItemBelow below' j → length (carry_item cs x y numbers i j (defaults (item_cells y j [] d)) k) ≡ length (item_cells y j [] (pos 0))
+    pub carry_item_size : (i j : Item) (d : ℤ) (k : ℕ) → ItemBelow below' j
+        → length (carry_item cs x y numbers i j (defaults (item_cells y j [] d)) k) ≡ length (item_cells y j [] (pos 0))
     carry_item_size (Num k) (Num l) d p lt = choice (same_kind k l) where
       choice : (c : Bool) → length (if c then get_or numbers p (pos 0) ∷ [] else d ∷ []) ≡ 1
       choice true = refl
@@ -93,17 +95,21 @@ module _ (ks : List Comparer) (a b : Desc) (v w : ℕ) (part part' : Part) (o n 
     carry_item_size _ (Struct j) d p lt = defaults_size _
     carry_item_size _ _ d p lt = refl
 
-    pub carry_items_size : (i j : Item) (d : ℤ) (step m most k : ℕ) → ItemBelow below' j → length (carry_items cs x y numbers i j (defaults (item_cells y j [] d)) step m most k) ≡ most * length (item_cells y j [] (pos 0))
+    pub carry_items_size : (i j : Item) (d : ℤ) (step m most k : ℕ) → ItemBelow below' j
+        → length (carry_items cs x y numbers i j (defaults (item_cells y j [] d)) step m most k) ≡ most * length (item_cells y j [] (pos 0))
     carry_items_size i j d step m zero k lt = omega arith
     carry_items_size i j d step zero (suc most) k lt =
-        length-append (defaults (item_cells y j [] d)) _ ∙ ap (λ (r : ℕ). r + length (carry_items cs x y numbers i j (defaults (item_cells y j [] d)) step zero most k)) (defaults_size (item_cells y j [] d) ∙ size_same y j [] d)
+        length-append (defaults (item_cells y j [] d)) _ ∙ ap
+        (λ (r : ℕ). r + length (carry_items cs x y numbers i j (defaults (item_cells y j [] d)) step zero most k))
+        (defaults_size (item_cells y j [] d) ∙ size_same y j [] d)
         ∙ ap (λ (r : ℕ). length (item_cells y j [] (pos 0)) + r) (carry_items_size i j d step zero most k lt) ∙ grind arith
     carry_items_size i j d step (suc m) (suc most) k lt =
         length-append (carry_item cs x y numbers i j (defaults (item_cells y j [] d)) k) _
         ∙ ap (λ (r : ℕ). r + length (carry_items cs x y numbers i j (defaults (item_cells y j [] d)) step m most (k + step))) (carry_item_size i j d k lt)
         ∙ ap (λ (r : ℕ). length (item_cells y j [] (pos 0)) + r) (carry_items_size i j d step m most (k + step) lt) ∙ grind arith
 
-    pub carry_field_size : (e : Entry) (all : List Field) (i : ℕ) (f : Field) → ItemBelow below' f.item → length (carry_field cs x y numbers own v at e f) ≡ length (field_cells y all i f)
+    pub carry_field_size : (e : Entry) (all : List Field) (i : ℕ) (f : Field) → ItemBelow below' f.item
+        → length (carry_field cs x y numbers own v at e f) ≡ length (field_cells y all i f)
     carry_field_size e all i f lt = carry_items_size e.field.item f.item f.default _ _ _ _ lt ∙ sym (field_size y all i f)
 
     link_next : (i p : ℕ) (g : Field) (pr : Option (Option Formula)) (es after : List Entry) (rest : List Entry → List ℤ) → ItemBelow below' g.item

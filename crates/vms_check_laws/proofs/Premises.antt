@@ -29,7 +29,8 @@ later_old i p q (e ∷ es) lt h =
 pub at_or_later : (i j p : ℕ) (e f : Entry) (es fs : List Entry) → same_place (position_from p (e ∷ es) i) (position_from p (f ∷ fs) j) ≡ true
     → ((e.index ≡ i) × (f.index ≡ j)) ⊎ (((f.index == j) ≡ false) × (same_place (position_from (suc p) es i) (position_from (suc p) fs j) ≡ true))
 at_or_later i j p e f es fs h = by _ _ refl refl h where
-  by : (c d : Bool) → (e.index == i) ≡ c → (f.index == j) ≡ d → same_place (if c then Some p else position_from (suc p) es i) (if d then Some p else position_from (suc p) fs j) ≡ true
+  by : (c d : Bool) → (e.index == i) ≡ c → (f.index == j) ≡ d
+      → same_place (if c then Some p else position_from (suc p) es i) (if d then Some p else position_from (suc p) fs j) ≡ true
       → ((e.index ≡ i) × (f.index ≡ j)) ⊎ (((f.index == j) ≡ false) × (same_place (position_from (suc p) es i) (position_from (suc p) fs j) ≡ true))
   by true true x y k = inl (eqb-true e.index i x, eqb-true f.index j y)
   by true false x y k = absurd (later_new j p (suc p) fs (omega arith) k)
@@ -48,10 +49,12 @@ by_less P step (suc k) j lt = step j (λ i less. by_less P step k i (omega arith
 pub record Table (ks : List Comparer) (cs : List Carrier) (ms ns : List Meaning) (numbers numbers' : List ℤ) (below below' : ℕ) : Type 0 where
   pub sized : (j i k : ℕ) → j < below' → length (get_or cs j no_carrier i numbers k) ≡ length (get_or (cells_in ns) j [])
   pub carried : (i j : ℕ) → i < below → j < below' → get_or ks j no_comparer i ≡ None → (x y : ℕ) → FitsAt (get_or (cells_in ms) i []) numbers x
-      → Holds numbers' y (get_or cs j no_carrier i numbers x) → Carries numbers ((get_or ms i no_meaning).slots numbers x) numbers' ((get_or ns j no_meaning).slots numbers' y)
+      → Holds numbers' y (get_or cs j no_carrier i numbers x)
+      → Carries numbers ((get_or ms i no_meaning).slots numbers x) numbers' ((get_or ns j no_meaning).slots numbers' y)
   -- what isn't in the bytes is at its default
   pub settled : (i j : ℕ) → i < below → j < below' → get_or ks j no_comparer i ≡ None → (x y : ℕ) → FitsAt (get_or (cells_in ms) i []) numbers x
-      → Holds numbers' y (get_or cs j no_carrier i numbers x) → Settled ((get_or ns j no_meaning).slots numbers' y) y (get_or (cells_in ns) j []) (get_or cs j no_carrier i numbers x)
+      → Holds numbers' y (get_or cs j no_carrier i numbers x)
+      → Settled ((get_or ns j no_meaning).slots numbers' y) y (get_or (cells_in ns) j []) (get_or cs j no_carrier i numbers x)
 
 -- constants and unused bytes are single
 abbrev pub IsSingle : Item → Count → Type 0

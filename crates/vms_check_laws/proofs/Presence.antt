@@ -128,7 +128,8 @@ not_covered i c j covers number =
     absurd (cc)
 
 -- the bytes of n numbers
-pub numbers_length : (numbers : List ℤ) (kind : Kind) (caps : List ℕ) (n at step : ℕ) → length (zeroed numbers (times n (λ c. Number c kind caps ∷ []) at step)) ≡ n * width kind
+pub numbers_length : (numbers : List ℤ) (kind : Kind) (caps : List ℕ) (n at step : ℕ)
+    → length (zeroed numbers (times n (λ c. Number c kind caps ∷ []) at step)) ≡ n * width kind
 numbers_length numbers kind caps zero at step = omega arith
 numbers_length numbers kind caps (suc n) at step =
     length-append (code kind (get_or numbers at (pos 0))) _
@@ -157,7 +158,8 @@ no_rest : (b : Bool) (rest : Option Formula) → (if b then Some None else None)
 no_rest true rest h = cc
 no_rest false rest h = cc
 
-pub steady_rest : (w : ℕ) (test : Option Formula) (since : ℕ) (rest : Option Formula) → has_no_test test ≡ true → presence w test since ≡ Some rest → rest ≡ None
+pub steady_rest : (w : ℕ) (test : Option Formula) (since : ℕ) (rest : Option Formula) → has_no_test test ≡ true → presence w test since ≡ Some rest
+    → rest ≡ None
 steady_rest w None since rest h k = no_rest _ rest k
 steady_rest w (Some t) since rest h k = absurd (cc)
 
@@ -169,6 +171,7 @@ pub there_here : (v : ℕ) (test : Option Formula) (since : ℕ) (rest : Option 
     → is_there test since v own parent ≡ there (Some rest) v own parent
 there_here v test since rest own parent h = presence_there test since v own parent ∙ ap (λ (q : Option (Option Formula)). there q v own parent) h
 
-pub one_number : (c : Bool) (numbers' : List ℤ) (y : ℕ) (z d : ℤ) → c ≡ true → Holds numbers' y ((if c then z ∷ [] else d ∷ []) ++ []) → get_or numbers' (y + 0) (pos 0) ≡ z
+pub one_number : (c : Bool) (numbers' : List ℤ) (y : ℕ) (z d : ℤ) → c ≡ true → Holds numbers' y ((if c then z ∷ [] else d ∷ []) ++ [])
+    → get_or numbers' (y + 0) (pos 0) ≡ z
 one_number true numbers' y z d e h = h.each 0 (omega arith)
 one_number false numbers' y z d e h = absurd (cc)
