@@ -14,7 +14,7 @@ use Rattle.vms_spec.specs.WellFormed.{WellFormed}
 use Rattle.vms_stream.proofs.Stated.{one_stream_holds, never_both_holds}
 use Rattle.vms_stream.specs.StreamLaws.{IsWholeStream}
 use Rattle.vms_stream.specs.Streams.{Takes}
-use Rattle.vms_check_laws.proofs.Upgraded.{upgrade_stands}
+use Rattle.vms_check_laws.proofs.Streaming.{upgrade_stands}
 use Rattle.vms_board.specs.Family.{Family, MaySaveIn, Stands, images_saved, lists_in}
 use Rattle.vms_board.specs.Restoring.{TakesBoard, Back, Refused, Restores}
 use Rattle.vms_board.specs.Saving.{saved_text, saved_stream, stream_with}

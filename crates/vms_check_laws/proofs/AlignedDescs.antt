@@ -9,19 +9,19 @@ use Rattle.vms_check_laws.proofs.Facade.{width, residue, code, Count, One, Part,
 use Rattle.vms_check_laws.proofs.Facade.{Number, Filler, Meaning, no_meaning, no_parent, times, counted, capacity_of, item_cells, field_cells, elements_of}
 use Rattle.vms_check_laws.proofs.Facade.{item_slots, numbers_of, kind_of, Constant, item_size, Spells, zeroed, length-code, size_same, elements_fit, ItemBelow}
 use Rattle.vms_check_laws.proofs.Facade.{Entry, same_count, same_item, is_covered, Comparer, no_comparer, pair_structs, Carrier, FitsAt, Aligns}
-use Rattle.vms_check_laws.proofs.SameTests.{Agree, presence_named}
-use Rattle.vms_check_laws.proofs.Segments.{fits_left, fits_right, fits_at}
+use Rattle.vms_check_laws.proofs.Presence.{Agree, presence_named, not_covered, steady, steady_rest, rest_none}
+use Rattle.vms_check_laws.proofs.Segments.{fits_left, fits_right, fits_at, apart, same_bytes, aligns_nil, aligns_append, aligns_number, aligns_constant}
+use Rattle.vms_check_laws.proofs.Segments.{aligns_filler, same_code, spells_split, behind_first}
 use Rattle.vms_check_laws.proofs.Pairing.{kinds_same, cells_in, slots_at, IsKnown, entries_slots, AreKnown, FitEntries, known_there}
 use Rattle.vms_check_laws.proofs.Linking.{PairGood, Matched, decoded, Zip}
-use Rattle.vms_check_laws.proofs.Describing.{not_covered, steady, steady_rest, rest_none}
 use Rattle.vms_check_laws.proofs.Premises.{Table, IsSingle, OldGood, NewGood}
 use Rattle.vms_check_laws.proofs.FieldsCarry.{EntryGood, OldEntries, covered_slots, pair_by}
-use Rattle.vms_check_laws.proofs.Aligned.{apart, same_bytes, aligns_nil, aligns_append, aligns_number, aligns_constant, aligns_filler, same_code, spells_split, behind_first}
 use Rattle.vms_check_laws.proofs.Positioned.{same_some, Above, Upto, upto_next, upto_here, upto_earlier}
 
 -- the structures below a number, if no rule fails at two of them
 abbrev pub AlignTable : (ks : List Comparer) (ms ns : List Meaning) (numbers numbers' : List ℤ) (below below' : ℕ) → Type 0
-AlignTable ks ms ns numbers numbers' below below' = (i j : ℕ) → i < below → j < below' → get_or ks j no_comparer i ≡ None → (x y : ℕ) → FitsAt (get_or (cells_in ms) i []) numbers x
+AlignTable ks ms ns numbers numbers' below below' =
+    (i j : ℕ) → i < below → j < below' → get_or ks j no_comparer i ≡ None → (x y : ℕ) → FitsAt (get_or (cells_in ms) i []) numbers x
     → Aligns numbers ((get_or ms i no_meaning).slots numbers x) numbers' ((get_or ns j no_meaning).slots numbers' y)
 
 -- each field names only earlier ones
@@ -59,10 +59,10 @@ module _ (ks : List Comparer) (a b : Desc) (v w : ℕ) (part part' : Part) (o n 
   pub good_first : (k : ℕ) (es fs : List Entry) → k ≤ length es → k ≤ length fs
       → ((q : ℕ) (e f : Entry) → q < k → slice_get es q ≡ Some e → slice_get fs q ≡ Some f → PairGood ks a b v w part part' o n e f) → GoodFirst k es fs
   good_first zero es fs le le' h = tt
-  good_first (suc k) [] fs le le' h = absurd (omega (arith, le))
-  good_first (suc k) (e ∷ es) [] le le' h = absurd (omega (arith, le'))
+  good_first (suc k) [] fs le le' h = absurd (omega arith)
+  good_first (suc k) (e ∷ es) [] le le' h = absurd (omega arith)
   good_first (suc k) (e ∷ es) (f ∷ fs) le le' h =
-      (h 0 e f (omega arith) refl refl, good_first k es fs (omega (arith, le)) (omega (arith, le')) (λ q x y lt. h (suc q) x y (omega (arith, lt))))
+      (h 0 e f (omega arith) refl refl, good_first k es fs (omega arith) (omega arith) (λ q x y lt. h (suc q) x y (omega arith)))
 
   -- no rule fails before two constants that differ
   abbrev pub Clashes : List Entry → List Entry → Type 0
@@ -70,7 +70,8 @@ module _ (ks : List Comparer) (a b : Desc) (v w : ℕ) (part part' : Part) (o n 
   Clashes _ _ = ⊥
 
 module _ (ks : List Comparer) (cs : List Carrier) (ms ns : List Meaning) (a b : Desc) (v w : ℕ) (part part' : Part) (o n : ℕ → Option ℕ)
-    (numbers numbers' : List ℤ) (at at' : ℕ) (below below' : ℕ) (table : Table ks cs ms ns numbers numbers' below below') (rows : AlignTable ks ms ns numbers numbers' below below') where
+    (numbers numbers' : List ℤ) (at at' : ℕ) (below below' : ℕ) (table : Table ks cs ms ns numbers numbers' below below')
+    (rows : AlignTable ks ms ns numbers numbers' below below') where
   abbrev own : ℕ → ℕ
   own k = numbers_of (cells_in ms) a numbers at k
 
@@ -86,31 +87,34 @@ module _ (ks : List Comparer) (cs : List Carrier) (ms ns : List Meaning) (a b : 
   item_aligns (Num k) (Num l) caps caps' d x y same structs below_a below_b fits = aligns_number numbers numbers' x y k l caps caps' (kinds_same k l same)
   item_aligns (Equal k z) (Equal l u) caps caps' d x y same structs below_a below_b fits = aligns_constant numbers numbers' k l z u (kinds_same k l same)
   item_aligns (Unused m) (Unused r) caps caps' d x y same structs below_a below_b fits =
-      aligns_filler numbers numbers' (Filler m ∷ []) r (length-append (replicate m 0) [] ∙ ap (λ (k : ℕ). k + 0) (length-replicate m 0) ∙ omega (arith, eqb-true m r same))
+      aligns_filler numbers numbers' _ r (length-append (replicate m 0) [] ∙ ap (λ (k : ℕ). k + 0) (length-replicate m 0) ∙ omega (arith, eqb-true m r same))
   item_aligns (Struct i) (Struct j) caps caps' d x y same structs below_a below_b fits = rows i j below_a below_b structs x y fits
   item_aligns _ _ caps caps' d x y same structs below_a below_b fits = absurd (cc)
 
-  items_align : (i j : Item) (caps caps' : List ℕ) (d : ℤ) (m most p step x y step' : ℕ) → same_item i j ≡ true → pair_structs ks a b v w part part' o n i j ≡ None
+  items_align : (i j : Item) (caps caps' : List ℕ) (d : ℤ) (m most p step x y step' : ℕ) → same_item i j ≡ true
+      → pair_structs ks a b v w part part' o n i j ≡ None
       → ItemBelow below i → ItemBelow below' j → m ≤ most → FitsAt (times most (λ _. item_cells (cells_in ms) i caps d) p step) numbers x
-      → SlotsAlign (times m (item_slots ms i caps numbers) x (length (item_cells (cells_in ms) i [] (pos 0)))) (times m (item_slots ns j caps' numbers') y step')
+      → SlotsAlign (times m (item_slots ms i caps numbers) x (length (item_cells (cells_in ms) i [] (pos 0))))
+      (times m (item_slots ns j caps' numbers') y step')
   items_align i j caps caps' d zero most p step x y step' same structs below_a below_b le fits = aligns_nil numbers numbers'
   items_align i j caps caps' d (suc m) zero p step x y step' same structs below_a below_b le fits = absurd (omega arith)
   items_align i j caps caps' d (suc m) (suc most) p step x y step' same structs below_a below_b le fits =
       let cells = item_cells (cells_in ms) i caps d in
       let size = length (item_cells (cells_in ms) i [] (pos 0)) in
-      let more_cells = times most (λ _. item_cells (cells_in ms) i caps d) (p + step) step in
+      let more_cells = times most (λ _. item_cells (cells_in ms) i caps d) _ step in
       let e : x + length cells ≡ x + size = ap (λ (k : ℕ). x + k) (size_same (cells_in ms) i caps d) in
-      aligns_append numbers numbers' (item_slots ms i caps numbers x) (item_slots ns j caps' numbers' y)
-      (times m (item_slots ms i caps numbers) (x + size) size) (times m (item_slots ns j caps' numbers') (y + step') step')
-      (item_aligns i j caps caps' d x y same structs below_a below_b (fits_left cells more_cells numbers x fits))
-      (items_align i j caps caps' d m most (p + step) step (x + size) (y + step') step' same structs below_a below_b (omega arith) (fits_at more_cells numbers _ _ e (fits_right cells more_cells numbers x fits)))
+      aligns_append numbers numbers' _ _
+      _ _
+      (item_aligns i j caps caps' d x y same structs below_a below_b (fits_left more_cells fits))
+      (items_align i j caps caps' d m most (p + step) step (x + size) (y + step') step' same structs below_a below_b (omega arith)
+      (fits_at e (fits_right cells fits)))
 
-  covered_aligns : (i : Item) (c : Count) (j : Item) (d : Count) (caps caps' : List ℕ) (x y step step' : ℕ) → is_covered i c j ≡ true → IsSingle i c → IsSingle j d
+  covered_aligns : (i : Item) (c : Count) (j : Item) (d : Count) (caps caps' : List ℕ) (x y step step' : ℕ) → is_covered i c j ≡ true → IsSingle i c
+      → IsSingle j d
       → SlotsAlign (times (elements_of c own) (item_slots ms i caps numbers) x step) (times (elements_of d own') (item_slots ns j caps' numbers') y step')
   covered_aligns i c j d caps caps' x y step step' covers single single' =
-      let slots = times (elements_of c own) (item_slots ms i caps numbers) x step in
       let s = covered_slots ms ns numbers numbers' own own' i c j d caps caps' x y step step' covers single single' in
-      subst (λ (l : List Slot). SlotsAlign slots l) (sym s.1) (aligns_filler numbers numbers' slots s.0 s.2)
+      rw s.1 (aligns_filler numbers numbers' _ s.0 s.2)
 
   abbrev pub OldSlots : Entry → List Slot
   OldSlots e = slots_at ms a.fields v own numbers at e.index e.place e.field
@@ -118,36 +122,43 @@ module _ (ks : List Comparer) (cs : List Carrier) (ms ns : List Meaning) (a b : 
   abbrev pub NewSlots : Entry → List Slot
   NewSlots f = slots_at ns b.fields w own' numbers' at' f.index f.place f.field
 
-  pub pair_aligns : (ok : ℕ → Bool) (e f : Entry) → Agree o n ok own own' → IsKnown ms a.fields v numbers at e → IsKnown ns b.fields w numbers' at' f → PairGood ks a b v w part part' o n e f
-      → OldGood below own e.field → EntryGood ks cs ms ns a b v w part part' o n numbers numbers' at at' below below' table ok f → FitsAt (field_cells (cells_in ms) a.fields e.index e.field) numbers (at + e.place)
+  pub pair_aligns : (ok : ℕ → Bool) (e f : Entry) → Agree o n ok own own' → IsKnown ms a.fields v numbers at e → IsKnown ns b.fields w numbers' at' f
+      → PairGood ks a b v w part part' o n e f
+      → OldGood below own e.field → EntryGood ks cs ms ns a b v w part part' o n numbers numbers' at at' below below' table ok f
+      → FitsAt (field_cells (cells_in ms) a.fields e.index e.field) numbers (at + e.place)
       → SlotsAlign (OldSlots e) (NewSlots f)
   pair_aligns ok e f agree known known' good old new fits =
       let step = length (item_cells (cells_in ms) e.field.item [] (pos 0)) in
       let step' = length (item_cells (cells_in ns) f.field.item [] (pos 0)) in
-      pair_by ks cs ms ns a b v w part part' o n numbers numbers' at at' below below' table ok (λ xs ys. Aligns numbers xs numbers' ys) (aligns_nil numbers numbers') e f agree known known' good old new
-      (λ c. covered_aligns e.field.item e.field.count f.field.item f.field.count (counted e.index a.fields) (counted f.index b.fields) (at + e.place) (at' + f.place) step step' c.covers old.single new.single)
-      (λ m is. items_align e.field.item f.field.item (counted e.index a.fields) (counted f.index b.fields) e.field.default (elements_of e.field.count own) (capacity_of e.field.count) 0 0
-      (at + e.place) (at' + f.place) step' m.item good.structs old.item new.item (elements_fit e.field.count own) fits)
+      pair_by ks cs ms ns a b v w part part' o n numbers numbers' at at' below below' table ok (λ xs ys. Aligns numbers xs numbers' ys)
+      (aligns_nil numbers numbers') e f agree known known' good old new
+      (λ c. covered_aligns e.field.item e.field.count f.field.item f.field.count _ _ _ _ step step' c.covers old.single new.single)
+      (λ m is. items_align e.field.item f.field.item _ _ e.field.default _ _ 0 0
+      _ _ step' m.item good.structs old.item new.item (elements_fit e.field.count own) fits)
 
   -- ---- numbers that may be named
 
-  one_same : (k l : Kind) (caps caps' : List ℕ) (x y : ℕ) → k ≡ l → (body r r' : List ℕ) → Spells numbers' (Number y l caps' ∷ []) body → body ++ r' ≡ zeroed numbers (Number x k caps ∷ []) ++ r
+  one_same : (k l : Kind) (caps caps' : List ℕ) (x y : ℕ) → k ≡ l → (body r r' : List ℕ) → Spells numbers' (Number y l caps' ∷ []) body
+      → body ++ r' ≡ zeroed numbers (Number x k caps ∷ []) ++ r
       → residue (width k) (get_or numbers x (pos 0)) ≡ residue (width l) (get_or numbers' y (pos 0))
   one_same k l caps caps' x y e body r r' s h =
       let z = get_or numbers x (pos 0) in
       let u = get_or numbers' y (pos 0) in
-      let same = same_bytes numbers (Number x k caps ∷ []) numbers' (Number y l caps' ∷ []) (aligns_number numbers numbers' x y k l caps caps' e) body r r' s h in
-      let codes : code l u ≡ code k z = (apart (code l u) (code k z) [] s.0 (length-code l u ∙ ap width (sym e) ∙ sym (length-code k z)) (sym s.1 ∙ same)).0 in
-      same_code k z u (sym codes ∙ ap (λ (i : Kind). code i u) (sym e)) ∙ ap (λ (i : Kind). residue (width i) u) e
+      same_code k z u (sym ((apart (code l u) (code k z) [] s.0 (length-code l u ∙ ap width (sym e) ∙ sym (length-code k z))
+      (sym s.1 ∙ (same_bytes numbers _ numbers' _ (aligns_number numbers numbers' x y k l caps caps' e) body r r' s h))).0) ∙ ap (λ (i : Kind). code i u)
+      (sym e)) ∙ ap (λ (i : Kind). residue (width i) u) e
 
-  number_same : (j i : Item) (d c : Count) (t t' : Bool) (caps caps' : List ℕ) (x y step step' : ℕ) → is_num j ≡ true → is_one d ≡ true → same_item i j ≡ true → same_count o n c d ≡ true → t ≡ true → t' ≡ true
+  number_same : (j i : Item) (d c : Count) (t t' : Bool) (caps caps' : List ℕ) (x y step step' : ℕ) → is_num j ≡ true → is_one d ≡ true → same_item i j ≡ true
+      → same_count o n c d ≡ true → t ≡ true → t' ≡ true
       → (body r r' : List ℕ) → Spells numbers' (if t' then times (elements_of d own') (item_slots ns j caps' numbers') y step' else []) body
       → body ++ r' ≡ zeroed numbers (if t then times (elements_of c own) (item_slots ms i caps numbers) x step else []) ++ r
       → residue (width (kind_of i)) (get_or numbers x (pos 0)) ≡ residue (width (kind_of j)) (get_or numbers' y (pos 0))
-  number_same (Num l) (Num k) One One true true caps caps' x y step step' num one same counts is is' body r r' s h = one_same k l caps caps' x y (kinds_same k l same) body r r' s h
+  number_same (Num l) (Num k) One One true true caps caps' x y step step' num one same counts is is' body r r' s h =
+      one_same k l caps caps' x y (kinds_same k l same) body r r' s h
   number_same _ _ _ _ _ _ caps caps' x y step step' num one same counts is is' body r r' s h = absurd (cc)
 
-  pub pair_same : (e f : Entry) → IsKnown ms a.fields v numbers at e → IsKnown ns b.fields w numbers' at' f → PairGood ks a b v w part part' o n e f → is_steady_in b f.index ≡ true
+  pub pair_same : (e f : Entry) → IsKnown ms a.fields v numbers at e → IsKnown ns b.fields w numbers' at' f → PairGood ks a b v w part part' o n e f
+      → is_steady_in b f.index ≡ true
       → (body r r' : List ℕ) → Spells numbers' (NewSlots f) body → body ++ r' ≡ zeroed numbers (OldSlots e) ++ r → own e.index ≡ own' f.index
   pair_same e f known known' good named body r r' spells h =
       let s = steady b.minimum (slice_get b.fields f.index) f.field known'.field named in
@@ -156,15 +167,12 @@ module _ (ks : List Comparer) (cs : List Carrier) (ms ns : List Meaning) (a b : 
         | inr m ↦ m
       ] in
       let rest' : f.rest ≡ None = steady_rest w f.field.test f.field.since f.rest s.test known'.left in
-      let rest : e.rest ≡ None = rest_none o n e.rest f.rest rest' m.rest in
       let there_is : is_there e.field.test e.field.since v own no_parent ≡ true =
-      known_there ms a.fields v numbers at e known rest own no_parent in
-      let there_is' : is_there f.field.test f.field.since w own' no_parent ≡ true =
-      known_there ns b.fields w numbers' at' f known' rest' own' no_parent in
+      known_there ms a.fields v numbers at e known (rest_none o n e.rest f.rest rest' m.rest) own no_parent in
       known.number
-      ∙ number_same f.field.item e.field.item f.field.count e.field.count (is_there e.field.test e.field.since v own no_parent) (is_there f.field.test f.field.since w own' no_parent)
-      (counted e.index a.fields) (counted f.index b.fields) (at + e.place) (at' + f.place) (length (item_cells (cells_in ms) e.field.item [] (pos 0))) (length (item_cells (cells_in ns) f.field.item [] (pos 0)))
-      s.item s.count m.item m.count there_is there_is' body r r' spells h
+      ∙ number_same f.field.item e.field.item f.field.count e.field.count _ _
+      _ _ _ _ _ _
+      s.item s.count m.item m.count there_is (known_there ns b.fields w numbers' at' f known' rest' own' no_parent) body r r' spells h
       ∙ sym known'.number
 
   -- ---- position by position
@@ -185,10 +193,10 @@ module _ (ks : List Comparer) (cs : List Carrier) (ms ns : List Meaning) (a b : 
       let e = and_parts (nat_lt j f.index) (is_steady_in b j) named in
       same k j s.0 e.1 s.1 s.2 (upto_earlier n p i f fs up above j s.0 (ltb-true j f.index e.0) s.2)
 
-  same_next : (p : ℕ) (e f : Entry) (es fs : List Entry) → Upto o p (e ∷ es) → Upto n p (f ∷ fs) → Same p → (is_steady_in b f.index ≡ true → own e.index ≡ own' f.index) → Same (suc p)
+  same_next : (p : ℕ) (e f : Entry) (es fs : List Entry) → Upto o p (e ∷ es) → Upto n p (f ∷ fs) → Same p
+      → (is_steady_in b f.index ≡ true → own e.index ≡ own' f.index) → Same (suc p)
   same_next p e f es fs up up' same here i j q named oi nj lt =
-      let le : q ≤ p = omega arith in
-      elim (eq-or-lt_of_le le) [
+      elim (eq-or-lt_of_le (omega arith)) [
         | inl is ↦
             let ei : e.index ≡ i = upto_here o p e es up i (oi ∙ ap Some is) in
             let fj : f.index ≡ j = upto_here n p f fs up' j (nj ∙ ap Some is) in
@@ -205,43 +213,54 @@ module _ (ks : List Comparer) (cs : List Carrier) (ms ns : List Meaning) (a b : 
   good_at : NamesEarlier below' b → (f : Entry) → IsKnown ns b.fields w numbers' at' f → GoodAt f
   good_at named f known =
       let h = named f.index f.field known.field in
-      record { item = h.item; single = h.single; count = h.count; rest = presence_named (λ j. is_earlier_in b f.index j) w f.field.test f.field.since f.rest h.test known.left }
+      record {
+        item = h.item;
+        single = h.single;
+        count = h.count;
+        rest = presence_named
+            (λ j. is_earlier_in b f.index j) w f.field.test f.field.since f.rest h.test known.left;
+      }
 
   module _ (named : NamesEarlier below' b) where
-    pub front_aligns : (k : ℕ) (es fs : List Entry) (p i : ℕ) → GoodFirst ks a b v w part part' o n k es fs → AreKnown ms a.fields v numbers at es → AreKnown ns b.fields w numbers' at' fs → OldGoods es
-        → FitEntries ms a.fields v numbers at es → Upto o p es → Upto n p fs → Above i fs → Same p → Aligns numbers (olds (take k es)) numbers' (news (take k fs))
+    pub front_aligns : (k : ℕ) (es fs : List Entry) (p i : ℕ) → GoodFirst ks a b v w part part' o n k es fs → AreKnown ms a.fields v numbers at es
+        → AreKnown ns b.fields w numbers' at' fs → OldGoods es
+        → FitEntries ms a.fields v numbers at es → Upto o p es → Upto n p fs → Above i fs → Same p
+        → Aligns numbers (olds (take k es)) numbers' (news (take k fs))
     front_aligns zero es fs p i good known known' old fits up up' above same = aligns_nil numbers numbers'
     front_aligns (suc k) [] fs p i good known known' old fits up up' above same = absurd good
     front_aligns (suc k) (e ∷ es) [] p i good known known' old fits up up' above same = absurd good
     front_aligns (suc k) (e ∷ es) (f ∷ fs) p i good known known' old fits up up' above same = record {
       rests = λ body r r' s h.
           let more_old = olds (take k es) in
-          let more_new = news (take k fs) in
-          let t = spells_split numbers' (NewSlots f) more_new body s in
+          let t = spells_split numbers' (NewSlots f) (news (take k fs)) body s in
           let split = behind_first numbers (OldSlots e) more_old t.0 t.1 r r' (ap (λ (l : List ℕ). l ++ r') (sym t.2) ∙ h) in
           let here = pair_aligns (λ j. is_earlier_in b f.index j) e f (earlier_agree p i f fs up' above same)
           known.0 known'.0 good.0 old.0 (good_at named f known'.0) fits.0 in
           let equal = λ (steady : is_steady_in b f.index ≡ true).
           pair_same e f known.0 known'.0 good.0 steady t.0 (zeroed numbers more_old ++ r) (t.1 ++ r') t.3 split in
-          let more = front_aligns k es fs (suc p) (suc f.index) good.1 known.1 known'.1 old.1 fits.1 (upto_next o p e es up) (upto_next n p f fs up') above.1 (same_next p e f es fs up up' same equal) in
+          let more =
+          front_aligns k es fs (suc p) (suc f.index) good.1 known.1 known'.1 old.1 fits.1 (upto_next o p e es up) (upto_next n p f fs up') above.1
+          (same_next p e f es fs up up' same equal) in
           more.rests t.1 r r' t.4 (here.rests t.0 (zeroed numbers more_old ++ r) (t.1 ++ r') t.3 split);
     }
 
-    pub entries_align : (es fs : List Entry) (p i : ℕ) → Zip ks a b v w part part' o n es fs → AreKnown ms a.fields v numbers at es → AreKnown ns b.fields w numbers' at' fs → OldGoods es
+    pub entries_align : (es fs : List Entry) (p i : ℕ) → Zip ks a b v w part part' o n es fs → AreKnown ms a.fields v numbers at es
+        → AreKnown ns b.fields w numbers' at' fs → OldGoods es
         → FitEntries ms a.fields v numbers at es → Upto o p es → Upto n p fs → Above i fs → Same p → Aligns numbers (olds es) numbers' (news fs)
     entries_align es fs p i zip known known' old fits up up' above same =
         let whole = zip_first ks a b v w part part' o n es fs zip in
-        subst (λ (l : List Entry). Aligns numbers (olds l) numbers' (news fs)) (take_all (length es) es (omega arith))
-        (subst (λ (l : List Entry). Aligns numbers (olds (take (length es) es)) numbers' (news l)) (take_all (length es) fs (omega (arith, whole.1)))
+        rw (← (take_all (length es) es (omega arith)))
+        (rw (← (take_all (length es) fs (omega arith)))
         (front_aligns (length es) es fs p i whole.0 known known' old fits up up' above same))
 
     -- ---- two constants that differ
 
-    constants_same : (k : Kind) (z u : ℤ) (t t' : Bool) (c d : Count) (caps caps' : List ℕ) (x y step step' : ℕ) → is_one c ≡ true → is_one d ≡ true → t ≡ true → t' ≡ true → (body r r' : List ℕ)
+    constants_same : (k : Kind) (z u : ℤ) (t t' : Bool) (c d : Count) (caps caps' : List ℕ) (x y step step' : ℕ) → is_one c ≡ true → is_one d ≡ true
+        → t ≡ true → t' ≡ true → (body r r' : List ℕ)
         → Spells numbers' (if t' then times (elements_of d own') (item_slots ns (Equal k u) caps' numbers') y step' else []) body
         → body ++ r' ≡ zeroed numbers (if t then times (elements_of c own) (item_slots ms (Equal k z) caps numbers) x step else []) ++ r → code k z ≡ code k u
     constants_same k z u true true One One caps caps' x y step step' one one' is is' body r r' s h =
-        let same = same_bytes numbers (Constant k z ∷ []) numbers' (Constant k u ∷ []) (aligns_constant numbers numbers' k k z u refl) body r r' s h in
+        let same = same_bytes numbers _ numbers' _ (aligns_constant numbers numbers' k k z u refl) body r r' s h in
         sym (apart (code k u) (code k z) [] s.0 (length-code k u ∙ sym (length-code k z)) (sym s.1 ∙ same)).0
     constants_same k z u _ _ _ _ caps caps' x y step step' one one' is is' body r r' s h = absurd (cc)
 
@@ -253,28 +272,33 @@ module _ (ks : List Comparer) (cs : List Carrier) (ms ns : List Meaning) (a b : 
         let t' = is_there f.field.test f.field.since w own' no_parent in
         let there_is : t ≡ true = known_there ms a.fields v numbers at e known clash.rest own no_parent in
         let there_is' : t' ≡ true = known_there ns b.fields w numbers' at' f known' clash.rest' own' no_parent in
-        let one : IsSingle (Equal differs.kind differs.value) e.field.count = subst (λ (i : Item). IsSingle i e.field.count) differs.item single in
-        let one' : IsSingle (Equal differs.kind differs.other) f.field.count = subst (λ (i : Item). IsSingle i f.field.count) differs.item' (good_at named f known').single in
+        let one : IsSingle (Equal differs.kind differs.value) e.field.count = rw (differs.item) at single in
+        let one' : IsSingle (Equal differs.kind differs.other) f.field.count = rw (differs.item') at (good_at named f known').single in
         let caps = counted e.index a.fields in
         let caps' = counted f.index b.fields in
-        let spells' = subst (λ (i : Item). Spells numbers' (if t' then times (elements_of f.field.count own') (item_slots ns i caps' numbers') (at' + f.place) (item_size (cells_in ns) i) else []) body) differs.item' spells in
-        let h' = subst (λ (i : Item). body ++ r' ≡ zeroed numbers (if t then times (elements_of e.field.count own) (item_slots ms i caps numbers) (at + e.place) (item_size (cells_in ms) i) else []) ++ r) differs.item h in
-        differs.differ (constants_same differs.kind differs.value differs.other t t' e.field.count f.field.count caps caps' (at + e.place) (at' + f.place) 0 0 one one' there_is there_is' body r r' spells' h')
+        let spells' = rw (differs.item') at spells in
+        let h' = rw (differs.item) at h in
+        differs.differ
+        (constants_same differs.kind differs.value differs.other t t' e.field.count f.field.count caps caps' _ _ 0 0 one one' there_is there_is'
+        body r r' spells' h')
 
-    pub entries_clash : (es fs : List Entry) (p i : ℕ) → Clashes ks a b v w part part' o n es fs → AreKnown ms a.fields v numbers at es → AreKnown ns b.fields w numbers' at' fs → OldGoods es
-        → FitEntries ms a.fields v numbers at es → Upto o p es → Upto n p fs → Above i fs → Same p → (body r r' : List ℕ) → Spells numbers' (news fs) body → body ++ r' ≡ zeroed numbers (olds es) ++ r → ⊥
+    pub entries_clash : (es fs : List Entry) (p i : ℕ) → Clashes ks a b v w part part' o n es fs → AreKnown ms a.fields v numbers at es
+        → AreKnown ns b.fields w numbers' at' fs → OldGoods es
+        → FitEntries ms a.fields v numbers at es → Upto o p es → Upto n p fs → Above i fs → Same p → (body r r' : List ℕ) → Spells numbers' (news fs) body
+        → body ++ r' ≡ zeroed numbers (olds es) ++ r → ⊥
     entries_clash [] fs p i clashes known known' old fits up up' above same body r r' s h = absurd clashes
     entries_clash (e ∷ es) [] p i clashes known known' old fits up up' above same body r r' s h = absurd clashes
     entries_clash (e ∷ es) (f ∷ fs) p i clashes known known' old fits up up' above same body r r' s h =
         let t = spells_split numbers' (NewSlots f) (news fs) body s in
         let split = behind_first numbers (OldSlots e) (olds es) t.0 t.1 r r' (ap (λ (l : List ℕ). l ++ r') (sym t.2) ∙ h) in
         elim clashes [
-          | inl clash ↦ clash_refuses e f clash known.0 known'.0 old.0.single t.0 (zeroed numbers (olds es) ++ r) (t.1 ++ r') t.3 split
+          | inl clash ↦ clash_refuses e f clash known.0 known'.0 old.0.single t.0 _ _ t.3 split
           | inr more ↦
               let here = pair_aligns (λ j. is_earlier_in b f.index j) e f (earlier_agree p i f fs up' above same)
               known.0 known'.0 more.0 old.0 (good_at named f known'.0) fits.0 in
               let equal = λ (steady : is_steady_in b f.index ≡ true).
               pair_same e f known.0 known'.0 more.0 steady t.0 (zeroed numbers (olds es) ++ r) (t.1 ++ r') t.3 split in
-              entries_clash es fs (suc p) (suc f.index) more.1 known.1 known'.1 old.1 fits.1 (upto_next o p e es up) (upto_next n p f fs up') above.1 (same_next p e f es fs up up' same equal)
+              entries_clash es fs (suc p) (suc f.index) more.1 known.1 known'.1 old.1 fits.1 (upto_next o p e es up) (upto_next n p f fs up') above.1
+              (same_next p e f es fs up up' same equal)
               t.1 r r' t.4 (here.rests t.0 (zeroed numbers (olds es) ++ r) (t.1 ++ r') t.3 split)
         ]

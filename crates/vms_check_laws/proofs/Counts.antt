@@ -1,11 +1,12 @@
 -- A number that fits its cell is at most every capacity that it counts.
-use Rattle.vms_check_laws.proofs.Facade.{◌≡◌, ◌⊎◌, inl, inr, ℕ, zero, suc, ◌+◌, ◌*◌, ◌^◌, ◌≤◌, Bool, true, ◌==◌, List, [], ◌∷◌, ◌++◌, length, get_or, Some}
-use Rattle.vms_check_laws.proofs.Facade.{refl, sym, subst, arith, ℤ, pos, negsuc, ◌≤ℤ◌, if◌then◌else◌, AllByRecursion, slice_get, mod-le, eq-eqb, ints, Kind}
+use Rattle.vms_check_laws.proofs.Facade.{◌≤ℤ◌, ◌≡◌, ◌⊎◌, inl, inr, ℕ, zero, suc, ◌+◌, ◌*◌, ◌^◌, ◌≤◌, Bool, true, ◌==◌, List, [], ◌∷◌, ◌++◌, length, get_or}
+use Rattle.vms_check_laws.proofs.Facade.{Some}
+use Rattle.vms_check_laws.proofs.Facade.{refl, sym, subst, arith, ℤ, pos, negsuc, if◌then◌else◌, AllByRecursion, slice_get, mod-le, eq-eqb, ints, Kind}
 use Rattle.vms_check_laws.proofs.Facade.{U8, U16, U32, Item, Num, width, residue, Count, One, Fixed, Counted, Field, Cell, times, counted, capacity_of}
 use Rattle.vms_check_laws.proofs.Facade.{item_cells, field_cells, cells_from, place_of, no_field, kind_of, FitsCell, is_num, is_one, ItemBelow, FitsAt}
 use Rattle.vms_check_laws.proofs.Facade.{all_right}
 use Rattle.vms_check_laws.proofs.Segments.{fits_right}
-use Rattle.vms_check_laws.proofs.Describing.{Steady}
+use Rattle.vms_check_laws.proofs.Presence.{Steady}
 use Rattle.vms_check_laws.proofs.Premises.{IsSingle, CountFits, OldFields}
 
 -- the number of field k of these, the first of which has the number i and begins at a place
@@ -19,9 +20,9 @@ HasArray by most (f ∷ fs) = (f.count ≡ Counted by most) ⊎ HasArray by most
 
 counted_head : (P : ℕ → Type 0) (by most : ℕ) (f : Field) (fs : List Field) → f.count ≡ Counted by most → AllByRecursion P (counted by (f ∷ fs)) → P most
 counted_head P by most f fs e h =
-    let k : AllByRecursion P (counted by (record f { count = Counted by most } ∷ fs)) = subst (λ (c : Count). AllByRecursion P (counted by (record f { count = c } ∷ fs))) e h in
+    let k : AllByRecursion P (counted by (record f { count = Counted by most } ∷ fs)) = rw (e) at h in
     let l : AllByRecursion P ((if by == by then most ∷ [] else []) ++ counted by fs) = k in
-    let m : AllByRecursion P (most ∷ counted by fs) = subst (λ (b : Bool). AllByRecursion P ((if b then most ∷ [] else []) ++ counted by fs)) (eq-eqb by by refl) l in
+    let m : AllByRecursion P (most ∷ counted by fs) = rw (eq-eqb by by refl) at l in
     m.0
 
 pub counted_has : (P : ℕ → Type 0) (by most : ℕ) (fs : List Field) → HasArray by most fs → AllByRecursion P (counted by fs) → P most
@@ -33,11 +34,13 @@ counted_has P by most (f ∷ fs) has h =
     ] in
     go has
 
-first_fits : (cs : List (List Cell)) (item : Item) (count : Count) (caps : List ℕ) (d : ℤ) (more : List Cell) (numbers : List ℤ) (at : ℕ) → is_num item ≡ true → is_one count ≡ true
-    → FitsAt (times (capacity_of count) (λ _. item_cells cs item caps d) 0 0 ++ more) numbers at → FitsCell (record { kind = kind_of item; capacities = caps; default = d }) (get_or numbers at (pos 0))
+first_fits : (cs : List (List Cell)) (item : Item) (count : Count) (caps : List ℕ) (d : ℤ) (more : List Cell) (numbers : List ℤ) (at : ℕ) → is_num item ≡ true
+    → is_one count ≡ true
+    → FitsAt (times (capacity_of count) (λ _. item_cells cs item caps d) 0 0 ++ more) numbers at
+    → FitsCell (record { kind = kind_of item; capacities = caps; default = d }) (get_or numbers at (pos 0))
 first_fits cs (Num kind) One caps d more numbers at num one fits =
     let z : at + 0 ≡ at = omega arith in
-    subst (λ (k : ℕ). FitsCell (record { kind = kind; capacities = caps; default = d }) (get_or numbers k (pos 0))) z (fits.each 0 (omega arith))
+    rw (z) at (fits.each 0 (omega arith))
 first_fits cs _ _ caps d more numbers at num one fits = absurd (cc)
 
 -- the number of a single field, and that it fits
@@ -46,20 +49,21 @@ pub record Single (kind : Kind) (caps : List ℕ) (default : ℤ) (own : ℕ) : 
   pub fits : FitsCell (record { kind = kind; capacities = caps; default = default }) number
   pub is : own ≡ residue (width kind) number
 
-pub single_at : (cs : List (List Cell)) (all fs : List Field) (i k : ℕ) (numbers : List ℤ) (at : ℕ) (g : Field) → slice_get fs k ≡ Some g → Steady g → FitsAt (cells_from cs all i fs) numbers at
+pub single_at : (cs : List (List Cell)) (all fs : List Field) (i k : ℕ) (numbers : List ℤ) (at : ℕ) (g : Field) → slice_get fs k ≡ Some g → Steady g
+    → FitsAt (cells_from cs all i fs) numbers at
     → Single (kind_of g.item) (counted (i + k) all) g.default (field_number cs all fs i numbers at k)
 single_at cs all [] i k numbers at g e s fits = absurd (cc)
 single_at cs all (f ∷ fs) i zero numbers at g e s fits =
     let same : f ≡ g = cc in
     let z : i ≡ i + 0 = omega arith in
-    let at_f : Steady f = subst (λ (x : Field). Steady x) (sym same) s in
-    subst (λ (x : Field). Single (kind_of x.item) (counted (i + 0) all) x.default (residue (width (kind_of f.item)) (get_or numbers at (pos 0)))) same
-    (subst (λ (k : ℕ). Single (kind_of f.item) (counted k all) f.default (residue (width (kind_of f.item)) (get_or numbers at (pos 0)))) z
-    (record { number = get_or numbers at (pos 0); fits = first_fits cs f.item f.count (counted i all) f.default (cells_from cs all (suc i) fs) numbers at at_f.item at_f.count fits; is = refl }))
+    let at_f : Steady f = rw same s in
+    rw (← same)
+    (rw (← z)
+    (record { number = get_or numbers at (pos 0); fits = first_fits cs f.item f.count _ f.default _ numbers at at_f.item at_f.count fits; is = refl }))
 single_at cs all (f ∷ fs) i (suc k) numbers at g e s fits =
     let z : suc i + k ≡ i + suc k = omega arith in
-    subst (λ (n : ℕ). Single (kind_of g.item) (counted n all) g.default (field_number cs all fs (suc i) numbers (at + length (field_cells cs all i f)) k)) z
-    (single_at cs all fs (suc i) k numbers (at + length (field_cells cs all i f)) g e s (fits_right (field_cells cs all i f) (cells_from cs all (suc i) fs) numbers at fits))
+    rw (← z)
+    (single_at cs all fs (suc i) k numbers (at + length (field_cells cs all i f)) g e s (fits_right _ fits))
 
 abbrev pub IsCounting : Item → Type 0
 IsCounting (Num U8) = Unit {0}
@@ -71,7 +75,8 @@ below_cap : (w : ℕ) (z : ℤ) (most : ℕ) → pos 0 ≤ℤ z → z ≤ℤ pos
 below_cap w (pos m) most low high = let h : m ≤ most = omega (arith, ints) in omega (arith, mod-le m (2 ^ (8 * w)))
 below_cap w (negsuc m) most low high = absurd (omega (arith, ints))
 
-counting_below : (item : Item) (caps : List ℕ) (d z : ℤ) (most : ℕ) → IsCounting item → FitsCell (record { kind = kind_of item; capacities = caps; default = d }) z → z ≤ℤ pos most → residue (width (kind_of item)) z ≤ most
+counting_below : (item : Item) (caps : List ℕ) (d z : ℤ) (most : ℕ) → IsCounting item
+    → FitsCell (record { kind = kind_of item; capacities = caps; default = d }) z → z ≤ℤ pos most → residue (width (kind_of item)) z ≤ most
 counting_below (Num U8) caps d z most c fits high = below_cap 1 z most fits.0.0 high
 counting_below (Num U16) caps d z most c fits high = below_cap 2 z most fits.0.0 high
 counting_below (Num U32) caps d z most c fits high = below_cap 4 z most fits.0.0 high
@@ -84,15 +89,15 @@ pub record Counter (all : List Field) (by : ℕ) : Type 0 where
   pub steady : Steady field
   pub kind : IsCounting field.item
 
-pub count_fits : (cs : List (List Cell)) (all : List Field) (numbers : List ℤ) (at by most : ℕ) → Counter all by → HasArray by most all → FitsAt (cells_from cs all 0 all) numbers at
+pub count_fits : (cs : List (List Cell)) (all : List Field) (numbers : List ℤ) (at by most : ℕ) → Counter all by → HasArray by most all
+    → FitsAt (cells_from cs all 0 all) numbers at
     → field_number cs all all 0 numbers at by ≤ most
 count_fits cs all numbers at by most c has fits =
     let s = single_at cs all all 0 by numbers at c.field c.stands c.steady fits in
     let z : 0 + by ≡ by = omega arith in
-    let caps : AllByRecursion (λ m. s.number ≤ℤ pos m) (counted by all) = subst (λ (k : ℕ). AllByRecursion (λ m. s.number ≤ℤ pos m) (counted k all)) z s.fits.1 in
+    let caps : AllByRecursion (λ m. s.number ≤ℤ pos m) (counted by all) = rw (z) at s.fits.1 in
     let high = counted_has (λ m. s.number ≤ℤ pos m) by most all has caps in
-    let le = counting_below c.field.item (counted (0 + by) all) c.field.default s.number most c.kind s.fits high in
-    subst (λ (k : ℕ). k ≤ most) (sym s.is) le
+    rw s.is (counting_below c.field.item _ c.field.default s.number most c.kind s.fits high)
 
 -- ---- what old's fields need, without numbers
 
@@ -115,7 +120,8 @@ fits_count cs all numbers at One fits known has = tt
 fits_count cs all numbers at (Fixed n) fits known has = tt
 fits_count cs all numbers at (Counted by most) fits known has = count_fits cs all numbers at by most known (has by most refl) fits
 
-pub old_fields : (cs : List (List Cell)) (below : ℕ) (all : List Field) (numbers : List ℤ) (at : ℕ) → FitsAt (cells_from cs all 0 all) numbers at → (fs : List Field)
+pub old_fields : (cs : List (List Cell)) (below : ℕ) (all : List Field) (numbers : List ℤ) (at : ℕ) → FitsAt (cells_from cs all 0 all) numbers at
+    → (fs : List Field)
     → ((by most : ℕ) → HasArray by most fs → HasArray by most all) → OldPlains below all fs → OldFields below (λ k. field_number cs all all 0 numbers at k) fs
 old_fields cs below all numbers at fits [] has h = tt
 old_fields cs below all numbers at fits (f ∷ fs) has h = (

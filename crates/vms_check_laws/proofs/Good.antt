@@ -6,13 +6,11 @@ use Rattle.vms_check_laws.proofs.Facade.{names_well, nobody, is_steady, is_stead
 use Rattle.vms_check_laws.proofs.Facade.{defaults_well, counts_well, has_good_count, field_rules, validation_rules, WellFormed, struct_rules, device_rules}
 use Rattle.vms_check_laws.proofs.Facade.{sub_rules, AllTrue, item_below, Clean, ranges, within, struct_clean, device_parts, sub_clean}
 use Rattle.vms_spec.specs.Sets.{Cell}
-use Rattle.vms_check_laws.proofs.SameTests.{NamedRest}
-use Rattle.vms_check_laws.proofs.Describing.{steady}
+use Rattle.vms_check_laws.proofs.Presence.{NamedRest, steady}
 use Rattle.vms_check_laws.proofs.Premises.{IsSingle, CountNamed, NewGood, NewFields, RulesNamed}
 use Rattle.vms_check_laws.proofs.Counts.{IsCounting, Counter, CountKnown, OldPlains}
-use Rattle.vms_check_laws.proofs.Fitting.{ItemDefault, DefaultsGood}
+use Rattle.vms_check_laws.proofs.Fitting.{ItemDefault, DefaultsGood, DefaultStructs}
 use Rattle.vms_check_laws.proofs.Structures.{OldStructs, NewStructs}
-use Rattle.vms_check_laws.proofs.FitStructures.{DefaultStructs}
 
 names_more : (ok ok' : ℕ → Bool) (t : Formula) → ((i : ℕ) → ok i ≡ true → ok' i ≡ true) → names_well ok nobody t ≡ true → names_well ok' nobody t ≡ true
 names_more ok ok' (AtLeast n) more h = refl
@@ -22,17 +20,17 @@ names_more ok ok' (Cell Parent i mask rel value) more h = h
 names_more ok ok' (Not t) more h = names_more ok ok' t more h
 names_more ok ok' (And s t) more h =
     let p = and_parts (names_well ok nobody s) (names_well ok nobody t) h in
-    and_from (names_well ok' nobody s) (names_well ok' nobody t) (names_more ok ok' s more p.0) (names_more ok ok' t more p.1)
+    and_from _ _ (names_more ok ok' s more p.0) (names_more ok ok' t more p.1)
 names_more ok ok' (Or s t) more h =
     let p = and_parts (names_well ok nobody s) (names_well ok nobody t) h in
-    and_from (names_well ok' nobody s) (names_well ok' nobody t) (names_more ok ok' s more p.0) (names_more ok ok' t more p.1)
+    and_from _ _ (names_more ok ok' s more p.0) (names_more ok ok' t more p.1)
 
 earlier_steady : (d : Desc) (k i : ℕ) → is_earlier_in d k i ≡ true → is_steady_in d i ≡ true
 earlier_steady d k i h = (and_parts (nat_lt i k) (is_steady_in d i) h).1
 
 test_named : (d : Desc) (k : ℕ) (t : Option Formula) → test_names_well d k t ≡ true → NamedRest (is_steady_in d) t
 test_named d k None h = tt
-test_named d k (Some t) h = names_more (is_earlier_in d k) (is_steady_in d) t (λ i e. earlier_steady d k i e) h
+test_named d k (Some t) h = names_more _ _ t (λ i e. earlier_steady d k i e) h
 
 count_named : (d : Desc) (k : ℕ) (c : Count) → count_names_well d k c ≡ true → CountNamed (is_steady_in d) c
 count_named d k One h = tt
@@ -73,9 +71,7 @@ single (Struct j) c h = tt
 
 default_good : (i : Item) (caps : List ℕ) (z : ℤ) → defaults_well i z ≡ true → counts_well caps z ≡ true → ItemDefault i caps z
 default_good (Num kind) caps z h k = (ranges kind z h, within caps z k)
-default_good (Equal kind y) caps z h k = tt
-default_good (Unused n) caps z h k = tt
-default_good (Struct j) caps z h k = tt
+default_good _ caps z h k = tt
 
 -- the rules 4, 5, 6 and 8 at a field
 pub record FieldFacts (k : ℕ) (d : Desc) (i : ℕ) (f : Field) : Type 0 where
@@ -98,22 +94,30 @@ module _ (k : ℕ) (d : Desc) where
   HoldFrom i fs = (j : ℕ) (f : Field) → slice_get fs j ≡ Some f → AllTrue (field_rules k d (i + j) f)
 
   facts_here : (i : ℕ) (f : Field) (fs : List Field) → HoldFrom i (f ∷ fs) → FieldFacts k d i f
-  facts_here i f fs h = let z : i + 0 ≡ i = omega arith in field_facts k d i f (subst (λ (n : ℕ). AllTrue (field_rules k d n f)) z (h 0 f refl))
+  facts_here i f fs h = let z : i + 0 ≡ i = omega arith in field_facts k d i f (rw (z) at (h 0 f refl))
 
   hold_next : (i : ℕ) (f : Field) (fs : List Field) → HoldFrom i (f ∷ fs) → HoldFrom (suc i) fs
-  hold_next i f fs h j g e = let s : i + suc j ≡ suc i + j = omega arith in subst (λ (n : ℕ). AllTrue (field_rules k d n g)) s (h (suc j) g e)
+  hold_next i f fs h j g e = let s : i + suc j ≡ suc i + j = omega arith in rw (← s) (h (suc j) g e)
 
   old_plains : (i : ℕ) (fs : List Field) → HoldFrom i fs → OldPlains k d.fields fs
   old_plains i [] h = tt
   old_plains i (f ∷ fs) h =
-      let q = facts_here i f fs h in
-      (record { item = item_below k f.item q.below; single = single f.item f.count q.good_count; count = count_known d i f.count q.count }, old_plains (suc i) fs (hold_next i f fs h))
+      let q = facts_here i f fs h in (
+        record { item = item_below k f.item q.below; single = single f.item f.count q.good_count; count = count_known d i f.count q.count },
+        old_plains
+            (suc i) fs (hold_next i f fs h),
+      )
 
   new_fields : (i : ℕ) (fs : List Field) → HoldFrom i fs → NewFields k (is_steady_in d) fs
   new_fields i [] h = tt
   new_fields i (f ∷ fs) h =
       let q = facts_here i f fs h in (
-        record { item = item_below k f.item q.below; single = single f.item f.count q.good_count; count = count_named d i f.count q.count; test = test_named d i f.test q.test },
+        record {
+          item = item_below k f.item q.below;
+          single = single f.item f.count q.good_count;
+          count = count_named d i f.count q.count;
+          test = test_named d i f.test q.test;
+        },
         new_fields (suc i) fs (hold_next i f fs h),
       )
 
@@ -121,12 +125,17 @@ module _ (k : ℕ) (d : Desc) where
   earlier_good : (i : ℕ) (f : Field) → AllTrue (field_rules k d i f) → NewGood k (is_earlier_in d i) f
   earlier_good i f h =
       let q = field_facts k d i f h in
-      record { item = item_below k f.item q.below; single = single f.item f.count q.good_count; count = count_earlier d i f.count q.count; test = test_earlier d i f.test q.test }
+      record {
+        item = item_below k f.item q.below;
+        single = single f.item f.count q.good_count;
+        count = count_earlier d i f.count q.count;
+        test = test_earlier d i f.test q.test;
+      }
 
   defaults_good : (i : ℕ) (fs : List Field) → HoldFrom i fs → DefaultsGood d.fields i fs
   defaults_good i [] h = tt
   defaults_good i (f ∷ fs) h =
-      let q = facts_here i f fs h in (default_good f.item (counted i d.fields) f.default q.default q.counts, defaults_good (suc i) fs (hold_next i f fs h))
+      let q = facts_here i f fs h in (default_good f.item _ f.default q.default q.counts, defaults_good (suc i) fs (hold_next i f fs h))
 
   rules_named : (ts : List Formula) → ((i : ℕ) (t : Formula) → slice_get ts i ≡ Some t → AllTrue (validation_rules d t)) → RulesNamed (is_steady_in d) ts
   rules_named [] h = tt
@@ -142,14 +151,21 @@ module _ (k : ℕ) (d : Desc) where
 
   desc_good : (rules : List Bool) → Clean k d rules → DescGood
   desc_good rules c =
-      let hold : HoldFrom 0 d.fields = λ j f e. let z : j ≡ 0 + j = omega arith in subst (λ (n : ℕ). AllTrue (field_rules k d n f)) z (c.fields j f e) in
-      record { old = old_plains 0 d.fields hold; new = new_fields 0 d.fields hold; earlier = λ i f e. earlier_good i f (c.fields i f e); defaults = defaults_good 0 d.fields hold; rules = rules_named d.validate c.validations }
+      let hold : HoldFrom 0 d.fields = λ j f e. let z : j ≡ 0 + j = omega arith in rw (← z) (c.fields j f e) in
+      record {
+        old = old_plains 0 d.fields hold;
+        new = new_fields 0 d.fields hold;
+        earlier = λ i f e. earlier_good i f
+            (c.fields i f e);
+        defaults = defaults_good 0 d.fields hold;
+        rules = rules_named d.validate c.validations;
+      }
 
 module _ (set : Set) (well : WellFormed set) where
   pub struct_good : (j : ℕ) → j < length set.structs → DescGood j (get_or set.structs j no_desc)
   struct_good j lt =
       let d = get_or set.structs j no_desc in
-      desc_good j d (struct_rules set.structs j d) (struct_clean set well j d (slice_get-get_or set.structs j no_desc lt))
+      desc_good j d _ (struct_clean set well j d (slice_get-get_or set.structs j no_desc lt))
 
   pub old_structs : OldStructs set.structs
   old_structs i lt = record { fields = (struct_good i lt).old }
@@ -161,7 +177,7 @@ module _ (set : Set) (well : WellFormed set) where
   default_structs j lt = (struct_good j lt).defaults
 
   pub device_good : (i : ℕ) (d : Device) → slice_get set.devices i ≡ Some d → DescGood (length set.structs) d.desc
-  device_good i d e = desc_good (length set.structs) d.desc (device_rules set i d) (device_parts set well i d e).0
+  device_good i d e = desc_good _ d.desc _ (device_parts set well i d e).0
 
   pub sub_good : (i j : ℕ) (d : Device) (s : Sub) → slice_get set.devices i ≡ Some d → slice_get d.subs j ≡ Some s → DescGood (length set.structs) s.desc
-  sub_good i j d s e f = desc_good (length set.structs) s.desc (sub_rules d j s) (sub_clean set well i j d s e f)
+  sub_good i j d s e f = desc_good _ s.desc _ (sub_clean set well i j d s e f)

@@ -18,11 +18,17 @@ module _ (ks : List Comparer) (a b : Desc) (v w : ℕ) (part part' : Part) (o n 
     pub rules : failing_pair (pair_rules ks a b v w part part' o n e f) (in_field part e.index) (in_field part' f.index) ≡ None
     pub structs : pair_structs ks a b v w part part' o n e.field.item f.field.item ≡ None
 
+  -- two items that may be paired
+  pub record Pairs (below below' : ℕ) (i j : Item) : Type 0 where
+    pub same : same_item i j ≡ true
+    pub structs : pair_structs ks a b v w part part' o n i j ≡ None
+    pub low : ItemBelow below i
+    pub low' : ItemBelow below' j
+
   abbrev pub Zip : List Entry → List Entry → Type 0
   Zip [] [] = Unit {0}
   Zip (e ∷ es) (f ∷ fs) = PairGood e f × Zip es fs
-  Zip (e ∷ es) [] = ⊥
-  Zip [] (f ∷ fs) = ⊥
+  Zip _ _ = ⊥
 
   pub zip_of : (es fs : List Entry) → compare_fields ks a b v w part part' o n es fs ≡ None → Zip es fs
   zip_of [] [] h = tt
@@ -61,13 +67,14 @@ module _ (ks : List Comparer) (a b : Desc) (v w : ℕ) (part part' : Part) (o n 
       let r8 = passes 8 (same_item e.field.item f.field.item) _ p q r7.1 in
       let r9 = passes 9 (same_rest o n e.rest f.rest) _ p q r8.1 in
       let r10 = passes 10 (names_match e.field f.field) _ p q r9.1 in
-      let r11 = passes 11 (holds_as_much e.field.count f.field.count && absent_hold w f.index (bound e.field.item (counted e.index a.fields)) b.fields) _ p q r10.1 in
+      let r11 =
+      passes 11 (holds_as_much e.field.count f.field.count && absent_hold w f.index (bound e.field.item (counted e.index a.fields)) b.fields) _ p q r10.1 in
       let r12 = passes 12 (same_constant e.field.item f.field.item) [] p q r11.1 in
       let both = and_parts (holds_as_much e.field.count f.field.count) (absent_hold w f.index (bound e.field.item (counted e.index a.fields)) b.fields) r11.0 in
       inr (record { count = r7.0; item = r8.0; rest = r9.0; room = both.0; absent = both.1; constant = r12.0 })
 
   pub decoded : (e f : Entry) → PairGood e f → CoveredBy e f ⊎ Matched e f
-  decoded e f g = decode (is_covered e.field.item e.field.count f.field.item) e f _ _ refl g.rules
+  decoded e f g = decode _ e f _ _ refl g.rules
 
   -- ---- the carried numbers are at each pair
 
@@ -76,30 +83,34 @@ module _ (ks : List Comparer) (a b : Desc) (v w : ℕ) (part part' : Part) (o n 
     abbrev pub Linked : List Entry → List Entry → Type 0
     Linked [] [] = Unit {0}
     Linked (e ∷ es) (f ∷ fs) = (PairGood e f × Holds numbers' (at' + f.place) (carry_field cs x y numbers own v at e f.field)) × Linked es fs
-    Linked (e ∷ es) [] = ⊥
-    Linked [] (f ∷ fs) = ⊥
+    Linked _ _ = ⊥
 
-    pub carry_item_size : (i j : Item) (d : ℤ) (k : ℕ) → ItemBelow below' j → length (carry_item cs x y numbers i j (defaults (item_cells y j [] d)) k) ≡ length (item_cells y j [] (pos 0))
+    pub carry_item_size : (i j : Item) (d : ℤ) (k : ℕ) → ItemBelow below' j
+        → length (carry_item cs x y numbers i j (defaults (item_cells y j [] d)) k) ≡ length (item_cells y j [] (pos 0))
     carry_item_size (Num k) (Num l) d p lt = choice (same_kind k l) where
       choice : (c : Bool) → length (if c then get_or numbers p (pos 0) ∷ [] else d ∷ []) ≡ 1
       choice true = refl
       choice false = refl
     carry_item_size (Struct i) (Struct j) d p lt = sized j i p lt
-    carry_item_size _ (Struct j) d p lt = defaults_size (get_or y j [])
+    carry_item_size _ (Struct j) d p lt = defaults_size _
     carry_item_size _ _ d p lt = refl
 
-    pub carry_items_size : (i j : Item) (d : ℤ) (step m most k : ℕ) → ItemBelow below' j → length (carry_items cs x y numbers i j (defaults (item_cells y j [] d)) step m most k) ≡ most * length (item_cells y j [] (pos 0))
+    pub carry_items_size : (i j : Item) (d : ℤ) (step m most k : ℕ) → ItemBelow below' j
+        → length (carry_items cs x y numbers i j (defaults (item_cells y j [] d)) step m most k) ≡ most * length (item_cells y j [] (pos 0))
     carry_items_size i j d step m zero k lt = omega arith
     carry_items_size i j d step zero (suc most) k lt =
-        length-append (defaults (item_cells y j [] d)) _ ∙ ap (λ (r : ℕ). r + length (carry_items cs x y numbers i j (defaults (item_cells y j [] d)) step zero most k)) (defaults_size (item_cells y j [] d) ∙ size_same y j [] d)
+        length-append (defaults (item_cells y j [] d)) _ ∙ ap
+        (λ (r : ℕ). r + length (carry_items cs x y numbers i j (defaults (item_cells y j [] d)) step zero most k))
+        (defaults_size (item_cells y j [] d) ∙ size_same y j [] d)
         ∙ ap (λ (r : ℕ). length (item_cells y j [] (pos 0)) + r) (carry_items_size i j d step zero most k lt) ∙ grind arith
     carry_items_size i j d step (suc m) (suc most) k lt =
         length-append (carry_item cs x y numbers i j (defaults (item_cells y j [] d)) k) _
         ∙ ap (λ (r : ℕ). r + length (carry_items cs x y numbers i j (defaults (item_cells y j [] d)) step m most (k + step))) (carry_item_size i j d k lt)
         ∙ ap (λ (r : ℕ). length (item_cells y j [] (pos 0)) + r) (carry_items_size i j d step m most (k + step) lt) ∙ grind arith
 
-    pub carry_field_size : (e : Entry) (all : List Field) (i : ℕ) (f : Field) → ItemBelow below' f.item → length (carry_field cs x y numbers own v at e f) ≡ length (field_cells y all i f)
-    carry_field_size e all i f lt = carry_items_size e.field.item f.item f.default _ _ (capacity_of f.count) (at + e.place) lt ∙ sym (field_size y all i f)
+    pub carry_field_size : (e : Entry) (all : List Field) (i : ℕ) (f : Field) → ItemBelow below' f.item
+        → length (carry_field cs x y numbers own v at e f) ≡ length (field_cells y all i f)
+    carry_field_size e all i f lt = carry_items_size e.field.item f.item f.default _ _ _ _ lt ∙ sym (field_size y all i f)
 
     link_next : (i p : ℕ) (g : Field) (pr : Option (Option Formula)) (es after : List Entry) (rest : List Entry → List ℤ) → ItemBelow below' g.item
         → Zip es (entry_of i p g pr ++ after)
@@ -109,14 +120,14 @@ module _ (ks : List Comparer) (a b : Desc) (v w : ℕ) (part part' : Part) (o n 
     link_next i p g None es after rest lt zipped held go =
         let e : (at' + p) + length (default_field cs x y numbers b.fields i g) ≡ at' + (p + length (field_cells y b.fields i g)) =
         ap (λ (k : ℕ). (at' + p) + k) (defaults_size (field_cells y b.fields i g)) ∙ omega arith in
-        go es zipped (holds_at numbers' _ _ (rest es) e (holds_right numbers' (at' + p) (default_field cs x y numbers b.fields i g) (rest es) held))
+        go es zipped (holds_at e (holds_right _ held))
     link_next i p g (Some left) [] after rest lt zipped held go = absurd zipped
     link_next i p g (Some left) (e ∷ es) after rest lt zipped held go =
         let part = carry_field cs x y numbers own v at e g in
         let s : (at' + p) + length part ≡ at' + (p + length (field_cells y b.fields i g)) =
         ap (λ (k : ℕ). (at' + p) + k) (carry_field_size e b.fields i g lt) ∙ omega arith in (
-          (zipped.0, holds_left numbers' (at' + p) part (rest es) held),
-          go es zipped.1 (holds_at numbers' _ _ (rest es) s (holds_right numbers' (at' + p) part (rest es) held)),
+          (zipped.0, holds_left _ held),
+          go es zipped.1 (holds_at s (holds_right part held)),
         )
 
     pub linked : (i p : ℕ) (gs : List Field) (es : List Entry) → FieldsBelow below' gs → Zip es (present_from y b.fields w i p gs)
@@ -124,6 +135,6 @@ module _ (ks : List Comparer) (a b : Desc) (v w : ℕ) (part part' : Part) (o n 
     linked i p [] [] lt zipped held = tt
     linked i p [] (e ∷ es) lt zipped held = absurd zipped
     linked i p (g ∷ gs) es lt zipped held =
-        link_next i p g (presence w g.test g.since) es (present_from y b.fields w (suc i) (p + length (field_cells y b.fields i g)) gs)
+        link_next i p g _ es _
         (λ es'. carry_from cs x y numbers own v w at b.fields (suc i) gs es') lt.0 zipped held
         (λ es' z h. linked (suc i) (p + length (field_cells y b.fields i g)) gs es' lt.1 z h)

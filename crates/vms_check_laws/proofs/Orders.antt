@@ -20,12 +20,31 @@ at_set (z ∷ xs) zero x y h = refl
 at_set (z ∷ xs) (suc k) x y h = at_set xs k x y h
 
 -- two that are found back are one where their numbers are
-pub found_same : {A : Type 0} (xs : List A) (back : A → Option ℕ) (n n' i i' : ℕ) (x x' : A) → n ≡ n' → slice_get xs n ≡ Some x → slice_get xs n' ≡ Some x' → back x ≡ Some i → back x' ≡ Some i' → i ≡ i'
+pub found_same : {A : Type 0} (xs : List A) (back : A → Option ℕ) (n n' i i' : ℕ) (x x' : A) → n ≡ n' → slice_get xs n ≡ Some x → slice_get xs n' ≡ Some x'
+    → back x ≡ Some i → back x' ≡ Some i' → i ≡ i'
 found_same xs back n n' i i' x x' same e e' b b' =
     let some_same : Some x ≡ Some x' = sym e ∙ ap (slice_get xs) same ∙ e' in
     let one : x ≡ x' = cc in
     let founds : Some i ≡ Some i' = sym b ∙ ap back one ∙ b' in
     cc
+
+-- what is still open after one is done is among the rest
+still : {A : Type 0} (xs : List A) (j k : ℕ) (order : List ℕ) (done x y : A) → slice_get xs j ≡ Some y → (x ≡ done → ⊥)
+    → slice_get (slice_set xs j done) k ≡ Some x
+    → (slice_get xs k ≡ Some x → Among k (j ∷ order)) → Among k order
+still xs j k order done x y e ne h covers = by (k == j) refl
+  where
+    by : (b : Bool) → (k == j) ≡ b → Among k order
+    by true s =
+        let gone = at_set xs j done y e in
+        let here : slice_get (slice_set xs j done) j ≡ Some x = ap (slice_get (slice_set xs j done)) (sym (eqb-true k j s)) ∙ h in
+        absurd (ne cc)
+    by false s =
+        let other : k ≡ j → ⊥ = λ q. let bad : (k == j) ≡ true = eq-eqb k j q in absurd (cc) in
+        elim (covers (sym (at_other xs j k done other) ∙ h)) [
+          | inl q ↦ absurd (other q)
+          | inr more ↦ more
+        ]
 
 -- ---- subsections
 
@@ -42,23 +61,14 @@ none_left [] h = tt
 none_left (None ∷ left) h = none_left left (λ j v e. h (suc j) v e)
 none_left (Some u ∷ left) h = h 0 u refl
 
-pub comes_once : (left : List (Option ℕ)) (order : List ℕ) → Apart order → Come left order → ((j v : ℕ) → slice_get left j ≡ Some (Some v) → Among j order) → ComesOnce left order
+pub comes_once : (left : List (Option ℕ)) (order : List ℕ) → Apart order → Come left order → ((j v : ℕ) → slice_get left j ≡ Some (Some v) → Among j order)
+    → ComesOnce left order
 comes_once left [] apart come covers = none_left left covers
-comes_once left (j ∷ order) apart come covers =
-    (come.0, comes_once (slice_set left j None) order apart.1 (come_left left j order apart.0 come.1) (λ k v e. still k v e (k == j) refl)) where
-      still : (k v : ℕ) → slice_get (slice_set left j None) k ≡ Some (Some v) → (b : Bool) → (k == j) ≡ b → Among k order
-      still k v e true h =
-          let same : k ≡ j = eqb-true k j h in
-          let gone = at_set left j None (Some come.0.0) come.0.1 in
-          let bad : Some None ≡ Some (Some v) = sym gone ∙ ap (λ (i : ℕ). slice_get (slice_set left j None) i) (sym same) ∙ e in
-          absurd (cc)
-      still k v e false h =
-          let ne : k ≡ j → ⊥ = λ s. let bad : (k == j) ≡ true = eq-eqb k j s in absurd (cc) in
-          let go : (k ≡ j) ⊎ Among k order → Among k order = elim [
-            | inl s ↦ absurd (ne s)
-            | inr more ↦ more
-          ] in
-          go (covers k v (sym (at_other left j k None ne) ∙ e))
+comes_once left (j ∷ order) apart come covers = (
+  come.0,
+  comes_once (slice_set left j None) order apart.1 (come_left left j order apart.0 come.1)
+      (λ k v e. still left j k order None (Some v) _ come.0.1 (λ q. cc) e (covers k v)),
+)
 
 -- ---- devices
 
@@ -75,20 +85,11 @@ all_came [] h = tt
 all_came (true ∷ came) h = all_came came (λ j e. h (suc j) e)
 all_came (false ∷ came) h = h 0 refl
 
-pub each_comes : (came : List Bool) (order : List ℕ) → Apart order → Wait came order → ((j : ℕ) → slice_get came j ≡ Some false → Among j order) → EachOnce came order
+pub each_comes : (came : List Bool) (order : List ℕ) → Apart order → Wait came order → ((j : ℕ) → slice_get came j ≡ Some false → Among j order)
+    → EachOnce came order
 each_comes came [] apart wait covers = all_came came covers
-each_comes came (j ∷ order) apart wait covers =
-    (wait.0, each_comes (slice_set came j true) order apart.1 (wait_left came j order apart.0 wait.1) (λ k e. still k e (k == j) refl)) where
-      still : (k : ℕ) → slice_get (slice_set came j true) k ≡ Some false → (b : Bool) → (k == j) ≡ b → Among k order
-      still k e true h =
-          let same : k ≡ j = eqb-true k j h in
-          let gone = at_set came j true false wait.0 in
-          let bad : Some true ≡ Some false = sym gone ∙ ap (λ (i : ℕ). slice_get (slice_set came j true) i) (sym same) ∙ e in
-          absurd (cc)
-      still k e false h =
-          let ne : k ≡ j → ⊥ = λ s. let bad : (k == j) ≡ true = eq-eqb k j s in absurd (cc) in
-          let go : (k ≡ j) ⊎ Among k order → Among k order = elim [
-            | inl s ↦ absurd (ne s)
-            | inr more ↦ more
-          ] in
-          go (covers k (sym (at_other came j k true ne) ∙ e))
+each_comes came (j ∷ order) apart wait covers = (
+  wait.0,
+  each_comes (slice_set came j true) order apart.1 (wait_left came j order apart.0 wait.1)
+      (λ k e. still came j k order true false false wait.0 (λ q. cc) e (covers k)),
+)

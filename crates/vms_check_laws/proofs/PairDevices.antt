@@ -7,7 +7,7 @@ use Rattle.vms_check_laws.proofs.Facade.{sub_size, sub_place_up, places_apart, d
 use Rattle.vms_check_laws.proofs.Facade.{sub_partners, named_partners, device_partners}
 use Rattle.std.proofs.Common.{length-append}
 use Rattle.vms_check_laws.proofs.PairLists.{AreFrom, IsPair, IsBehind, at_left, at_right, at_none, before_or_behind, IsOnce, Apart, once_append}
-use Rattle.vms_check_laws.proofs.PairStructs.{below_of, part_paired}
+use Rattle.vms_check_laws.proofs.PairFields.{below_of, part_paired}
 
 -- ---- what has a name, and where it is
 
@@ -19,23 +19,25 @@ pub record Found (subs : List Sub) (name : List ℕ) (l : ℕ) : Type 0 where
 found_from : (k : ℕ) (subs : List Sub) (name : List ℕ) (r : ℕ) → find_sub k subs name ≡ Some r → (j : ℕ) × (r ≡ k + j) × Found subs name j
 found_from k [] name r h = absurd (cc)
 found_from k (s ∷ subs) name r h =
-    let choice : (c : Bool) → bytes_eq s.desc.name name ≡ c → (if c then Some k else find_sub (suc k) subs name) ≡ Some r → (j : ℕ) × (r ≡ k + j) × Found (s ∷ subs) name j = elim [
-      | true ↦ λ e g. let same : k ≡ r = cc in (0, omega (arith, same), record { sub = s; there = refl; name_is = (bytes_eq-Decides s.desc.name name).0 e })
-      | false ↦ λ e g. let f = found_from (suc k) subs name r g in (suc f.0, omega (arith, f.1), record { sub = f.2.sub; there = f.2.there; name_is = f.2.name_is })
+    let choice : (c : Bool) → bytes_eq s.desc.name name ≡ c → (if c then Some k else find_sub (suc k) subs name) ≡ Some r → (j : ℕ) × (r ≡ k + j) × Found
+    (s ∷ subs) name j = elim [
+      | true ↦ λ e g. let same : k ≡ r = cc in (0, omega arith, record { sub = s; there = refl; name_is = (bytes_eq-Decides s.desc.name name).0 e })
+      | false ↦ λ e g. let f = found_from (suc k) subs name r g in (suc f.0, omega arith, record { sub = f.2.sub; there = f.2.there; name_is = f.2.name_is })
     ] in
     choice (bytes_eq s.desc.name name) refl h
 
 pub found : (subs : List Sub) (name : List ℕ) (l : ℕ) → find_sub 0 subs name ≡ Some l → Found subs name l
 found subs name l h =
     let f = found_from 0 subs name l h in
-    let same : f.0 ≡ l = omega (arith, f.1) in
-    subst (λ (n : ℕ). Found subs name n) same f.2
+    let same : f.0 ≡ l = omega arith in
+    rw (← same) f.2
 
 -- the cells of a subsection are at its place
 pub cell_of_sub : (set : Set) (from : ℕ) (subs : List Sub) (l : ℕ) (t : Sub) → slice_get subs l ≡ Some t
     → (q : ℕ) × (sub_place set from subs l ≡ from + q)
     × (q + sub_size set t ≤ length (flat_map (λ s. desc_cells (struct_cells set) s.desc) subs))
-    × ((r : ℕ) → r < sub_size set t → get_or (flat_map (λ s. desc_cells (struct_cells set) s.desc) subs) (q + r) no_cell ≡ get_or (desc_cells (struct_cells set) t.desc) r no_cell)
+    × ((r : ℕ) → r < sub_size set t → get_or (flat_map (λ s. desc_cells (struct_cells set) s.desc) subs) (q + r) no_cell ≡ get_or
+    (desc_cells (struct_cells set) t.desc) r no_cell)
 cell_of_sub set from [] l t e = absurd (cc)
 cell_of_sub set from (s ∷ subs) zero t e =
     let same : s ≡ t = cc in
@@ -44,23 +46,21 @@ cell_of_sub set from (s ∷ subs) zero t e =
     let size : sub_size set s ≡ sub_size set t = ap (sub_size set) same in (
       0,
       omega arith,
-      omega (arith, size, length-append cells rest),
+      omega (arith, length-append cells rest),
       λ r lt.
           let z : 0 + r ≡ r = omega arith in
-          ap (λ (n : ℕ). get_or (cells ++ rest) n no_cell) z ∙ get_or_append_left cells rest no_cell r (omega (arith, lt, size)) ∙ ap (λ (u : Sub). get_or (desc_cells (struct_cells set) u.desc) r no_cell) same,
+          ap (λ (n : ℕ). get_or (cells ++ rest) n no_cell) z ∙ get_or_append_left cells rest no_cell r (omega arith) ∙ ap
+          (λ (u : Sub). get_or (desc_cells (struct_cells set) u.desc) r no_cell) same,
     )
 cell_of_sub set from (s ∷ subs) (suc l) t e =
     let cells = desc_cells (struct_cells set) s.desc in
     let rest = flat_map (λ s. desc_cells (struct_cells set) s.desc) subs in
-    let h = cell_of_sub set (from + length cells) subs l t e in
-    let q = h.0 in
-    let place = h.1 in
-    let within = h.2 in (
-      length cells + q,
-      omega (arith, place),
-      omega (arith, within, length-append cells rest),
-      λ r lt. let z : (length cells + q) + r ≡ length cells + (q + r) = omega arith in
-          ap (λ (n : ℕ). get_or (cells ++ rest) n no_cell) z ∙ get_or-append-add cells rest (q + r) no_cell ∙ h.3 r lt,
+    let h = cell_of_sub set (from + length cells) subs l t e in (
+      length cells + h.0,
+      omega arith,
+      omega (arith, length-append cells rest),
+      λ r lt. let z : (length cells + h.0) + r ≡ length cells + (h.0 + r) = omega arith in
+          ap (λ (n : ℕ). get_or (cells ++ rest) n no_cell) z ∙ get_or-append-add cells rest (h.0 + r) no_cell ∙ h.3 r lt,
     )
 
 module _ (old new : Set) (good_old : WellFormed old) (good_new : WellFormed new) (i : ℕ) (d e : Device) (at_i : slice_get old.devices i ≡ Some d) where
@@ -97,22 +97,25 @@ module _ (old new : Set) (good_old : WellFormed old) (good_new : WellFormed new)
   }
 
   pub one_sub : (j : ℕ) (s : Sub) → slice_get d.subs j ≡ Some s → OneSub s (named_partners old new e s)
-  one_sub j s at_j = by_name (find_sub 0 e.subs s.desc.name) refl where
+  one_sub j s at_j = by_name _ refl where
     by_name : (o : Option ℕ) → find_sub 0 e.subs s.desc.name ≡ o → OneSub s (named_partners old new e s)
-    by_name None h = subst (λ (o : Option ℕ). OneSub s (sub_partners old new e s o (at_option e.subs o))) (sym h) (no_sub s)
+    by_name None h = rw h (no_sub s)
     by_name (Some l) h =
         let f = found e.subs s.desc.name l h in
-        let p = part_paired old new good_old good_new s.desc.version s.desc f.sub.desc (place' l) (below_of (length old.structs) s.desc (sub_rules d j s) (sub_clean old good_old i j d s at_i at_j)) in
-        subst (λ (o : Option ℕ). OneSub s (sub_partners old new e s o (at_option e.subs o))) (sym h)
-        (subst (λ (o : Option Sub). OneSub s (sub_partners old new e s (Some l) o)) (sym f.there)
+        let p = part_paired old new good_old good_new s.desc.version s.desc f.sub.desc _ (below_of _ s.desc _ (sub_clean old good_old i j d s at_i at_j)) in
+        rw h
+        (rw f.there
         (record {
           long = p.long;
-          pairs = λ c k g. let q = p.pairs c k g in record { l = l; t = f.sub; there = f.there; name_is = f.name_is; r = q.r; is = q.is; inside = q.inside; kind = q.kind };
+          pairs = λ c k g.
+              let q = p.pairs c k g in
+              record { l = l; t = f.sub; there = f.there; name_is = f.name_is; r = q.r; is = q.is; inside = q.inside; kind = q.kind };
           once = p.once;
         }))
 
   -- a pair says only the kind of its older cell
-  at_kind : (cells cells' : List Cell) (name : List ℕ) (c c' k : ℕ) → IsSubPair cells name c k → (get_or cells' c' no_cell).kind ≡ (get_or cells c no_cell).kind → IsSubPair cells' name c' k
+  at_kind : (cells cells' : List Cell) (name : List ℕ) (c c' k : ℕ) → IsSubPair cells name c k
+      → (get_or cells' c' no_cell).kind ≡ (get_or cells c no_cell).kind → IsSubPair cells' name c' k
   at_kind cells cells' name c c' k x same =
       record { l = x.l; t = x.t; there = x.there; name_is = x.name_is; r = x.r; is = x.is; inside = x.inside; kind = same ∙ x.kind }
 
@@ -134,14 +137,12 @@ module _ (old new : Set) (good_old : WellFormed old) (good_new : WellFormed new)
 
   -- two newer subsections that have one cell are one
   names_of : (cells cells' : List Cell) (name name' : List ℕ) (c c' k : ℕ) → IsSubPair cells name c k → IsSubPair cells' name' c' k → name ≡ name'
-  names_of cells cells' name name' c c' k p q = by_order (nat_lt p.l q.l) refl (nat_lt q.l p.l) refl where
+  names_of cells cells' name name' c c' k p q = by_order _ refl _ refl where
     by_order : (x : Bool) → nat_lt p.l q.l ≡ x → (z : Bool) → nat_lt q.l p.l ≡ z → name ≡ name'
     by_order true x z h =
-        let a = places_apart new (own_cells new e) e.subs p.l q.l p.t p.there (ltb-true p.l q.l x) in
-        absurd (omega (arith, a, p.is, p.inside, q.is))
+        absurd (omega (arith, places_apart new (own_cells new e) e.subs p.l q.l p.t p.there (ltb-true p.l q.l x)))
     by_order false x true h =
-        let a = places_apart new (own_cells new e) e.subs q.l p.l q.t q.there (ltb-true q.l p.l h) in
-        absurd (omega (arith, a, q.is, q.inside, p.is))
+        absurd (omega (arith, places_apart new (own_cells new e) e.subs q.l p.l q.t q.there (ltb-true q.l p.l h)))
     by_order false x false h =
         let a : q.l ≤ p.l = ltb-false p.l q.l x in
         let b : p.l ≤ q.l = ltb-false q.l p.l h in
@@ -159,61 +160,55 @@ module _ (old new : Set) (good_old : WellFormed old) (good_new : WellFormed new)
 
     apart : Apart p q
     apart b c k lt behind f f' =
-        let x = left b k lt f in
         let z = right c k behind f' in
-        let same = distinct 0 (suc z.m) s z.sub refl z.is (names_of (old_cells s) (flat_map old_cells subs) s.desc.name z.sub.desc.name b behind.more k x z.pair) in
-        absurd (omega (arith, same))
+        absurd (omega (arith, distinct 0 (suc z.m) s z.sub refl z.is (names_of _ _ s.desc.name z.sub.desc.name b behind.more k (left b k lt f) z.pair)))
 
     pair_at : (c k : ℕ) → slice_get (p ++ q) c ≡ Some (Some k) → (c < length p) ⊎ IsBehind (length p) c → SomeSub (s ∷ subs) c k
     pair_at c k f (inl lt) =
-        let x = left c k lt f in
-        let long = h.long in
         record {
           m = 0;
           sub = s;
           is = refl;
-          pair = at_kind (old_cells s) (old_cells s ++ flat_map old_cells subs) s.desc.name c c k x
-              (ap (λ (u : Cell). u.kind) (get_or_append_left (old_cells s) (flat_map old_cells subs) no_cell c (omega (arith, lt, long))));
+          pair = at_kind _ _ s.desc.name c c k (left c k lt f)
+              (ap (λ (u : Cell). u.kind) (get_or_append_left (old_cells s) (flat_map old_cells subs) no_cell c (omega arith)));
         }
     pair_at c k f (inr behind) =
         let z = right c k behind f in
-        let long = h.long in
-        let is = behind.is in
-        let place : c ≡ length (old_cells s) + behind.more = omega (arith, is, long) in
+        let place : c ≡ length (old_cells s) + behind.more = omega arith in
         record {
           m = suc z.m;
           sub = z.sub;
           is = z.is;
-          pair = at_kind (flat_map old_cells subs) (old_cells s ++ flat_map old_cells subs) z.sub.desc.name behind.more c k z.pair
+          pair = at_kind _ _ z.sub.desc.name behind.more c k z.pair
               (ap (λ (n : ℕ). (get_or (old_cells s ++ flat_map old_cells subs) n no_cell).kind) place
               ∙ ap (λ (u : Cell). u.kind) (get_or-append-add (old_cells s) (flat_map old_cells subs) behind.more no_cell));
         }
 
     joined : AllSubs (s ∷ subs) (p ++ q)
     joined =
-        let long = h.long in
-        let long' = g.long in
         record {
-          long = omega (arith, long, long', length-append p q, length-append (old_cells s) (flat_map old_cells subs));
-          pairs = λ c k f. pair_at c k f (before_or_behind (length p) c);
+          long = omega (arith, length-append p q, length-append (old_cells s) (flat_map old_cells subs));
+          pairs = λ c k f. pair_at c k f (before_or_behind _ c);
           once = once_append p q h.once g.once apart;
         }
 
-  all_subs : (subs : List Sub) → AreDistinct subs → ((m : ℕ) (s : Sub) → slice_get subs m ≡ Some s → OneSub s (named_partners old new e s)) → AllSubs subs (flat_map (named_partners old new e) subs)
+  all_subs : (subs : List Sub) → AreDistinct subs → ((m : ℕ) (s : Sub) → slice_get subs m ≡ Some s → OneSub s (named_partners old new e s))
+      → AllSubs subs (flat_map (named_partners old new e) subs)
   all_subs [] distinct h = record { long = refl; pairs = λ c k f. absurd (cc); once = λ b c k f g. absurd (cc) }
   all_subs (s ∷ subs) distinct h =
-      joined s subs (named_partners old new e s) (flat_map (named_partners old new e) subs) distinct (h 0 s refl)
-      (all_subs subs (λ m m' t t' f f' n. let same = distinct (suc m) (suc m') t t' f f' n in omega (arith, same)) (λ m t f. h (suc m) t f))
+      joined s subs _ _ distinct (h 0 s refl)
+      (all_subs subs (λ m m' t t' f f' n. omega (arith, distinct (suc m) (suc m') t t' f f' n)) (λ m t f. h (suc m) t f))
 
   distinct : AreDistinct d.subs
   distinct m m' s s' f f' n =
-      let same : Some m ≡ Some m' = sym (sub_found old good_old i m d s at_i f) ∙ ap (λ (name : List ℕ). find_sub 0 d.subs name) n ∙ sub_found old good_old i m' d s' at_i f' in
+      let same : Some m ≡ Some m' =
+      sym (sub_found old good_old i m d s at_i f) ∙ ap (λ (name : List ℕ). find_sub 0 d.subs name) n ∙ sub_found old good_old i m' d s' at_i f' in
       cc
 
   -- ---- the device
 
   own : AreFrom (desc_cells (struct_cells old) d.desc) (desc_cells (struct_cells new) e.desc) 0 (part_partners old new d.desc.version d.desc e.desc 0)
-  own = part_paired old new good_old good_new d.desc.version d.desc e.desc 0 (below_of (length old.structs) d.desc (device_rules old i d) (device_parts old good_old i d at_i).0)
+  own = part_paired old new good_old good_new d.desc.version d.desc e.desc 0 (below_of _ d.desc _ (device_parts old good_old i d at_i).0)
 
   rest : AllSubs d.subs (flat_map (named_partners old new e) d.subs)
   rest = all_subs d.subs distinct (λ m s f. one_sub m s f)
@@ -246,7 +241,8 @@ module _ (old new : Set) (good_old : WellFormed old) (good_new : WellFormed new)
       let k_is : p.r ≡ k = omega (arith, is) in (
         omega (arith, is, inside, length-append us (flat_map new_cells e.subs)),
         ap (λ (u : Cell). u.kind) (get_or_append_left xs (flat_map old_cells d.subs) no_cell c (omega (arith, lt, long))) ∙ p.kind
-            ∙ sym (ap (λ (u : Cell). u.kind) (get_or_append_left us (flat_map new_cells e.subs) no_cell p.r inside)) ∙ ap (λ (n : ℕ). (get_or (device_cells new e) n no_cell).kind) k_is,
+            ∙ sym (ap (λ (u : Cell). u.kind) (get_or_append_left us (flat_map new_cells e.subs) no_cell p.r inside)) ∙ ap
+            (λ (n : ℕ). (get_or (device_cells new e) n no_cell).kind) k_is,
       )
   kinds c k f (inr behind) =
       let z = sub_pair c k behind f in
@@ -261,24 +257,24 @@ module _ (old new : Set) (good_old : WellFormed old) (good_new : WellFormed new)
       let c_is : c ≡ length xs + behind.more = omega (arith, b_is, long) in
       let k_is : length us + (h.0 + p.r) ≡ k = omega (arith, place, is) in (
         omega (arith, k_is, inside, within, length-append us (flat_map new_cells e.subs)),
-        ap (λ (n : ℕ). (get_or (device_cells old d) n no_cell).kind) c_is ∙ ap (λ (u : Cell). u.kind) (get_or-append-add xs (flat_map old_cells d.subs) behind.more no_cell) ∙ p.kind
-            ∙ sym (ap (λ (u : Cell). u.kind) (get_or-append-add us (flat_map new_cells e.subs) (h.0 + p.r) no_cell ∙ h.3 p.r inside)) ∙ ap (λ (n : ℕ). (get_or (device_cells new e) n no_cell).kind) k_is,
+        ap (λ (n : ℕ). (get_or (device_cells old d) n no_cell).kind) c_is ∙ ap (λ (u : Cell). u.kind)
+            (get_or-append-add xs (flat_map old_cells d.subs) behind.more no_cell) ∙ p.kind
+            ∙ sym (ap (λ (u : Cell). u.kind) (get_or-append-add us (flat_map new_cells e.subs) (h.0 + p.r) no_cell ∙ h.3 p.r inside)) ∙ ap
+            (λ (n : ℕ). (get_or (device_cells new e) n no_cell).kind) k_is,
       )
 
   apart_own : Apart ps qs
   apart_own b c k lt behind f g =
       let p = own_pair b k lt f in
       let z = sub_pair c k behind g in
-      omega (arith, p.is, p.inside, z.pair.is, sub_place_up new (own_cells new e) e.subs z.pair.l)
+      omega (arith, sub_place_up new (own_cells new e) e.subs z.pair.l)
 
   pub device_paired : ArePartners (device_cells old d) (device_cells new e) (device_partners old new d e)
   unfolding device_partners
   device_paired =
-      let long = own.long in
-      let long' = rest.long in
       record {
-        long = omega (arith, long, long', length-append ps qs, length-append xs (flat_map old_cells d.subs));
-        kinds = λ c k f. kinds c k f (before_or_behind (length ps) c);
+        long = omega (arith, own.long, rest.long, length-append ps qs, length-append xs (flat_map old_cells d.subs));
+        kinds = λ c k f. kinds c k f (before_or_behind _ c);
         once = once_append ps qs own.once rest.once apart_own;
       }
 

@@ -38,16 +38,16 @@ module _ (structs : List Meaning) (all : List Field) (v : ℕ) (own : ℕ → �
 
   entry_slots : (i p : ℕ) (f : Field) (pr : Option (Option Formula)) (es : List Entry) → presence v f.test f.since ≡ pr
       → slots_at i p f ++ entries_slots es ≡ entries_slots (entry_of i p f pr ++ es)
-  entry_slots i p f None es h =
-      rw (presence_there f.test f.since v own no_parent, h)
+  entry_slots i p f None es h = rw (presence_there f.test f.since v own no_parent, h)
   entry_slots i p f (Some rest) es h = refl
 
-  pub slots_entries : (i p : ℕ) (fs : List Field) → slots_from structs all v own numbers i (base + p) fs ≡ entries_slots (present_from (cells_in structs) all v i p fs)
+  pub slots_entries : (i p : ℕ) (fs : List Field)
+      → slots_from structs all v own numbers i (base + p) fs ≡ entries_slots (present_from (cells_in structs) all v i p fs)
   slots_entries i p [] = refl
   slots_entries i p (f ∷ fs) =
       let len = length (field_cells (cells_in structs) all i f) in
       let e : (base + p) + len ≡ base + (p + len) = omega arith in
-      rw (e, slots_entries (suc i) (p + len) fs) (entry_slots i p f (presence v f.test f.since) (present_from (cells_in structs) all v (suc i) (p + len) fs) refl)
+      rw (e, slots_entries (suc i) (p + len) fs) (entry_slots i p f _ _ refl)
 
 -- ---- what is known of entries
 
@@ -76,7 +76,8 @@ module _ (structs : List Meaning) (all : List Field) (v : ℕ) (numbers : List �
   AreKnown [] = Unit {0}
   AreKnown (e ∷ es) = IsKnown e × AreKnown es
 
-  own_is : (i p : ℕ) (f : Field) → slice_get all i ≡ Some f → place i ≡ base + p → own_of i ≡ residue (width (kind_of f.item)) (get_or numbers (base + p) (pos 0))
+  own_is : (i p : ℕ) (f : Field) → slice_get all i ≡ Some f → place i ≡ base + p
+      → own_of i ≡ residue (width (kind_of f.item)) (get_or numbers (base + p) (pos 0))
   own_is i p f h e = rw (at_get all i f h, e)
 
   entry_known : (i p : ℕ) (f : Field) (pr : Option (Option Formula)) (es : List Entry) → presence v f.test f.since ≡ pr → slice_get all i ≡ Some f
@@ -113,12 +114,12 @@ module _ (structs : List Meaning) (all : List Field) (v : ℕ) (numbers : List �
   fit_entry i p f None es fits more = more
   fit_entry i p f (Some rest) es fits more = (fits, more)
 
-  pub fit_entries : (i p : ℕ) (fs : List Field) → FitsAt (cells_from (cells_in structs) all i fs) numbers (base + p) → FitEntries (present_from (cells_in structs) all v i p fs)
+  pub fit_entries : (i p : ℕ) (fs : List Field) → FitsAt (cells_from (cells_in structs) all i fs) numbers (base + p)
+      → FitEntries (present_from (cells_in structs) all v i p fs)
   fit_entries i p [] fits = tt
   fit_entries i p (f ∷ fs) fits =
       let here_cells = field_cells (cells_in structs) all i f in
       let more_cells = cells_from (cells_in structs) all (suc i) fs in
-      let e : (base + p) + length here_cells ≡ base + (p + length here_cells) = omega arith in
-      fit_entry i p f (presence v f.test f.since) (present_from (cells_in structs) all v (suc i) (p + length here_cells) fs)
-      (fits_left here_cells more_cells numbers (base + p) fits)
-      (fit_entries (suc i) (p + length here_cells) fs (fits_at more_cells numbers _ _ e (fits_right here_cells more_cells numbers (base + p) fits)))
+      fit_entry i p f _ _
+      (fits_left more_cells fits)
+      (fit_entries (suc i) (p + length here_cells) fs (fits_at (omega arith) (fits_right here_cells fits)))

@@ -1,57 +1,127 @@
--- One position, and the first positions, of two descriptions anywhere in two sets, with the sets' own cells.
-use Rattle.vms_check_laws.proofs.Facade.{◌≡◌, inl, inr, ℕ, zero, suc, ◌+◌, Bool, List, [], ◌∷◌, length, Option, Some, subst, arith, ℤ, ◌++◌, take, refl, ap}
-use Rattle.vms_check_laws.proofs.Facade.{slice_get, flat_map, Part, is_earlier_in, is_steady_in, Field, Desc, Set, Meaning, meanings, desc_cells, field_cells}
-use Rattle.vms_check_laws.proofs.Facade.{numbers_of, Slot, field_slots, WellFormed, Comparer, Entry, comparers, present, position_from, Carrier, carriers}
-use Rattle.vms_check_laws.proofs.Facade.{FitsAt, Aligns, IsPartOf, IsRead, PositionLaw, AlignedLaw, FrontAligns}
-use Rattle.vms_check_laws.proofs.Segments.{fits_at}
+-- One position, and the first positions, of two descriptions anywhere in two sets: the structures by their numbers at one front, devices
+-- whose constants differ, and the sets' own cells.
+use Rattle.vms_check_laws.proofs.Facade.{◌≡◌, ℕ, ◌<◌, ◌≤◌, List, [], ◌++◌, length, get_or, Some, None, arith, ℤ, slice_get, Part, Device, Set, Desc, Cell}
+use Rattle.vms_check_laws.proofs.Facade.{no_meaning, no_desc, meanings, struct_cells, desc_cells, Spells, zeroed, own_slots, WellFormed, struct_slots, present}
+use Rattle.vms_check_laws.proofs.Facade.{position_from, Comparer, comparers, Carrier, carriers, FitsAt, Aligns, inl, inr, zero, suc, ◌+◌, Bool, ◌∷◌, Option}
+use Rattle.vms_check_laws.proofs.Facade.{subst, take, refl, ap, flat_map, is_earlier_in, is_steady_in, Field, Meaning, field_cells, numbers_of, Slot}
+use Rattle.vms_check_laws.proofs.Facade.{field_slots, Entry, IsPartOf, IsRead, PositionLaw, AlignedLaw, FrontAligns}
 use Rattle.vms_check_laws.proofs.Pairing.{cells_in, IsKnown, AreKnown, all_known, FitEntries, fit_entries, entries_slots}
+use Rattle.vms_check_laws.proofs.Counts.{old_fields}
+use Rattle.vms_check_laws.proofs.Structures.{OldStructs, NewStructs, Below, Next, each_structure, tables, beside, meanings_of, cells_of, rules_to, carries_to}
+use Rattle.vms_check_laws.proofs.Good.{old_structs, new_structs, struct_good, device_good, DescGood, sub_good}
+use Rattle.vms_check_laws.proofs.Parts.{to_cells}
+use Rattle.vms_check_laws.proofs.AlignedDescs.{AlignTable, NamesEarlier, Clashes, front_aligns, good_first}
+use Rattle.vms_check_laws.proofs.Descriptions.{desc_aligns, desc_clashes}
+use Rattle.vms_check_laws.proofs.Segments.{fits_at}
 use Rattle.vms_check_laws.proofs.Premises.{Table, OldGood, OldFields}
 use Rattle.vms_check_laws.proofs.FieldsCarry.{pair_carries, EntryGood, OldEntries, old_entries}
-use Rattle.vms_check_laws.proofs.SameTests.{presence_named}
-use Rattle.vms_check_laws.proofs.Counts.{old_fields}
-use Rattle.vms_check_laws.proofs.Structures.{tables}
-use Rattle.vms_check_laws.proofs.Good.{DescGood, old_structs, new_structs, device_good, sub_good, struct_good}
-use Rattle.vms_check_laws.proofs.Parts.{to_cells}
-use Rattle.vms_check_laws.proofs.AlignedDescs.{front_aligns, good_first}
-use Rattle.vms_check_laws.proofs.AlignedWholes.{align_rows}
+use Rattle.vms_check_laws.proofs.Presence.{presence_named}
 use Rattle.vms_check_laws.proofs.Positioned.{present_above}
+use Rattle.vms_spec.specs.declared.Part.TheVariants as parts
+
+-- ---- structures
+
+module _ (olds news : List Desc) (numbers numbers' : List ℤ) (old : OldStructs olds) (new : NewStructs news)
+    (named : (j : ℕ) → j < length news → NamesEarlier j (get_or news j no_desc)) where
+  abbrev Row : ℕ → Comparer → Carrier → Type 0
+  Row j rule carrier = (i : ℕ) → i < length olds → rule i ≡ None → (p q : ℕ) → FitsAt (get_or (cells_of olds) i []) numbers p
+      → Aligns numbers ((get_or (meanings_of olds) i no_meaning).slots numbers p) numbers' ((get_or (meanings_of news) j no_meaning).slots numbers' q)
+
+  row : (k : ℕ) → k < length news → Below (cells_of olds) (cells_of news) olds news Row k → Next (cells_of olds) (cells_of news) olds news Row k
+  row k lt rows i lt_i none p q fits =
+      let a = get_or olds i no_desc in
+      let b = get_or news k no_desc in
+      let z = beside olds news numbers k i p old new lt lt_i none fits in
+      rw (struct_slots olds (length olds) i numbers p lt_i z.below, struct_slots news (length news) k numbers' q lt z.below')
+      (desc_aligns (rules_to olds news k) (carries_to olds news k) (meanings_of olds) (meanings_of news) a b a.version b.version (parts.Struct i)
+      (parts.Struct k) numbers numbers' p q (length olds) k
+      (tables olds news numbers numbers' old new k (omega arith)) (λ i j lt_i lt_j. rows j lt_j i lt_i) z.old (named k lt) z.fits z.none)
+
+  pub align_rows : (k : ℕ) → k ≤ length news → AlignTable (rules_to olds news k) (meanings_of olds) (meanings_of news) numbers numbers' (length olds) k
+  align_rows k le i j lt_i lt_j = each_structure (cells_of olds) (cells_of news) olds news Row row k le j lt_j i lt_i
+
+-- ---- devices
+
+-- the constants of two devices' own fields clash, at one version, x and y being the cells of the structures
+abbrev pub DevicesClash : (old new : Set) → (d e : Device) → (v : ℕ) → Part → Part → (x y : List (List Cell)) → Type 0
+DevicesClash old new d e v part part' x y =
+    Clashes (comparers x y old.structs new.structs (length new.structs)) d.desc e.desc v v part part' (position_from 0 (present x d.desc v))
+    (position_from 0 (present y e.desc v))
+    (present x d.desc v) (present y e.desc v)
+
+-- then the newer set's own fields aren't spelled at a front where the older wrote its own
+abbrev pub ClashRefuses : (old new : Set) → (d e : Device) → (v : ℕ) → Part → Part → (numbers numbers' : List ℤ) → (x y : List (List Cell)) → Type 0
+ClashRefuses old new d e v part part' numbers numbers' x y = DevicesClash old new d e v part part' x y → FitsAt (desc_cells x d.desc) numbers 0
+    → (body r r' : List ℕ) → Spells numbers' (own_slots new e v numbers') body → body ++ r' ≡ zeroed numbers (own_slots old d v numbers) ++ r → ⊥
+
+pub devices_clash : (old new : Set) → WellFormed old → WellFormed new → (i k : ℕ) (d e : Device) → slice_get old.devices i ≡ Some d
+    → slice_get new.devices k ≡ Some e
+    → (v : ℕ) (part part' : Part) (numbers numbers' : List ℤ) → ClashRefuses old new d e v part part' numbers numbers' (struct_cells old) (struct_cells new)
+devices_clash old new good_old good_new i k d e in_old in_new v part part' numbers numbers' =
+    to_cells old new good_old good_new (λ x y. ClashRefuses old new d e v part part' numbers numbers' x y) inside
+  where
+    inside : ClashRefuses old new d e v part part' numbers numbers' (cells_in (meanings old.structs (length old.structs)))
+        (cells_in (meanings new.structs (length new.structs)))
+    inside clash fits =
+        let m = length old.structs in
+        let m' = length new.structs in
+        let ms = meanings old.structs m in
+        let ns = meanings new.structs m' in
+        let olds = old_structs old good_old in
+        let news = new_structs new good_new in
+        let rows = align_rows old.structs new.structs numbers numbers' olds news (λ j lt. (struct_good new good_new j lt).earlier) m' (omega arith) in
+        let plain = old_fields _ m d.desc.fields numbers 0 fits d.desc.fields (λ by most x. x) (device_good old good_old i d in_old).old in
+        desc_clashes (comparers (cells_in ms) (cells_in ns) old.structs new.structs m')
+        (carriers (cells_in ms) (cells_in ns) old.structs new.structs m') ms ns d.desc e.desc v v part part' numbers numbers' 0 0 m m'
+        (tables old.structs new.structs numbers numbers' olds news m' (omega arith)) rows plain
+        (device_good new good_new k e in_new).earlier fits clash
 
 pub part_good : (set : Set) → WellFormed set → (d : Desc) → IsPartOf set d → DescGood (length set.structs) d
-part_good set well d (inl p) = subst (λ (x : Desc). DescGood (length set.structs) x) p.is (device_good set well p.i p.device p.there)
-part_good set well d (inr p) = subst (λ (x : Desc). DescGood (length set.structs) x) p.is (sub_good set well p.i p.j p.device p.sub p.there p.below)
+part_good set well d (inl p) = rw (← p.is) (device_good set well p.i p.device p.there)
+part_good set well d (inr p) = rw (← p.is) (sub_good set well p.i p.j p.device p.sub p.there p.below)
 
 module _ (structs : List Meaning) (all : List Field) (v : ℕ) (numbers : List ℤ) (base : ℕ) where
   known_at : (es : List Entry) (p : ℕ) (e : Entry) → slice_get es p ≡ Some e → AreKnown structs all v numbers base es → IsKnown structs all v numbers base e
   known_at [] p e h k = cc
-  known_at (x ∷ es) zero e h k = let same : x ≡ e = cc in subst (λ (u : Entry). IsKnown structs all v numbers base u) same k.0
+  known_at (x ∷ es) zero e h k = let same : x ≡ e = cc in rw (← same) k.0
   known_at (x ∷ es) (suc p) e h k = known_at es p e h k.1
 
-  fit_at : (es : List Entry) (p : ℕ) (e : Entry) → slice_get es p ≡ Some e → FitEntries structs all v numbers base es → FitsAt (field_cells (cells_in structs) all e.index e.field) numbers (base + e.place)
+  fit_at : (es : List Entry) (p : ℕ) (e : Entry) → slice_get es p ≡ Some e → FitEntries structs all v numbers base es
+      → FitsAt (field_cells (cells_in structs) all e.index e.field) numbers (base + e.place)
   fit_at [] p e h k = cc
   fit_at (x ∷ es) zero e h k =
-      let same : x ≡ e = cc in subst (λ (u : Entry). FitsAt (field_cells (cells_in structs) all u.index u.field) numbers (base + u.place)) same k.0
+      let same : x ≡ e = cc in rw (← same) k.0
   fit_at (x ∷ es) (suc p) e h k = fit_at es p e h k.1
 
 module _ (ks : List Comparer) (cs : List Carrier) (ms ns : List Meaning) (a b : Desc) (v w : ℕ) (part part' : Part) (o n : ℕ → Option ℕ)
     (numbers numbers' : List ℤ) (at at' : ℕ) (below below' : ℕ) (table : Table ks cs ms ns numbers numbers' below below') (ok : ℕ → Bool) where
-  old_at : (es : List Entry) (p : ℕ) (e : Entry) → slice_get es p ≡ Some e → OldEntries ks cs ms ns a b v w part part' o n numbers numbers' at at' below below' table ok es
+  old_at : (es : List Entry) (p : ℕ) (e : Entry) → slice_get es p ≡ Some e
+      → OldEntries ks cs ms ns a b v w part part' o n numbers numbers' at at' below below' table ok es
       → OldGood below (λ k. numbers_of (cells_in ms) a numbers at k) e.field
   old_at [] p e h k = cc
-  old_at (x ∷ es) zero e h k = let same : x ≡ e = cc in subst (λ (u : Entry). OldGood below (λ k. numbers_of (cells_in ms) a numbers at k) u.field) same k.0
+  old_at (x ∷ es) zero e h k = let same : x ≡ e = cc in rw (← same) k.0
   old_at (x ∷ es) (suc p) e h k = old_at es p e h k.1
 
   -- a field of new names only earlier ones
-  earlier_at : (f : Entry) → IsKnown ns b.fields w numbers' at' f → DescGood below' b → EntryGood ks cs ms ns a b v w part part' o n numbers numbers' at at' below below' table (is_earlier_in b f.index) f
+  earlier_at : (f : Entry) → IsKnown ns b.fields w numbers' at' f → DescGood below' b
+      → EntryGood ks cs ms ns a b v w part part' o n numbers numbers' at at' below below' table (is_earlier_in b f.index) f
   earlier_at f known good =
       let h = good.earlier f.index f.field known.field in
-      record { item = h.item; single = h.single; count = h.count; rest = presence_named (is_earlier_in b f.index) w f.field.test f.field.since f.rest h.test known.left }
+      record {
+        item = h.item;
+        single = h.single;
+        count = h.count;
+        rest = presence_named
+            (is_earlier_in b f.index) w f.field.test f.field.since f.rest h.test known.left;
+      }
 
 entries_flat : (ms : List Meaning) (all : List Field) (v : ℕ) (own : ℕ → ℕ) (numbers : List ℤ) (at : ℕ) (es : List Entry)
     → entries_slots ms all v own numbers at es ≡ flat_map (λ (e : Entry). field_slots ms all v own numbers e.index (at + e.place) e.field) es
 entries_flat ms all v own numbers at [] = refl
-entries_flat ms all v own numbers at (e ∷ es) = ap (λ (l : List Slot). field_slots ms all v own numbers e.index (at + e.place) e.field ++ l) (entries_flat ms all v own numbers at es)
+entries_flat ms all v own numbers at (e ∷ es) = rw (entries_flat ms all v own numbers at es)
 
-module _ (old new : Set) (good_old : WellFormed old) (good_new : WellFormed new) (a b : Desc) (of_old : IsPartOf old a) (of_new : IsPartOf new b) (v : ℕ) (part part' : Part)
+module _ (old new : Set) (good_old : WellFormed old) (good_new : WellFormed new) (a b : Desc) (of_old : IsPartOf old a) (of_new : IsPartOf new b) (v : ℕ)
+    (part part' : Part)
     (numbers numbers' : List ℤ) (at at' : ℕ) where
   abbrev ms : List Meaning
   ms = meanings old.structs (length old.structs)
@@ -75,12 +145,12 @@ module _ (old new : Set) (good_old : WellFormed old) (good_new : WellFormed new)
   table = tables old.structs new.structs numbers numbers' (old_structs old good_old) (new_structs new good_new) (length new.structs) (omega arith)
 
   plain : FitsAt (desc_cells (cells_in ms) a) numbers at → OldFields (length old.structs) (λ k. numbers_of (cells_in ms) a numbers at k) a.fields
-  plain fits = old_fields (cells_in ms) (length old.structs) a.fields numbers at fits a.fields (λ by most x. x) (part_good old good_old a of_old).old
+  plain fits = old_fields _ _ a.fields numbers at fits a.fields (λ by most x. x) (part_good old good_old a of_old).old
 
   all_fit : FitsAt (desc_cells (cells_in ms) a) numbers at → FitEntries ms a.fields v numbers at es
   all_fit fits =
       let z : at ≡ at + 0 = omega arith in
-      fit_entries ms a.fields v numbers at 0 0 a.fields (fits_at (desc_cells (cells_in ms) a) numbers at (at + 0) z fits)
+      fit_entries ms a.fields v numbers at 0 0 a.fields (fits_at z fits)
 
   read_in : IsRead old new a b v part part' numbers numbers' at at' (cells_in ms) (cells_in ns)
   read_in p e f h =
@@ -106,23 +176,30 @@ module _ (old new : Set) (good_old : WellFormed old) (good_new : WellFormed new)
       let k' = length new.structs in
       let o : ℕ → Option ℕ = λ i. position_from 0 es i in
       let n : ℕ → Option ℕ = λ j. position_from 0 fs j in
-      let rows = align_rows old.structs new.structs numbers numbers' (old_structs old good_old) (new_structs new good_new) (λ j lt. (struct_good new good_new j lt).earlier) k' (omega arith) in
-      let first = good_first ks a b v v part part' o n p es fs h.on_old h.on_new (λ q e f lt x y. let d = h.paired q e f lt x y in record { rules = d.rules; structs = d.structs }) in
-      let aligned = front_aligns ks cs ms ns a b v v part part' o n numbers numbers' at at' k k' table rows (part_good new good_new b of_new).earlier p es fs 0 0 first
+      let rows =
+      align_rows old.structs new.structs numbers numbers' (old_structs old good_old) (new_structs new good_new)
+      (λ j lt. (struct_good new good_new j lt).earlier) k' (omega arith) in
+      let first =
+      good_first ks a b v v part part' o n p es fs h.on_old h.on_new
+      (λ q e f lt x y. let d = h.paired q e f lt x y in record { rules = d.rules; structs = d.structs }) in
+      let aligned = front_aligns ks cs ms ns a b v v part part' o n numbers numbers' at at' k k' table rows
+      (part_good new good_new b of_new).earlier p es fs 0 0 first
       (all_known ms a.fields v numbers at) (all_known ns b.fields v numbers' at')
       (old_entries ks cs ms ns a b v v part part' o n numbers numbers' at at' k k' table (λ j. is_steady_in b j) 0 0 a.fields (plain h.fits))
       (all_fit h.fits)
-      (λ j q e. inr e) (λ j q e. inr e) (present_above (cells_in ns) b.fields v 0 0 b.fields) (λ i j q steady oi nj lt. absurd (omega arith)) in
+      (λ j q e. inr e) (λ j q e. inr e) (present_above _ b.fields v 0 0 b.fields) (λ i j q steady oi nj lt. absurd (omega arith)) in
       let own : ℕ → ℕ = λ i. numbers_of (cells_in ms) a numbers at i in
       let own' : ℕ → ℕ = λ j. numbers_of (cells_in ns) b numbers' at' j in
       let read : List Slot = flat_map (λ (e : Entry). field_slots ns b.fields v own' numbers' e.index (at' + e.place) e.field) (take p fs) in
-      subst (λ (l : List Slot). Aligns numbers l numbers' read) (entries_flat ms a.fields v own numbers at (take p es))
-      (subst (λ (l : List Slot). Aligns numbers (entries_slots ms a.fields v own numbers at (take p es)) numbers' l) (entries_flat ns b.fields v own' numbers' at' (take p fs)) aligned)
+      rw (← (entries_flat ms a.fields v own numbers at _))
+      (rw (← (entries_flat ns b.fields v own' numbers' at' _)) aligned)
 
 pub position_stands : PositionLaw
 position_stands old new good_old good_new a b of_old of_new v part part' numbers numbers' at at' =
-    to_cells old new good_old good_new (λ x y. IsRead old new a b v part part' numbers numbers' at at' x y) (read_in old new good_old good_new a b of_old of_new v part part' numbers numbers' at at')
+    to_cells old new good_old good_new (λ x y. IsRead old new a b v part part' numbers numbers' at at' x y)
+    (read_in old new good_old good_new a b of_old of_new v part part' numbers numbers' at at')
 
 pub aligned_stands : AlignedLaw
 aligned_stands old new good_old good_new a b of_old of_new v part part' numbers numbers' at at' =
-    to_cells old new good_old good_new (λ x y. FrontAligns old new a b v part part' numbers numbers' at at' x y) (front_in old new good_old good_new a b of_old of_new v part part' numbers numbers' at at')
+    to_cells old new good_old good_new (λ x y. FrontAligns old new a b v part part' numbers numbers' at at' x y)
+    (front_in old new good_old good_new a b of_old of_new v part part' numbers numbers' at at')

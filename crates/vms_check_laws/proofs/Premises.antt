@@ -3,10 +3,9 @@ use Rattle.vms_check_laws.proofs.Facade.{◌≡◌, ◌⊎◌, inl, inr, refl, a
 use Rattle.vms_check_laws.proofs.Facade.{None, arith, ℤ, pos, if◌then◌else◌, eqb-true, Item, Equal, Unused, Count, Counted, Formula, Field, Cell, Meaning}
 use Rattle.vms_check_laws.proofs.Facade.{no_meaning, item_cells, names_well, nobody, is_one, ItemBelow, Entry, position_from, same_place, is_covered, Comparer}
 use Rattle.vms_check_laws.proofs.Facade.{no_comparer, Carrier, no_carrier, Holds, FitsAt, Carries}
-use Rattle.vms_check_laws.proofs.SameTests.{NamedRest}
-use Rattle.vms_check_laws.proofs.Describing.{covers_unused}
+use Rattle.vms_check_laws.proofs.Presence.{NamedRest, covers_unused}
 use Rattle.vms_check_laws.proofs.Pairing.{cells_in}
-use Rattle.vms_check_laws.proofs.Settling.{Settled}
+use Rattle.vms_check_laws.proofs.PairLists.{Settled}
 
 later_new : (j p q : ℕ) (fs : List Entry) → p < q → same_place (Some p) (position_from q fs j) ≡ true → ⊥
 later_new j p q [] lt h = absurd (cc)
@@ -29,8 +28,9 @@ later_old i p q (e ∷ es) lt h =
 -- two at one position are the first of both sides, or later ones
 pub at_or_later : (i j p : ℕ) (e f : Entry) (es fs : List Entry) → same_place (position_from p (e ∷ es) i) (position_from p (f ∷ fs) j) ≡ true
     → ((e.index ≡ i) × (f.index ≡ j)) ⊎ (((f.index == j) ≡ false) × (same_place (position_from (suc p) es i) (position_from (suc p) fs j) ≡ true))
-at_or_later i j p e f es fs h = by (e.index == i) (f.index == j) refl refl h where
-  by : (c d : Bool) → (e.index == i) ≡ c → (f.index == j) ≡ d → same_place (if c then Some p else position_from (suc p) es i) (if d then Some p else position_from (suc p) fs j) ≡ true
+at_or_later i j p e f es fs h = by _ _ refl refl h where
+  by : (c d : Bool) → (e.index == i) ≡ c → (f.index == j) ≡ d
+      → same_place (if c then Some p else position_from (suc p) es i) (if d then Some p else position_from (suc p) fs j) ≡ true
       → ((e.index ≡ i) × (f.index ≡ j)) ⊎ (((f.index == j) ≡ false) × (same_place (position_from (suc p) es i) (position_from (suc p) fs j) ≡ true))
   by true true x y k = inl (eqb-true e.index i x, eqb-true f.index j y)
   by true false x y k = absurd (later_new j p (suc p) fs (omega arith) k)
@@ -38,7 +38,7 @@ at_or_later i j p e f es fs h = by (e.index == i) (f.index == j) refl refl h whe
   by false false x y k = inr (y, k)
 
 pub covered_empty : (y : List (List Cell)) (i : Item) (c : Count) (j : Item) → is_covered i c j ≡ true → length (item_cells y j [] (pos 0)) ≡ 0
-covered_empty y i c j covers = ap (λ (x : Item). length (item_cells y x [] (pos 0))) (covers_unused i c j covers).1
+covered_empty y i c j covers = rw (covers_unused i c j covers).1
 
 -- what follows of a number from all below it holds of each
 pub by_less : (P : ℕ → Type 0) → ((k : ℕ) → ((j : ℕ) → j < k → P j) → P k) → (k j : ℕ) → j < k → P j
@@ -49,10 +49,12 @@ by_less P step (suc k) j lt = step j (λ i less. by_less P step k i (omega arith
 pub record Table (ks : List Comparer) (cs : List Carrier) (ms ns : List Meaning) (numbers numbers' : List ℤ) (below below' : ℕ) : Type 0 where
   pub sized : (j i k : ℕ) → j < below' → length (get_or cs j no_carrier i numbers k) ≡ length (get_or (cells_in ns) j [])
   pub carried : (i j : ℕ) → i < below → j < below' → get_or ks j no_comparer i ≡ None → (x y : ℕ) → FitsAt (get_or (cells_in ms) i []) numbers x
-      → Holds numbers' y (get_or cs j no_carrier i numbers x) → Carries numbers ((get_or ms i no_meaning).slots numbers x) numbers' ((get_or ns j no_meaning).slots numbers' y)
+      → Holds numbers' y (get_or cs j no_carrier i numbers x)
+      → Carries numbers ((get_or ms i no_meaning).slots numbers x) numbers' ((get_or ns j no_meaning).slots numbers' y)
   -- what isn't in the bytes is at its default
   pub settled : (i j : ℕ) → i < below → j < below' → get_or ks j no_comparer i ≡ None → (x y : ℕ) → FitsAt (get_or (cells_in ms) i []) numbers x
-      → Holds numbers' y (get_or cs j no_carrier i numbers x) → Settled ((get_or ns j no_meaning).slots numbers' y) y (get_or (cells_in ns) j []) (get_or cs j no_carrier i numbers x)
+      → Holds numbers' y (get_or cs j no_carrier i numbers x)
+      → Settled ((get_or ns j no_meaning).slots numbers' y) y (get_or (cells_in ns) j []) (get_or cs j no_carrier i numbers x)
 
 -- constants and unused bytes are single
 abbrev pub IsSingle : Item → Count → Type 0

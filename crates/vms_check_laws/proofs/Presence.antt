@@ -1,6 +1,12 @@
--- A field is there exactly where what its presence at a version leaves of the test holds.
+-- A field is there exactly where what its presence at a version leaves of the test holds. The same remaining tests have the same truth
+-- where the numbers that they name are the same. Small facts of two descriptions: what covers, and how long numbers are.
 use Rattle.vms_check_laws.proofs.Facade.{◌≡◌, ℕ, Bool, true, false, Option, Some, None, refl, sym, ◌∙◌, nat_le, if◌then◌else◌, Formula, truth, is_there}
-use Rattle.vms_check_laws.proofs.Facade.{Reduced, Known, Open, reduced, left_of, presence, truth_of, reduced_holds}
+use Rattle.vms_check_laws.proofs.Facade.{Reduced, Known, Open, reduced, left_of, presence, truth_of, reduced_holds, not, ◌&&◌, ◌||◌, ◌==◌, ap, subst, bit_and}
+use Rattle.vms_check_laws.proofs.Facade.{and_parts, eqb-true, and_from, Rel, Eq, Ne, Lt, Ge, Own, Not, And, Or, compares, names_well, nobody, same_place}
+use Rattle.vms_check_laws.proofs.Facade.{same_test, same_rest, same_reduced, rel_number, IfOpen, IsByParts, open_reduced, zero, suc, ◌+◌, ◌*◌, List, ◌∷◌, ◌++◌}
+use Rattle.vms_check_laws.proofs.Facade.{length, get_or, arith, ℤ, pos, [], length-append, Kind, Item, Num, Equal, Unused, width, code, Count, One, Fixed}
+use Rattle.vms_check_laws.proofs.Facade.{Field, Number, Constant, times, zeroed, is_steady, is_num, is_one, has_no_test, length-code, is_covered, Holds}
+use Rattle.vms_spec.specs.Sets.{Cell}
 
 -- presence at a version, and then the remaining test, say whether a field is there
 abbrev pub there : Option (Option Formula) → ℕ → (ℕ → ℕ) → (ℕ → ℕ) → Bool
@@ -20,3 +26,152 @@ since_there false v own parent = refl
 pub presence_there : (test : Option Formula) (since v : ℕ) (own parent : ℕ → ℕ) → is_there test since v own parent ≡ there (presence v test since) v own parent
 presence_there None since v own parent = sym (since_there (nat_le since v) v own parent)
 presence_there (Some t) since v own parent = sym (left_there (reduced v t) v own parent ∙ reduced_holds t v own parent)
+
+-- a number's relation
+abbrev pub rel_of : ℕ → Rel
+rel_of k = if k == 0 then Eq else if k == 1 then Ne else if k == 2 then Lt else Ge
+
+rel_back : (r : Rel) → rel_of (rel_number r) ≡ r
+rel_back Eq = refl
+rel_back Ne = refl
+rel_back Lt = refl
+rel_back Ge = refl
+
+same_rel : (r s : Rel) → (rel_number r == rel_number s) ≡ true → r ≡ s
+same_rel r s h = sym (rel_back r) ∙ ap rel_of (eqb-true (rel_number r) (rel_number s) h) ∙ rel_back s
+
+-- numbers that may be named are the same where their positions are
+abbrev pub Agree : (o n : ℕ → Option ℕ) → (ok : ℕ → Bool) → (own own' : ℕ → ℕ) → Type 0
+Agree o n ok own own' = (i j : ℕ) → ok j ≡ true → same_place (o i) (n j) ≡ true → own i ≡ own' j
+
+module _ (ok : ℕ → Bool) where
+  abbrev IsNamed : Formula → Type 0
+  IsNamed t = names_well ok nobody t ≡ true
+
+  abbrev pub Named : Reduced → Type 0
+  Named r = IfOpen IsNamed r
+
+  named_by_parts : IsByParts IsNamed
+  named_by_parts = record {
+    of_not = λ t h. h;
+    of_and = λ s t h g. and_from _ _ h g;
+    of_or = λ s t h g. and_from _ _ h g;
+  }
+
+  -- the rest of a test names what the test names
+  pub named_left : (u : ℕ) (t : Formula) → names_well ok nobody t ≡ true → Named (reduced u t)
+  named_left u t h = open_reduced IsNamed named_by_parts ok (λ field mask rel value e. e) u t h
+
+  abbrev pub NamedRest : Option Formula → Type 0
+  NamedRest None = Unit {0}
+  NamedRest (Some t) = names_well ok nobody t ≡ true
+
+  left_named : (r : Reduced) (rest : Option Formula) → Named r → left_of r ≡ Some rest → NamedRest rest
+  left_named (Known true) None named h = tt
+  left_named (Known true) (Some t) named h = cc
+  left_named (Known false) rest named h = cc
+  left_named (Open t) None named h = tt
+  left_named (Open t) (Some s) named h = let e : t ≡ s = cc in rw (← e) named
+
+  since_named : (b : Bool) (rest : Option Formula) → (if b then Some None else None) ≡ Some rest → NamedRest rest
+  since_named true None h = tt
+  since_named _ _ h = cc
+
+  -- the rest of a field's test names what its test names
+  pub presence_named : (w : ℕ) (test : Option Formula) (since : ℕ) (rest : Option Formula) → NamedRest test → presence w test since ≡ Some rest → NamedRest rest
+  presence_named w None since rest named h = since_named _ rest h
+  presence_named w (Some t) since rest named h = left_named _ rest (named_left w t named) h
+
+module _ (o n : ℕ → Option ℕ) (ok : ℕ → Bool) (own own' parent parent' : ℕ → ℕ) (v w : ℕ) (agree : Agree o n ok own own') where
+  pub same_truth : (s t : Formula) → names_well ok nobody t ≡ true → same_test o n s t ≡ true → truth s v own parent ≡ truth t w own' parent'
+  same_truth (Cell Own i mask rel value) (Cell Own j mask' rel' value') good h =
+      let r = and_parts (same_place (o i) (n j) && mask == mask' && rel_number rel == rel_number rel') (value == value') h in
+      let q = and_parts (same_place (o i) (n j) && mask == mask') (rel_number rel == rel_number rel') r.0 in
+      let p = and_parts (same_place (o i) (n j)) (mask == mask') q.0 in
+      ap (λ (k : ℕ). compares rel (bit_and k mask) value) (agree i j good p.0)
+      ∙ ap (λ (k : ℕ). compares rel (bit_and (own' j) k) value) (eqb-true mask mask' p.1)
+      ∙ ap (λ (x : Rel). compares x (bit_and (own' j) mask') value) (same_rel rel rel' q.1)
+      ∙ ap (λ (k : ℕ). compares rel' (bit_and (own' j) mask') k) (eqb-true value value' r.1)
+  same_truth (Not s) (Not t) good h = ap not (same_truth s t good h)
+  same_truth (And s s') (And t t') good h =
+      let p = and_parts (same_test o n s t) (same_test o n s' t') h in
+      let q = and_parts (names_well ok nobody t) (names_well ok nobody t') good in
+      ap (λ (b : Bool). b && truth s' v own parent) (same_truth s t q.0 p.0) ∙ ap (λ (b : Bool). truth t w own' parent' && b) (same_truth s' t' q.1 p.1)
+  same_truth (Or s s') (Or t t') good h =
+      let p = and_parts (same_test o n s t) (same_test o n s' t') h in
+      let q = and_parts (names_well ok nobody t) (names_well ok nobody t') good in
+      ap (λ (b : Bool). b || truth s' v own parent) (same_truth s t q.0 p.0) ∙ ap (λ (b : Bool). truth t w own' parent' || b) (same_truth s' t' q.1 p.1)
+  same_truth _ _ good h = cc
+
+  pub same_reduced_truth : (r q : Reduced) → Named ok q → same_reduced o n r q ≡ true → truth_of r v own parent ≡ truth_of q w own' parent'
+  same_reduced_truth (Known true) (Known true) named h = refl
+  same_reduced_truth (Known false) (Known false) named h = refl
+  same_reduced_truth (Open s) (Open t) named h = same_truth s t named h
+  same_reduced_truth _ _ named h = cc
+
+  -- the same remaining tests
+  pub same_there : (s t : Option Formula) → NamedRest ok t → same_rest o n s t ≡ true → there (Some s) v own parent ≡ there (Some t) w own' parent'
+  same_there None None named h = refl
+  same_there (Some s) (Some t) named h = same_truth s t named h
+  same_there _ _ named h = cc
+
+-- what covers is unused bytes
+pub covers_unused : (i : Item) (c : Count) (j : Item) → is_covered i c j ≡ true → (r : ℕ) × (j ≡ Unused r)
+covers_unused (Equal k z) c (Unused r) covers = (r, refl)
+covers_unused (Num k) One (Unused r) covers = (r, refl)
+covers_unused (Num k) (Fixed p) (Unused r) covers = (r, refl)
+covers_unused _ _ _ covers = absurd (cc)
+
+pub not_covered : (i : Item) (c : Count) (j : Item) → is_covered i c j ≡ true → is_num j ≡ true → ⊥
+not_covered i c j covers number =
+    let unused : is_num (Unused (covers_unused i c j covers).0) ≡ true = rw ((covers_unused i c j covers).1) at number in
+    absurd (cc)
+
+-- the bytes of n numbers
+pub numbers_length : (numbers : List ℤ) (kind : Kind) (caps : List ℕ) (n at step : ℕ)
+    → length (zeroed numbers (times n (λ c. Number c kind caps ∷ []) at step)) ≡ n * width kind
+numbers_length numbers kind caps zero at step = omega arith
+numbers_length numbers kind caps (suc n) at step =
+    length-append (code kind (get_or numbers at (pos 0))) _
+    ∙ ap (λ (k : ℕ). k + length (zeroed numbers (times n (λ c. Number c kind caps ∷ []) (at + step) step))) (length-code kind (get_or numbers at (pos 0)))
+    ∙ ap (λ (k : ℕ). width kind + k) (numbers_length numbers kind caps n (at + step) step) ∙ grind arith
+
+pub constant_length : (numbers : List ℤ) (kind : Kind) (z : ℤ) → length (zeroed numbers (Constant kind z ∷ [])) ≡ width kind
+constant_length numbers kind z = length-append (code kind z) [] ∙ ap (λ (k : ℕ). k + 0) (length-code kind z) ∙ omega arith
+
+-- a field that tests and counts may name
+pub record Steady (f : Field) : Type 0 where
+  pub item : is_num f.item ≡ true
+  pub count : is_one f.count ≡ true
+  pub test : has_no_test f.test ≡ true
+
+pub steady : (minimum : ℕ) (o : Option Field) (f : Field) → o ≡ Some f → is_steady minimum o ≡ true → Steady f
+steady minimum None f e h = absurd (cc)
+steady minimum (Some g) f e h =
+    let same : g ≡ f = cc in
+    let p = and_parts (is_num g.item && is_one g.count && has_no_test g.test) (nat_le g.since minimum) h in
+    let q = and_parts (is_num g.item && is_one g.count) (has_no_test g.test) p.0 in
+    let r = and_parts (is_num g.item) (is_one g.count) q.0 in
+    rw (← same) (record { item = r.0; count = r.1; test = q.1 })
+
+no_rest : (b : Bool) (rest : Option Formula) → (if b then Some None else None) ≡ Some rest → rest ≡ None
+no_rest true rest h = cc
+no_rest false rest h = cc
+
+pub steady_rest : (w : ℕ) (test : Option Formula) (since : ℕ) (rest : Option Formula) → has_no_test test ≡ true → presence w test since ≡ Some rest
+    → rest ≡ None
+steady_rest w None since rest h k = no_rest _ rest k
+steady_rest w (Some t) since rest h k = absurd (cc)
+
+pub rest_none : (o n : ℕ → Option ℕ) (r s : Option Formula) → s ≡ None → same_rest o n r s ≡ true → r ≡ None
+rest_none o n None s h k = refl
+rest_none o n _ _ h k = absurd (cc)
+
+pub there_here : (v : ℕ) (test : Option Formula) (since : ℕ) (rest : Option Formula) (own parent : ℕ → ℕ) → presence v test since ≡ Some rest
+    → is_there test since v own parent ≡ there (Some rest) v own parent
+there_here v test since rest own parent h = presence_there test since v own parent ∙ ap (λ (q : Option (Option Formula)). there q v own parent) h
+
+pub one_number : (c : Bool) (numbers' : List ℤ) (y : ℕ) (z d : ℤ) → c ≡ true → Holds numbers' y ((if c then z ∷ [] else d ∷ []) ++ [])
+    → get_or numbers' (y + 0) (pos 0) ≡ z
+one_number true numbers' y z d e h = h.each 0 (omega arith)
+one_number false numbers' y z d e h = absurd (cc)

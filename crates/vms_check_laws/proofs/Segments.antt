@@ -1,7 +1,9 @@
--- Segments of numbers, and slots of one side whose bytes are those of the other's.
+-- Segments of numbers, and slots of one side whose bytes are those of the other's. Bytes of both sides at one front: if slots of the
+-- newer set are at the front of what the older set wrote, they take exactly the bytes that it wrote for its own slots.
 use Rattle.vms_check_laws.proofs.Facade.{◌≡◌, ℕ, suc, ◌+◌, List, ◌∷◌, ◌++◌, length, get_or, Bool, IsTrue, refl, sym, ◌∙◌, arith, append_assoc, ℤ, pos, []}
 use Rattle.vms_check_laws.proofs.Facade.{length-append, get_or_append_left, get_or-append-add, append-nil, Kind, Cell, no_cell, Slot, Number, Constant, Filler}
-use Rattle.vms_check_laws.proofs.Facade.{Rule, zeroed, RulesHold, Holds, FitsAt, Carries, rules_append, spells_append}
+use Rattle.vms_check_laws.proofs.Facade.{Rule, zeroed, RulesHold, Holds, FitsAt, Carries, rules_append, spells_append, ap, big_number, width, residue, code}
+use Rattle.vms_check_laws.proofs.Facade.{Spells, length-code, code_read, Aligns}
 
 -- values from a place on
 pub at_first : {A : Type 0} (f : ℕ → A) (j : ℕ) {g : ℕ → A} → ((m : ℕ) → f (j + m) ≡ g m) → f j ≡ g 0
@@ -13,35 +15,35 @@ one_on f j h m = let z : suc j + m ≡ j + suc m = omega arith in rw z (h (suc m
 pub from_zero : {A : Type 0} (f : ℕ → A) (m : ℕ) → f (0 + m) ≡ f m
 from_zero f m = let z : 0 + m ≡ m = omega arith in rw z
 
-pub holds_left : (numbers : List ℤ) (at : ℕ) (xs ys : List ℤ) → Holds numbers at (xs ++ ys) → Holds numbers at xs
-holds_left numbers at xs ys h = record {
+pub holds_left : {numbers : List ℤ} {at : ℕ} {xs : List ℤ} (ys : List ℤ) → Holds numbers at (xs ++ ys) → Holds numbers at xs
+holds_left {xs = xs} ys h = record {
   each = λ c lt. h.each c (omega (arith, length-append xs ys)) ∙ get_or_append_left xs ys (pos 0) c lt;
 }
 
-pub holds_right : (numbers : List ℤ) (at : ℕ) (xs ys : List ℤ) → Holds numbers at (xs ++ ys) → Holds numbers (at + length xs) ys
-holds_right numbers at xs ys h = record {
+pub holds_right : {numbers : List ℤ} {at : ℕ} (xs : List ℤ) {ys : List ℤ} → Holds numbers at (xs ++ ys) → Holds numbers (at + length xs) ys
+holds_right {at = at} xs {ys = ys} h = record {
   each = λ c lt.
       let e : (at + length xs) + c ≡ at + (length xs + c) = omega arith in
       rw e (h.each (length xs + c) (omega (arith, length-append xs ys)) ∙ get_or-append-add xs ys c (pos 0));
 }
 
-pub holds_at : (numbers : List ℤ) (at at' : ℕ) (xs : List ℤ) → at ≡ at' → Holds numbers at xs → Holds numbers at' xs
-holds_at numbers at at' xs e h = rw e at h
+pub holds_at : {numbers : List ℤ} {at at' : ℕ} {xs : List ℤ} → at ≡ at' → Holds numbers at xs → Holds numbers at' xs
+holds_at e h = rw e at h
 
-pub fits_left : (xs ys : List Cell) (numbers : List ℤ) (at : ℕ) → FitsAt (xs ++ ys) numbers at → FitsAt xs numbers at
-fits_left xs ys numbers at h = record {
+pub fits_left : {xs : List Cell} (ys : List Cell) {numbers : List ℤ} {at : ℕ} → FitsAt (xs ++ ys) numbers at → FitsAt xs numbers at
+fits_left {xs = xs} ys h = record {
   each = λ c lt. rw (get_or_append_left xs ys no_cell c lt) at (h.each c (omega (arith, length-append xs ys)));
 }
 
-pub fits_right : (xs ys : List Cell) (numbers : List ℤ) (at : ℕ) → FitsAt (xs ++ ys) numbers at → FitsAt ys numbers (at + length xs)
-fits_right xs ys numbers at h = record {
+pub fits_right : (xs : List Cell) {ys : List Cell} {numbers : List ℤ} {at : ℕ} → FitsAt (xs ++ ys) numbers at → FitsAt ys numbers (at + length xs)
+fits_right xs {ys = ys} {at = at} h = record {
   each = λ c lt.
       let e : at + (length xs + c) ≡ (at + length xs) + c = omega arith in
       rw (get_or-append-add xs ys c no_cell, e) at (h.each (length xs + c) (omega (arith, length-append xs ys)));
 }
 
-pub fits_at : (cells : List Cell) (numbers : List ℤ) (at at' : ℕ) → at ≡ at' → FitsAt cells numbers at → FitsAt cells numbers at'
-fits_at cells numbers at at' e h = rw e at h
+pub fits_at : {cells : List Cell} {numbers : List ℤ} {at at' : ℕ} → at ≡ at' → FitsAt cells numbers at → FitsAt cells numbers at'
+fits_at e h = rw e at h
 
 -- ---- slots
 
@@ -60,16 +62,17 @@ rules_right [] b h = h
 rules_right (Rule r ∷ a) b h = rules_right a b h.1
 rules_right (_ ∷ a) b h = rules_right a b h
 
-pub carries_nil : (x y : List ℤ) → Carries x [] y []
-carries_nil x y = record { spells = refl; rules = λ h. h }
+pub carries_nil : {x y : List ℤ} → Carries x [] y []
+carries_nil = record { spells = refl; rules = λ h. h }
 
-pub carries_append : (x y : List ℤ) (a b c d : List Slot) → Carries x a y b → Carries x c y d → Carries x (a ++ c) y (b ++ d)
-carries_append x y a b c d h k = record {
-  spells = rw zeroed_append (spells_append y b d (zeroed x a) (zeroed x c) h.spells k.spells);
+pub carries_append : {x y : List ℤ} {a b c d : List Slot} → Carries x a y b → Carries x c y d → Carries x (a ++ c) y (b ++ d)
+carries_append {x = x} {y = y} {a = a} {b = b} {c = c} {d = d} h k = record {
+  spells = rw zeroed_append (spells_append y b d _ _ h.spells k.spells);
   rules = λ r. rules_append b d (h.rules (rules_left a c r)) (k.rules (rules_right a c r));
 }
 
-pub carries_number : (x y : List ℤ) (c d : ℕ) (k l : Kind) (p q : List ℕ) → k ≡ l → get_or x c (pos 0) ≡ get_or y d (pos 0) → Carries x (Number c k p ∷ []) y (Number d l q ∷ [])
+pub carries_number : (x y : List ℤ) (c d : ℕ) (k l : Kind) (p q : List ℕ) → k ≡ l → get_or x c (pos 0) ≡ get_or y d (pos 0)
+    → Carries x (Number c k p ∷ []) y (Number d l q ∷ [])
 carries_number x y c d k l p q e f = record { spells = ([], rw (f, e), refl); rules = λ h. h }
 
 pub carries_constant : (x y : List ℤ) (k l : Kind) (z u : ℤ) → k ≡ l → z ≡ u → Carries x (Constant k z ∷ []) y (Constant l u ∷ [])
@@ -81,3 +84,82 @@ carries_filler x y a n e = record { spells = (zeroed x a, [], e, sym (append-nil
 
 pub carries_rule : (x y : List ℤ) (r s : Bool) → (IsTrue r → IsTrue s) → Carries x (Rule r ∷ []) y (Rule s ∷ [])
 carries_rule x y r s f = record { spells = refl; rules = λ h. (f h.0, tt) }
+
+-- ---- lists
+
+pub apart : (xs ys r r' : List ℕ) → length xs ≡ length ys → xs ++ r' ≡ ys ++ r → (xs ≡ ys) × (r' ≡ r)
+apart [] [] r r' e h = (refl, h)
+apart [] (y ∷ ys) r r' e h = absurd (omega arith)
+apart (x ∷ xs) [] r r' e h = absurd (omega arith)
+apart (x ∷ xs) (y ∷ ys) r r' e h =
+    let heads : x ≡ y = cc in
+    let more = apart xs ys r r' (omega arith) cc in
+    (ap (λ (z : ℕ). z ∷ xs) heads ∙ ap (λ (l : List ℕ). y ∷ l) more.0, more.1)
+
+-- the bytes are the same
+pub same_bytes : (x : List ℤ) (a : List Slot) (y : List ℤ) (b : List Slot) → Aligns x a y b → (body r r' : List ℕ) → Spells y b body
+    → body ++ r' ≡ zeroed x a ++ r → body ≡ zeroed x a
+same_bytes x a y b al body r r' s h =
+    (apart body _ r r' (omega (arith, ap length h, length-append body r', length-append (zeroed x a) r, ap length (al.rests body r r' s h))) h).0
+
+pub spells_split : (y : List ℤ) (b c : List Slot) (body : List ℕ) → Spells y (b ++ c) body
+    → (front rest : List ℕ) × (body ≡ front ++ rest) × Spells y b front × Spells y c rest
+spells_split y [] c body s = ([], body, refl, refl, s)
+spells_split y (Number k kind caps ∷ b) c body s =
+    let t = spells_split y b c s.0 s.2 in
+    let here = code kind (get_or y k (pos 0)) in
+    (here ++ t.0, t.1, s.1 ∙ ap (λ (l : List ℕ). here ++ l) t.2 ∙ sym (append_assoc here t.0 t.1), (t.0, refl, t.3), t.4)
+spells_split y (Constant kind z ∷ b) c body s =
+    let t = spells_split y b c s.0 s.2 in
+    (code kind z ++ t.0, t.1, s.1 ∙ ap (λ (l : List ℕ). code kind z ++ l) t.2 ∙ sym (append_assoc (code kind z) t.0 t.1), (t.0, refl, t.3), t.4)
+spells_split y (Filler n ∷ b) c body s =
+    let t = spells_split y b c s.1 s.4 in
+    (s.0 ++ t.0, t.1, s.3 ∙ ap (λ (l : List ℕ). s.0 ++ l) t.2 ∙ sym (append_assoc s.0 t.0 t.1), (s.0, t.0, s.2, refl, t.3), t.4)
+spells_split y (Rule r ∷ b) c body s = spells_split y b c body s
+
+-- the rest after the first of two parts
+pub behind_first : (x : List ℤ) (a c : List Slot) (front rest r r' : List ℕ) → (front ++ rest) ++ r' ≡ zeroed x (a ++ c) ++ r
+    → front ++ (rest ++ r') ≡ zeroed x a ++ (zeroed x c ++ r)
+behind_first x a c front rest r r' h =
+    sym (append_assoc front rest r') ∙ h ∙ ap (λ (l : List ℕ). l ++ r) (zeroed_append x a c) ∙ append_assoc (zeroed x a) (zeroed x c) r
+
+-- ---- slots
+
+aligns_sized : (x : List ℤ) (a : List Slot) (y : List ℤ) (b : List Slot) → ((body : List ℕ) → Spells y b body → length body ≡ length (zeroed x a))
+    → Aligns x a y b
+aligns_sized x a y b long = record { rests = λ body r r' s h. (apart body _ r r' (long body s) h).1 }
+
+pub aligns_nil : (x y : List ℤ) → Aligns x [] y []
+aligns_nil x y = aligns_sized x [] y [] (λ body s. ap length s)
+
+pub aligns_append : (x y : List ℤ) (a b c d : List Slot) → Aligns x a y b → Aligns x c y d → Aligns x (a ++ c) y (b ++ d)
+aligns_append x y a b c d p q = record {
+  rests = λ body r r' s h.
+      let t = spells_split y b d body s in
+      let e = behind_first x a c t.0 t.1 r r' (ap (λ (l : List ℕ). l ++ r') (sym t.2) ∙ h) in
+      q.rests t.1 r r' t.4 (p.rests t.0 (zeroed x c ++ r) (t.1 ++ r') t.3 e);
+}
+
+code_alone : (kind : Kind) (z : ℤ) (body rest : List ℕ) → body ≡ code kind z ++ rest → rest ≡ [] → length body ≡ width kind
+code_alone kind z body rest e f = omega (arith, ap length e, length-append (code kind z) rest, length-code kind z, ap length f)
+
+pub aligns_number : (x y : List ℤ) (c d : ℕ) (k l : Kind) (p q : List ℕ) → k ≡ l → Aligns x (Number c k p ∷ []) y (Number d l q ∷ [])
+aligns_number x y c d k l p q e = aligns_sized x _ y _
+    (λ body s. code_alone l _ body s.0 s.1 s.2 ∙ ap width (sym e) ∙ sym (code_alone k _ _ [] refl refl))
+
+pub aligns_constant : (x y : List ℤ) (k l : Kind) (z u : ℤ) → k ≡ l → Aligns x (Constant k z ∷ []) y (Constant l u ∷ [])
+aligns_constant x y k l z u e = aligns_sized x _ y _
+    (λ body s. code_alone l u body s.0 s.1 s.2 ∙ ap width (sym e) ∙ sym (code_alone k z _ [] refl refl))
+
+pub aligns_filler : (x y : List ℤ) (a : List Slot) (n : ℕ) → length (zeroed x a) ≡ n → Aligns x a y (Filler n ∷ [])
+aligns_filler x y a n e = aligns_sized x a y _
+    (λ body s. omega (arith, ap length s.3, length-append s.0 s.1, ap length s.4))
+
+pub aligns_rule : (x y : List ℤ) (r s : Bool) → Aligns x (Rule r ∷ []) y (Rule s ∷ [])
+aligns_rule x y r s = aligns_sized x _ y _ (λ body t. ap length t)
+
+-- ---- numbers by their bytes
+
+-- numbers of the same bytes are the same modulo 2 ^ (8 w)
+pub same_code : (kind : Kind) (z u : ℤ) → code kind z ≡ code kind u → residue (width kind) z ≡ residue (width kind) u
+same_code kind z u h = sym (code_read kind z) ∙ ap (big_number (width kind)) h ∙ code_read kind u

@@ -8,36 +8,38 @@ use Rattle.vms_check_laws.proofs.Facade.{IsSaved, FitsAt, or_else_none}
 use Rattle.vms_spec.specs.declared.Part.TheVariants as parts
 use Rattle.vms_check_laws.proofs.Segments.{fits_left, fits_right, rules_left, rules_right, one_on, at_first, from_zero}
 use Rattle.vms_check_laws.proofs.Good.{sub_good}
-use Rattle.vms_check_laws.proofs.Parts.{good_cells}
-use Rattle.vms_check_laws.proofs.Subsections.{Came, Stayed, Facts}
+use Rattle.vms_check_laws.proofs.Parts.{good_cells, Came, Stayed, Facts}
 use Rattle.vms_check_laws.proofs.PairDevices.{found as found_sub}
 
 -- where there is no first answer, the one on each has none
-pub none_at : {A B : Type 0} (f : ℕ → A → Option B) (i : ℕ) (xs : List A) (j : ℕ) (x : A) → first_answer f i xs ≡ None → slice_get xs j ≡ Some x → f (i + j) x ≡ None
+pub none_at : {A B : Type 0} (f : ℕ → A → Option B) (i : ℕ) (xs : List A) (j : ℕ) (x : A) → first_answer f i xs ≡ None → slice_get xs j ≡ Some x
+    → f (i + j) x ≡ None
 none_at f i [] j x h e = absurd (cc)
 none_at f i (y ∷ xs) zero x h e =
     let same : y ≡ x = cc in
     let z : i ≡ i + 0 = omega arith in
-    subst (λ u. f (i + 0) u ≡ None) same (subst (λ (n : ℕ). f n y ≡ None) z (or_else_none (f i y) (first_answer f (suc i) xs) h).0)
+    rw (← same) (rw (← z) (or_else_none (f i y) (first_answer f (suc i) xs) h).0)
 none_at f i (y ∷ xs) (suc j) x h e =
     let z : suc i + j ≡ i + suc j = omega arith in
-    subst (λ (n : ℕ). f n x ≡ None) z (none_at f (suc i) xs j x (or_else_none (f i y) (first_answer f (suc i) xs) h).1 e)
+    rw (← z) (none_at f (suc i) xs j x (or_else_none (f i y) (first_answer f (suc i) xs) h).1 e)
 
 pub fits_whole : (cells : List Cell) (numbers : List ℤ) → FitCells cells numbers → FitsAt cells numbers 0
 fits_whole cells numbers h = record {
   each = λ c lt.
       let z : c ≡ 0 + c = omega arith in
-      subst (λ (k : ℕ). FitsCell (get_or cells c no_cell) (get_or numbers k (pos 0))) z (h.fits c lt);
+      rw (← z) (h.fits c lt);
 }
 
-pub came_at : (subs : List Sub) (came : List (Option ℕ)) (j : ℕ) (s : Sub) → AreVersionsOf subs came → slice_get subs j ≡ Some s → (o : Option ℕ) × (slice_get came j ≡ Some o)
+pub came_at : (subs : List Sub) (came : List (Option ℕ)) (j : ℕ) (s : Sub) → AreVersionsOf subs came → slice_get subs j ≡ Some s
+    → (o : Option ℕ) × (slice_get came j ≡ Some o)
 came_at [] came j s h e = absurd (cc)
 came_at (x ∷ subs) [] j s h e = absurd h
 came_at (x ∷ subs) (o ∷ came) zero s h e = (o, refl)
 came_at (x ∷ subs) (None ∷ came) (suc j) s h e = came_at subs came j s h e
 came_at (x ∷ subs) (Some v ∷ came) (suc j) s h e = came_at subs came j s h.1 e
 
-pub come_version : (set : Set) (d : Device) (image : Image) (k : ℕ) (subs : List Sub) (came : List (Option ℕ)) (j : ℕ) (s : Sub) (v : ℕ) → ComeAsNeeded set d image k subs came
+pub come_version : (set : Set) (d : Device) (image : Image) (k : ℕ) (subs : List Sub) (came : List (Option ℕ)) (j : ℕ) (s : Sub) (v : ℕ)
+    → ComeAsNeeded set d image k subs came
     → slice_get subs j ≡ Some s → slice_get came j ≡ Some (Some v) → v ≡ s.desc.version
 come_version set d image k (x ∷ subs) [] j s v h e e' = absurd h
 come_version set d image k (x ∷ subs) (Some u ∷ came) zero s v h e e' =
@@ -57,31 +59,35 @@ saved set d image r = record {
   subs = λ j s v at_j at_came. come_version set d image 0 d.subs image.came j s v r.needed at_j at_came;
 }
 
-pub sub_fits : (set : Set) (numbers : List ℤ) (place : ℕ) (subs : List Sub) (j : ℕ) (s : Sub) → FitsAt (flat_map (λ u. desc_cells (struct_cells set) u.desc) subs) numbers place → slice_get subs j ≡ Some s
+pub sub_fits : (set : Set) (numbers : List ℤ) (place : ℕ) (subs : List Sub) (j : ℕ) (s : Sub)
+    → FitsAt (flat_map (λ u. desc_cells (struct_cells set) u.desc) subs) numbers place → slice_get subs j ≡ Some s
     → FitsAt (desc_cells (struct_cells set) s.desc) numbers (sub_place set place subs j)
 sub_fits set numbers place [] j s h e = absurd (cc)
 sub_fits set numbers place (x ∷ subs) zero s h e =
     let same : x ≡ s = cc in
-    subst (λ (u : Sub). FitsAt (desc_cells (struct_cells set) u.desc) numbers place) same
-    (fits_left (desc_cells (struct_cells set) x.desc) (flat_map (λ u. desc_cells (struct_cells set) u.desc) subs) numbers place h)
+    rw (← same)
+    (fits_left _ h)
 sub_fits set numbers place (x ∷ subs) (suc j) s h e =
     sub_fits set numbers (place + length (desc_cells (struct_cells set) x.desc)) subs j s
-    (fits_right (desc_cells (struct_cells set) x.desc) (flat_map (λ u. desc_cells (struct_cells set) u.desc) subs) numbers place h) e
+    (fits_right (desc_cells (struct_cells set) x.desc) h) e
 
-pub sub_rules_hold : (set : Set) (d : Device) (numbers : List ℤ) (place : ℕ) (subs : List Sub) (came : List (Option ℕ)) (j : ℕ) (s : Sub) (v : ℕ) → RulesHold (came_slots set d numbers place subs came)
+pub sub_rules_hold : (set : Set) (d : Device) (numbers : List ℤ) (place : ℕ) (subs : List Sub) (came : List (Option ℕ)) (j : ℕ) (s : Sub) (v : ℕ)
+    → RulesHold (came_slots set d numbers place subs came)
     → slice_get subs j ≡ Some s → slice_get came j ≡ Some (Some v) → RulesHold (sub_slots set s v numbers (sub_place set place subs j))
 sub_rules_hold set d numbers place (x ∷ subs) (Some u ∷ came) zero s v h e e' =
     let same : x ≡ s = cc in
     let same' : u ≡ v = cc in
     let one = rules_left (sub_slots set x u numbers place) (came_slots set d numbers (place + length (desc_cells (struct_cells set) x.desc)) subs came) h in
-    subst (λ (y : Sub). RulesHold (sub_slots set y v numbers place)) same (subst (λ (w : ℕ). RulesHold (sub_slots set x w numbers place)) same' one)
-sub_rules_hold set d numbers place (x ∷ subs) (None ∷ came) (suc j) s v h e e' = sub_rules_hold set d numbers (place + length (desc_cells (struct_cells set) x.desc)) subs came j s v h e e'
+    rw (← same) (rw (← same') one)
+sub_rules_hold set d numbers place (x ∷ subs) (None ∷ came) (suc j) s v h e e' =
+    sub_rules_hold set d numbers (place + length (desc_cells (struct_cells set) x.desc)) subs came j s v h e e'
 sub_rules_hold set d numbers place (x ∷ subs) (Some u ∷ came) (suc j) s v h e e' =
     sub_rules_hold set d numbers (place + length (desc_cells (struct_cells set) x.desc)) subs came j s v
     (rules_right (sub_slots set x u numbers place) (came_slots set d numbers (place + length (desc_cells (struct_cells set) x.desc)) subs came) h) e e'
 sub_rules_hold set d numbers place _ _ _ s v h e e' = absurd (cc)
 
-module _ (old new : Set) (good_old : WellFormed old) (good_new : WellFormed new) (i k : ℕ) (d e : Device) (at_i : slice_get old.devices i ≡ Some d) (at_k : slice_get new.devices k ≡ Some e)
+module _ (old new : Set) (good_old : WellFormed old) (good_new : WellFormed new) (i k : ℕ) (d e : Device) (at_i : slice_get old.devices i ≡ Some d)
+    (at_k : slice_get new.devices k ≡ Some e)
     (none : first_answer (compare_subs old new i k e) 0 d.subs ≡ None) (image : Image) (ready : IsSaved old d image) (numbers' : List ℤ) where
   abbrev pub came_of : Sub → Option ℕ
   came_of t = sub_came old new (find_sub 0 d.subs t.desc.name) (slice_get image.came (index (find_sub 0 d.subs t.desc.name)))
@@ -89,55 +95,60 @@ module _ (old new : Set) (good_old : WellFormed old) (good_new : WellFormed new)
   abbrev FactOf : Sub → Type 0
   FactOf t = Stayed old new good_old good_new d e image numbers' came_of t ⊎ Came old new good_old good_new d e image numbers' came_of t
 
-  stayed : (l : ℕ) (t : Sub) → slice_get e.subs l ≡ Some t → came_of t ≡ None → carried_sub old new d image t ≡ defaults (desc_cells (struct_cells new) t.desc) → FactOf t
+  stayed : (l : ℕ) (t : Sub) → slice_get e.subs l ≡ Some t → came_of t ≡ None
+      → carried_sub old new d image t ≡ defaults (desc_cells (struct_cells new) t.desc) → FactOf t
   stayed l t at_l h is = inl (record { came = h; numbers = is; good = good_cells old new good_old good_new t.desc (sub_good new good_new k l e t at_k at_l) })
 
   pub compared : (j l : ℕ) (s t : Sub) → slice_get d.subs j ≡ Some s → slice_get e.subs l ≡ Some t → s.desc.name ≡ t.desc.name
       → (is_version_of t.desc s.desc.version ≡ true) × (comparing old new s.desc t.desc s.desc.version (parts.Sub i j) (parts.Sub k l) ≡ None)
   compared j l s t at_j at_l names =
       let z : 0 + j ≡ j = omega arith in
-      let at_s : compare_subs old new i k e j s ≡ None = subst (λ (n : ℕ). compare_subs old new i k e n s ≡ None) z (none_at (compare_subs old new i k e) 0 d.subs j s none at_j) in
+      let at_s : compare_subs old new i k e j s ≡ None = rw (z) at (none_at _ 0 d.subs j s none at_j) in
       let found : find_sub 0 e.subs s.desc.name ≡ Some l =
       ap (λ (n : List ℕ). find_sub 0 e.subs n) names ∙ sub_found new good_new k l e t at_k at_l in
-      let at_l' : compare_sub old new i k j s (Some l) (slice_get e.subs l) ≡ None = subst (λ (r : Option ℕ). compare_sub old new i k j s r (slice_get e.subs (index r)) ≡ None) found at_s in
-      let at_t : compare_sub old new i k j s (Some l) (Some t) ≡ None = subst (λ (r : Option Sub). compare_sub old new i k j s (Some l) r ≡ None) at_l at_l' in
+      let at_l' : compare_sub old new i k j s (Some l) (slice_get e.subs l) ≡ None = rw (found) at at_s in
+      let at_t : compare_sub old new i k j s (Some l) (Some t) ≡ None = rw (at_l) at at_l' in
       let p = or_else_none (failing_pair ((14, is_version_of t.desc s.desc.version) ∷ []) (here (parts.Sub i j)) (here (parts.Sub k l))) _ at_t in
       ((passes 14 (is_version_of t.desc s.desc.version) [] (here (parts.Sub i j)) (here (parts.Sub k l)) p.0).0, p.1)
 
-  abbrev pub came_is : (j l : ℕ) (s t : Sub) (v : ℕ) → slice_get d.subs j ≡ Some s → slice_get e.subs l ≡ Some t → s.desc.name ≡ t.desc.name → slice_get image.came j ≡ Some (Some v) → find_sub 0 d.subs t.desc.name ≡ Some j → Came old new good_old good_new d e image numbers' came_of t
+  abbrev pub came_is : (j l : ℕ) (s t : Sub) (v : ℕ) → slice_get d.subs j ≡ Some s → slice_get e.subs l ≡ Some t → s.desc.name ≡ t.desc.name
+      → slice_get image.came j ≡ Some (Some v) → find_sub 0 d.subs t.desc.name ≡ Some j → Came old new good_old good_new d e image numbers' came_of t
   came_is j l s t v at_j at_l names at_came found =
       let c = compared j l s t at_j at_l names in
       let v_is : v ≡ s.desc.version = ready.subs j s v at_j at_came in
       let versions = and_parts (nat_le t.desc.minimum s.desc.version) (nat_le s.desc.version t.desc.version) c.0 in
-      let low : t.desc.minimum ≤ v = omega (arith, leb-true t.desc.minimum s.desc.version versions.0, v_is) in
-      let high : v ≤ t.desc.version = omega (arith, leb-true s.desc.version t.desc.version versions.1, v_is) in
+      let low : t.desc.minimum ≤ v = omega (arith, leb-true t.desc.minimum s.desc.version versions.0) in
+      let high : v ≤ t.desc.version = omega (arith, leb-true s.desc.version t.desc.version versions.1) in
       let z : 0 + own_cells old d ≡ own_cells old d = omega arith in
       let whole : FitsAt (device_cells old d) image.numbers 0 = fits_whole (device_cells old d) image.numbers ready.normal.cells in
       let subs_fit : FitsAt (flat_map (λ u. desc_cells (struct_cells old) u.desc) d.subs) image.numbers (own_cells old d) =
-      subst (λ (q : ℕ). FitsAt (flat_map (λ u. desc_cells (struct_cells old) u.desc) d.subs) image.numbers q) z
-      (fits_right (desc_cells (struct_cells old) d.desc) (flat_map (λ u. desc_cells (struct_cells old) u.desc) d.subs) image.numbers 0 whole) in
-      let subs_hold = rules_right (own_slots old d image.version image.numbers) (came_slots old d image.numbers (own_cells old d) d.subs image.came) ready.valid in
+      rw (← z)
+      (fits_right (desc_cells (struct_cells old) d.desc) whole) in
       record {
         sub = s;
         version = v;
         place = sub_place old (own_cells old d) d.subs j;
         part = parts.Sub i j;
         part' = parts.Sub k l;
-        came = ap (λ (r : Option ℕ). sub_came old new r (slice_get image.came (index r))) found ∙ ap (λ (r : Option (Option ℕ)). sub_came old new (Some j) r) at_came;
+        came = ap (λ (r : Option ℕ). sub_came old new r (slice_get image.came (index r))) found ∙ ap
+            (λ (r : Option (Option ℕ)). sub_came old new (Some j) r) at_came;
         numbers = ap (λ (r : Option ℕ). carry_sub old new d image t r (slice_get d.subs (index r)) (slice_get image.came (index r))) found
             ∙ ap (λ (r : Option Sub). carry_sub old new d image t (Some j) r (slice_get image.came j)) at_j
             ∙ ap (λ (r : Option (Option ℕ)). carry_sub old new d image t (Some j) (Some s) r) at_came;
         good = sub_good old good_old i j d s at_i at_j;
         good' = sub_good new good_new k l e t at_k at_l;
-        same = subst (λ (u : ℕ). comparing old new s.desc t.desc u (parts.Sub i j) (parts.Sub k l) ≡ None) (sym v_is) c.1;
+        same = rw v_is c.1;
         fits = sub_fits old image.numbers (own_cells old d) d.subs j s subs_fit at_j;
-        rules = sub_rules_hold old d image.numbers (own_cells old d) d.subs image.came j s v subs_hold at_j at_came;
+        rules = sub_rules_hold old d image.numbers (own_cells old d) d.subs image.came j s v
+            (rules_right (own_slots old d image.version image.numbers)
+            (came_slots old d image.numbers (own_cells old d) d.subs image.came) ready.valid) at_j at_came;
         within = (low, high);
       }
 
   fact : (l : ℕ) (t : Sub) → slice_get e.subs l ≡ Some t → FactOf t
-  fact l t at_l = by_found (find_sub 0 d.subs t.desc.name) refl where
-    by_came : (j : ℕ) (s : Sub) (o : Option ℕ) → slice_get d.subs j ≡ Some s → s.desc.name ≡ t.desc.name → slice_get image.came j ≡ Some o → find_sub 0 d.subs t.desc.name ≡ Some j → FactOf t
+  fact l t at_l = by_found _ refl where
+    by_came : (j : ℕ) (s : Sub) (o : Option ℕ) → slice_get d.subs j ≡ Some s → s.desc.name ≡ t.desc.name → slice_get image.came j ≡ Some o
+        → find_sub 0 d.subs t.desc.name ≡ Some j → FactOf t
     by_came j s None at_j names at_came found = stayed l t at_l
         (ap (λ (r : Option ℕ). sub_came old new r (slice_get image.came (index r))) found ∙ ap (λ (r : Option (Option ℕ)). sub_came old new (Some j) r) at_came)
         (ap (λ (r : Option ℕ). carry_sub old new d image t r (slice_get d.subs (index r)) (slice_get image.came (index r))) found
@@ -156,8 +167,7 @@ module _ (old new : Set) (good_old : WellFormed old) (good_new : WellFormed new)
 
   facts_from : (l : ℕ) (ts : List Sub) → ((m : ℕ) → slice_get e.subs (l + m) ≡ slice_get ts m) → Facts old new good_old good_new d e image numbers' came_of ts
   facts_from l [] h = tt
-  facts_from l (t ∷ ts) h =
-      (fact l t (at_first (slice_get e.subs) l h), facts_from (suc l) ts (one_on (slice_get e.subs) l h))
+  facts_from l (t ∷ ts) h = (fact l t (at_first (slice_get e.subs) l h), facts_from (suc l) ts (one_on (slice_get e.subs) l h))
 
   -- all subsections of new
   pub facts : Facts old new good_old good_new d e image numbers' came_of e.subs

@@ -9,7 +9,7 @@ use Rattle.vms_spec.specs.Good.{IsFit}
 use Rattle.vms_check.specs.Comparing.{Compatible}
 use Rattle.vms_check.specs.Carrying.{carried}
 use Rattle.vms_stream.specs.Streams.{Takes}
-use Rattle.vms_check_laws.proofs.Upgraded.{upgrade_stands}
+use Rattle.vms_check_laws.proofs.Streaming.{upgrade_stands}
 use Rattle.vms_commands.specs.Fetching.{SetText, fetched_set, named_sets, set_in, sets_in, word_set}
 use Rattle.vms_commands.specs.SetWords.{SetWord}
 use Rattle.vms_commands.specs.Outcomes.{Outcome, Outside, DoesOrStops}

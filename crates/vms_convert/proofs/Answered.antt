@@ -17,8 +17,7 @@ use Rattle.vms_check.specs.Carrying.{carried, no_image}
 use Rattle.vms_check.specs.Comparing.{Compatible}
 use Rattle.vms_check.specs.Partners.{device_partners}
 use Rattle.vms_check_laws.specs.Pairing.{AreOfKinds}
-use Rattle.vms_check_laws.proofs.Partnered.{Pair, pair}
-use Rattle.vms_check_laws.proofs.Streaming.{all_in}
+use Rattle.vms_check_laws.proofs.Streaming.{Pair, pair, all_in}
 use Rattle.vms_convert.specs.Back.{IsBack}
 use Rattle.vms_convert.specs.Converted.{IsPairAt, recast_each}
 use Rattle.vms_convert.specs.Laws.{AnswerLaw, ComesBack}

@@ -13,9 +13,7 @@ use Rattle.vms_spec.proofs.WellFormedLaws.{well_good}
 use Rattle.vms_check.specs.Comparing.{Compatible}
 use Rattle.vms_check.specs.Carrying.{carried}
 use Rattle.vms_stream.specs.StreamLaws.{IsWholeStream}
-use Rattle.vms_check_laws.proofs.Partnered.{pair, back}
-use Rattle.vms_check_laws.proofs.Streaming.{all_in}
-use Rattle.vms_check_laws.proofs.Upgraded.{upgrade_stands}
+use Rattle.vms_check_laws.proofs.Streaming.{pair, back, all_in, upgrade_stands}
 use Rattle.dev_serial.specs.Recast.{recast_cells}
 use Rattle.dev_serial.proofs.RecastLaws.{recast_twice}
 use Rattle.vms_convert.specs.Converted.{AreBack, IsConverted, IsPairAt, recast_each}

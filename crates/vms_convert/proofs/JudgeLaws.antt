@@ -25,8 +25,7 @@ use Rattle.vms_check.specs.Carrying.{carried}
 use Rattle.vms_check.specs.Comparing.{Compatible}
 use Rattle.vms_check.specs.Partners.{device_partners}
 use Rattle.vms_check_laws.specs.Pairing.{AreOfKinds}
-use Rattle.vms_check_laws.proofs.Partnered.{back, pair}
-use Rattle.vms_check_laws.proofs.Streaming.{all_in}
+use Rattle.vms_check_laws.proofs.Streaming.{back, pair, all_in}
 use Rattle.vms_convert.specs.Back.{IsBack}
 use Rattle.vms_convert.specs.Converted.{AreBack, IsPairAt, recast_each}
 use Rattle.vms_convert.specs.Losing.{AreWritable, FirstInvalid, Judges, KeepsMachine, KeepsName, first_cell_at, first_of}

@@ -16,8 +16,7 @@ use Rattle.vms_desc.proofs.AskLaws.{device_is}
 use Rattle.vms_check.specs.Carrying.{carried, carried_at, carried_device, no_image}
 use Rattle.vms_check.specs.Comparing.{Compatible, failing_pair, is_found, is_in}
 use Rattle.vms_check.proofs.ListLaws.{passes}
-use Rattle.vms_check_laws.proofs.Partnered.{back, found_device, found_some, pair}
-use Rattle.vms_check_laws.proofs.Streaming.{rules, all_in}
+use Rattle.vms_check_laws.proofs.Streaming.{back, found_device, found_some, pair, rules, all_in}
 use Rattle.vms_check_laws.proofs.SubFacts.{none_at}
 use Rattle.vms_check_laws.proofs.Wholes.{at_map}
 use Rattle.vms_convert.specs.Lost.{DifferAt, Loses, OfCell, numbers_in}

@@ -11,8 +11,7 @@ use Rattle.vms_desc.specs.Described.{device_at}
 use Rattle.vms_image.specs.Typed.{IsImageOf, Typed, state_of}
 use Rattle.vms_check.specs.Comparing.{Compatible}
 use Rattle.vms_check.specs.Partners.{device_partners}
-use Rattle.vms_check_laws.proofs.Partnered.{found_device, pair}
-use Rattle.vms_check_laws.proofs.Streaming.{all_in}
+use Rattle.vms_check_laws.proofs.Streaming.{found_device, pair, all_in}
 use Rattle.vms_convert.specs.Back.{IsBack}
 use Rattle.vms_convert.specs.Returning.{IsReturned}
 use Rattle.vms_convert.specs.Returns.{ArePaired, AreReturnedTo, IsEarlier, IsFirstLost}

@@ -29,13 +29,13 @@ use Rattle.vms_check.specs.Reducing.{presence, reduced}
 use Rattle.vms_check.specs.Comparing.{compare_device, compare_fields, comparers, Comparer, Entry, first_mismatch, is_kept, present, position_from}
 use Rattle.vms_check_laws.specs.Segments.{FitsAt}
 use Rattle.vms_check_laws.proofs.Segments.{fits_left}
-use Rattle.vms_check_laws.proofs.AlignedWholes.{devices_clash}
+use Rattle.vms_check_laws.proofs.PositionRead.{devices_clash}
 use Rattle.vms_check_laws.proofs.Wholes.{at_map}
 use Rattle.vms_counter_laws.specs.Candidates.{default_images, lacking, machine_for}
 use Rattle.vms_counter_laws.specs.Counters.{stream_of, Shows}
 use Rattle.vms_counter_laws.specs.Laws.{IsPlain, AlwaysShown, OfMachine, OfVersion, OfConstant}
 use Rattle.vms_counter_laws.proofs.Inverted.{else_some, one_rule, struct_no_device, tables_within, IsDevice, OfDevice, of_device, Version as OfItsVersion, Own, Below, IsWithin, part_within, DeviceFails, device_fails, machine_fails}
-use Rattle.vms_check_laws.proofs.Partnered.{Pair, pair, compared}
+use Rattle.vms_check_laws.proofs.Streaming.{Pair, pair, compared}
 use Rattle.vms_counter_laws.proofs.Devices.{Comes, comes}
 use Rattle.vms_counter_laws.proofs.Heads.{same_head}
 use Rattle.vms_counter_laws.proofs.Clashing.{present_fields, clashes}
@@ -162,11 +162,13 @@ module _ (old new : Set) (good_old : WellFormed old) (good_new : WellFormed new)
     -- ---- a constant
 
     own_fits : FitsAt (desc_cells (struct_cells old) d.desc) image.numbers 0
-    own_fits = fits_left (desc_cells (struct_cells old) d.desc) (flat_map (λ s. desc_cells (struct_cells old) s.desc) d.subs) image.numbers 0 (record {
-      each = λ c lt.
-          let z : c ≡ 0 + c = omega arith in
-          subst (λ (k : ℕ). FitsCell (get_or (device_cells old d) c no_cell) (get_or image.numbers k (pos 0))) z (image_ready.normal.cells.fits c lt);
-    })
+    own_fits =
+        let all : FitsAt (desc_cells (struct_cells old) d.desc ++ flat_map (λ s. desc_cells (struct_cells old) s.desc) d.subs) image.numbers 0 = record {
+          each = λ c lt.
+              let z : c ≡ 0 + c = omega arith in
+              subst (λ (k : ℕ). FitsCell (get_or (device_cells old d) c no_cell) (get_or image.numbers k (pos 0))) z (image_ready.normal.cells.fits c lt);
+        } in
+        fits_left (flat_map (λ s. desc_cells (struct_cells old) s.desc) d.subs) all
 
     abbrev v : ℕ
     v = d.desc.version

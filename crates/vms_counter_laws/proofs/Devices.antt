@@ -24,8 +24,7 @@ use Rattle.vms_stream.proofs.Stated.{section_read_holds, section_found_holds}
 use Rattle.vms_check.specs.Comparing.{compare_device, failing_pair, is_in}
 use Rattle.vms_check.specs.Carrying.{carried_device}
 use Rattle.vms_check_laws.specs.Laws.{ArePaired}
-use Rattle.vms_check_laws.proofs.Partnered.{compared, Pair, pair, back}
-use Rattle.vms_check_laws.proofs.Streaming.{device_stands}
+use Rattle.vms_check_laws.proofs.Streaming.{compared, Pair, pair, back, device_stands}
 use Rattle.vms_check_laws.proofs.SubFacts.{saved}
 
 module _ (old new : Set) (good_old : WellFormed old) (good_new : WellFormed new) (heads : FitsHeads new)

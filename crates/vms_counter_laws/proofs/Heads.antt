@@ -3,7 +3,7 @@ use Rattle.std.proofs.Common.{◌≡◌, ℕ, ◌^◌, ◌<◌, List, [], ◌++�
 use Rattle.byteorder.specs.Endian.{big_number}
 use Rattle.vms_spec.specs.Streams.{be32, section_head}
 use Rattle.vms_spec.proofs.KindLaws.{be32_read}
-use Rattle.vms_check_laws.proofs.Aligned.{apart}
+use Rattle.vms_check_laws.proofs.Segments.{apart}
 
 pub same_be32 : (n m : ℕ) → n < 2 ^ 32 → m < 2 ^ 32 → be32 n ≡ be32 m → n ≡ m
 same_be32 n m lt lt' e = sym (be32_read n [] lt) ∙ ap (λ (l : List ℕ). big_number 4 (l ++ [])) e ∙ be32_read m [] lt'

@@ -8,7 +8,7 @@ use Rattle.vms_spec.specs.Sets.{Device, Set}
 use Rattle.vms_spec.specs.Images.{Image}
 use Rattle.vms_spec.specs.Streams.{be32, stream_head, configuration, end_mark, is_one_of, IsConfiguration}
 use Rattle.vms_stream.specs.Streams.{HasSection, SectionsSpell, Takes}
-use Rattle.vms_check_laws.proofs.Aligned.{apart}
+use Rattle.vms_check_laws.proofs.Segments.{apart}
 use Rattle.vms_counter_laws.specs.Candidates.{lacking}
 use Rattle.vms_counter_laws.proofs.Heads.{same_be32}
 

@@ -1,4 +1,4 @@
-use Rattle.vms_check_laws.proofs.Upgraded.{upgrade_stands}
+use Rattle.vms_check_laws.proofs.Streaming.{upgrade_stands}
 use Rattle.vms_check_laws.proofs.laws.upgrade_law.Goals as goal
 
 pub returns : goal.returns
