@@ -53,6 +53,7 @@ static void run(struct vmstate_board *board, uint64_t from)
     number("int", vmstate_board_int(board));
     number("room", vmstate_board_room(board));
     number("now", vmstate_board_now(board));
+    number("due", vmstate_board_due(board));
 }
 
 static void wrong(struct vmstate_board *board, uint8_t *stream, size_t length)
@@ -95,7 +96,6 @@ int main(void)
     number("OUT of counter 2", vmstate_board_output(&other, 2));
     number("port 60", vmstate_board_has_port(&other, 0x60));
     number("character", vmstate_board_character(&other));
-    number("due", vmstate_board_due(&other));
     vmstate_board_free(&other);
     free(stream);
     return 0;

@@ -47,7 +47,7 @@ fn run(board: &mut Board, from: u64) -> Result<(), Fault> {
     tell("eoi", board.write(from + 9_000_000, 0x20, 0x20));
     tell("receive", board.receive(from + 9_000_000, b'x'));
     tell("line status", board.read(from + 9_001_000, 0x3fd));
-    println!("int {}, room {}, now {}", board.int(), board.room(), board.now());
+    println!("int {}, room {}, now {}, due {:?}", board.int(), board.room(), board.now(), board.due());
     Ok(())
 }
 
@@ -77,6 +77,5 @@ fn main() -> Result<(), Fault> {
     run(&mut other, 30_000_000)?;
     println!("OUT of counter 2: {}, port 60: {}", other.output(2)?, other.has_port(0x60));
     println!("character: {}", other.character());
-    println!("due: {}", other.due().unwrap_or(u64::MAX));
     Ok(())
 }
