@@ -9,6 +9,7 @@ mod border;
 mod handle;
 mod held;
 mod kinds;
+mod lent;
 mod parts;
 mod question;
 mod reason;
