@@ -8,7 +8,7 @@ use Rattle.dev_board.specs.declared.event.Event.{Event}
 use Rattle.dev_board.specs.declared.event.Event.TheVariants.{Read, Write, Byte, Wait, Wire, Ack}
 use Rattle.dev_clock.specs.State.{ClockState}
 use Rattle.dev_clock.specs.Step.{acted as clock_acted, follows_line, saying, step as clock_step}
-use Rattle.vmstate_board_c.specs.Answers.{IsAccess, acts_after, said}
+use Rattle.vmstate_board_c.specs.Answers.{IsAccess, acts, acts_after, said}
 use Rattle.vmstate_board_c.specs.Kinds.{step_of}
 use Rattle.vmstate_board_c.specs.declared.answer.CAnswer.{CAnswer}
 use Rattle.vmstate_board_c.specs.declared.held.AnyBoard.{AnyBoard}
@@ -52,3 +52,10 @@ later_said ns event old passed_by new passed answer result h e f r =
     let none : answer.sent.items ≡ [] = ap (λ (x : Answer × AnyBoard). x.0.sent.items) f ∙ silent event passed_by h in
     let bytes : passed.sent.items ++ answer.sent.items ≡ passed.sent.items = ap (λ (l : List ℕ). passed.sent.items ++ l) none ∙ append-nil passed.sent.items in
     rw (← e, ← f) (ap (λ (c : CAnswer). (c, Some new)) (r ∙ ap (said answer.value answer.int) (sym bytes)))
+
+-- there is an access now: no byte left
+pub now_said : (event : Event) (old new : AnyBoard) (answer : Answer) → IsAccess event
+    → (answer, new) ≡ step_of event old → (said answer.value answer.int [], Some new) ≡ acts event old
+now_said event old new answer h e =
+    let none : answer.sent.items ≡ [] = ap (λ (x : Answer × AnyBoard). x.0.sent.items) e ∙ silent event old h in
+    rw (← e) (ap (λ (l : List ℕ). (said answer.value answer.int l, Some new)) (sym none))

@@ -1,5 +1,5 @@
 // The results of calls, as C structures.
-ghost use Rattle.std.specs.Prelude.{◌≡◌, ◌≤◌, length};
+ghost use Rattle.std.specs.Prelude.{◌≡◌, ◌≤◌, length, []};
 ghost use Rattle.vmstate_board_c.specs.Answers.{flag as flag_of, no_number as no_number_of, nothing_said, number as number_of, said, wait_number as wait_number_of};
 
 /// The most bytes that a board sends at once.
@@ -46,13 +46,11 @@ pub(crate) fn nothing(status: u32) -> CAnswer
     }
 }
 
-/// Returns the result of an event.
-pub(crate) fn answered(value: Option<u8>, int: bool, sent: &[u8]) -> CAnswer
-    requires { length sent.now ≤ 17 }
-    ensures { result ≡ said value int sent.now }
+/// Returns the result of an event that sent no byte.
+#[inline(always)]
+pub(crate) fn brief(value: Option<u8>, int: bool) -> CAnswer
+    ensures { result ≡ said value int [] }
 {
-    let mut bytes = [0; MOST_SENT];
-    bytes[..sent.len()].copy_from_slice(sent);
     CAnswer {
         status: 0,
         value: match value {
@@ -60,8 +58,25 @@ pub(crate) fn answered(value: Option<u8>, int: bool, sent: &[u8]) -> CAnswer
             None => 0,
         },
         output: u8::from(int),
+        count: 0,
+        sent: [0; MOST_SENT],
+    }
+}
+
+/// Returns the result of an event.
+pub(crate) fn answered(value: Option<u8>, int: bool, sent: &[u8]) -> CAnswer
+    requires { length sent.now ≤ 17 }
+    ensures { result ≡ said value int sent.now }
+{
+    if sent.is_empty() {
+        return brief(value, int);
+    }
+    let mut bytes = [0; MOST_SENT];
+    bytes[..sent.len()].copy_from_slice(sent);
+    CAnswer {
         count: sent.len() as u8,
         sent: bytes,
+        ..brief(value, int)
     }
 }
 

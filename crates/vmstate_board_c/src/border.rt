@@ -1,11 +1,11 @@
 // The calls that create and free a board, and those that are its events.
-ghost use Rattle.std.specs.Prelude.{◌≡◌, IsTrue, IfSome, Some, None};
+ghost use Rattle.std.specs.Prelude.{◌≡◌, ◌==◌, [], IsTrue, IfSome, Some, None, false};
 ghost use Rattle.dev_board.specs.Step.{names_wire};
 ghost use Rattle.dev_board.specs.declared.event.Event.TheVariants.{Read, Write, Byte};
-ghost use Rattle.vmstate_board_c.specs.Answers.{IsAccess, Made, acknowledges, acts, acts_after, board_of, event_at, time_to, wire_at};
-ghost use Rattle.vmstate_board_c.specs.Kinds.{is_made, power_on_of};
+ghost use Rattle.vmstate_board_c.specs.Answers.{IsAccess, Made, acknowledges, acts, acts_after, board_of, event_at, said, time_to, wire_at};
+ghost use Rattle.vmstate_board_c.specs.Kinds.{is_made, now_of, power_on_of};
 
-use crate::answer::{CAnswer, answered, nothing};
+use crate::answer::{CAnswer, answered, brief, nothing};
 use crate::handle::Handle;
 use crate::held::{AnyBoard, Held};
 use crate::kinds::is_kind;
@@ -134,7 +134,7 @@ pub extern "C" fn vmstate_board_advance(alloc: Global, handle: &mut Handle, mome
         return nothing(NO_BOARD);
     };
     let answer = pass(&mut held.board, moment);
-    *handle = Handle::of(held);
+    handle.put(held);
     answer
 }
 
@@ -149,9 +149,9 @@ pub extern "C" fn vmstate_board_ack(alloc: Global, handle: &mut Handle) -> CAnsw
     let Some(mut held) = handle.take(alloc) else {
         return nothing(NO_BOARD);
     };
-    let answer = act(&mut held.board, Event::Ack);
-    *handle = Handle::of(held);
-    answer
+    let (value, int) = act(&mut held.board, Event::Ack);
+    handle.put(held);
+    brief(value, int)
 }
 
 // Applies `event` at `moment`.
@@ -164,8 +164,14 @@ fn access(alloc: Global, handle: &mut Handle, moment: u64, event: Event) -> CAns
     let Some(mut held) = handle.take(alloc) else {
         return nothing(NO_BOARD);
     };
-    let answer = act_at(&mut held.board, moment, event);
-    *handle = Handle::of(held);
+    let now = held.board.now();
+    if moment == now {
+        let (value, int) = act(&mut held.board, event);
+        handle.put(held);
+        return brief(value, int);
+    }
+    let answer = act_elsewhen(&mut held.board, moment, event);
+    handle.put(held);
     answer
 }
 
@@ -178,34 +184,35 @@ fn pass(board: &mut AnyBoard, moment: u64) -> CAnswer
     if moment < now {
         return nothing(PAST);
     }
-    act(board, Event::Wait { ns: moment - now })
+    let answer = board.event(Event::Wait { ns: moment - now });
+    answered(answer.value, answer.int, answer.sent.as_slice())
 }
 
-// Applies `event` at `moment`, unless it is before the board's.
-#[inline(always)]
-fn act_at(board: &mut AnyBoard, moment: u64, event: Event) -> CAnswer
+// Applies `event` at `moment`, which isn't the board's, unless it is before the board's. It isn't
+// inlined, which keeps the code of an event at the board's moment short.
+#[inline(never)]
+fn act_elsewhen(board: &mut AnyBoard, moment: u64, event: Event) -> CAnswer
     requires wire { IsTrue (names_wire event) }
     requires access { IsAccess event }
+    requires other { (moment == now_of board.old) ≡ false }
     ensures { (result, Some board.new) ≡ event_at moment event (Some board.old) }
 {
     let now = board.now();
-    if moment == now {
-        return act(board, event);
-    }
     if moment < now {
         return nothing(PAST);
     }
     act_later(board, moment - now, event)
 }
 
-// Applies `event` now.
+// Applies `event` now, which sends no byte, and returns the value and the interrupt output.
 #[inline(always)]
-fn act(board: &mut AnyBoard, event: Event) -> CAnswer
-    requires { IsTrue (names_wire event) }
-    ensures { (result, Some board.new) ≡ acts event board.old }
+fn act(board: &mut AnyBoard, event: Event) -> (Option<u8>, bool)
+    requires wire { IsTrue (names_wire event) }
+    requires access { IsAccess event }
+    ensures { (said result.0 result.1 [], Some board.new) ≡ acts event board.old }
 {
     let answer = board.event(event);
-    answered(answer.value, answer.int, answer.sent.as_slice())
+    (answer.value, answer.int)
 }
 
 // Lets `ns` nanoseconds pass, and then applies `event`, which sends no byte.

@@ -58,4 +58,13 @@ impl Handle {
     {
         mem::replace(self, Handle::none(alloc)).into_box()
     }
+
+    /// Keeps `held`.
+    #[inline(always)]
+    pub(crate) fn put(&mut self, held: Box<Held>)
+        ensures { self.new.seal.held ≡ Some held.value }
+    {
+        self.seal = Seal::of_parts(Parts::of(held));
+        self.is_made = true;
+    }
 }
