@@ -46,7 +46,7 @@ pub(crate) fn convert<I: Source, O: Sink, H: Shelf>(
     convert_to(alloc, &to, input, out)
 }
 
-// Converts once the set is known. The memory for a refusal's line is allocated before the input is read.
+// Converts once the set is known. All memory is allocated before the input is read, that for a line too.
 fn convert_to<I: Source, O: Sink>(
     alloc: Global,
     to: &DescSet,
