@@ -1,6 +1,7 @@
 /* Random boards against probes: is vmstate_board_due the least wait that shows something?
  *
- *     cc -O2 -I examples/embed -o due bench/due.c libvmstate_board_c.a
+ *     kit=$(dirname "$(rt doc)")
+ *     gcc -O2 -I examples/embed -o due bench/due.c crates/vmstate_board_c/out/libvmstate_board_c.a "$kit/c/liblibc_c.a"
  *     ./due [BOARDS] [SEED]
  *
  * A board of a random kind and level gets random accesses. After each of them it is asked when it is due, and copies of it, made
