@@ -30,7 +30,7 @@ static void call(const char *what, const struct vmstate_request *request, size_t
     free(notes);
 }
 
-/* The same with files: what a session saved. */
+/* Does the same and prints where the stored files are, and every 512th of their bytes. */
 static void call_stored(const char *what, const struct vmstate_request *request, size_t file_room, size_t byte_room)
 {
     uint8_t out[ROOM], notes[ROOM], *bytes = byte_room ? malloc(byte_room) : NULL;

@@ -90,7 +90,7 @@ static void rewrite(const char *target, struct vmstate_bytes saved)
     free(out);
 }
 
-/* Plays a script on a board isa-2. `file` is a file from which it may restore. Returns the first file that it saved, of `kept`. */
+/* Plays a script on a board isa-2, which may restore from `file`. Returns the first saved file; its bytes are in `kept`. */
 static struct vmstate_file play(const char *script, struct vmstate_file file, uint8_t *kept)
 {
     const struct vmstate_bytes words[] = {BYTES("play"), BYTES("isa-2"), BYTES("script")};
@@ -100,21 +100,23 @@ static struct vmstate_file play(const char *script, struct vmstate_file file, ui
     struct vmstate_stored stored = {0, 0, 0, 0};
     struct vmstate_stored_answer answer =
         vmstate_call_stored(&request, out, sizeof out, notes, sizeof notes, &stored, 1, kept, KEPT_ROOM);
+    if (answer.status == VMSTATE_TOO_SMALL) {
+        fprintf(stderr, "session: a buffer is too small\n");
+        exit(2);
+    }
     printf("session: status %u, %zu files\n%.*s%.*s", answer.status, answer.files, (int)answer.out, (char *)out,
            (int)answer.notes, (char *)notes);
     return (struct vmstate_file){{kept + stored.name, stored.name_length}, {kept + stored.bytes, stored.length}};
 }
 
-/* A session writes a byte to the serial port and saves its board. Another restores it, and the byte leaves there. */
+/* A session writes a byte to the serial port and saves its board. Another restores it, and the byte leaves its port. */
 static void sessions(void)
 {
     const struct vmstate_file none = {{NULL, 0}, {NULL, 0}};
-    uint8_t *kept = malloc(KEPT_ROOM), *more = malloc(KEPT_ROOM);
+    static uint8_t kept[KEPT_ROOM], more[KEPT_ROOM];
     struct vmstate_file saved = play("out 03f8 68\nsave @2 box\n", none, kept);
     printf("%.*s: %zu bytes\n", (int)saved.name.length, (char *)saved.name.at, saved.bytes.length);
     play("restore box\nwait 10000000\n", saved, more);
-    free(kept);
-    free(more);
 }
 
 static long most_memory(void)

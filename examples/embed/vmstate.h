@@ -43,7 +43,7 @@ struct vmstate_answer {
 /* The status if a buffer is too small for its text. */
 #define VMSTATE_TOO_SMALL 100
 
-/* Does the command, and copies what the program would write into the caller's two buffers.
+/* Does the command, and copies what the program would write into the caller's two buffers. Bytes after the texts are unchanged.
  *
  * If a buffer is too small for its text, the status is VMSTATE_TOO_SMALL, the lengths are the required ones, and both buffers are
  * unchanged. If memory runs out, the status is 10; if it runs out for the texts themselves, both lengths are 0 and both buffers are
@@ -66,12 +66,13 @@ struct vmstate_stored_answer {
 /* Does what vmstate_call does, and also returns the files that the command stored, as the line `save @2 box` of a session does.
  *
  * They are the files that the current folder has after the command and that the request doesn't have with the same bytes, whatever
- * the status is. They come in the order of their names, each once. `bytes` gets the name and the bytes of each, one after the other,
- * and `files` where they are; `file_room` counts elements of `files`.
+ * the command's status is. They come in the order of their names, each once. `bytes` gets the name and the bytes of each, one after
+ * the other, and `files` gets where they are; `file_room` counts elements of `files`. What follows in the buffers is unchanged.
  *
  * If one of the four buffers is too small, the status is VMSTATE_TOO_SMALL, the lengths are the required ones, and all buffers are
- * unchanged: the command has left nothing, so call again. If memory runs out for the texts or for the files, the status is 10, all
- * lengths are 0 and all buffers are unchanged. Everything else is as for vmstate_call. */
+ * unchanged. A call leaves nothing behind, so the next one can do the command again with larger buffers. If memory runs out for the
+ * texts or for the files, the status is 10, all lengths are 0 and all buffers are unchanged. Everything else is as for
+ * vmstate_call. */
 struct vmstate_stored_answer vmstate_call_stored(const struct vmstate_request *request, uint8_t *out, size_t out_room,
                                                  uint8_t *notes, size_t notes_room, struct vmstate_stored *files,
                                                  size_t file_room, uint8_t *bytes, size_t byte_room);

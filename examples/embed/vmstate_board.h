@@ -112,13 +112,13 @@ struct vmstate_board_number vmstate_board_room(struct vmstate_board *board);
 /* The time of one character on the serial line in nanoseconds, at most 6,826,562,500. */
 struct vmstate_board_number vmstate_board_character(struct vmstate_board *board);
 
-/* No wait is due. */
+/* What vmstate_board_due answers if no wait shows anything. */
 #define VMSTATE_BOARD_NEVER UINT64_MAX
 
-/* When the board is next due: the least number of nanoseconds after its moment such that vmstate_board_advance by it shows
- * something, a changed interrupt output or bytes that left. VMSTATE_BOARD_NEVER if no wait shows anything. Set a timer to it, and
- * advance the board when the timer ends. Ask again after each event. The answer is about one wait: in the serial port's loop mode
- * the output can rise and fall again within a longer one. */
+/* How long the board can wait: the least number of nanoseconds by which vmstate_board_advance from its moment shows something, a
+ * changed interrupt output or bytes that left. It is VMSTATE_BOARD_NEVER if no wait shows anything. Set a timer to it, and advance
+ * the board when the timer ends. Ask again after each event. The answer is about one wait: in the serial port's loop mode the
+ * output can rise and fall again within a longer one. */
 struct vmstate_board_number vmstate_board_due(struct vmstate_board *board);
 
 /* 1 where a device of the board is behind the port, else 0. */

@@ -30,7 +30,7 @@ fn play(script: &str, files: &[(&str, &[u8])]) -> Vec<(String, Vec<u8>)> {
     stored
 }
 
-// A session writes a byte to the serial port and saves its board. Another restores it, and the byte leaves there.
+// A session writes a byte to the serial port and saves its board. Another restores it, and the byte leaves its port.
 fn sessions() {
     let saved = play("out 03f8 68\nsave @2 box\n", &[]);
     for (name, bytes) in &saved {

@@ -4,12 +4,12 @@
 
 use std::marker::PhantomData;
 
-/// Bytes of a slice that is lent to the call.
+/// Bytes of a slice that the call borrows.
 #[repr(C)]
 struct Bytes<'a> {
     at: *const u8,
     length: usize,
-    lent: PhantomData<&'a [u8]>,
+    borrowed: PhantomData<&'a [u8]>,
 }
 
 impl<'a> Bytes<'a> {
@@ -17,7 +17,7 @@ impl<'a> Bytes<'a> {
         Bytes {
             at: bytes.as_ptr(),
             length: bytes.len(),
-            lent: PhantomData,
+            borrowed: PhantomData,
         }
     }
 }
@@ -83,7 +83,7 @@ extern "C" {
     ) -> RawAnswer;
 }
 
-/// The status where a room is too small.
+/// The status if a buffer is too small.
 const TOO_SMALL: u32 = 100;
 
 /// What a call answers: the status of the program, and what it would write to standard output and standard error.
@@ -94,12 +94,14 @@ pub struct Answer {
     pub notes: Vec<u8>,
 }
 
-/// Does what the words say over an input and the files of a shelf. A second call is made where the first finds that
-/// there isn't room enough for its text, so a caller who knows how long it is gives that.
+/// Runs the command `words` on `input` and the files of the current folder, as names with bytes.
+///
+/// `room` is the length of the first buffer for standard output. If it is too small, a second call is made, so a caller who
+/// knows the length gives that.
 #[must_use]
 pub fn call(words: &[&str], input: &[u8], files: &[(&str, &[u8])], room: usize) -> Answer {
-    let words = lent_words(words);
-    let files = lent_files(files);
+    let words = borrowed_words(words);
+    let files = borrowed_files(files);
     let request = Request {
         words: words.as_ptr(),
         word_count: words.len(),
@@ -113,7 +115,8 @@ pub fn call(words: &[&str], input: &[u8], files: &[(&str, &[u8])], room: usize) 
         notes: vec![0; 256],
     };
     let mut raw = answer.fill(&request);
-    if raw.status == TOO_SMALL {
+    // If memory runs out, a second call may need more room for its line than the first.
+    while raw.status == TOO_SMALL {
         answer.out.resize(raw.out, 0);
         answer.notes.resize(raw.notes, 0);
         raw = answer.fill(&request);
@@ -124,11 +127,13 @@ pub fn call(words: &[&str], input: &[u8], files: &[(&str, &[u8])], room: usize) 
     answer
 }
 
-/// Does the same, and also returns the files that the command stored, by name and in the order of their names.
+/// Does what [`call`] does, and also returns the files that the command stored, in the order of their names.
+///
+/// The first call has no buffers and finds out the lengths.
 #[must_use]
 pub fn call_stored(words: &[&str], input: &[u8], files: &[(&str, &[u8])]) -> (Answer, Vec<(String, Vec<u8>)>) {
-    let words = lent_words(words);
-    let files = lent_files(files);
+    let words = borrowed_words(words);
+    let files = borrowed_files(files);
     let request = Request {
         words: words.as_ptr(),
         word_count: words.len(),
@@ -138,7 +143,8 @@ pub fn call_stored(words: &[&str], input: &[u8], files: &[(&str, &[u8])]) -> (An
     };
     let mut rooms = Rooms::default();
     let mut raw = rooms.fill(&request);
-    if raw.status == TOO_SMALL {
+    // As in `call`.
+    while raw.status == TOO_SMALL {
         rooms = Rooms {
             out: vec![0; raw.out],
             notes: vec![0; raw.notes],
@@ -158,19 +164,19 @@ pub fn call_stored(words: &[&str], input: &[u8], files: &[(&str, &[u8])]) -> (An
     (answer, stored)
 }
 
-fn lent_words<'a>(words: &[&'a str]) -> Vec<Bytes<'a>> {
+fn borrowed_words<'a>(words: &[&'a str]) -> Vec<Bytes<'a>> {
     words.iter().map(|word| Bytes::new(word.as_bytes())).collect()
 }
 
-fn lent_files<'a>(files: &[(&'a str, &'a [u8])]) -> Vec<File<'a>> {
-    let lent = |(name, bytes): &(&'a str, &'a [u8])| File {
+fn borrowed_files<'a>(files: &[(&'a str, &'a [u8])]) -> Vec<File<'a>> {
+    let borrowed = |(name, bytes): &(&'a str, &'a [u8])| File {
         name: Bytes::new(name.as_bytes()),
         bytes: Bytes::new(bytes),
     };
-    files.iter().map(lent).collect()
+    files.iter().map(borrowed).collect()
 }
 
-/// What a call with files fills.
+/// The buffers of a call that returns files.
 #[derive(Default)]
 struct Rooms {
     out: Vec<u8>,
@@ -208,8 +214,8 @@ impl RawStored {
 
 impl Answer {
     fn fill(&mut self, request: &Request<'_>) -> RawAnswer {
-        // SAFETY: the declarations above fit `vmstate_c`; each pointer and its length are those of one slice, which is
-        // lent until the call has answered, and the two rooms are lent to it alone.
+        // SAFETY: the declarations above fit `vmstate_c`. Each pointer and its length are those of one slice, which is
+        // borrowed until the call has answered. Nothing else borrows the buffers meanwhile.
         unsafe {
             vmstate_call(
                 request,
