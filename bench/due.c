@@ -4,10 +4,10 @@
  *     gcc -O2 -I examples/embed -o due bench/due.c crates/vmstate_board_c/out/libvmstate_board_c.a "$kit/c/liblibc_c.a"
  *     ./due [BOARDS] [SEED]
  *
- * A board of a random kind and level gets random accesses. After each of them it is asked when it is due, and copies of it, made
- * through a stream, wait: one as long as the answer says, one a nanosecond less, and some less than that at random. The
- * first has to show something, a changed output or bytes, and no other may. Where the answer is that no wait shows anything,
- * copies wait at random. The status is 1 if a copy did otherwise. */
+ * A board of a random kind and level gets random accesses. After each one vmstate_board_due answers, and copies of the board, made
+ * through a stream, wait: one as long as the answer, one a nanosecond less, and some for random shorter times. The first must show
+ * something, a changed output or bytes, and no other may. If the answer is that no wait shows anything, copies wait for random
+ * times. The status is 1 if a copy did otherwise. */
 #include "vmstate_board.h"
 
 #include <inttypes.h>
@@ -28,7 +28,7 @@ static uint64_t random64(void)
 
 static uint64_t below(uint64_t limit) { return (random64() >> 11) % limit; }
 
-/* A wait of random length: each number of binary digits is as likely as another. */
+/* Returns a wait of random length: each number of binary digits is as likely as another. */
 static uint64_t some_wait(void) { return random64() >> (1 + below(63)); }
 
 static void check(int is, const char *what)
@@ -39,7 +39,7 @@ static void check(int is, const char *what)
     }
 }
 
-static uint64_t told(struct vmstate_board_number number)
+static uint64_t number_of(struct vmstate_board_number number)
 {
     check(number.status == VMSTATE_BOARD_DONE, "a question was not answered");
     return number.number;
@@ -47,10 +47,10 @@ static uint64_t told(struct vmstate_board_number number)
 
 static void out(struct vmstate_board *board, uint16_t port, uint8_t value)
 {
-    check(vmstate_board_out(board, told(vmstate_board_now(board)), port, value).status == 0, "a write failed");
+    check(vmstate_board_out(board, number_of(vmstate_board_now(board)), port, value).status == 0, "a write failed");
 }
 
-/* Both interrupt controllers, ready for interrupts, with a mask. */
+/* Makes both interrupt controllers ready for interrupts, with a mask. */
 static void controllers(struct vmstate_board *board, uint8_t mask)
 {
     out(board, 0x20, 0x11), out(board, 0x21, 0x08), out(board, 0x21, 0x04), out(board, 0x21, 0x01);
@@ -83,14 +83,14 @@ static void clock_chip(struct vmstate_board *board)
     out(board, 0x70, 0x0b), out(board, 0x71, (uint8_t)(below(4) ? 0x42 : 0x02));
     out(board, 0x70, 0x0c);
     if (below(2))
-        vmstate_board_in(board, told(vmstate_board_now(board)), 0x71);
+        vmstate_board_in(board, number_of(vmstate_board_now(board)), 0x71);
 }
 
-/* A random access. */
+/* Makes a random access. */
 static void happen(struct vmstate_board *board)
 {
     static const uint16_t ports[] = { 0x20, 0x21, 0xa0, 0xa1, 0x40, 0x41, 0x42, 0x43, 0x3f8, 0x3f9, 0x3fa, 0x3fb, 0x3fc, 0x3fd, 0x70, 0x71 };
-    uint64_t now = told(vmstate_board_now(board));
+    uint64_t now = number_of(vmstate_board_now(board));
     switch (below(16)) {
     case 0: controllers(board, (uint8_t)(below(2) ? 0 : below(256))); break;
     case 1: case 2: counter(board); break;
@@ -110,7 +110,7 @@ static void happen(struct vmstate_board *board)
     }
 }
 
-/* Whether a wait of a copy shows something. */
+/* Returns whether a wait of a copy shows something. */
 static bool shows(const uint8_t *stream, size_t size, uint8_t kind, uint8_t level, uint64_t wait)
 {
     static struct vmstate_board copies[2][5];
@@ -118,22 +118,22 @@ static bool shows(const uint8_t *stream, size_t size, uint8_t kind, uint8_t leve
     if (!copy->made)
         check(vmstate_board_new(copy, kind, level) == VMSTATE_BOARD_DONE, "out of memory");
     check(vmstate_board_restore(copy, stream, size).status == VMSTATE_BOARD_DONE, "a copy was refused");
-    uint64_t output = told(vmstate_board_int(copy));
-    uint64_t now = told(vmstate_board_now(copy));
+    uint64_t output = number_of(vmstate_board_int(copy));
+    uint64_t now = number_of(vmstate_board_now(copy));
     struct vmstate_board_answer answer = vmstate_board_advance(copy, wait > UINT64_MAX - now ? UINT64_MAX : now + wait);
     check(answer.status == VMSTATE_BOARD_DONE, "a wait failed");
     return answer.output != output || answer.count != 0;
 }
 
-/* Probes a board; the number of copies that did otherwise than the answer says. */
+/* Probes a board. Returns the number of copies that did otherwise than the answer says. */
 static uint64_t probed(struct vmstate_board *board, uint8_t kind, uint8_t level, uint64_t *due_boards)
 {
     static uint8_t stream[1 << 16];
     uint64_t wrong = 0;
     struct vmstate_board_number saved =
         vmstate_board_save(board, (uint8_t)(kind == VMSTATE_BOARD_ISA ? 4 : 2), false, stream, sizeof stream);
-    size_t size = (size_t)told(saved);
-    uint64_t due = told(vmstate_board_due(board));
+    size_t size = (size_t)number_of(saved);
+    uint64_t due = number_of(vmstate_board_due(board));
     if (due == VMSTATE_BOARD_NEVER) {
         for (int n = 0; n < PROBES; n++)
             wrong += shows(stream, size, kind, level, some_wait());
