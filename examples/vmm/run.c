@@ -61,8 +61,8 @@ static uint64_t earlier(uint64_t first, uint64_t second)
     return first < second ? first : second;
 }
 
-/* Returns the moment at which time must pass on the board, even if the guest makes no access until then: when the board shows
- * something, when a typed byte may arrive, and after `longest` nanoseconds. */
+/* Returns the moment at which time must pass on the board, even if the guest makes no access until then. It is the earliest of
+ * three: when the board shows something, when the next typed byte may arrive, and `longest` nanoseconds from now. */
 static uint64_t next_wake(struct vmm *vmm, uint64_t longest)
 {
     uint64_t now = moment(vmm), paced = vmm->facts.paced_until, due = number_of(vmstate_board_due(&vmm->board));
