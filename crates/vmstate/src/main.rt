@@ -2,6 +2,9 @@
 //! with the status.
 #![tactic(auto)]
 
+ghost use Rattle.std.specs.Prelude.{◌≡◌, IfOk, codes};
+ghost use Rattle.vms_io.specs.Folders.{folder_of};
+
 use std::alloc::Global;
 use std::env;
 use std::io::ErrorKind;
@@ -16,7 +19,9 @@ fn main(rt: HostRuntime) -> ExitCode {
 }
 
 // Returns the words, and the files of the current folder.
-fn handed(rt: &HostRuntime) -> Result<(Words, FileShelf<HostRuntime>), NoMemory> {
+fn handed(rt: &HostRuntime) -> Result<(Words, FileShelf<HostRuntime>), NoMemory>
+    ensures { IfOk result (λ given. folder_of given.1 ≡ codes ".") }
+{
     let alloc = rt.alloc();
     let words = words(rt, alloc)?;
     let folder = String::from_str(alloc, ".")?;
