@@ -10,7 +10,7 @@ use Rattle.vms_spec.specs.WellFormed.{SetFault, first_fault}
 use Rattle.vms_descfile.specs.Files.{Parts, judged_said, file_said, parts_said}
 use Rattle.vms_descwrite.specs.Fitting.{FitsSet}
 use Rattle.vms_descwrite.specs.Written.{set_file}
-use Rattle.vms_json.proofs.TextLaws.{has_value}
+use Rattle.vms_json.proofs.KeyLaws.{has_value}
 use Rattle.vms_descfile.proofs.FileLaws.{said_by}
 use Rattle.vms_descwrite.proofs.DepthLaws.{set_nests}
 use Rattle.vms_descwrite.proofs.FloatLaws.{set_whole}

@@ -1,21 +1,27 @@
--- What is due after a value that isn't in a list.
-use Rattle.std.proofs.Common.{◌≡◌, ℕ, ◌-◌, ◌<◌, ◌≤◌, List, [], ◌∷◌, ◌++◌, length, false, Option, Some, None, sym, ap, subst, ◌∙◌, arith}
-use Rattle.std.proofs.lemmas.List.{length-append}
+-- What is due after a value that isn't in a list, and at the end of a list or an object.
+use Rattle.std.proofs.Common.{◌≡◌, ℕ, ◌-◌, ◌<◌, ◌≤◌, List, [], ◌∷◌, ◌++◌, length, false, Option, Some, None, sym, ap, subst, ◌∙◌, arith, zero, suc, ◌+◌, get_or, Bool, refl, append_assoc}
+use Rattle.std.proofs.lemmas.List.{length-append, get_or_at, same_from_push}
 use Rattle.std.specs.Borrow.{Bor}
 use Rattle.json.specs.Token.{Token}
 use Rattle.json.specs.Json.{read_key}
 use Rattle.json.proofs.Grammar.{read_key-shorter}
-use Rattle.serde_json.specs.Data.{Data, Members, object, put}
-use Rattle.vms_json.specs.declared.node.Row.TheVariants as rows
+use Rattle.serde_json.specs.Data.{Data, Members, object, put, array, no_items}
 use Rattle.vms_json.specs.declared.parse.Laid.{Laid}
-use Rattle.vms_json.specs.Frames.{Frame, in_list, in_object, after, members_due}
-use Rattle.vms_json.specs.Laying.{AreEnough, InObject, IsLaid, HasValue, IsRun, is_in_list, IsUnder, HasEnded, IsWhole}
+use Rattle.vms_json.specs.Frames.{Frame, in_list, in_object, after, members_due, before}
+use Rattle.vms_json.specs.Laying.{AreEnough, InObject, IsLaid, HasValue, IsRun, is_in_list, IsUnder, HasEnded, IsWhole, AreBelow, InList}
 use Rattle.vms_json.proofs.FrameLaws.{object_ends, no_key, member_due}
-use Rattle.vms_json.proofs.LaidLaws.{value_in_object, key_laid}
+use Rattle.vms_json.proofs.LaidLaws.{value_in_object, key_laid, list_closed, object_closed, ended}
 use Rattle.vms_json.proofs.DueLaws.{enough_fewer}
+use Rattle.std.proofs.Math.ListN.{set}
+use Rattle.std.specs.Prelude.{slice_get}
+use Rattle.vms_json.specs.declared.node.Row.{Row}
+use Rattle.vms_json.specs.Nodes.{is_list}
+use Rattle.vms_json.specs.declared.node.Row.TheVariants as rows
+
+-- ---- What is due after a value that isn't in a list.
 
 none_open : (places : List ℕ) (at : ℕ) → places ++ at ∷ [] ≡ [] → ⊥
-none_open places at e = let never : ⊥ = omega (arith, ap length e, length-append places (at ∷ [])) in never
+none_open places at e = omega (arith, ap length e, length-append places (at ∷ []))
 
 -- nothing is open: the value is the whole
 pub whole_ended : (said : Option (Data × List Token)) (laid : Laid) (ts : List Token) → HasEnded said laid ts → laid.begun.items ≡ [] → IsWhole said laid ts
@@ -37,7 +43,7 @@ pub record Member (said : Option (Data × List Token)) (laid : Laid) (ts : List 
   pub more : AreEnough around (length ts)
 
 some_open : {P : Type 0} (open_are : List ℕ) → 0 < length open_are → open_are ≡ [] → P
-some_open starts some none = let never : ⊥ = omega (arith, some, ap length none) in absurd never
+some_open starts some none = absurd (omega (arith, some, ap length none))
 
 pub member_ended : (said : Option (Data × List Token)) (laid : Laid) (ts : List Token) → HasEnded said laid ts → laid.in_list ≡ false → 0 < length laid.begun.items → Member said laid ts
 member_ended said laid ts is outside some = at is.frames is.says is.rows (sym outside ∙ is.inner) is.enough
@@ -89,3 +95,84 @@ member_was_last said laid now ts rest m over outside closed =
       inner = both.1;
       enough = enough_fewer m.around (length ts) (length rest) (omega (arith, read_key-shorter ts None rest over)) m.more;
     }
+
+-- ---- The end of a list or an object: the count is put into its row, and the innermost is the one
+-- around it.
+
+-- ---- the places of the open ones
+
+at_end : (ss : List ℕ) (s : ℕ) → slice_get (ss ++ s ∷ []) (length ss) ≡ Some s
+at_end [] s = refl
+at_end (r ∷ ss) s = at_end ss s
+
+pub at_last : (ss : List ℕ) (s : ℕ) → slice_get (ss ++ s ∷ []) (length (ss ++ s ∷ []) - 1) ≡ Some s
+at_last ss s =
+    let one : length (ss ++ s ∷ []) - 1 ≡ length ss = omega (arith, length-append ss (s ∷ [])) in
+    ap (slice_get (ss ++ s ∷ [])) one ∙ at_end ss s
+
+abbrev unwrap : ℕ → Option ℕ → ℕ
+unwrap d None = d
+unwrap d (Some s) = s
+
+pub one_place : (r s : ℕ) → Some r ≡ Some s → r ≡ s
+one_place r s e = ap (unwrap r) e
+
+no_place : {P : Type 0} (s : ℕ) → None ≡ Some s → P
+no_place s e = absurd (cc)
+
+pub below_at : (ss : List ℕ) (m i s : ℕ) → AreBelow ss m → Some s ≡ slice_get ss i → s < m
+below_at [] m i s are e = no_place s (sym e)
+below_at (r ∷ ss) m zero s are e = subst (λ k. k < m) (sym (one_place s r e)) are.0
+below_at (r ∷ ss) m (suc i) s are e = below_at ss m i s are.1 e
+
+pub below_front : (ss : List ℕ) (s m : ℕ) → AreBelow (ss ++ s ∷ []) m → AreBelow ss m × (s < m)
+below_front [] s m are = (tt, are.0)
+below_front (r ∷ ss) s m are = let more = below_front ss s m are.1 in ((are.0, more.0), more.1)
+
+-- ---- the row of one that ends
+
+put_back : (f : ℕ → Row) (below own old new : List Row) (r : Row) (at count : ℕ) → old ≡ below ++ r ∷ own → length below ≡ at → count ≡ length old - at → new ≡ set old at (f count)
+    → new ≡ below ++ f (length own + 1) ∷ own
+put_back f below own old new r at count are here counted put =
+    let many : count ≡ length own + 1 = omega (arith, counted, here, ap length are, length-append below (r ∷ own)) in
+    put ∙ ap (λ l. set l at (f count)) are ∙ ap (λ i. set (below ++ r ∷ own) i (f count)) (sym here) ∙ ended below own r (f count) ∙ ap (λ n. below ++ f n ∷ own) many
+
+row_at : (b o more : List Row) (r d : Row) → get_or ((b ++ r ∷ o) ++ more) (length b) d ≡ r
+row_at b o more r d = ap (λ l. get_or l (length b) d) (append_assoc b (r ∷ o) more) ∙ get_or_at b r (o ++ more) d (length b) refl
+
+-- whether the innermost is a list can be read from the row where it began
+pub record IsTold (rs : List Row) (places : List ℕ) (inner : Bool) : Type 0 where
+  pub none : places ≡ [] → inner ≡ false
+  pub some : (ps : List ℕ) (at : ℕ) (d : Row) → places ≡ ps ++ at ∷ [] → inner ≡ is_list (get_or rs at d)
+
+around_it : (fs : List Frame) (below more : List Row) (places : List ℕ) (inner : Bool) → IsLaid fs below places → IsTold (below ++ more) places inner → inner ≡ is_in_list fs
+around_it [] below more places inner laid told = told.none laid.1
+around_it (in_list n done ∷ fs) below more places inner laid told =
+    told.some laid.places (length laid.below) (rows.List laid.count) laid.begins
+    ∙ ap is_list (ap (λ l. get_or (l ++ more) (length laid.below) (rows.List laid.count)) laid.are ∙ row_at laid.below laid.own more (rows.List laid.count) (rows.List laid.count))
+around_it (in_object n found k ∷ fs) below more places inner laid told =
+    let l = laid.laid in
+    told.some l.places (length l.below) (rows.Object l.count) l.begins ∙ ap is_list
+    (ap (λ b. get_or (b ++ more) (length l.below) (rows.Object l.count)) (laid.are ∙ ap (λ b. b ++ rows.Key laid.key ∷ []) l.are)
+    ∙ ap (λ b. get_or b (length l.below) (rows.Object l.count)) (append_assoc (l.below ++ rows.Object l.count ∷ l.own) (rows.Key laid.key ∷ []) more)
+    ∙ row_at l.below l.own (rows.Key laid.key ∷ more) (rows.Object l.count) (rows.Object l.count))
+
+pub list_ended : (fs : List Frame) (done : List Data) (old new : List Row) (starts left : List ℕ) (at count : ℕ) (inner : Bool) → InList (IsLaid fs) done old starts → starts ≡ left ++ at ∷ []
+    → count ≡ length old - at → new ≡ set old at (rows.List count) → IsTold new left inner → HasValue fs new left (array (before done no_items)) × (inner ≡ is_in_list fs)
+list_ended fs done old new starts left at count inner l popped counted put told =
+    let same = same_from_push l.places left (length l.below) at (sym l.begins ∙ popped) in
+    let are = put_back rows.List l.below l.own old new (rows.List l.count) at count l.are same.1 counted put in (
+      subst (λ ps. HasValue fs new ps (array (before done no_items))) same.0
+          (subst (λ rs. HasValue fs rs l.places (array (before done no_items))) (sym are) (list_closed fs done old starts l)),
+      around_it fs l.below (rows.List (length l.own + 1) ∷ l.own) left inner (subst (λ ps. IsLaid fs l.below ps) same.0 l.laid) (subst (λ rs. IsTold rs left inner) are told),
+    )
+
+pub object_ended : (fs : List Frame) (found : Members) (old new : List Row) (starts left : List ℕ) (at count : ℕ) (inner : Bool) → InObject (IsLaid fs) found old starts → starts ≡ left ++ at ∷ []
+    → count ≡ length old - at → new ≡ set old at (rows.Object count) → IsTold new left inner → HasValue fs new left (object found) × (inner ≡ is_in_list fs)
+object_ended fs found old new starts left at count inner l popped counted put told =
+    let same = same_from_push l.places left (length l.below) at (sym l.begins ∙ popped) in
+    let are = put_back rows.Object l.below l.own old new (rows.Object l.count) at count l.are same.1 counted put in (
+      subst (λ ps. HasValue fs new ps (object found)) same.0
+          (subst (λ rs. HasValue fs rs l.places (object found)) (sym are) (object_closed fs found old starts l)),
+      around_it fs l.below (rows.Object (length l.own + 1) ∷ l.own) left inner (subst (λ ps. IsLaid fs l.below ps) same.0 l.laid) (subst (λ rs. IsTold rs left inner) are told),
+    )

@@ -1,20 +1,31 @@
--- Lists of keys.
-use Rattle.std.proofs.Common.{◌≡◌, ℕ, zero, suc, take, drop, false, List, ◌∷◌, ◌++◌, ◌&&◌, Bool, map, Ordering, Less, Equal, Greater, is_eq, refl, ap, ap₂, true, sym, ◌∙◌, [], ◌||◌}
+-- Lists of keys, lists of answers of items, and the value of bytes.
+use Rattle.std.proofs.Common.{◌≡◌, ℕ, zero, suc, take, drop, false, List, ◌∷◌, ◌++◌, ◌&&◌, Bool, map, Ordering, Less, Equal, Greater, is_eq, refl, ap, ap₂, true, sym, ◌∙◌, [], ◌||◌, ◌+◌, subst, decimal, append_assoc, if◌then◌else◌, Some, None, Result, Ok, Err, IfOk, IsUtf8}
 use Rattle.std.proofs.lemmas.Map.Text.{is_eq-slice_cmp}
 use Rattle.std.proofs.lemmas.Slice.Eq.{bytes_eq-Decides}
 use Rattle.std.specs.Cmp.Lexicographic.{slice_cmp}
 use Rattle.std.specs.Ordering.{nat_cmp, match_ordering}
 use Rattle.std.specs.List.{list_all, list_any}
-use Rattle.std.specs.Str.{bytes_eq}
+use Rattle.std.specs.Str.{bytes_eq, is_utf8}
 use Rattle.std.proofs.Math.Bool.{and-false, and_assoc, and_comm, and_self_left}
 use Rattle.std.specs.Borrow.{Bor}
-use Rattle.serde_json.specs.Data.{Data, Members, no_members, member, put}
+use Rattle.serde_json.specs.Data.{Data, Members, no_members, member, put, Items, no_items, item}
 use Rattle.vms_json.specs.declared.node.Row.{Row}
-use Rattle.vms_json.specs.declared.node.Row.TheVariants as rows
-use Rattle.vms_json.specs.Nodes.{front, data_in, members_in}
+use Rattle.vms_json.specs.Nodes.{front, data_in, members_in, tree_view}
 use Rattle.vms_spec.specs.Streams.{is_one_of}
 use Rattle.vms_spec.proofs.ListLaws.{one_of_both}
 use Rattle.vms_json.specs.Keys.{has, has_all, has_no_others}
+use Rattle.std.proofs.lemmas.List.{append-nil, map-append}
+use Rattle.vms_json.specs.declared.fault.Fault.{Fault}
+use Rattle.vms_json.specs.Answers.{Answer, good, bad, under, next, changed, each_from, Refuses, IsUnder}
+use Rattle.std.proofs.lemmas.Str.{IsUtf8-from_is_utf8, is_utf8-from_IsUtf8}
+use Rattle.serde_json.specs.Read.{read}
+use Rattle.vms_json.specs.Texts.{value_in}
+use Rattle.vms_json.specs.declared.node.Tree.{Tree}
+use Rattle.vms_json.specs.declared.parse.NoNode.{NoNode}
+use Rattle.vms_json.specs.declared.node.Row.TheVariants as rows
+use Rattle.vms_json.specs.declared.fault.Fault.TheVariants as faults
+
+-- ---- Lists of keys.
 
 pub all_has : (d : Data) (ks : List (Bor (List ℕ))) → list_all (λ k. has k.now d) ks ≡ has_all (map (λ k. k.now) ks) d
 all_has d [] = refl
@@ -47,15 +58,10 @@ pub others_stay : (keys : List (List ℕ)) (n : ℕ) (rs : List Row) (found : Me
 unfolding members_in
 others_stay keys zero rs found e = e
 others_stay keys (suc n) [] found e = e
-others_stay keys (suc n) (rows.Null ∷ rs) found e = e
-others_stay keys (suc n) (rows.Bool b ∷ rs) found e = e
-others_stay keys (suc n) (rows.Number k ∷ rs) found e = e
-others_stay keys (suc n) (rows.Text s ∷ rs) found e = e
-others_stay keys (suc n) (rows.List k ∷ rs) found e = e
-others_stay keys (suc n) (rows.Object k ∷ rs) found e = e
 others_stay keys (suc n) (rows.Key s ∷ rs) found e =
     let d = data_in n (take (front rs) rs) in
     others_stay keys n (drop (front rs) rs) (put s.now d found) (put_one keys s.now d found ∙ ap (λ (r : Bool). is_one_of keys s.now && r) e ∙ and-false (is_one_of keys s.now))
+others_stay keys (suc n) _ found e = e
 
 -- one of the first keys or of the others
 one_more : (needed allowed : List (List ℕ)) (k : List ℕ) (d : Data) (ms : Members)
@@ -74,3 +80,60 @@ pub one_allowed : (needed allowed : List (List ℕ)) (k : List ℕ) (d : Data) (
     → has_no_others (needed ++ allowed) ms ≡ true → has_no_others (needed ++ allowed) (put k d ms) ≡ true
 one_allowed needed allowed k d ms a b e =
     one_more needed allowed k d ms ∙ ap₂ (λ (x y : Bool). (x || y) && has_no_others (needed ++ allowed) ms) a b ∙ e
+
+-- ---- Lists of answers of items.
+
+-- the answers of earlier items before those of the others
+abbrev pub before : {A : Type 0} → List A → Answer (List A) → Answer (List A)
+before done answer = changed (λ rest. done ++ rest) answer
+
+pub before_one : {A : Type 0} (done : List A) (a : A) (answer : Answer (List A)) → before done (changed (λ list. a ∷ list) answer) ≡ before (done ++ a ∷ []) answer
+before_one done a (good rest) = ap good (sym (append_assoc done (a ∷ []) rest))
+before_one done a (bad path) = refl
+
+pub before_none : {A : Type 0} (answer : Answer (List A)) → answer ≡ before [] answer
+before_none (good rest) = refl
+before_none (bad path) = refl
+
+pub goes_on : {A T : Type 0} (m : T → A) (says : Data → Answer A) (i : ℕ) (now rest : Items) (d : Data) (whole : Answer (List A)) (done : List T) (t : T)
+    → whole ≡ before (map m done) (each_from says i now) → now ≡ item d rest → says d ≡ good (m t)
+    → whole ≡ before (map m (done ++ t ∷ [])) (each_from says (i + 1) rest)
+goes_on m says i now rest d whole done t e is said =
+    e ∙ ap (λ l. before (map m done) (each_from says i l)) is
+    ∙ ap (λ a. before (map m done) (next (under (decimal i) a) (λ a. changed (λ list. a ∷ list) (each_from says (i + 1) rest)))) said
+    ∙ before_one (map m done) (m t) (each_from says (i + 1) rest) ∙ ap (λ l. before l (each_from says (i + 1) rest)) (sym (map-append m done (t ∷ [])))
+
+refused : {A B : Type 0} (done : List B) (key : List ℕ) (answer : Answer A) (f : A → Answer (List B)) (fault result : Fault)
+    → Refuses answer fault → IsUnder key fault result → Refuses (before done (next (under key answer) f)) result
+refused done key answer f (faults.Shape path) (faults.Shape p) said is = ap (λ a. before done (next (under key a) f)) said ∙ ap bad (sym is)
+refused done key answer f (faults.Shape path) faults.NoMemory said is = tt
+refused done key answer f faults.NoMemory (faults.Shape p) said is = absurd is
+refused done key answer f faults.NoMemory faults.NoMemory said is = tt
+
+pub stops : {A : Type 0} (says : Data → Answer A) (i : ℕ) (now rest : Items) (d : Data) (whole : Answer (List A)) (done : List A) (fault result : Fault)
+    → whole ≡ before done (each_from says i now) → now ≡ item d rest → Refuses (says d) fault → IsUnder (decimal i) fault result → Refuses whole result
+stops says i now rest d whole done fault result e is said under_it =
+    subst (λ a. Refuses a result) (sym (e ∙ ap (λ l. before done (each_from says i l)) is))
+    (refused done (decimal i) (says d) (λ a. changed (λ list. a ∷ list) (each_from says (i + 1) rest)) fault result said under_it)
+
+pub ends : {A : Type 0} (says : Data → Answer A) (i : ℕ) (now : Items) (whole : Answer (List A)) (done : List A)
+    → whole ≡ before done (each_from says i now) → now ≡ no_items → whole ≡ good done
+ends says i now whole done e none = e ∙ ap (λ l. before done (each_from says i l)) none ∙ ap good (append-nil done)
+
+-- ---- The value of bytes, whether or not they are UTF-8.
+
+pub has_value : (text : List ℕ) (d : Data) → IsUtf8 text → read text ≡ Some d → value_in text ≡ Some d
+has_value text d utf8 e = ap (λ (b : Bool). if b then read text else None) (is_utf8-from_IsUtf8 text utf8) ∙ e
+
+no_value_if : (text : List ℕ) (b : Bool) → is_utf8 text ≡ b → (IsUtf8 text → read text ≡ None) → (if b then read text else None) ≡ None
+no_value_if text true e no_read = no_read (IsUtf8-from_is_utf8 text e)
+no_value_if text false e no_read = refl
+
+pub has_none : (text : List ℕ) → (IsUtf8 text → read text ≡ None) → value_in text ≡ None
+has_none text no_read = no_value_if text (is_utf8 text) refl no_read
+
+-- ---- the result of reading a text
+
+pub if_read : (bytes text : List ℕ) → text ≡ bytes → IsUtf8 bytes → (r : Result Tree NoNode) → IfOk r (λ v. read text ≡ Some (tree_view v)) → IfOk r (λ v. value_in bytes ≡ Some (tree_view v))
+if_read bytes text same utf8 (Ok v) e = has_value bytes (tree_view v) utf8 (ap read (sym same) ∙ e)
+if_read bytes text same utf8 (Err why) e = e

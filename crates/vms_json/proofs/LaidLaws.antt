@@ -1,26 +1,158 @@
--- Rows that are laid in order: of a value, of the items of a list, of the members of an object.
-use Rattle.std.proofs.Common.{◌≡◌, ℕ, suc, ◌+◌, ◌*◌, ◌<◌, ◌≤◌, List, [], ◌∷◌, ◌++◌, length, take, drop, Bool, Some, None, option_map, refl, sym, ap, subst, ◌∙◌, arith, append_assoc}
+-- The value of rows, and rows that are laid in order.
+use Rattle.std.proofs.Common.{◌≡◌, Bool, true, false, cond, if◌then◌else◌, Option, Some, None, ℕ, zero, suc, ◌+◌, ◌*◌, ◌<◌, ◌≤◌, List, [], ◌∷◌, length, take, drop, refl, sym, ap, ap₂, subst, ◌∙◌, arith, length-take, length-drop, ◌++◌, option_map, append_assoc}
+use Rattle.std.specs.Borrow.{Bor}
+use Rattle.serde_json.specs.Data.{Data, null, array, object, Members, no_members, put, no_items, item, number}
+use Rattle.std.specs.Str.{bytes_eq}
+use Rattle.std.proofs.lemmas.Bool.{false≢true}
+use Rattle.std.proofs.lemmas.Slice.Eq.{bytes_eq-Decides}
+use Rattle.serde_json.proofs.Views.{get_member-put, get_member-put_other}
+use Rattle.serde_json.specs.Find.{get_member, as_number, as_str, as_bool, as_array, as_object}
+use Rattle.vms_json.specs.declared.node.Row.{Row}
+use Rattle.vms_json.specs.Nodes.{flag_at, is_list, is_object, key_at, number_at, text_at, front, data_in, items_in, members_in, rows_view, count_at}
 use Rattle.std.proofs.lemmas.List.{append-nil, length-append}
 use Rattle.std.proofs.Math.ListN.{set}
 use Rattle.std.proofs.Math.Seq.{take-append_seam, drop-append_seam, set-append_seam}
-use Rattle.std.specs.Borrow.{Bor}
 use Rattle.json.specs.Token.{Token}
 use Rattle.json.specs.Reads.{token_of}
 use Rattle.json.specs.declared.token.Token.{Token as TokenRead}
-use Rattle.json.specs.declared.token.Token.TheVariants as reads
 use Rattle.json.specs.Json.{value}
 use Rattle.json.proofs.Grammar.{value_is}
 use Rattle.serde_json.specs.View.{number_view}
 use Rattle.serde_json.specs.declared.number.Number.{Number}
 use Rattle.serde_json.specs.Read.{number_of, of_json, converted}
-use Rattle.serde_json.specs.Data.{Data, number, array, object, no_items, item, Members, no_members, put}
-use Rattle.vms_json.specs.declared.node.Row.{Row}
-use Rattle.vms_json.specs.declared.node.Row.TheVariants as rows
-use Rattle.vms_json.specs.Nodes.{count_at, front, data_in, rows_view}
-use Rattle.vms_json.proofs.RowLaws.{an_item_left, a_member_left, no_items_left, no_member_left}
 use Rattle.vms_json.specs.Frames.{Frame, in_list, in_object, before}
 use Rattle.vms_json.specs.Laying.{AreBelow, IsRowOf, items_of, members_of, IsRun, AreItems, AreMembers, InList, InObject, IsLaid, HasValue}
 use Rattle.vms_json.proofs.FrameLaws.{before_one}
+use Rattle.vms_json.specs.declared.node.Row.TheVariants as rows
+use Rattle.json.specs.declared.token.Token.TheVariants as reads
+
+-- ---- The value of rows, with a bound that is large enough.
+
+pub front_some : (r : Row) (rs : List Row) → 0 < front (r ∷ rs)
+front_some r rs = omega arith
+
+pub taken_few : (rs : List Row) → length (take (front rs) rs) ≤ length rs
+taken_few rs = omega (arith, length-take (front rs) rs)
+
+pub dropped_fewer : (r : Row) (rs : List Row) → length (drop (front (r ∷ rs)) (r ∷ rs)) < length (r ∷ rs)
+dropped_fewer r rs = omega (arith, length-drop (front (r ∷ rs)) (r ∷ rs), front_some r rs)
+
+pub dropped_few : (rs : List Row) → length (drop (front rs) rs) ≤ length rs
+dropped_few rs = omega (arith, length-drop (front rs) rs)
+
+mutual
+  unfolding data_in items_in members_in
+
+  pub data_enough : (n m : ℕ) (rs : List Row) → 2 * length rs ≤ n → 2 * length rs ≤ m → data_in n rs ≡ data_in m rs
+  data_enough zero zero rs a b = refl
+  data_enough zero (suc m) [] a b = refl
+  data_enough zero (suc m) (r ∷ rs) a b = absurd (omega arith)
+  data_enough (suc n) zero [] a b = refl
+  data_enough (suc n) zero (r ∷ rs) a b = absurd (omega arith)
+  data_enough (suc n) (suc m) (rows.List x ∷ rs) a b = ap array (items_enough n m rs (omega arith) (omega arith))
+  data_enough (suc n) (suc m) (rows.Object x ∷ rs) a b = ap object (members_enough n m rs no_members (omega arith) (omega arith))
+  data_enough (suc n) (suc m) _ a b = refl
+
+  pub items_enough : (n m : ℕ) (rs : List Row) → 2 * length rs + 1 ≤ n → 2 * length rs + 1 ≤ m → items_in n rs ≡ items_in m rs
+  items_enough zero m rs a b = absurd (omega arith)
+  items_enough (suc n) zero rs a b = absurd (omega arith)
+  items_enough (suc n) (suc m) [] a b = refl
+  items_enough (suc n) (suc m) (r ∷ rs) a b =
+      ap₂ item (data_enough n m _ (omega (arith, taken_few (r ∷ rs))) (omega (arith, taken_few (r ∷ rs))))
+      (items_enough n m _ (omega (arith, dropped_fewer r rs)) (omega (arith, dropped_fewer r rs)))
+
+  pub members_enough : (n m : ℕ) (rs : List Row) (found : Members) → 2 * length rs + 1 ≤ n → 2 * length rs + 1 ≤ m → members_in n rs found ≡ members_in m rs found
+  members_enough zero m rs found a b = absurd (omega arith)
+  members_enough (suc n) zero rs found a b = absurd (omega arith)
+  members_enough (suc n) (suc m) (rows.Key x ∷ rs) found a b =
+      ap (λ d. members_in n (drop (front rs) rs) (put x.now d found)) (data_enough n m _ (omega (arith, taken_few rs)) (omega (arith, taken_few rs)))
+      ∙ members_enough n m _ _ (omega (arith, dropped_few rs)) (omega (arith, dropped_few rs))
+  members_enough (suc n) (suc m) _ found a b = refl
+
+pub no_items_left : (rs : List Row) → length rs ≡ 0 → items_in (2 * length rs + 1) rs ≡ no_items
+unfolding items_in
+no_items_left [] none = refl
+no_items_left (r ∷ rs) none = absurd (omega arith)
+
+pub an_item_left : (rs first rest : List Row) → 0 < length rs → first ≡ take (front rs) rs → rest ≡ drop (front rs) rs
+    → items_in (2 * length rs + 1) rs ≡ item (rows_view first) (items_in (2 * length rest + 1) rest)
+unfolding items_in
+an_item_left [] first rest some a b = absurd (omega arith)
+an_item_left (r ∷ rs) first rest some a b =
+    let n = 2 * length (r ∷ rs) in
+    let one : n + 1 ≡ suc n = omega arith in
+    let xs = r ∷ rs in
+    ap (λ k. items_in k xs) one
+    ∙ ap₂ item (data_enough n (2 * length first) (take (front xs) xs) (omega (arith, taken_few xs)) (omega (arith, ap length a)) ∙ ap (data_in (2 * length first)) (sym a))
+    (items_enough n (2 * length rest + 1) (drop (front xs) xs) (omega (arith, dropped_fewer r rs)) (omega (arith, ap length b)) ∙ ap (items_in (2 * length rest + 1)) (sym b))
+
+pub a_member_left : (rs inside first rest : List Row) (k : Bor (List ℕ)) (found : Members) → rs ≡ rows.Key k ∷ inside → first ≡ take (front inside) inside → rest ≡ drop (front inside) inside
+    → members_in (2 * length rs + 1) rs found ≡ members_in (2 * length rest + 1) rest (put k.now (rows_view first) found)
+unfolding members_in
+a_member_left rs inside first rest k found is a b =
+    let n = 2 * length (rows.Key k ∷ inside) in
+    let one : n + 1 ≡ suc n = omega arith in
+    ap (λ l. members_in (2 * length l + 1) l found) is ∙ ap (λ m. members_in m (rows.Key k ∷ inside) found) one
+    ∙ ap (λ d. members_in n (drop (front inside) inside) (put k.now d found)) (data_enough n (2 * length first) (take (front inside) inside) (omega (arith, taken_few inside)) (omega (arith, ap length a)) ∙ ap (data_in (2 * length first)) (sym a))
+    ∙ members_enough n (2 * length rest + 1) (drop (front inside) inside) _ (omega (arith, dropped_few inside)) (omega (arith, ap length b))
+    ∙ ap (λ l. members_in (2 * length rest + 1) l (put k.now (rows_view first) found)) (sym b)
+
+-- a row that isn't a key ends the members
+pub no_member_at : (rs inside : List Row) (r : Row) (found : Members) → rs ≡ r ∷ inside → key_at r ≡ None → members_in (2 * length rs + 1) rs found ≡ found
+unfolding members_in
+no_member_at rs inside r found is none =
+    let one : 2 * length (r ∷ inside) + 1 ≡ suc (2 * length (r ∷ inside)) = omega arith in
+    ap (λ l. members_in (2 * length l + 1) l found) is ∙ ap (λ n. members_in n (r ∷ inside) found) one ∙ at r none
+  where
+    at : (r : Row) → key_at r ≡ None → members_in (suc (2 * length (r ∷ inside))) (r ∷ inside) found ≡ found
+    at (rows.Key x) none = absurd (cc)
+    at _ none = refl
+
+pub no_member_left : (rs : List Row) (found : Members) → length rs ≡ 0 → members_in (2 * length rs + 1) rs found ≡ found
+unfolding members_in
+no_member_left [] found none = refl
+no_member_left (r ∷ rs) found none = absurd (omega arith)
+
+pub key_is : (r : Row) (k : Bor (List ℕ)) → key_at r ≡ Some k → r ≡ rows.Key k
+key_is (rows.Key x) k is = cc
+key_is _ k is = cc
+
+two_more : (r : Row) (rs : List Row) → 2 * length (r ∷ rs) ≡ suc (2 * length rs + 1)
+two_more r rs = omega arith
+
+pub none_in : {A : Type 0} (f : Data → Option A) (rs : List Row) → length rs ≡ 0 → f null ≡ None → f (rows_view rs) ≡ None
+unfolding data_in
+none_in f [] none is = is
+none_in f (r ∷ rs) none is = absurd (omega arith)
+
+-- the value by its first row and those after it
+pub record SaysAt (r : Row) (rs : List Row) (d : Data) : Type 0 where
+  pub number : as_number d ≡ number_at r
+  pub text : as_str d ≡ text_at r
+  pub flag : as_bool d ≡ flag_at r
+  pub items : as_array d ≡ (if is_list r then Some (items_in (2 * length rs + 1) rs) else None)
+  pub members : as_object d ≡ (if is_object r then Some (members_in (2 * length rs + 1) rs no_members) else None)
+
+says_at : (r : Row) (rs : List Row) → SaysAt r rs (rows_view (r ∷ rs))
+unfolding data_in
+says_at r rs = subst (λ n. SaysAt r rs (data_in n (r ∷ rs))) (sym (two_more r rs)) (at r)
+  where
+    at : (r : Row) → SaysAt r rs (data_in (suc (2 * length rs + 1)) (r ∷ rs))
+    at rows.Null = record { number = refl; text = refl; flag = refl; items = refl; members = refl }
+    at _ = record { number = refl; text = refl; flag = refl; items = refl; members = refl }
+
+pub says : (rs inside : List Row) (r : Row) → rs ≡ r ∷ inside → SaysAt r inside (rows_view rs)
+says rs inside r is = subst (λ l. SaysAt r inside (rows_view l)) (sym is) (says_at r inside)
+
+-- ---- the value under a key
+
+pub put_found : (b : Bool) (q k : List ℕ) (d : Data) (ms : Members) → bytes_eq k q ≡ b → get_member q (put k d ms) ≡ cond b (Some d) (get_member q ms)
+put_found true q k d ms e =
+    let same : k ≡ q = (bytes_eq-Decides k q).0 e in
+    ap (λ n. get_member n (put k d ms)) (sym same) ∙ get_member-put k d ms
+put_found false q k d ms e = get_member-put_other q k d ms (λ same. false≢true (sym e ∙ (bytes_eq-Decides k q).1 (sym same)))
+
+-- ---- Rows that are laid in order: of a value, of the items of a list, of the members of an object.
 
 pub no_items_laid : AreItems [] []
 no_items_laid = record { first = λ more. refl }
@@ -37,11 +169,9 @@ dropped run more d is = sym (ap (λ n. drop n (run ++ more)) (is.all more) ∙ d
 pub one_item_laid : (rs run : List Row) (done : List Data) (d : Data) → AreItems rs done → IsRun run d → AreItems (rs ++ run) (done ++ d ∷ [])
 one_item_laid rs run done d are is = record {
   first = λ more.
-      ap items_of (append_assoc rs run more) ∙ are.first (run ++ more)
-      ∙ ap (before done)
+      ap items_of (append_assoc rs run more) ∙ are.first (run ++ more) ∙ ap (before done)
       (an_item_left (run ++ more) run more (omega (arith, is.some, length-append run more)) (taken run more d is) (dropped run more d is)
-      ∙ ap (λ e. item e (items_of more)) is.says)
-      ∙ sym (before_one done d (items_of more));
+      ∙ ap (λ e. item e (items_of more)) is.says) ∙ sym (before_one done d (items_of more));
 }
 
 pub one_member_laid : (rs run : List Row) (k : Bor (List ℕ)) (found : Members) (d : Data) → AreMembers rs found → IsRun run d → AreMembers (rs ++ rows.Key k ∷ run) (put k.now d found)
@@ -181,16 +311,11 @@ ended below own r s = set-append_seam below r own s
 -- any other token is no value where no more levels are allowed
 pub no_row : (k : TokenRead) → ((s : Bor (List ℕ)) → k ≡ reads.String s → ⊥) → ((s : Bor (List ℕ)) → k ≡ reads.Number s → ⊥) → ((b : Bool) → k ≡ reads.Bool b → ⊥) → (k ≡ reads.Null → ⊥)
     → (ts : List Token) → converted of_json (value 0 (token_of k ∷ ts)) ≡ None
-no_row reads.BeginObject s n b u ts = ap (converted of_json) (value_is 0 (token_of reads.BeginObject ∷ ts))
-no_row reads.EndObject s n b u ts = ap (converted of_json) (value_is 0 (token_of reads.EndObject ∷ ts))
-no_row reads.BeginArray s n b u ts = ap (converted of_json) (value_is 0 (token_of reads.BeginArray ∷ ts))
-no_row reads.EndArray s n b u ts = ap (converted of_json) (value_is 0 (token_of reads.EndArray ∷ ts))
-no_row (reads.Key k) s n b u ts = ap (converted of_json) (value_is 0 (token_of (reads.Key k) ∷ ts))
 no_row (reads.String k) s n b u ts = absurd (s k refl)
 no_row (reads.Number k) s n b u ts = absurd (n k refl)
 no_row (reads.Bool k) s n b u ts = absurd (b k refl)
 no_row reads.Null s n b u ts = absurd (u refl)
-no_row reads.Bad s n b u ts = ap (converted of_json) (value_is 0 (token_of reads.Bad ∷ ts))
+no_row k s n b u ts = ap (converted of_json) (value_is 0 (token_of k ∷ ts))
 
 -- ---- the open ones began at existing rows
 

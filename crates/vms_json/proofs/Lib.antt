@@ -1,12 +1,6 @@
 pub mod DueLaws
-pub mod EndLaws
-pub mod FrameLaws
 pub mod GoLaws
+pub mod FrameLaws
 pub mod KeyLaws
 pub mod LaidLaws
-pub mod ListLaws
 pub mod NameLaws
-pub mod ReadingLaws
-pub mod RowLaws
-pub mod TextLaws
-pub mod WholeLaws

@@ -15,8 +15,7 @@ use Rattle.vms_json.specs.Index.{at_name, text_or_none, names_of, first_of}
 -- ---- one more at the end
 
 -- the first number below n, or one more, if the first q fail
-one_more : (n q : ℕ) (b : Bool) → q ≤ n
-    → cond (ltb (cond (eqb q n) (n + cond b 0 1) q) (n + 1)) (Some (cond (eqb q n) (n + cond b 0 1) q)) None
+one_more : (n q : ℕ) (b : Bool) → q ≤ n → cond (ltb (cond (eqb q n) (n + cond b 0 1) q) (n + 1)) (Some (cond (eqb q n) (n + cond b 0 1) q)) None
     ≡ or_else (cond (ltb q n) (Some q) None) (if b then Some n else None)
 one_more n q b le = ⊎_elim before after (cases_lt q n)
   where
@@ -36,8 +35,7 @@ one_more n q b le = ⊎_elim before after (cases_lt q n)
 
     after : n ≤ q → at (eqb q n) ≡ or_else (cond (ltb q n) (Some q) None) (if b then Some n else None)
     after ge =
-        ap at (eq-eqb q n (omega arith)) ∙ last b
-        ∙ sym (ap (λ (t : Bool). or_else (cond t (Some q) None) (if b then Some n else None)) (le-ltb q n ge))
+        ap at (eq-eqb q n (omega arith)) ∙ last b ∙ sym (ap (λ (t : Bool). or_else (cond t (Some q) None) (if b then Some n else None)) (le-ltb q n ge))
 
 pub position_push : {X : Type 0} (p : X → Bool) (xs : List X) (y : X)
     → position p (xs ++ y ∷ []) ≡ or_else (position p xs) (if p y then Some (length xs) else None)

@@ -1,4 +1,4 @@
-use Rattle.vms_json.proofs.TextLaws.{has_none, if_read}
+use Rattle.vms_json.proofs.KeyLaws.{has_none, if_read}
 use Rattle.vms_json.proofs.bytes.read_bytes.Goals as goal
 
 pub returns-in-Ok-clause-ok : goal.returns-in-Ok-clause-ok

@@ -17,8 +17,7 @@ returns-then-not-is_one_of-2 c =
     let rest = c.next.new.self.rows.now in
     let k = c.in-Some.key.now in
     let d = view c.in-Some._value in
-    sym (ap (has_no_others (needed ++ allowed)) (l.1 ∙ c.in-Some.ensures.value l.0)
-    ∙ others_stay (needed ++ allowed) (2 * length rest + 1) rest (put k d l.0)
+    sym (ap (has_no_others (needed ++ allowed)) (l.1 ∙ c.in-Some.ensures.value l.0) ∙ others_stay (needed ++ allowed) (2 * length rest + 1) rest (put k d l.0)
     (one_other needed allowed k d l.0 (sym c.is_one_of.ensures ∙ c.if-not-is_one_of.true) (sym c.is_one_of-then-not-is_one_of.ensures ∙ c.if-not-is_one_of-2.true)))
 
 pub loop-key-preserved : goal.loop-key-preserved

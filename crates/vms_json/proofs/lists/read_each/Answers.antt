@@ -1,7 +1,7 @@
 use Rattle.std.proofs.Common.{◌+◌, ap, map, sym, ◌∙◌, arith}
 use Rattle.vms_json.specs.Answers.{each_from}
 use Rattle.vms_json.specs.Nodes.{view, items_left}
-use Rattle.vms_json.proofs.ListLaws.{before, before_none, goes_on, stops, ends}
+use Rattle.vms_json.proofs.KeyLaws.{before, before_none, goes_on, stops, ends}
 use Rattle.vms_json.proofs.lists.read_each.Goals as goal
 
 pub loop-item-init : goal.loop-item-init

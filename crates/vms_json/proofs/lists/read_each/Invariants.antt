@@ -1,7 +1,7 @@
 use Rattle.std.proofs.Common.{◌≡◌, ◌+◌, ◌≤◌, length, map}
 use Rattle.vms_json.specs.Answers.{each_from}
 use Rattle.vms_json.specs.Nodes.{items_left}
-use Rattle.vms_json.proofs.ListLaws.{before}
+use Rattle.vms_json.proofs.KeyLaws.{before}
 use Rattle.vms_json.proofs.lists.read_each.Given as goal
 
 abbrev pub invariant-loop-item : goal.invariant-loop-item

@@ -1,7 +1,7 @@
 use Rattle.std.proofs.Common.{true, false, refl, sym, ◌∙◌}
 use Rattle.serde_json.specs.Data.{no_members, put}
 use Rattle.vms_json.specs.Nodes.{view}
-use Rattle.vms_json.proofs.RowLaws.{put_found}
+use Rattle.vms_json.proofs.LaidLaws.{put_found}
 use Rattle.vms_json.proofs.node.find.Goals as goal
 
 pub loop-name-init : goal.loop-name-init

@@ -1,7 +1,7 @@
 use Rattle.std.proofs.Common.{length}
 use Rattle.std.specs.Prelude.{MatchBool}
 use Rattle.vms_json.specs.Laying.{IsUnder, IsWhole}
-use Rattle.vms_json.proofs.WholeLaws.{said_by}
+use Rattle.vms_json.proofs.FrameLaws.{said_by}
 use Rattle.vms_json.proofs.parse.read_node.Given as goal
 
 abbrev pub invariant-loop-is_done : goal.invariant-loop-is_done

@@ -1,5 +1,5 @@
 use Rattle.std.proofs.Common.{arith}
-use Rattle.vms_json.proofs.RowLaws.{no_items_left, an_item_left}
+use Rattle.vms_json.proofs.LaidLaws.{no_items_left, an_item_left}
 use Rattle.vms_json.proofs.node.Items.next.Goals as goal
 
 pub returns-then-is_empty-clause-value : goal.returns-then-is_empty-clause-value

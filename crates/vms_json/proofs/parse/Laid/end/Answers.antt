@@ -2,7 +2,7 @@ use Rattle.std.proofs.Common.{◌≡◌, ◌-◌, ◌<◌, length, slice_set, sy
 use Rattle.std.proofs.lemmas.List.{length-set}
 use Rattle.vms_json.specs.declared.node.Row.{Row}
 use Rattle.vms_json.specs.Laying.{AreBelow}
-use Rattle.vms_json.proofs.EndLaws.{below_front, IsTold, list_ended, object_ended}
+use Rattle.vms_json.proofs.GoLaws.{below_front, IsTold, list_ended, object_ended}
 use Rattle.vms_json.proofs.parse.Laid.end.Goals as goal
 use Rattle.vms_json.proofs.parse.Laid.end.Goals.{then-self, else-self, In-Some, After-len, After-is_in_list-self}
 

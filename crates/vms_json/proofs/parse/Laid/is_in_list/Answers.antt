@@ -2,7 +2,7 @@ use Rattle.std.proofs.Common.{◌≡◌, ◌-◌, length, get_or, ap, ◌∙◌,
 use Rattle.std.specs.Prelude.{slice_get}
 use Rattle.std.proofs.lemmas.List.{get_or_default}
 use Rattle.vms_json.specs.Nodes.{is_list}
-use Rattle.vms_json.proofs.EndLaws.{at_last, below_at, one_place}
+use Rattle.vms_json.proofs.GoLaws.{at_last, below_at, one_place}
 use Rattle.vms_json.proofs.parse.Laid.is_in_list.Goals as goal
 
 pub index-requires : goal.index-requires
