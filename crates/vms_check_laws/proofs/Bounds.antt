@@ -1,11 +1,11 @@
 -- A number that fits old's capacities fits new's.
 use Rattle.vms_check_laws.proofs.Facade.{◌≤ℤ◌, ◌≡◌, ◌⊎◌, inl, inr, ℕ, zero, suc, ◌+◌, ◌≤◌, min, Bool, true, false, ◌&&◌, ◌==◌, List, ◌∷◌, ◌++◌, length, Option}
 use Rattle.vms_check_laws.proofs.Facade.{Some}
-use Rattle.vms_check_laws.proofs.Facade.{None, refl, sym, ap, ◌∙◌, subst, arith, ℤ, pos, negsuc, if◌then◌else◌, nat_le, [], AllByRecursion, slice_get}
+use Rattle.vms_check_laws.proofs.Facade.{None, refl, sym, ap, ◌∙◌, arith, ℤ, pos, negsuc, if◌then◌else◌, nat_le, [], AllByRecursion, slice_get}
 use Rattle.vms_check_laws.proofs.Facade.{and_parts, eqb-true, leb-true, eq-eqb, ints, Kind, U8, Item, Num, highest, Count, One, Fixed, Counted, Formula, Field}
-use Rattle.vms_check_laws.proofs.Facade.{Desc, Cell, counted, field_cells, Part, is_one, presence, Entry, entry_of, present_from, position_from, same_place}
-use Rattle.vms_check_laws.proofs.Facade.{same_count, is_covered, holds_as_much, absent_hold, is_nothing, bound, least_of, greatest, has_room, Comparer}
-use Rattle.vms_check_laws.proofs.Linking.{PairGood, Zip, Matched, decoded}
+use Rattle.vms_check_laws.proofs.Facade.{Cell, counted, field_cells, is_one, presence, Entry, entry_of, present_from, position_from, same_place}
+use Rattle.vms_check_laws.proofs.Facade.{same_count, is_covered, holds_as_much, absent_hold, is_nothing, bound, least_of, greatest, has_room}
+use Rattle.vms_check_laws.proofs.Linking.{Two, PairGood, Zip, Matched, decoded}
 use Rattle.vms_check_laws.proofs.Premises.{at_or_later, IsSingle}
 use Rattle.vms_check_laws.proofs.Counts.{HasArray, counted_has}
 use Rattle.vms_check_laws.proofs.Presence.{covers_unused}
@@ -102,7 +102,9 @@ paired o n c d i most e same room =
       at_count (Counted by most') h k = record { by = by; most' = most'; is = refl; same = h; room = leb-true most' most k }
       at_count _ h k = absurd (cc)
 
-module _ (ks : List Comparer) (a b : Desc) (v w : ℕ) (part part' : Part) (o n : ℕ → Option ℕ) where
+module _ (two : Two) where
+  open two use {a, b, w, o, n}
+
   -- z fits each present array that field i counts
   abbrev pub FitsArrays : ℤ → ℕ → List Entry → Type 0
   FitsArrays z i [] = Unit {0}
@@ -120,10 +122,9 @@ module _ (ks : List Comparer) (a b : Desc) (v w : ℕ) (part part' : Part) (o n 
   no_array d i most one e = let k : is_one (Counted i most) ≡ true = rw (e) at one in absurd (cc)
 
   fits_array : (z : ℤ) (i j : ℕ) (e f : Entry) → ((by : ℕ) → same_place (o by) (n j) ≡ true → by ≡ i) → AllByRecursion (λ m. z ≤ℤ pos m) (counted i a.fields)
-      → PairGood ks a b v w part part' o n e f → slice_get a.fields e.index ≡ Some e.field → IsSingle f.field.item f.field.count → (most : ℕ)
-      → f.field.count ≡ Counted j most → z ≤ℤ pos most
+      → PairGood two e f → slice_get a.fields e.index ≡ Some e.field → IsSingle f.field.item f.field.count → (most : ℕ) → f.field.count ≡ Counted j most → z ≤ℤ pos most
   fits_array z i j e f at_i all good stands single most is =
-      elim (decoded ks a b v w part part' o n e f good) [
+      elim (decoded two e f good) [
         | inl c ↦ absurd (no_array f.field.count j most (covered_one e.field.item e.field.count f.field.item f.field.count c.covers single) is)
         | inr m ↦
             let p = paired o n e.field.count f.field.count j most is m.count m.room in
@@ -131,17 +132,15 @@ module _ (ks : List Comparer) (a b : Desc) (v w : ℕ) (part part' : Part) (o n 
             at_most_more z p.most' most (counted_has (λ m. z ≤ℤ pos m) i p.most' a.fields has_i all) p.room
       ]
 
-  fits_arrays : (z : ℤ) (i j : ℕ) (es fs : List Entry) → ((by : ℕ) → same_place (o by) (n j) ≡ true → by ≡ i)
-      → AllByRecursion (λ m. z ≤ℤ pos m) (counted i a.fields)
-      → Zip ks a b v w part part' o n es fs → OldStand es → NewSingle fs → FitsArrays z j fs
+  fits_arrays : (z : ℤ) (i j : ℕ) (es fs : List Entry) → ((by : ℕ) → same_place (o by) (n j) ≡ true → by ≡ i) → AllByRecursion (λ m. z ≤ℤ pos m) (counted i a.fields)
+      → Zip two es fs → OldStand es → NewSingle fs → FitsArrays z j fs
   fits_arrays z i j [] [] at_i all zipped stands single = tt
   fits_arrays z i j [] (f ∷ fs) at_i all zipped stands single = absurd zipped
   fits_arrays z i j (e ∷ es) [] at_i all zipped stands single = absurd zipped
   fits_arrays z i j (e ∷ es) (f ∷ fs) at_i all zipped stands single =
       (fits_array z i j e f at_i all zipped.0 stands.0 single.0, fits_arrays z i j es fs at_i all zipped.1 stands.1 single.1)
 
-  absent_array : (z : ℤ) (j n most : ℕ) (g : Field) (gs : List Field) → g.count ≡ Counted j most → presence w g.test g.since ≡ None → z ≤ℤ pos n
-      → absent_hold w j n (g ∷ gs) ≡ true → z ≤ℤ pos most
+  absent_array : (z : ℤ) (j n most : ℕ) (g : Field) (gs : List Field) → g.count ≡ Counted j most → presence w g.test g.since ≡ None → z ≤ℤ pos n → absent_hold w j n (g ∷ gs) ≡ true → z ≤ℤ pos most
   absent_array z j n most g gs is none le h =
       let at_count : (has_room w j n g (Counted j most) && absent_hold w j n gs) ≡ true = rw (is) at h in
       let first : ((if j == j && is_nothing (presence w g.test g.since) then nat_le n most else true) && absent_hold w j n gs) ≡ true = at_count in
@@ -158,14 +157,12 @@ module _ (ks : List Comparer) (a b : Desc) (v w : ℕ) (part part' : Part) (o n 
   arrays_rest z j i q g None fs h = h
   arrays_rest z j i q g (Some rest) fs h = h.1
 
-  array_here : (z : ℤ) (j n most i q : ℕ) (g : Field) (gs : List Field) (pr : Option (Option Formula)) (fs : List Entry) → presence w g.test g.since ≡ pr
-      → g.count ≡ Counted j most → z ≤ℤ pos n
+  array_here : (z : ℤ) (j n most i q : ℕ) (g : Field) (gs : List Field) (pr : Option (Option Formula)) (fs : List Entry) → presence w g.test g.since ≡ pr → g.count ≡ Counted j most → z ≤ℤ pos n
       → absent_hold w j n (g ∷ gs) ≡ true → FitsArrays z j (entry_of i q g pr ++ fs) → z ≤ℤ pos most
   array_here z j n most i q g gs None fs e is le absent h = absent_array z j n most g gs is e le absent
   array_here z j n most i q g gs (Some rest) fs e is le absent h = h.0 most is
 
-  each_array : (cs : List (List Cell)) (all : List Field) (z : ℤ) (j n i q : ℕ) (gs : List Field) → z ≤ℤ pos n → absent_hold w j n gs ≡ true
-      → FitsArrays z j (present_from cs all w i q gs)
+  each_array : (cs : List (List Cell)) (all : List Field) (z : ℤ) (j n i q : ℕ) (gs : List Field) → z ≤ℤ pos n → absent_hold w j n gs ≡ true → FitsArrays z j (present_from cs all w i q gs)
       → (most : ℕ) → HasArray j most gs → z ≤ℤ pos most
   each_array cs all z j n i q [] le absent h most has = absurd has
   each_array cs all z j n i q (g ∷ gs) le absent h most has =
@@ -173,16 +170,14 @@ module _ (ks : List Comparer) (a b : Desc) (v w : ℕ) (part part' : Part) (o n 
       let after = present_from cs all w (suc i) (q + length (field_cells cs all i g)) gs in
       let go : (g.count ≡ Counted j most) ⊎ HasArray j most gs → z ≤ℤ pos most = elim [
         | inl is ↦ array_here z j n most i q g gs pr after refl is le absent h
-        | inr more ↦ each_array cs all z j n (suc i) (q + length (field_cells cs all i g)) gs le (absent_rest j n g gs absent)
-            (arrays_rest z j i q g pr after h) most more
+        | inr more ↦ each_array cs all z j n (suc i) (q + length (field_cells cs all i g)) gs le (absent_rest j n g gs absent) (arrays_rest z j i q g pr after h) most more
       ] in
       go has
 
   -- a number of old that fits, at a pair of numbers, fits all of new's capacities
-  pub caps_follow : (cs : List (List Cell)) (kind : Kind) (es : List Entry) (e f : Entry) (z : ℤ) → e.field.item ≡ Num kind
-      → ((by : ℕ) → same_place (o by) (n f.index) ≡ true → by ≡ e.index)
-      → Matched ks a b v w part part' o n e f → z ≤ℤ highest kind → AllByRecursion (λ m. z ≤ℤ pos m) (counted e.index a.fields)
-      → Zip ks a b v w part part' o n es (present_from cs b.fields w 0 0 b.fields) → OldStand es → NewSingle (present_from cs b.fields w 0 0 b.fields)
+  pub caps_follow : (cs : List (List Cell)) (kind : Kind) (es : List Entry) (e f : Entry) (z : ℤ) → e.field.item ≡ Num kind → ((by : ℕ) → same_place (o by) (n f.index) ≡ true → by ≡ e.index)
+      → Matched two e f → z ≤ℤ highest kind → AllByRecursion (λ m. z ≤ℤ pos m) (counted e.index a.fields)
+      → Zip two es (present_from cs b.fields w 0 0 b.fields) → OldStand es → NewSingle (present_from cs b.fields w 0 0 b.fields)
       → AllByRecursion (λ m. z ≤ℤ pos m) (counted f.index b.fields)
   caps_follow cs kind es e f z is at_e m high caps zipped stands single =
       let bnd = bound e.field.item (counted e.index a.fields) in

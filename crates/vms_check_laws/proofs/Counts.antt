@@ -1,7 +1,7 @@
 -- A number that fits its cell is at most every capacity that it counts.
-use Rattle.vms_check_laws.proofs.Facade.{◌≤ℤ◌, ◌≡◌, ◌⊎◌, inl, inr, ℕ, zero, suc, ◌+◌, ◌*◌, ◌^◌, ◌≤◌, Bool, true, ◌==◌, List, [], ◌∷◌, ◌++◌, length, get_or}
+use Rattle.vms_check_laws.proofs.Facade.{◌≤ℤ◌, ◌≡◌, ◌⊎◌, inl, inr, ℕ, zero, suc, ◌+◌, ◌*◌, ◌^◌, ◌≤◌, true, ◌==◌, List, [], ◌∷◌, ◌++◌, length, get_or}
 use Rattle.vms_check_laws.proofs.Facade.{Some}
-use Rattle.vms_check_laws.proofs.Facade.{refl, sym, subst, arith, ℤ, pos, negsuc, if◌then◌else◌, AllByRecursion, slice_get, mod-le, eq-eqb, ints, Kind}
+use Rattle.vms_check_laws.proofs.Facade.{refl, arith, ℤ, pos, negsuc, if◌then◌else◌, AllByRecursion, slice_get, mod-le, eq-eqb, ints, Kind}
 use Rattle.vms_check_laws.proofs.Facade.{U8, U16, U32, Item, Num, width, residue, Count, One, Fixed, Counted, Field, Cell, times, counted, capacity_of}
 use Rattle.vms_check_laws.proofs.Facade.{item_cells, field_cells, cells_from, place_of, no_field, kind_of, FitsCell, is_num, is_one, ItemBelow, FitsAt}
 use Rattle.vms_check_laws.proofs.Facade.{all_right}
@@ -34,10 +34,8 @@ counted_has P by most (f ∷ fs) has h =
     ] in
     go has
 
-first_fits : (cs : List (List Cell)) (item : Item) (count : Count) (caps : List ℕ) (d : ℤ) (more : List Cell) (numbers : List ℤ) (at : ℕ) → is_num item ≡ true
-    → is_one count ≡ true
-    → FitsAt (times (capacity_of count) (λ _. item_cells cs item caps d) 0 0 ++ more) numbers at
-    → FitsCell (record { kind = kind_of item; capacities = caps; default = d }) (get_or numbers at (pos 0))
+first_fits : (cs : List (List Cell)) (item : Item) (count : Count) (caps : List ℕ) (d : ℤ) (more : List Cell) (numbers : List ℤ) (at : ℕ) → is_num item ≡ true → is_one count ≡ true
+    → FitsAt (times (capacity_of count) (λ _. item_cells cs item caps d) 0 0 ++ more) numbers at → FitsCell (record { kind = kind_of item; capacities = caps; default = d }) (get_or numbers at (pos 0))
 first_fits cs (Num kind) One caps d more numbers at num one fits =
     let z : at + 0 ≡ at = omega arith in
     rw (z) at (fits.each 0 (omega arith))
@@ -49,8 +47,7 @@ pub record Single (kind : Kind) (caps : List ℕ) (default : ℤ) (own : ℕ) : 
   pub fits : FitsCell (record { kind = kind; capacities = caps; default = default }) number
   pub is : own ≡ residue (width kind) number
 
-pub single_at : (cs : List (List Cell)) (all fs : List Field) (i k : ℕ) (numbers : List ℤ) (at : ℕ) (g : Field) → slice_get fs k ≡ Some g → Steady g
-    → FitsAt (cells_from cs all i fs) numbers at
+pub single_at : (cs : List (List Cell)) (all fs : List Field) (i k : ℕ) (numbers : List ℤ) (at : ℕ) (g : Field) → slice_get fs k ≡ Some g → Steady g → FitsAt (cells_from cs all i fs) numbers at
     → Single (kind_of g.item) (counted (i + k) all) g.default (field_number cs all fs i numbers at k)
 single_at cs all [] i k numbers at g e s fits = absurd (cc)
 single_at cs all (f ∷ fs) i zero numbers at g e s fits =
@@ -75,8 +72,7 @@ below_cap : (w : ℕ) (z : ℤ) (most : ℕ) → pos 0 ≤ℤ z → z ≤ℤ pos
 below_cap w (pos m) most low high = let h : m ≤ most = omega (arith, ints) in omega (arith, mod-le m (2 ^ (8 * w)))
 below_cap w (negsuc m) most low high = absurd (omega (arith, ints))
 
-counting_below : (item : Item) (caps : List ℕ) (d z : ℤ) (most : ℕ) → IsCounting item
-    → FitsCell (record { kind = kind_of item; capacities = caps; default = d }) z → z ≤ℤ pos most → residue (width (kind_of item)) z ≤ most
+counting_below : (item : Item) (caps : List ℕ) (d z : ℤ) (most : ℕ) → IsCounting item → FitsCell (record { kind = kind_of item; capacities = caps; default = d }) z → z ≤ℤ pos most → residue (width (kind_of item)) z ≤ most
 counting_below (Num U8) caps d z most c fits high = below_cap 1 z most fits.0.0 high
 counting_below (Num U16) caps d z most c fits high = below_cap 2 z most fits.0.0 high
 counting_below (Num U32) caps d z most c fits high = below_cap 4 z most fits.0.0 high
@@ -89,8 +85,7 @@ pub record Counter (all : List Field) (by : ℕ) : Type 0 where
   pub steady : Steady field
   pub kind : IsCounting field.item
 
-pub count_fits : (cs : List (List Cell)) (all : List Field) (numbers : List ℤ) (at by most : ℕ) → Counter all by → HasArray by most all
-    → FitsAt (cells_from cs all 0 all) numbers at
+pub count_fits : (cs : List (List Cell)) (all : List Field) (numbers : List ℤ) (at by most : ℕ) → Counter all by → HasArray by most all → FitsAt (cells_from cs all 0 all) numbers at
     → field_number cs all all 0 numbers at by ≤ most
 count_fits cs all numbers at by most c has fits =
     let s = single_at cs all all 0 by numbers at c.field c.stands c.steady fits in
@@ -120,8 +115,7 @@ fits_count cs all numbers at One fits known has = tt
 fits_count cs all numbers at (Fixed n) fits known has = tt
 fits_count cs all numbers at (Counted by most) fits known has = count_fits cs all numbers at by most known (has by most refl) fits
 
-pub old_fields : (cs : List (List Cell)) (below : ℕ) (all : List Field) (numbers : List ℤ) (at : ℕ) → FitsAt (cells_from cs all 0 all) numbers at
-    → (fs : List Field)
+pub old_fields : (cs : List (List Cell)) (below : ℕ) (all : List Field) (numbers : List ℤ) (at : ℕ) → FitsAt (cells_from cs all 0 all) numbers at → (fs : List Field)
     → ((by most : ℕ) → HasArray by most fs → HasArray by most all) → OldPlains below all fs → OldFields below (λ k. field_number cs all all 0 numbers at k) fs
 old_fields cs below all numbers at fits [] has h = tt
 old_fields cs below all numbers at fits (f ∷ fs) has h = (

@@ -1,9 +1,9 @@
 -- The carried numbers fit new's cells: those of a description, and then those of structures by induction on new's number.
 use Rattle.vms_check_laws.proofs.Facade.{◌≤ℤ◌, ◌≡◌, inl, inr, ℕ, zero, suc, ◌+◌, ◌<◌, ◌≤◌, Bool, true, false, List, [], ◌∷◌, ◌++◌, length, get_or, Option, Some}
 use Rattle.vms_check_laws.proofs.Facade.{None}
-use Rattle.vms_check_laws.proofs.Facade.{refl, ap, subst, arith, ℤ, pos, if◌then◌else◌, AllByRecursion, Kind, Item, Num, Equal, Unused, Struct, Formula, Field}
-use Rattle.vms_check_laws.proofs.Facade.{Desc, is_there, Cell, no_cell, no_parent, Meaning, times, counted, capacity_of, item_cells, field_cells, cells_from}
-use Rattle.vms_check_laws.proofs.Facade.{elements_of, Part, presence, Entry, entry_of, present_from, same_kind, Comparer, no_comparer, pair_structs, Carrier}
+use Rattle.vms_check_laws.proofs.Facade.{refl, ap, arith, ℤ, pos, if◌then◌else◌, AllByRecursion, Kind, Item, Num, Equal, Unused, Struct, Formula, Field}
+use Rattle.vms_check_laws.proofs.Facade.{Desc, Cell, no_cell, Meaning, times, counted, item_cells, field_cells, cells_from}
+use Rattle.vms_check_laws.proofs.Facade.{Part, presence, Entry, entry_of, present_from, same_kind, Comparer, no_comparer, pair_structs, Carrier}
 use Rattle.vms_check_laws.proofs.Facade.{no_carrier, defaults, carry_item, carry_items, carry_next, carry_from, entries_left, FitsAt, size_same, elements_fit}
 use Rattle.vms_check_laws.proofs.Facade.{highest, InRange, is_num, FitsCell, ItemBelow, FieldsBelow, no_desc, meanings, desc_cells, numbers_of, is_steady_in}
 use Rattle.vms_check_laws.proofs.Facade.{present, position_from, comparers, compare_desc, compare_fields, compare_validations, carriers, carry_desc}
@@ -11,7 +11,7 @@ use Rattle.vms_check_laws.proofs.Facade.{or_else_none, struct_cells_at}
 use Rattle.vms_check_laws.proofs.Segments.{fits_left, fits_right, fits_at}
 use Rattle.vms_check_laws.proofs.Pairing.{kinds_same, cells_in, AreKnown, all_known}
 use Rattle.vms_spec.specs.Images.{FitCells as AreFit}
-use Rattle.vms_check_laws.proofs.Linking.{Zip, Matched, decoded, zip_of}
+use Rattle.vms_check_laws.proofs.Linking.{Two, Zip, Matched, decoded, zip_of}
 use Rattle.vms_check_laws.proofs.Presence.{not_covered}
 use Rattle.vms_check_laws.proofs.Bounds.{Indexed, OldStand, NewSingle, caps_follow, indexed, present_increasing}
 use Rattle.vms_check_laws.proofs.Premises.{OldGood, OldFields, NewGood, NewFields}
@@ -74,42 +74,36 @@ DefaultsGood all i (f ∷ fs) = ItemDefault f.item (counted i all) f.default × 
 
 pub record FitTable (ks : List Comparer) (cs : List Carrier) (x y : List (List Cell)) (numbers : List ℤ) (below below' : ℕ) : Type 0 where
   pub good : (j : ℕ) → j < below' → GoodCells (get_or y j [])
-  pub fits : (i j : ℕ) → i < below → j < below' → get_or ks j no_comparer i ≡ None → (p : ℕ) → FitsAt (get_or x i []) numbers p
-      → FitCells (get_or y j []) (get_or cs j no_carrier i numbers p)
+  pub fits : (i j : ℕ) → i < below → j < below' → get_or ks j no_comparer i ≡ None → (p : ℕ) → FitsAt (get_or x i []) numbers p → FitCells (get_or y j []) (get_or cs j no_carrier i numbers p)
 
-pub good_item : (y : List (List Cell)) (k : ℕ) (j : Item) (caps : List ℕ) (d : ℤ) → ((i : ℕ) → i < k → GoodCells (get_or y i [])) → ItemBelow k j
-    → ItemDefault j caps d → GoodCells (item_cells y j caps d)
+pub good_item : (y : List (List Cell)) (k : ℕ) (j : Item) (caps : List ℕ) (d : ℤ) → ((i : ℕ) → i < k → GoodCells (get_or y i [])) → ItemBelow k j → ItemDefault j caps d → GoodCells (item_cells y j caps d)
 good_item y k (Num kind) caps d good below h = (h, tt)
 good_item y k (Equal kind z) caps d good below h = tt
 good_item y k (Unused n) caps d good below h = tt
 good_item y k (Struct i) caps d good below h = good i below
 
-pub good_fields : (y : List (List Cell)) (k : ℕ) (all : List Field) (i : ℕ) (gs : List Field) → ((i : ℕ) → i < k → GoodCells (get_or y i []))
-    → FieldsBelow k gs → DefaultsGood all i gs → GoodCells (cells_from y all i gs)
+pub good_fields : (y : List (List Cell)) (k : ℕ) (all : List Field) (i : ℕ) (gs : List Field) → ((i : ℕ) → i < k → GoodCells (get_or y i [])) → FieldsBelow k gs → DefaultsGood all i gs → GoodCells (cells_from y all i gs)
 good_fields y k all i [] good below h = tt
 good_fields y k all i (g ∷ gs) good below h =
     good_append _ _
     (good_times _ _ 0 0 (good_item y k g.item _ g.default good below.0 h.0))
     (good_fields y k all (suc i) gs good below.1 h.1)
 
-module _ (ks : List Comparer) (cs : List Carrier) (x y : List (List Cell)) (ms : List Meaning) (a b : Desc) (v w : ℕ) (part part' : Part)
-    (o n : ℕ → Option ℕ) (numbers : List ℤ) (own : ℕ → ℕ) (at : ℕ)
-    (below below' : ℕ) (table : FitTable ks cs x y numbers below below') where
-  number_fits : (c : Bool) (k l : Kind) (caps caps' : List ℕ) (d' z : ℤ) → same_kind k l ≡ c
-      → FitsCell (record { kind = l; capacities = caps'; default = d' }) d' → InRange k z
-      → (c ≡ true → AllByRecursion (λ m. z ≤ℤ pos m) caps')
-      → FitCells (record { kind = l; capacities = caps'; default = d' } ∷ []) (if c then z ∷ [] else d' ∷ [])
+module _ (two : Two) (cs : List Carrier) (x y : List (List Cell)) (ms : List Meaning) (numbers : List ℤ) (own : ℕ → ℕ) (at : ℕ)
+    (below below' : ℕ) (table : FitTable two.ks cs x y numbers below below') where
+  open two use {ks, a, b, v, w, part, part', o, n}
+
+  number_fits : (c : Bool) (k l : Kind) (caps caps' : List ℕ) (d' z : ℤ) → same_kind k l ≡ c → FitsCell (record { kind = l; capacities = caps'; default = d' }) d' → InRange k z
+      → (c ≡ true → AllByRecursion (λ m. z ≤ℤ pos m) caps') → FitCells (record { kind = l; capacities = caps'; default = d' } ∷ []) (if c then z ∷ [] else d' ∷ [])
   number_fits true k l caps caps' d' z same good range follow = ((rw (← (kinds_same k l same)) range, follow refl), tt)
   number_fits false k l caps caps' d' z same good range follow = (good, tt)
 
-  fallback_fits : (j : Item) (caps' : List ℕ) (d' : ℤ) → GoodCells (item_cells y j caps' d')
-      → FitCells (item_cells y j caps' d') (defaults (item_cells y j [] d'))
+  fallback_fits : (j : Item) (caps' : List ℕ) (d' : ℤ) → GoodCells (item_cells y j caps' d') → FitCells (item_cells y j caps' d') (defaults (item_cells y j [] d'))
   fallback_fits (Num l) caps' d' good = (good.0, tt)
   fallback_fits (Struct j) caps' d' good = fit_defaults _ good
   fallback_fits _ caps' d' good = tt
 
-  fit_item : (i j : Item) (caps caps' : List ℕ) (d d' : ℤ) (p : ℕ) → ItemBelow below i → ItemBelow below' j
-      → pair_structs ks a b v w part part' o n i j ≡ None → GoodCells (item_cells y j caps' d')
+  fit_item : (i j : Item) (caps caps' : List ℕ) (d d' : ℤ) (p : ℕ) → ItemBelow below i → ItemBelow below' j → pair_structs ks a b v w part part' o n i j ≡ None → GoodCells (item_cells y j caps' d')
       → FitsAt (item_cells x i caps d) numbers p
       → ((k : Kind) → i ≡ Num k → is_num j ≡ true → (z : ℤ) → z ≤ℤ highest k → AllByRecursion (λ m. z ≤ℤ pos m) caps → AllByRecursion (λ m. z ≤ℤ pos m) caps')
       → FitCells (item_cells y j caps' d') (carry_item cs x y numbers i j (defaults (item_cells y j [] d')) p)
@@ -121,12 +115,10 @@ module _ (ks : List Comparer) (cs : List Carrier) (x y : List (List Cell)) (ms :
   fit_item (Struct i) (Struct j) caps caps' d d' p below_a below_b none good fits follow = table.fits i j below_a below_b none p fits
   fit_item _ j caps caps' d d' p below_a below_b none good fits follow = fallback_fits j caps' d' good
 
-  fit_items : (i j : Item) (caps caps' : List ℕ) (d d' : ℤ) (m most most' q st q' st' p : ℕ) → m ≤ most → ItemBelow below i → ItemBelow below' j
-      → pair_structs ks a b v w part part' o n i j ≡ None
+  fit_items : (i j : Item) (caps caps' : List ℕ) (d d' : ℤ) (m most most' q st q' st' p : ℕ) → m ≤ most → ItemBelow below i → ItemBelow below' j → pair_structs ks a b v w part part' o n i j ≡ None
       → GoodCells (item_cells y j caps' d') → FitsAt (times most (λ _. item_cells x i caps d) q st) numbers p
       → ((k : Kind) → i ≡ Num k → is_num j ≡ true → (z : ℤ) → z ≤ℤ highest k → AllByRecursion (λ m. z ≤ℤ pos m) caps → AllByRecursion (λ m. z ≤ℤ pos m) caps')
-      → FitCells (times most' (λ _. item_cells y j caps' d') q' st')
-      (carry_items cs x y numbers i j (defaults (item_cells y j [] d')) (length (item_cells x i [] (pos 0))) m most' p)
+      → FitCells (times most' (λ _. item_cells y j caps' d') q' st') (carry_items cs x y numbers i j (defaults (item_cells y j [] d')) (length (item_cells x i [] (pos 0))) m most' p)
   fit_items i j caps caps' d d' m most zero q st q' st' p le below_a below_b none good fits follow = tt
   fit_items i j caps caps' d d' zero most (suc most') q st q' st' p le below_a below_b none good fits follow =
       fit_append _ _ _ _
@@ -144,9 +136,7 @@ module _ (ks : List Comparer) (cs : List Carrier) (x y : List (List Cell)) (ms :
       (fits_at e (fits_right cells fits)) follow)
 
   abbrev pub Follows : Entry → Entry → Type 0
-  Follows e f =
-      (k : Kind) → e.field.item ≡ Num k → is_num f.field.item ≡ true → (z : ℤ) → z ≤ℤ highest k → AllByRecursion (λ m. z ≤ℤ pos m)
-      (counted e.index a.fields) → AllByRecursion (λ m. z ≤ℤ pos m) (counted f.index b.fields)
+  Follows e f = (k : Kind) → e.field.item ≡ Num k → is_num f.field.item ≡ true → (z : ℤ) → z ≤ℤ highest k → AllByRecursion (λ m. z ≤ℤ pos m) (counted e.index a.fields) → AllByRecursion (λ m. z ≤ℤ pos m) (counted f.index b.fields)
 
   abbrev pub FollowAll : List Entry → List Entry → Type 0
   FollowAll [] fs = Unit {0}
@@ -162,9 +152,8 @@ module _ (ks : List Comparer) (cs : List Carrier) (x y : List (List Cell)) (ms :
   if_least true m most h = h
   if_least false m most h = omega arith
 
-  fit_next : (i q : ℕ) (g : Field) (pr : Option (Option Formula)) (es after : List Entry) → ItemBelow below' g.item
-      → GoodCells (item_cells y g.item (counted i b.fields) g.default)
-      → Zip ks a b v w part part' o n es (entry_of i q g pr ++ after) → FollowAll es (entry_of i q g pr ++ after) → OldReady es
+  fit_next : (i q : ℕ) (g : Field) (pr : Option (Option Formula)) (es after : List Entry) → ItemBelow below' g.item → GoodCells (item_cells y g.item (counted i b.fields) g.default)
+      → Zip two es (entry_of i q g pr ++ after) → FollowAll es (entry_of i q g pr ++ after) → OldReady es
       → FitCells (field_cells y b.fields i g) (carry_next cs x y numbers own v at b.fields i g pr es)
   fit_next i q g None es after lt good zipped follow ready = fit_defaults _ (good_times _ _ 0 0 good)
   fit_next i q g (Some rest) [] after lt good zipped follow ready = absurd zipped
@@ -174,14 +163,12 @@ module _ (ks : List Comparer) (cs : List Carrier) (x y : List (List Cell)) (ms :
       (if_least _ _ _ (elements_fit e.field.count own))
       ready.0.0 lt zipped.0.structs good ready.0.1 follow.0
 
-  zip_left : (i q : ℕ) (g : Field) (pr : Option (Option Formula)) (es after : List Entry) → Zip ks a b v w part part' o n es (entry_of i q g pr ++ after)
-      → Zip ks a b v w part part' o n (entries_left cs x y numbers pr es) after
+  zip_left : (i q : ℕ) (g : Field) (pr : Option (Option Formula)) (es after : List Entry) → Zip two es (entry_of i q g pr ++ after) → Zip two (entries_left cs x y numbers pr es) after
   zip_left i q g None es after h = h
   zip_left i q g (Some rest) [] after h = absurd h
   zip_left i q g (Some rest) (e ∷ es) after h = h.1
 
-  follow_left : (i q : ℕ) (g : Field) (pr : Option (Option Formula)) (es after : List Entry) → FollowAll es (entry_of i q g pr ++ after)
-      → FollowAll (entries_left cs x y numbers pr es) after
+  follow_left : (i q : ℕ) (g : Field) (pr : Option (Option Formula)) (es after : List Entry) → FollowAll es (entry_of i q g pr ++ after) → FollowAll (entries_left cs x y numbers pr es) after
   follow_left i q g None es after h = h
   follow_left i q g (Some rest) [] after h = tt
   follow_left i q g (Some rest) (e ∷ es) after h = h.1
@@ -192,7 +179,7 @@ module _ (ks : List Comparer) (cs : List Carrier) (x y : List (List Cell)) (ms :
   ready_left (Some rest) (e ∷ es) h = h.1
 
   pub fit_from : (i q : ℕ) (gs : List Field) (es : List Entry) → FieldsBelow below' gs → DefaultsGood b.fields i gs
-      → Zip ks a b v w part part' o n es (present_from y b.fields w i q gs) → FollowAll es (present_from y b.fields w i q gs) → OldReady es
+      → Zip two es (present_from y b.fields w i q gs) → FollowAll es (present_from y b.fields w i q gs) → OldReady es
       → FitCells (cells_from y b.fields i gs) (carry_from cs x y numbers own v w at b.fields i gs es)
   fit_from i q [] es lt good zipped follow ready = tt
   fit_from i q (g ∷ gs) es lt good zipped follow ready =
@@ -201,27 +188,24 @@ module _ (ks : List Comparer) (cs : List Carrier) (x y : List (List Cell)) (ms :
       let after = present_from y b.fields w (suc i) q' gs in
       fit_append _ _ _ _
       (fit_next i q g pr es after lt.0 (good_item y below' g.item _ g.default table.good lt.0 good.0) zipped follow ready)
-      (fit_from (suc i) q' gs (entries_left cs x y numbers pr es) lt.1 good.1 (zip_left i q g pr es after zipped) (follow_left i q g pr es after follow)
-      (ready_left pr es ready))
+      (fit_from (suc i) q' gs (entries_left cs x y numbers pr es) lt.1 good.1 (zip_left i q g pr es after zipped) (follow_left i q g pr es after follow) (ready_left pr es ready))
 
   -- each pair's numbers follow
-  pub follow_all : (all_es es fs : List Entry) → Zip ks a b v w part part' o n all_es (present_from y b.fields w 0 0 b.fields)
-      → OldStand ks a b v w part part' o n all_es
-      → NewSingle ks a b v w part part' o n (present_from y b.fields w 0 0 b.fields) → Zip ks a b v w part part' o n es fs → Indexed o n es fs → FollowAll es fs
+  pub follow_all : (all_es es fs : List Entry) → Zip two all_es (present_from y b.fields w 0 0 b.fields) → OldStand two all_es
+      → NewSingle two (present_from y b.fields w 0 0 b.fields) → Zip two es fs → Indexed o n es fs → FollowAll es fs
   follow_all all_es [] fs zipped stand single here_zip at_e = tt
   follow_all all_es (e ∷ es) [] zipped stand single here_zip at_e = tt
   follow_all all_es (e ∷ es) (f ∷ fs) zipped stand single here_zip at_e = (
     (λ k is num z high caps.
-        let m : Matched ks a b v w part part' o n e f = elim (decoded ks a b v w part part' o n e f here_zip.0) [
+        let m : Matched two e f = elim (decoded two e f here_zip.0) [
           | inl c ↦ absurd (not_covered e.field.item e.field.count f.field.item c.covers num)
           | inr m ↦ m
         ] in
-        caps_follow ks a b v w part part' o n y k all_es e f z is at_e.0 m high caps zipped stand single),
+        caps_follow two y k all_es e f z is at_e.0 m high caps zipped stand single),
     follow_all all_es es fs zipped stand single here_zip.1 at_e.1,
   )
 
-module _ (ks : List Comparer) (cs : List Carrier) (ms : List Meaning) (y : List (List Cell)) (a b : Desc) (v w : ℕ) (part part' : Part) (numbers : List ℤ)
-    (at : ℕ)
+module _ (ks : List Comparer) (cs : List Carrier) (ms : List Meaning) (y : List (List Cell)) (a b : Desc) (v w : ℕ) (part part' : Part) (numbers : List ℤ) (at : ℕ)
     (below below' : ℕ) (table : FitTable ks cs (cells_in ms) y numbers below below') where
   abbrev x : List (List Cell)
   x = cells_in ms
@@ -241,29 +225,29 @@ module _ (ks : List Comparer) (cs : List Carrier) (ms : List Meaning) (y : List 
   abbrev n : ℕ → Option ℕ
   n k = position_from 0 fs k
 
-  stands : (es : List Entry) → AreKnown ms a.fields v numbers at es → OldStand ks a b v w part part' o n es
+  abbrev two : Two
+  two = record { ks = ks; a = a; b = b; v = v; w = w; part = part; part' = part'; o = o; n = n }
+
+  stands : (es : List Entry) → AreKnown ms a.fields v numbers at es → OldStand two es
   stands [] h = tt
   stands (e ∷ es) h = (h.0.field, stands es h.1)
 
-  single_entry : (i p : ℕ) (f : Field) (pr : Option (Option Formula)) (fs : List Entry) → NewGood below' (is_steady_in b) f
-      → NewSingle ks a b v w part part' o n fs → NewSingle ks a b v w part part' o n (entry_of i p f pr ++ fs)
+  single_entry : (i p : ℕ) (f : Field) (pr : Option (Option Formula)) (fs : List Entry) → NewGood below' (is_steady_in b) f → NewSingle two fs → NewSingle two (entry_of i p f pr ++ fs)
   single_entry i p f None after h more = more
   single_entry i p f (Some rest) after h more = (h.single, more)
 
-  singles : (i p : ℕ) (gs : List Field) → NewFields below' (is_steady_in b) gs → NewSingle ks a b v w part part' o n (present_from y b.fields w i p gs)
+  singles : (i p : ℕ) (gs : List Field) → NewFields below' (is_steady_in b) gs → NewSingle two (present_from y b.fields w i p gs)
   singles i p [] h = tt
   singles i p (g ∷ gs) h = single_entry i p g _ _ h.0 (singles (suc i) (p + length (field_cells y b.fields i g)) gs h.1)
 
   abbrev Ready : List Entry → Type 0
-  Ready es = OldReady ks cs x y ms a b v w part part' o n numbers own at below below' table es
+  Ready es = OldReady two cs x y ms numbers own at below below' table es
 
-  ready_entry : (i p : ℕ) (f : Field) (pr : Option (Option Formula)) (es : List Entry) → OldGood below own f
-      → FitsAt (field_cells x a.fields i f) numbers (at + p) → Ready es → Ready (entry_of i p f pr ++ es)
+  ready_entry : (i p : ℕ) (f : Field) (pr : Option (Option Formula)) (es : List Entry) → OldGood below own f → FitsAt (field_cells x a.fields i f) numbers (at + p) → Ready es → Ready (entry_of i p f pr ++ es)
   ready_entry i p f None after h fits more = more
   ready_entry i p f (Some rest) after h fits more = ((h.item, fits), more)
 
-  readies : (i p : ℕ) (gs : List Field) → OldFields below own gs → FitsAt (cells_from x a.fields i gs) numbers (at + p)
-      → Ready (present_from x a.fields v i p gs)
+  readies : (i p : ℕ) (gs : List Field) → OldFields below own gs → FitsAt (cells_from x a.fields i gs) numbers (at + p) → Ready (present_from x a.fields v i p gs)
   readies i p [] h fits = tt
   readies i p (g ∷ gs) h fits =
       let first = field_cells x a.fields i g in
@@ -271,18 +255,16 @@ module _ (ks : List Comparer) (cs : List Carrier) (ms : List Meaning) (y : List 
       ready_entry i p g _ _ h.0 (fits_left more fits)
       (readies (suc i) (p + length first) gs h.1 (fits_at (omega arith) (fits_right first fits)))
 
-  pub desc_fits : compare_desc ks x y a b v w part part' ≡ None → OldFields below own a.fields → NewFields below' (is_steady_in b) b.fields
-      → DefaultsGood b.fields 0 b.fields
+  pub desc_fits : compare_desc ks x y a b v w part part' ≡ None → OldFields below own a.fields → NewFields below' (is_steady_in b) b.fields → DefaultsGood b.fields 0 b.fields
       → FitsAt (desc_cells x a) numbers at → FitCells (desc_cells y b) (carry_desc cs x y numbers v w a b at)
   desc_fits none old new defaults_good fits =
       let parts = or_else_none (compare_fields ks a b v w part part' o n es fs) (compare_validations ks a b v w part part' o n) none in
-      let zipped = zip_of ks a b v w part part' o n es fs parts.0 in
+      let zipped = zip_of two es fs parts.0 in
       let z : at ≡ at + 0 = omega arith in
       let at_e = indexed o n 0 0 es fs (present_increasing y b.fields w 0 0 b.fields) (λ by j le h. h) in
-      let follow = follow_all ks cs x y ms a b v w part part' o n numbers own at below below' table es es fs zipped
+      let follow = follow_all two cs x y ms numbers own at below below' table es es fs zipped
       (stands es (all_known ms a.fields v numbers at)) (singles 0 0 b.fields new) zipped at_e in
-      fit_from ks cs x y ms a b v w part part' o n numbers own at below below' table 0 0 b.fields es
-      (new_below below' _ b.fields new) defaults_good zipped follow
+      fit_from two cs x y ms numbers own at below below' table 0 0 b.fields es (new_below below' _ b.fields new) defaults_good zipped follow
       (readies 0 0 a.fields old (fits_at z fits))
 
 -- ---- structures
@@ -311,9 +293,7 @@ module _ (olds news : List Desc) (numbers : List ℤ) (old : OldStructs olds) (n
 
   -- structure j of new with its comparer and its carrier
   abbrev Row : ℕ → Comparer → Carrier → Type 0
-  Row j rule carrier =
-      GoodCells (get_or ys j []) × ((i : ℕ) → i < length olds → rule i ≡ None → (p : ℕ) → FitsAt (get_or xs i []) numbers p → FitCells (get_or ys j [])
-      (carrier i numbers p))
+  Row j rule carrier = GoodCells (get_or ys j []) × ((i : ℕ) → i < length olds → rule i ≡ None → (p : ℕ) → FitsAt (get_or xs i []) numbers p → FitCells (get_or ys j []) (carrier i numbers p))
 
   table_of : (k : ℕ) → Below xs ys olds news Row k → KnownFits k
   table_of k rows = record { good = λ j lt. (rows j lt).0; fits = λ i j lt_i lt none p fits. (rows j lt).1 i lt_i none p fits }
@@ -328,8 +308,7 @@ module _ (olds news : List Desc) (numbers : List ℤ) (old : OldStructs olds) (n
         λ i lt_i none p fits.
             let a = get_or olds i no_desc in
             let z = beside olds news numbers k i p old new lt lt_i none fits in
-            desc_fits (ks k) (cs k) ms ys a b a.version b.version (parts.Struct i) (parts.Struct k) numbers p (length olds) k table z.none z.old
-            (new k lt).fields (defaults_good k lt) z.fits,
+            desc_fits (ks k) (cs k) ms ys a b a.version b.version (parts.Struct i) (parts.Struct k) numbers p (length olds) k table z.none z.old (new k lt).fields (defaults_good k lt) z.fits,
       )
 
   pub fit_tables : (k : ℕ) → k ≤ length news → KnownFits k

@@ -1,6 +1,6 @@
 -- What is carried of a run of cells, cell by cell: the older number if it is in the bytes, else the default.
 use Rattle.vms_check_laws.proofs.Facade.{◌≡◌, ◌⊎◌, inl, inr, ℕ, ◌+◌, ◌<◌, ◌≤◌, Bool, true, false, ◌||◌, List, [], ◌++◌, length, get_or, replicate, Option, Some}
-use Rattle.vms_check_laws.proofs.Facade.{None, ℤ, pos, refl, sym, ap, ◌∙◌, subst, arith, slice_get, get_or_append_left, get_or-append-add, or-false, or_parts}
+use Rattle.vms_check_laws.proofs.Facade.{None, ℤ, pos, refl, sym, ap, ◌∙◌, arith, slice_get, get_or_append_left, get_or-append-add, or-false, or_parts}
 use Rattle.vms_check_laws.proofs.Facade.{false_from_ne_true, slice_get_within, Cell, no_cell, Slot, has_cell, or_second, names_append, defaults_at}
 use Rattle.vms_check_laws.proofs.Facade.{defaults_long, defaults}
 use Rattle.std.proofs.Common.{length-append}
@@ -14,8 +14,7 @@ pub record Goes (cells others : List Cell) (numbers : List ℤ) (slots : List Sl
   pub paired : AreFrom cells others at' partners
   pub within : IsWithin at (length cells) slots
   pub long : length segment ≡ length others
-  pub taken : (c r : ℕ) → slice_get partners c ≡ Some (Some (at' + r)) → has_cell slots (at + c) ≡ true
-      → get_or segment r (pos 0) ≡ get_or numbers (at + c) (pos 0)
+  pub taken : (c r : ℕ) → slice_get partners c ≡ Some (Some (at' + r)) → has_cell slots (at + c) ≡ true → get_or segment r (pos 0) ≡ get_or numbers (at + c) (pos 0)
   pub other : (r : ℕ) → r < length others → ((c : ℕ) → slice_get partners c ≡ Some (Some (at' + r)) → has_cell slots (at + c) ≡ false)
       → get_or segment r (pos 0) ≡ (get_or others r no_cell).default
 
@@ -23,8 +22,7 @@ pub none_within : (at size : ℕ) → IsWithin at size []
 none_within at size = record { in_range = λ c h. absurd (cc) }
 
 -- if none of the cells is in the bytes, all is default
-pub goes_absent : {cells others : List Cell} {numbers : List ℤ} {at at' : ℕ} {partners : List (Option ℕ)} → AreFrom cells others at' partners
-    → Goes cells others numbers [] at at' partners (defaults others)
+pub goes_absent : {cells others : List Cell} {numbers : List ℤ} {at at' : ℕ} {partners : List (Option ℕ)} → AreFrom cells others at' partners → Goes cells others numbers [] at at' partners (defaults others)
 goes_absent {cells} {others} {numbers} {at} {at'} h = record {
   paired = h;
   within = none_within at _;
@@ -34,8 +32,7 @@ goes_absent {cells} {others} {numbers} {at} {at'} h = record {
 }
 
 -- and where none has a partner
-pub goes_alone : {cells others : List Cell} {numbers : List ℤ} {slots : List Slot} {at at' : ℕ} {segment : List ℤ} (n : ℕ) → n ≡ length cells
-    → IsWithin at (length cells) slots → segment ≡ defaults others
+pub goes_alone : {cells others : List Cell} {numbers : List ℤ} {slots : List Slot} {at at' : ℕ} {segment : List ℤ} (n : ℕ) → n ≡ length cells → IsWithin at (length cells) slots → segment ≡ defaults others
     → Goes cells others numbers slots at at' (replicate n None) segment
 goes_alone {cells} {others} {numbers} {slots} {at} {at'} n e w is = record {
   paired = paired_none cells others at' n e;
@@ -77,8 +74,7 @@ module _ (cells_a cells_b others_a others_b : List Cell) (numbers : List ℤ) (x
   abbrev HasIt : ℕ → ℕ → Type 0
   HasIt c r = slice_get (p ++ q) c ≡ Some (Some (at' + r))
 
-  taken_at : (c r : ℕ) → HasIt c r → has_cell (xs ++ ys) (at + c) ≡ true → (c < length p) ⊎ IsBehind (length p) c
-      → get_or (s ++ t) r (pos 0) ≡ get_or numbers (at + c) (pos 0)
+  taken_at : (c r : ℕ) → HasIt c r → has_cell (xs ++ ys) (at + c) ≡ true → (c < length p) ⊎ IsBehind (length p) c → get_or (s ++ t) r (pos 0) ≡ get_or numbers (at + c) (pos 0)
   taken_at c r e f (inl lt) =
       let place : slice_get p c ≡ Some (Some (at' + r)) = sym (at_left p q c lt) ∙ e in
       let pair = h.paired.pairs c (at' + r) place in
@@ -95,8 +91,7 @@ module _ (cells_a cells_b others_a others_b : List Cell) (numbers : List ℤ) (x
       (ap (has_cell ys) (sym c_is) ∙ sym (has_second (at + c) (omega arith)) ∙ f)
       ∙ ap (λ (i : ℕ). get_or numbers i (pos 0)) (sym c_is)
 
-  other_at : (r : ℕ) → r < length (others_a ++ others_b) → ((c : ℕ) → HasIt c r → has_cell (xs ++ ys) (at + c) ≡ false)
-      → (r < length others_a) ⊎ IsBehind (length others_a) r
+  other_at : (r : ℕ) → r < length (others_a ++ others_b) → ((c : ℕ) → HasIt c r → has_cell (xs ++ ys) (at + c) ≡ false) → (r < length others_a) ⊎ IsBehind (length others_a) r
       → get_or (s ++ t) r (pos 0) ≡ (get_or (others_a ++ others_b) r no_cell).default
   other_at r lt f (inl less) =
       get_or_append_left s t (pos 0) r (omega arith)
@@ -126,8 +121,6 @@ module _ (cells_a cells_b others_a others_b : List Cell) (numbers : List ℤ) (x
       }
 
 -- one run after the other
-pub goes_append : {cells_a cells_b others_a others_b : List Cell} {numbers : List ℤ} {xs ys : List Slot} {at at' next next' : ℕ}
-    {p q : List (Option ℕ)} {s t : List ℤ} → Goes cells_a others_a numbers xs at at' p s
-    → next ≡ at + length cells_a → next' ≡ at' + length others_a → Goes cells_b others_b numbers ys next next' q t
-    → Goes (cells_a ++ cells_b) (others_a ++ others_b) numbers (xs ++ ys) at at' (p ++ q) (s ++ t)
+pub goes_append : {cells_a cells_b others_a others_b : List Cell} {numbers : List ℤ} {xs ys : List Slot} {at at' next next' : ℕ} {p q : List (Option ℕ)} {s t : List ℤ} → Goes cells_a others_a numbers xs at at' p s
+    → next ≡ at + length cells_a → next' ≡ at' + length others_a → Goes cells_b others_b numbers ys next next' q t → Goes (cells_a ++ cells_b) (others_a ++ others_b) numbers (xs ++ ys) at at' (p ++ q) (s ++ t)
 goes_append h e e' g = joined _ _ _ _ _ _ _ _ _ _ _ _ _ h (rw (e, e') at g)

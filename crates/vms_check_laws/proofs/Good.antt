@@ -1,10 +1,10 @@
 -- What well-formedness gives to the laws on pairs of sets.
-use Rattle.vms_check_laws.proofs.Facade.{◌≡◌, ℕ, suc, ◌+◌, ◌<◌, Bool, true, List, [], ◌∷◌, length, get_or, Option, Some, None, refl, subst, arith, ℤ, nat_lt}
+use Rattle.vms_check_laws.proofs.Facade.{◌≡◌, ℕ, suc, ◌+◌, ◌<◌, Bool, true, List, [], ◌∷◌, length, get_or, Option, Some, None, refl, arith, ℤ, nat_lt}
 use Rattle.vms_check_laws.proofs.Facade.{slice_get, and_parts, and_from, slice_get-get_or, U8, U16, U32, Item, Num, Equal, Unused, Struct, Count, One, Fixed}
 use Rattle.vms_check_laws.proofs.Facade.{Counted, Own, Parent, Formula, AtLeast, Below, Not, And, Or, Field, Desc, Sub, Device, Set, no_desc, counted}
 use Rattle.vms_check_laws.proofs.Facade.{names_well, nobody, is_steady, is_steady_in, is_earlier_in, test_names_well, count_names_well, is_counting, uses_below}
-use Rattle.vms_check_laws.proofs.Facade.{defaults_well, counts_well, has_good_count, field_rules, validation_rules, WellFormed, struct_rules, device_rules}
-use Rattle.vms_check_laws.proofs.Facade.{sub_rules, AllTrue, item_below, Clean, ranges, within, struct_clean, device_parts, sub_clean}
+use Rattle.vms_check_laws.proofs.Facade.{defaults_well, counts_well, has_good_count, field_rules, validation_rules, WellFormed}
+use Rattle.vms_check_laws.proofs.Facade.{AllTrue, item_below, Clean, ranges, within, struct_clean, device_parts, sub_clean}
 use Rattle.vms_spec.specs.Sets.{Cell}
 use Rattle.vms_check_laws.proofs.Presence.{NamedRest, steady}
 use Rattle.vms_check_laws.proofs.Premises.{IsSingle, CountNamed, NewGood, NewFields, RulesNamed}
@@ -102,22 +102,14 @@ module _ (k : ℕ) (d : Desc) where
   old_plains : (i : ℕ) (fs : List Field) → HoldFrom i fs → OldPlains k d.fields fs
   old_plains i [] h = tt
   old_plains i (f ∷ fs) h =
-      let q = facts_here i f fs h in (
-        record { item = item_below k f.item q.below; single = single f.item f.count q.good_count; count = count_known d i f.count q.count },
-        old_plains
-            (suc i) fs (hold_next i f fs h),
-      )
+      let q = facts_here i f fs h in
+      (record { item = item_below k f.item q.below; single = single f.item f.count q.good_count; count = count_known d i f.count q.count }, old_plains (suc i) fs (hold_next i f fs h))
 
   new_fields : (i : ℕ) (fs : List Field) → HoldFrom i fs → NewFields k (is_steady_in d) fs
   new_fields i [] h = tt
   new_fields i (f ∷ fs) h =
       let q = facts_here i f fs h in (
-        record {
-          item = item_below k f.item q.below;
-          single = single f.item f.count q.good_count;
-          count = count_named d i f.count q.count;
-          test = test_named d i f.test q.test;
-        },
+        record { item = item_below k f.item q.below; single = single f.item f.count q.good_count; count = count_named d i f.count q.count; test = test_named d i f.test q.test },
         new_fields (suc i) fs (hold_next i f fs h),
       )
 
@@ -125,12 +117,7 @@ module _ (k : ℕ) (d : Desc) where
   earlier_good : (i : ℕ) (f : Field) → AllTrue (field_rules k d i f) → NewGood k (is_earlier_in d i) f
   earlier_good i f h =
       let q = field_facts k d i f h in
-      record {
-        item = item_below k f.item q.below;
-        single = single f.item f.count q.good_count;
-        count = count_earlier d i f.count q.count;
-        test = test_earlier d i f.test q.test;
-      }
+      record { item = item_below k f.item q.below; single = single f.item f.count q.good_count; count = count_earlier d i f.count q.count; test = test_earlier d i f.test q.test }
 
   defaults_good : (i : ℕ) (fs : List Field) → HoldFrom i fs → DefaultsGood d.fields i fs
   defaults_good i [] h = tt
@@ -152,14 +139,7 @@ module _ (k : ℕ) (d : Desc) where
   desc_good : (rules : List Bool) → Clean k d rules → DescGood
   desc_good rules c =
       let hold : HoldFrom 0 d.fields = λ j f e. let z : j ≡ 0 + j = omega arith in rw (← z) (c.fields j f e) in
-      record {
-        old = old_plains 0 d.fields hold;
-        new = new_fields 0 d.fields hold;
-        earlier = λ i f e. earlier_good i f
-            (c.fields i f e);
-        defaults = defaults_good 0 d.fields hold;
-        rules = rules_named d.validate c.validations;
-      }
+      record { old = old_plains 0 d.fields hold; new = new_fields 0 d.fields hold; earlier = λ i f e. earlier_good i f (c.fields i f e); defaults = defaults_good 0 d.fields hold; rules = rules_named d.validate c.validations }
 
 module _ (set : Set) (well : WellFormed set) where
   pub struct_good : (j : ℕ) → j < length set.structs → DescGood j (get_or set.structs j no_desc)

@@ -1,7 +1,7 @@
 -- Present fields paired by position: what is known of each pair, and which numbers agree.
 use Rattle.vms_check_laws.proofs.Facade.{◌≡◌, ◌⊎◌, inl, inr, ℕ, zero, suc, ◌+◌, ◌*◌, ◌<◌, Bool, true, false, ◌&&◌, List, ◌∷◌, ◌++◌, length, get_or, Option}
 use Rattle.vms_check_laws.proofs.Facade.{Some, None, refl, sym, ap, ◌∙◌, arith, ℤ, pos, if◌then◌else◌, [], length-append, length-map, and_parts, Item, Num}
-use Rattle.vms_check_laws.proofs.Facade.{Struct, Formula, Field, Desc, Cell, counted, capacity_of, item_cells, field_cells, in_field, Part, Place, presence}
+use Rattle.vms_check_laws.proofs.Facade.{Struct, Formula, Field, Desc, Cell, counted, item_cells, field_cells, in_field, Part, Place}
 use Rattle.vms_check_laws.proofs.Facade.{Entry, entry_of, present_from, same_rest, same_count, same_item, same_kind, same_constant, is_covered, holds_as_much}
 use Rattle.vms_check_laws.proofs.Facade.{absent_hold, bound, names_match, Comparer, failing_pair, pair_rules, pair_structs, compare_fields, Carrier, no_carrier}
 use Rattle.vms_check_laws.proofs.Facade.{defaults, carry_item, carry_items, carry_field, carry_next, carry_from, entries_left, default_field, passes, Holds}
@@ -13,7 +13,21 @@ use Rattle.vms_check_laws.proofs.Segments.{holds_left, holds_right, holds_at}
 pub defaults_size : (cells : List Cell) → length (defaults cells) ≡ length cells
 defaults_size cells = length-map cells (λ (c : Cell). c.default)
 
-module _ (ks : List Comparer) (a b : Desc) (v w : ℕ) (part part' : Part) (o n : ℕ → Option ℕ) where
+-- two descriptions at their versions, by the rules of their structures: which parts they are, and where their numbers are among the fields
+pub record Two : Type 0 where
+  pub ks : List Comparer
+  pub a : Desc
+  pub b : Desc
+  pub v : ℕ
+  pub w : ℕ
+  pub part : Part
+  pub part' : Part
+  pub o : ℕ → Option ℕ
+  pub n : ℕ → Option ℕ
+
+module _ (two : Two) where
+  open two use {ks, a, b, v, w, part, part', o, n}
+
   pub record PairGood (e f : Entry) : Type 0 where
     pub rules : failing_pair (pair_rules ks a b v w part part' o n e f) (in_field part e.index) (in_field part' f.index) ≡ None
     pub structs : pair_structs ks a b v w part part' o n e.field.item f.field.item ≡ None
@@ -67,8 +81,7 @@ module _ (ks : List Comparer) (a b : Desc) (v w : ℕ) (part part' : Part) (o n 
       let r8 = passes 8 (same_item e.field.item f.field.item) _ p q r7.1 in
       let r9 = passes 9 (same_rest o n e.rest f.rest) _ p q r8.1 in
       let r10 = passes 10 (names_match e.field f.field) _ p q r9.1 in
-      let r11 =
-      passes 11 (holds_as_much e.field.count f.field.count && absent_hold w f.index (bound e.field.item (counted e.index a.fields)) b.fields) _ p q r10.1 in
+      let r11 = passes 11 (holds_as_much e.field.count f.field.count && absent_hold w f.index (bound e.field.item (counted e.index a.fields)) b.fields) _ p q r10.1 in
       let r12 = passes 12 (same_constant e.field.item f.field.item) [] p q r11.1 in
       let both = and_parts (holds_as_much e.field.count f.field.count) (absent_hold w f.index (bound e.field.item (counted e.index a.fields)) b.fields) r11.0 in
       inr (record { count = r7.0; item = r8.0; rest = r9.0; room = both.0; absent = both.1; constant = r12.0 })
@@ -85,8 +98,7 @@ module _ (ks : List Comparer) (a b : Desc) (v w : ℕ) (part part' : Part) (o n 
     Linked (e ∷ es) (f ∷ fs) = (PairGood e f × Holds numbers' (at' + f.place) (carry_field cs x y numbers own v at e f.field)) × Linked es fs
     Linked _ _ = ⊥
 
-    pub carry_item_size : (i j : Item) (d : ℤ) (k : ℕ) → ItemBelow below' j
-        → length (carry_item cs x y numbers i j (defaults (item_cells y j [] d)) k) ≡ length (item_cells y j [] (pos 0))
+    pub carry_item_size : (i j : Item) (d : ℤ) (k : ℕ) → ItemBelow below' j → length (carry_item cs x y numbers i j (defaults (item_cells y j [] d)) k) ≡ length (item_cells y j [] (pos 0))
     carry_item_size (Num k) (Num l) d p lt = choice (same_kind k l) where
       choice : (c : Bool) → length (if c then get_or numbers p (pos 0) ∷ [] else d ∷ []) ≡ 1
       choice true = refl
@@ -95,21 +107,17 @@ module _ (ks : List Comparer) (a b : Desc) (v w : ℕ) (part part' : Part) (o n 
     carry_item_size _ (Struct j) d p lt = defaults_size _
     carry_item_size _ _ d p lt = refl
 
-    pub carry_items_size : (i j : Item) (d : ℤ) (step m most k : ℕ) → ItemBelow below' j
-        → length (carry_items cs x y numbers i j (defaults (item_cells y j [] d)) step m most k) ≡ most * length (item_cells y j [] (pos 0))
+    pub carry_items_size : (i j : Item) (d : ℤ) (step m most k : ℕ) → ItemBelow below' j → length (carry_items cs x y numbers i j (defaults (item_cells y j [] d)) step m most k) ≡ most * length (item_cells y j [] (pos 0))
     carry_items_size i j d step m zero k lt = omega arith
     carry_items_size i j d step zero (suc most) k lt =
-        length-append (defaults (item_cells y j [] d)) _ ∙ ap
-        (λ (r : ℕ). r + length (carry_items cs x y numbers i j (defaults (item_cells y j [] d)) step zero most k))
-        (defaults_size (item_cells y j [] d) ∙ size_same y j [] d)
+        length-append (defaults (item_cells y j [] d)) _ ∙ ap (λ (r : ℕ). r + length (carry_items cs x y numbers i j (defaults (item_cells y j [] d)) step zero most k)) (defaults_size (item_cells y j [] d) ∙ size_same y j [] d)
         ∙ ap (λ (r : ℕ). length (item_cells y j [] (pos 0)) + r) (carry_items_size i j d step zero most k lt) ∙ grind arith
     carry_items_size i j d step (suc m) (suc most) k lt =
         length-append (carry_item cs x y numbers i j (defaults (item_cells y j [] d)) k) _
         ∙ ap (λ (r : ℕ). r + length (carry_items cs x y numbers i j (defaults (item_cells y j [] d)) step m most (k + step))) (carry_item_size i j d k lt)
         ∙ ap (λ (r : ℕ). length (item_cells y j [] (pos 0)) + r) (carry_items_size i j d step m most (k + step) lt) ∙ grind arith
 
-    pub carry_field_size : (e : Entry) (all : List Field) (i : ℕ) (f : Field) → ItemBelow below' f.item
-        → length (carry_field cs x y numbers own v at e f) ≡ length (field_cells y all i f)
+    pub carry_field_size : (e : Entry) (all : List Field) (i : ℕ) (f : Field) → ItemBelow below' f.item → length (carry_field cs x y numbers own v at e f) ≡ length (field_cells y all i f)
     carry_field_size e all i f lt = carry_items_size e.field.item f.item f.default _ _ _ _ lt ∙ sym (field_size y all i f)
 
     link_next : (i p : ℕ) (g : Field) (pr : Option (Option Formula)) (es after : List Entry) (rest : List Entry → List ℤ) → ItemBelow below' g.item

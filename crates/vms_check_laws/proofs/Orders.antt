@@ -20,8 +20,7 @@ at_set (z ∷ xs) zero x y h = refl
 at_set (z ∷ xs) (suc k) x y h = at_set xs k x y h
 
 -- two that are found back are one where their numbers are
-pub found_same : {A : Type 0} (xs : List A) (back : A → Option ℕ) (n n' i i' : ℕ) (x x' : A) → n ≡ n' → slice_get xs n ≡ Some x → slice_get xs n' ≡ Some x'
-    → back x ≡ Some i → back x' ≡ Some i' → i ≡ i'
+pub found_same : {A : Type 0} (xs : List A) (back : A → Option ℕ) (n n' i i' : ℕ) (x x' : A) → n ≡ n' → slice_get xs n ≡ Some x → slice_get xs n' ≡ Some x' → back x ≡ Some i → back x' ≡ Some i' → i ≡ i'
 found_same xs back n n' i i' x x' same e e' b b' =
     let some_same : Some x ≡ Some x' = sym e ∙ ap (slice_get xs) same ∙ e' in
     let one : x ≡ x' = cc in
@@ -29,8 +28,7 @@ found_same xs back n n' i i' x x' same e e' b b' =
     cc
 
 -- what is still open after one is done is among the rest
-still : {A : Type 0} (xs : List A) (j k : ℕ) (order : List ℕ) (done x y : A) → slice_get xs j ≡ Some y → (x ≡ done → ⊥)
-    → slice_get (slice_set xs j done) k ≡ Some x
+still : {A : Type 0} (xs : List A) (j k : ℕ) (order : List ℕ) (done x y : A) → slice_get xs j ≡ Some y → (x ≡ done → ⊥) → slice_get (slice_set xs j done) k ≡ Some x
     → (slice_get xs k ≡ Some x → Among k (j ∷ order)) → Among k order
 still xs j k order done x y e ne h covers = by (k == j) refl
   where
@@ -61,8 +59,7 @@ none_left [] h = tt
 none_left (None ∷ left) h = none_left left (λ j v e. h (suc j) v e)
 none_left (Some u ∷ left) h = h 0 u refl
 
-pub comes_once : (left : List (Option ℕ)) (order : List ℕ) → Apart order → Come left order → ((j v : ℕ) → slice_get left j ≡ Some (Some v) → Among j order)
-    → ComesOnce left order
+pub comes_once : (left : List (Option ℕ)) (order : List ℕ) → Apart order → Come left order → ((j v : ℕ) → slice_get left j ≡ Some (Some v) → Among j order) → ComesOnce left order
 comes_once left [] apart come covers = none_left left covers
 comes_once left (j ∷ order) apart come covers = (
   come.0,
@@ -85,11 +82,7 @@ all_came [] h = tt
 all_came (true ∷ came) h = all_came came (λ j e. h (suc j) e)
 all_came (false ∷ came) h = h 0 refl
 
-pub each_comes : (came : List Bool) (order : List ℕ) → Apart order → Wait came order → ((j : ℕ) → slice_get came j ≡ Some false → Among j order)
-    → EachOnce came order
+pub each_comes : (came : List Bool) (order : List ℕ) → Apart order → Wait came order → ((j : ℕ) → slice_get came j ≡ Some false → Among j order) → EachOnce came order
 each_comes came [] apart wait covers = all_came came covers
-each_comes came (j ∷ order) apart wait covers = (
-  wait.0,
-  each_comes (slice_set came j true) order apart.1 (wait_left came j order apart.0 wait.1)
-      (λ k e. still came j k order true false false wait.0 (λ q. cc) e (covers k)),
-)
+each_comes came (j ∷ order) apart wait covers =
+    (wait.0, each_comes (slice_set came j true) order apart.1 (wait_left came j order apart.0 wait.1) (λ k e. still came j k order true false false wait.0 (λ q. cc) e (covers k)))

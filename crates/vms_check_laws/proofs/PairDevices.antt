@@ -1,8 +1,8 @@
 -- The partners of a device's cells.
 use Rattle.vms_check_laws.proofs.Facade.{◌≡◌, ◌⊎◌, inl, inr, ℕ, zero, suc, ◌+◌, ◌<◌, ◌≤◌, Bool, true, false, List, [], ◌∷◌, ◌++◌, length, get_or, Option, Some}
-use Rattle.vms_check_laws.proofs.Facade.{None, refl, sym, ap, ◌∙◌, subst, arith, nat_lt, if◌then◌else◌, bytes_eq, flat_map, slice_get, bytes_eq-Decides}
-use Rattle.vms_check_laws.proofs.Facade.{get_or_append_left, get_or-append-add, length-replicate, ltb-true, ltb-false, at_option, Sub, Device, Set, Cell}
-use Rattle.vms_check_laws.proofs.Facade.{no_cell, desc_cells, device_cells, struct_cells, own_cells, sub_place, find_sub, WellFormed, device_rules, sub_rules}
+use Rattle.vms_check_laws.proofs.Facade.{None, refl, sym, ap, ◌∙◌, arith, nat_lt, if◌then◌else◌, bytes_eq, flat_map, slice_get, bytes_eq-Decides}
+use Rattle.vms_check_laws.proofs.Facade.{get_or_append_left, get_or-append-add, length-replicate, ltb-true, ltb-false, Sub, Device, Set, Cell}
+use Rattle.vms_check_laws.proofs.Facade.{no_cell, desc_cells, device_cells, struct_cells, own_cells, sub_place, find_sub, WellFormed}
 use Rattle.vms_check_laws.proofs.Facade.{sub_size, sub_place_up, places_apart, device_parts, sub_clean, sub_found, PartnersLaw, ArePartners, part_partners}
 use Rattle.vms_check_laws.proofs.Facade.{sub_partners, named_partners, device_partners}
 use Rattle.std.proofs.Common.{length-append}
@@ -19,8 +19,7 @@ pub record Found (subs : List Sub) (name : List ℕ) (l : ℕ) : Type 0 where
 found_from : (k : ℕ) (subs : List Sub) (name : List ℕ) (r : ℕ) → find_sub k subs name ≡ Some r → (j : ℕ) × (r ≡ k + j) × Found subs name j
 found_from k [] name r h = absurd (cc)
 found_from k (s ∷ subs) name r h =
-    let choice : (c : Bool) → bytes_eq s.desc.name name ≡ c → (if c then Some k else find_sub (suc k) subs name) ≡ Some r → (j : ℕ) × (r ≡ k + j) × Found
-    (s ∷ subs) name j = elim [
+    let choice : (c : Bool) → bytes_eq s.desc.name name ≡ c → (if c then Some k else find_sub (suc k) subs name) ≡ Some r → (j : ℕ) × (r ≡ k + j) × Found (s ∷ subs) name j = elim [
       | true ↦ λ e g. let same : k ≡ r = cc in (0, omega arith, record { sub = s; there = refl; name_is = (bytes_eq-Decides s.desc.name name).0 e })
       | false ↦ λ e g. let f = found_from (suc k) subs name r g in (suc f.0, omega arith, record { sub = f.2.sub; there = f.2.there; name_is = f.2.name_is })
     ] in
@@ -36,8 +35,7 @@ found subs name l h =
 pub cell_of_sub : (set : Set) (from : ℕ) (subs : List Sub) (l : ℕ) (t : Sub) → slice_get subs l ≡ Some t
     → (q : ℕ) × (sub_place set from subs l ≡ from + q)
     × (q + sub_size set t ≤ length (flat_map (λ s. desc_cells (struct_cells set) s.desc) subs))
-    × ((r : ℕ) → r < sub_size set t → get_or (flat_map (λ s. desc_cells (struct_cells set) s.desc) subs) (q + r) no_cell ≡ get_or
-    (desc_cells (struct_cells set) t.desc) r no_cell)
+    × ((r : ℕ) → r < sub_size set t → get_or (flat_map (λ s. desc_cells (struct_cells set) s.desc) subs) (q + r) no_cell ≡ get_or (desc_cells (struct_cells set) t.desc) r no_cell)
 cell_of_sub set from [] l t e = absurd (cc)
 cell_of_sub set from (s ∷ subs) zero t e =
     let same : s ≡ t = cc in
@@ -49,8 +47,7 @@ cell_of_sub set from (s ∷ subs) zero t e =
       omega (arith, length-append cells rest),
       λ r lt.
           let z : 0 + r ≡ r = omega arith in
-          ap (λ (n : ℕ). get_or (cells ++ rest) n no_cell) z ∙ get_or_append_left cells rest no_cell r (omega arith) ∙ ap
-          (λ (u : Sub). get_or (desc_cells (struct_cells set) u.desc) r no_cell) same,
+          ap (λ (n : ℕ). get_or (cells ++ rest) n no_cell) z ∙ get_or_append_left cells rest no_cell r (omega arith) ∙ ap (λ (u : Sub). get_or (desc_cells (struct_cells set) u.desc) r no_cell) same,
     )
 cell_of_sub set from (s ∷ subs) (suc l) t e =
     let cells = desc_cells (struct_cells set) s.desc in
@@ -107,15 +104,12 @@ module _ (old new : Set) (good_old : WellFormed old) (good_new : WellFormed new)
         (rw f.there
         (record {
           long = p.long;
-          pairs = λ c k g.
-              let q = p.pairs c k g in
-              record { l = l; t = f.sub; there = f.there; name_is = f.name_is; r = q.r; is = q.is; inside = q.inside; kind = q.kind };
+          pairs = λ c k g. let q = p.pairs c k g in record { l = l; t = f.sub; there = f.there; name_is = f.name_is; r = q.r; is = q.is; inside = q.inside; kind = q.kind };
           once = p.once;
         }))
 
   -- a pair says only the kind of its older cell
-  at_kind : (cells cells' : List Cell) (name : List ℕ) (c c' k : ℕ) → IsSubPair cells name c k
-      → (get_or cells' c' no_cell).kind ≡ (get_or cells c no_cell).kind → IsSubPair cells' name c' k
+  at_kind : (cells cells' : List Cell) (name : List ℕ) (c c' k : ℕ) → IsSubPair cells name c k → (get_or cells' c' no_cell).kind ≡ (get_or cells c no_cell).kind → IsSubPair cells' name c' k
   at_kind cells cells' name c c' k x same =
       record { l = x.l; t = x.t; there = x.there; name_is = x.name_is; r = x.r; is = x.is; inside = x.inside; kind = same ∙ x.kind }
 
@@ -192,8 +186,7 @@ module _ (old new : Set) (good_old : WellFormed old) (good_new : WellFormed new)
           once = once_append p q h.once g.once apart;
         }
 
-  all_subs : (subs : List Sub) → AreDistinct subs → ((m : ℕ) (s : Sub) → slice_get subs m ≡ Some s → OneSub s (named_partners old new e s))
-      → AllSubs subs (flat_map (named_partners old new e) subs)
+  all_subs : (subs : List Sub) → AreDistinct subs → ((m : ℕ) (s : Sub) → slice_get subs m ≡ Some s → OneSub s (named_partners old new e s)) → AllSubs subs (flat_map (named_partners old new e) subs)
   all_subs [] distinct h = record { long = refl; pairs = λ c k f. absurd (cc); once = λ b c k f g. absurd (cc) }
   all_subs (s ∷ subs) distinct h =
       joined s subs _ _ distinct (h 0 s refl)
@@ -201,8 +194,7 @@ module _ (old new : Set) (good_old : WellFormed old) (good_new : WellFormed new)
 
   distinct : AreDistinct d.subs
   distinct m m' s s' f f' n =
-      let same : Some m ≡ Some m' =
-      sym (sub_found old good_old i m d s at_i f) ∙ ap (λ (name : List ℕ). find_sub 0 d.subs name) n ∙ sub_found old good_old i m' d s' at_i f' in
+      let same : Some m ≡ Some m' = sym (sub_found old good_old i m d s at_i f) ∙ ap (λ (name : List ℕ). find_sub 0 d.subs name) n ∙ sub_found old good_old i m' d s' at_i f' in
       cc
 
   -- ---- the device
@@ -241,8 +233,7 @@ module _ (old new : Set) (good_old : WellFormed old) (good_new : WellFormed new)
       let k_is : p.r ≡ k = omega (arith, is) in (
         omega (arith, is, inside, length-append us (flat_map new_cells e.subs)),
         ap (λ (u : Cell). u.kind) (get_or_append_left xs (flat_map old_cells d.subs) no_cell c (omega (arith, lt, long))) ∙ p.kind
-            ∙ sym (ap (λ (u : Cell). u.kind) (get_or_append_left us (flat_map new_cells e.subs) no_cell p.r inside)) ∙ ap
-            (λ (n : ℕ). (get_or (device_cells new e) n no_cell).kind) k_is,
+            ∙ sym (ap (λ (u : Cell). u.kind) (get_or_append_left us (flat_map new_cells e.subs) no_cell p.r inside)) ∙ ap (λ (n : ℕ). (get_or (device_cells new e) n no_cell).kind) k_is,
       )
   kinds c k f (inr behind) =
       let z = sub_pair c k behind f in
@@ -257,10 +248,8 @@ module _ (old new : Set) (good_old : WellFormed old) (good_new : WellFormed new)
       let c_is : c ≡ length xs + behind.more = omega (arith, b_is, long) in
       let k_is : length us + (h.0 + p.r) ≡ k = omega (arith, place, is) in (
         omega (arith, k_is, inside, within, length-append us (flat_map new_cells e.subs)),
-        ap (λ (n : ℕ). (get_or (device_cells old d) n no_cell).kind) c_is ∙ ap (λ (u : Cell). u.kind)
-            (get_or-append-add xs (flat_map old_cells d.subs) behind.more no_cell) ∙ p.kind
-            ∙ sym (ap (λ (u : Cell). u.kind) (get_or-append-add us (flat_map new_cells e.subs) (h.0 + p.r) no_cell ∙ h.3 p.r inside)) ∙ ap
-            (λ (n : ℕ). (get_or (device_cells new e) n no_cell).kind) k_is,
+        ap (λ (n : ℕ). (get_or (device_cells old d) n no_cell).kind) c_is ∙ ap (λ (u : Cell). u.kind) (get_or-append-add xs (flat_map old_cells d.subs) behind.more no_cell) ∙ p.kind
+            ∙ sym (ap (λ (u : Cell). u.kind) (get_or-append-add us (flat_map new_cells e.subs) (h.0 + p.r) no_cell ∙ h.3 p.r inside)) ∙ ap (λ (n : ℕ). (get_or (device_cells new e) n no_cell).kind) k_is,
       )
 
   apart_own : Apart ps qs

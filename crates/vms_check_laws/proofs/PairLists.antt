@@ -62,17 +62,12 @@ abbrev pub Apart : List (Option ℕ) → List (Option ℕ) → Type 0
 Apart p q = (b c k : ℕ) → b < length p → IsBehind (length p) c → slice_get (p ++ q) b ≡ Some (Some k) → slice_get (p ++ q) c ≡ Some (Some k) → ⊥
 
 module _ (p q : List (Option ℕ)) (first : IsOnce p) (second : IsOnce q) (apart : Apart p q) where
-  once_either : (b c k : ℕ) → slice_get (p ++ q) b ≡ Some (Some k) → slice_get (p ++ q) c ≡ Some (Some k) → (b < length p) ⊎ IsBehind (length p) b
-      → (c < length p) ⊎ IsBehind (length p) c → b ≡ c
+  once_either : (b c k : ℕ) → slice_get (p ++ q) b ≡ Some (Some k) → slice_get (p ++ q) c ≡ Some (Some k) → (b < length p) ⊎ IsBehind (length p) b → (c < length p) ⊎ IsBehind (length p) c → b ≡ c
   once_either b c k e f (inl lb) (inl lc) = first b c k (sym (at_left p q b lb) ∙ e) (sym (at_left p q c lc) ∙ f)
   once_either b c k e f (inl lb) (inr dc) = absurd (apart b c k lb dc e f)
   once_either b c k e f (inr db) (inl lc) = absurd (apart c b k lc db f e)
   once_either b c k e f (inr db) (inr dc) =
-      omega (
-        arith,
-        second db.more dc.more k (sym (at_right p q db.more) ∙ ap (slice_get (p ++ q)) (sym db.is) ∙ e)
-            (sym (at_right p q dc.more) ∙ ap (slice_get (p ++ q)) (sym dc.is) ∙ f),
-      )
+      omega (arith, second db.more dc.more k (sym (at_right p q db.more) ∙ ap (slice_get (p ++ q)) (sym db.is) ∙ e) (sym (at_right p q dc.more) ∙ ap (slice_get (p ++ q)) (sym dc.is) ∙ f))
 
   pub once_append : IsOnce (p ++ q)
   once_append b c k e f = once_either b c k e f (before_or_behind _ b) (before_or_behind _ c)
@@ -100,8 +95,7 @@ module _ (xs ys us vs : List Cell) (at : ℕ) (p q : List (Option ℕ)) (h : Are
         r = length us + i.r;
         is = omega arith;
         inside = omega (arith, length-append us vs);
-        kind = ap (λ (n : ℕ). (get_or (xs ++ ys) n no_cell).kind) place ∙ rw
-            (get_or-append-add xs ys b.more no_cell, get_or-append-add us vs i.r no_cell) i.kind;
+        kind = ap (λ (n : ℕ). (get_or (xs ++ ys) n no_cell).kind) place ∙ rw (get_or-append-add xs ys b.more no_cell, get_or-append-add us vs i.r no_cell) i.kind;
       }
 
   apart : Apart p q
@@ -117,17 +111,14 @@ module _ (xs ys us vs : List Cell) (at : ℕ) (p q : List (Option ℕ)) (h : Are
     once = once_append p q h.once g.once apart;
   }
 
-pub paired_append : {xs ys us vs : List Cell} {at next : ℕ} {p q : List (Option ℕ)} → AreFrom xs us at p → next ≡ at + length us → AreFrom ys vs next q
-    → AreFrom (xs ++ ys) (us ++ vs) at (p ++ q)
+pub paired_append : {xs ys us vs : List Cell} {at next : ℕ} {p q : List (Option ℕ)} → AreFrom xs us at p → next ≡ at + length us → AreFrom ys vs next q → AreFrom (xs ++ ys) (us ++ vs) at (p ++ q)
 paired_append h e g = joined _ _ _ _ _ _ _ h (rw e at g)
 
 -- others before them, or with which nothing is paired
-pub paired_behind : {cells others : List Cell} {at next : ℕ} {p : List (Option ℕ)} (gap : List Cell) → next ≡ at + length gap → AreFrom cells others next p
-    → AreFrom cells (gap ++ others) at p
+pub paired_behind : {cells others : List Cell} {at next : ℕ} {p : List (Option ℕ)} (gap : List Cell) → next ≡ at + length gap → AreFrom cells others next p → AreFrom cells (gap ++ others) at p
 paired_behind {at = at} gap e h = paired_append (paired_none [] gap at 0 refl) e h
 
-pub paired_skip : {ys others : List Cell} {at : ℕ} {p : List (Option ℕ)} (xs : List Cell) (n : ℕ) → n ≡ length xs → AreFrom ys others at p
-    → AreFrom (xs ++ ys) others at (replicate n None ++ p)
+pub paired_skip : {ys others : List Cell} {at : ℕ} {p : List (Option ℕ)} (xs : List Cell) (n : ℕ) → n ≡ length xs → AreFrom ys others at p → AreFrom (xs ++ ys) others at (replicate n None ++ p)
 paired_skip {at = at} xs n e h = paired_append (paired_none xs [] at n e) (omega arith) h
 
 pub record Settled (slots : List Slot) (at : ℕ) (cells : List Cell) (segment : List ℤ) : Type 0 where
@@ -146,25 +137,21 @@ defaults_append (x ∷ xs) ys = rw (defaults_append xs ys)
 pub has_itself : (y : ℕ) (k : Kind) (caps : List ℕ) → has_cell (Number y k caps ∷ []) y ≡ true
 has_itself y k caps = rw (eq-eqb y y refl)
 
-pub settled_append : {s t : List Slot} {at next : ℕ} {xs ys : List Cell} {zs us : List ℤ} → length zs ≡ length xs → Settled s at xs zs → next ≡ at + length zs
-    → Settled t next ys us
+pub settled_append : {s t : List Slot} {at next : ℕ} {xs ys : List Cell} {zs us : List ℤ} → length zs ≡ length xs → Settled s at xs zs → next ≡ at + length zs → Settled t next ys us
     → Settled (s ++ t) at (xs ++ ys) (zs ++ us)
 settled_append {s} {t} {at} {next} {xs} {ys} {zs} {us} size h e k = record { each = λ c lt. by c lt (before_or_behind _ c) } where
   sizes : length (defaults xs) ≡ length zs
   sizes = length-map xs (λ (x : Cell). x.default) ∙ sym size
 
-  by : (c : ℕ) → c < length (zs ++ us) → (c < length zs) ⊎ IsBehind (length zs) c
-      → (has_cell (s ++ t) (at + c) ≡ true) ⊎ (get_or (zs ++ us) c (pos 0) ≡ get_or (defaults (xs ++ ys)) c (pos 0))
+  by : (c : ℕ) → c < length (zs ++ us) → (c < length zs) ⊎ IsBehind (length zs) c → (has_cell (s ++ t) (at + c) ≡ true) ⊎ (get_or (zs ++ us) c (pos 0) ≡ get_or (defaults (xs ++ ys)) c (pos 0))
   by c lt (inl less) =
-      rw (defaults_append, get_or_append_left zs us (pos 0) c less, get_or_append_left (defaults xs) (defaults ys) (pos 0) c (omega (arith, sizes)))
-      (elim (h.each c less) [
+      rw (defaults_append, get_or_append_left zs us (pos 0) c less, get_or_append_left (defaults xs) (defaults ys) (pos 0) c (omega (arith, sizes))) (elim (h.each c less) [
         | inl has ↦ inl (has_left s t (at + c) has)
         | inr is ↦ inr is
       ])
   by c lt (inr b) =
       let place : next + b.more ≡ at + (length (defaults xs) + b.more) = omega (arith, sizes) in
-      rw (defaults_append, b.is, get_or-append-add zs us b.more (pos 0), ← sizes, get_or-append-add (defaults xs) (defaults ys) b.more (pos 0))
-      (elim (k.each b.more (omega (arith, length-append zs us))) [
+      rw (defaults_append, b.is, get_or-append-add zs us b.more (pos 0), ← sizes, get_or-append-add (defaults xs) (defaults ys) b.more (pos 0)) (elim (k.each b.more (omega (arith, length-append zs us))) [
         | inl has ↦ inl (has_right s t _ (rw place at has))
         | inr is ↦ inr is
       ])

@@ -41,8 +41,7 @@ module _ (structs : List Meaning) (all : List Field) (v : ℕ) (own : ℕ → �
   entry_slots i p f None es h = rw (presence_there f.test f.since v own no_parent, h)
   entry_slots i p f (Some rest) es h = refl
 
-  pub slots_entries : (i p : ℕ) (fs : List Field)
-      → slots_from structs all v own numbers i (base + p) fs ≡ entries_slots (present_from (cells_in structs) all v i p fs)
+  pub slots_entries : (i p : ℕ) (fs : List Field) → slots_from structs all v own numbers i (base + p) fs ≡ entries_slots (present_from (cells_in structs) all v i p fs)
   slots_entries i p [] = refl
   slots_entries i p (f ∷ fs) =
       let len = length (field_cells (cells_in structs) all i f) in
@@ -76,8 +75,7 @@ module _ (structs : List Meaning) (all : List Field) (v : ℕ) (numbers : List �
   AreKnown [] = Unit {0}
   AreKnown (e ∷ es) = IsKnown e × AreKnown es
 
-  own_is : (i p : ℕ) (f : Field) → slice_get all i ≡ Some f → place i ≡ base + p
-      → own_of i ≡ residue (width (kind_of f.item)) (get_or numbers (base + p) (pos 0))
+  own_is : (i p : ℕ) (f : Field) → slice_get all i ≡ Some f → place i ≡ base + p → own_of i ≡ residue (width (kind_of f.item)) (get_or numbers (base + p) (pos 0))
   own_is i p f h e = rw (at_get all i f h, e)
 
   entry_known : (i p : ℕ) (f : Field) (pr : Option (Option Formula)) (es : List Entry) → presence v f.test f.since ≡ pr → slice_get all i ≡ Some f
@@ -114,8 +112,7 @@ module _ (structs : List Meaning) (all : List Field) (v : ℕ) (numbers : List �
   fit_entry i p f None es fits more = more
   fit_entry i p f (Some rest) es fits more = (fits, more)
 
-  pub fit_entries : (i p : ℕ) (fs : List Field) → FitsAt (cells_from (cells_in structs) all i fs) numbers (base + p)
-      → FitEntries (present_from (cells_in structs) all v i p fs)
+  pub fit_entries : (i p : ℕ) (fs : List Field) → FitsAt (cells_from (cells_in structs) all i fs) numbers (base + p) → FitEntries (present_from (cells_in structs) all v i p fs)
   fit_entries i p [] fits = tt
   fit_entries i p (f ∷ fs) fits =
       let here_cells = field_cells (cells_in structs) all i f in

@@ -19,8 +19,7 @@ module _ (set : Set) where
   in_one : (from : ℕ) (subs : List Sub) (c : ℕ) → from ≤ c → c < from + length (flat_map cells_of subs) → IsIn from subs c
   in_one from [] c low high = absurd (omega arith)
   in_one from (s ∷ subs) c low high =
-      go (λ le. in_one (from + sub_size set s) subs c le (omega (arith, high, length-append (cells_of s) (flat_map cells_of subs))))
-      (nat_lt c (from + sub_size set s)) refl
+      go (λ le. in_one (from + sub_size set s) subs c le (omega (arith, high, length-append (cells_of s) (flat_map cells_of subs)))) (nat_lt c (from + sub_size set s)) refl
     where
       go : (from + sub_size set s ≤ c → IsIn (from + sub_size set s) subs c) → (b : Bool) → nat_lt c (from + sub_size set s) ≡ b → IsIn from (s ∷ subs) c
       go more true e = record { j = 0; sub = s; is = refl; low = low; high = ltb-true c (from + sub_size set s) e }

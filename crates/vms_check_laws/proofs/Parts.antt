@@ -1,8 +1,8 @@
 -- A part of a device (its own fields, or a subsection) in two well-formed sets that compare well there. Subsections of a device: new's
 -- own list, each from old's of its name where it came.
-use Rattle.vms_check_laws.proofs.Facade.{◌≡◌, ℕ, List, [], length, None, subst, sym, arith, ℤ, Part, Desc, Set, Cell, Meaning, meanings, struct_cells}
+use Rattle.vms_check_laws.proofs.Facade.{◌≡◌, ℕ, List, [], length, None, sym, arith, ℤ, Part, Desc, Set, Cell, Meaning, meanings, struct_cells}
 use Rattle.vms_check_laws.proofs.Facade.{desc_cells, desc_slots, WellFormed, Comparer, comparers, compare_desc, comparing, Carrier, carriers, carry_desc}
-use Rattle.vms_check_laws.proofs.Facade.{carrying, cells_first, Holds, FitsAt, Carries, is_steady_in, ◌⊎◌, inl, inr, zero, suc, ◌+◌, ◌∷◌, map, Option, Some}
+use Rattle.vms_check_laws.proofs.Facade.{carrying, cells_first, Holds, FitsAt, Carries, ◌⊎◌, inl, inr, zero, suc, ◌+◌, ◌∷◌, map, Option, Some}
 use Rattle.vms_check_laws.proofs.Facade.{refl, ap, flat_map, slice_get, Sub, Device, Image, IsVersionOf, AreVersionsOf, RulesHold, sub_slots, sub_place}
 use Rattle.vms_check_laws.proofs.Facade.{came_slots, carried_sub, defaults, rules_append}
 use Rattle.vms_check_laws.proofs.Pairing.{cells_in}
@@ -70,8 +70,7 @@ module _ (old new : Set) (good_old : WellFormed old) (good_new : WellFormed new)
         held_in = to_meanings (λ x y. Holds numbers' at' (carry_desc (cs x y) x y numbers v v a b at)) held
 
         reads : Carries numbers (desc_slots ms a v numbers at) numbers' (desc_slots ns b v numbers' at')
-            × Settled (desc_slots ns b v numbers' at') at' (desc_cells (cells_in ns) b)
-            (carry_desc (cs (cells_in ms) (cells_in ns)) (cells_in ms) (cells_in ns) numbers v v a b at)
+            × Settled (desc_slots ns b v numbers' at') at' (desc_cells (cells_in ns) b) (carry_desc (cs (cells_in ms) (cells_in ns)) (cells_in ms) (cells_in ns) numbers v v a b at)
         reads =
             let k = length new.structs in
             desc_reads (ks (cells_in ms) (cells_in ns)) (cs (cells_in ms) (cells_in ns)) ms ns a b v v part part' numbers numbers' at at' (length old.structs) k
@@ -88,8 +87,7 @@ module _ (old new : Set) (good_old : WellFormed old) (good_new : WellFormed new)
         pub part_settles : Settled (desc_slots ns b v numbers' at') at' (desc_cells (struct_cells new) b) (carrying old new numbers v a b at)
         part_settles = to_cells (λ x y. Settled (desc_slots ns b v numbers' at') at' (desc_cells y b) (carry_desc (cs x y) x y numbers v v a b at)) reads.1
 
-module _ (old new : Set) (good_old : WellFormed old) (good_new : WellFormed new) (d e : Device) (image : Image) (numbers' : List ℤ)
-    (came_of : Sub → Option ℕ) where
+module _ (old new : Set) (good_old : WellFormed old) (good_new : WellFormed new) (d e : Device) (image : Image) (numbers' : List ℤ) (came_of : Sub → Option ℕ) where
   abbrev cells_of : Sub → List Cell
   cells_of t = desc_cells (struct_cells new) t.desc
 
@@ -140,15 +138,13 @@ module _ (old new : Set) (good_old : WellFormed old) (good_new : WellFormed new)
       part_carries old new good_old good_new c.sub.desc t.desc c.version c.part c.part' c.good c.good' c.same image.numbers c.place c.fits numbers' place'
       (rw (← c.numbers) held)
 
-  sub_settles : (t : Sub) (c : Came t) (place' : ℕ) → Holds numbers' place' (carried_of t)
-      → Settled (sub_slots new t c.version numbers' place') place' (cells_of t) (carried_of t)
+  sub_settles : (t : Sub) (c : Came t) (place' : ℕ) → Holds numbers' place' (carried_of t) → Settled (sub_slots new t c.version numbers' place') place' (cells_of t) (carried_of t)
   sub_settles t c place' held =
       rw c.numbers
       (part_settles old new good_old good_new c.sub.desc t.desc c.version c.part c.part' c.good c.good' c.same image.numbers c.place c.fits numbers' place'
       (rw (← c.numbers) held))
 
-  next_place : (t : Sub) (ts : List Sub) (place : ℕ) → Stayed t ⊎ Came t → Holds numbers' place (flat_map carried_of (t ∷ ts))
-      → Holds numbers' (place + length (cells_of t)) (flat_map carried_of ts)
+  next_place : (t : Sub) (ts : List Sub) (place : ℕ) → Stayed t ⊎ Came t → Holds numbers' place (flat_map carried_of (t ∷ ts)) → Holds numbers' (place + length (cells_of t)) (flat_map carried_of ts)
   next_place t ts place f held =
       holds_at (ap (λ (n : ℕ). place + n) (one_size t f)) (holds_right _ held)
 
@@ -158,20 +154,13 @@ module _ (old new : Set) (good_old : WellFormed old) (good_new : WellFormed new)
     pub rules : RulesHold (came_slots new e numbers' place ts (map came_of ts))
     pub settled : Settled (came_slots new e numbers' place ts (map came_of ts)) place (flat_map cells_of ts) (flat_map carried_of ts)
 
-  one_reads : (t : Sub) (ts : List Sub) (place : ℕ) → Stayed t ⊎ Came t → Holds numbers' place (carried_of t) → length (carried_of t) ≡ length (cells_of t)
-      → Reads ts (place + length (cells_of t)) → Reads (t ∷ ts) place
+  one_reads : (t : Sub) (ts : List Sub) (place : ℕ) → Stayed t ⊎ Came t → Holds numbers' place (carried_of t) → length (carried_of t) ≡ length (cells_of t) → Reads ts (place + length (cells_of t)) → Reads (t ∷ ts) place
   one_reads t ts place (inl s) held size h =
       let first : Settled [] place (cells_of t) (carried_of t) = rw s.numbers (settled_defaults [] place (cells_of t)) in
-      record {
-        versions = rw s.came h.versions;
-        rules = rw s.came h.rules;
-        settled = rw s.came
-            (settled_append size first (ap (λ (n : ℕ). place + n) (sym size)) h.settled);
-      }
+      record { versions = rw s.came h.versions; rules = rw s.came h.rules; settled = rw s.came (settled_append size first (ap (λ (n : ℕ). place + n) (sym size)) h.settled) }
   one_reads t ts place (inr c) held size h = record {
     versions = rw c.came (c.within, h.versions);
-    rules = rw c.came (rules_append (sub_slots new t c.version numbers' place) (came_slots new e numbers' (place + length (cells_of t)) ts (map came_of ts))
-        ((sub_carries t c place held).rules c.rules) h.rules);
+    rules = rw c.came (rules_append (sub_slots new t c.version numbers' place) (came_slots new e numbers' (place + length (cells_of t)) ts (map came_of ts)) ((sub_carries t c place held).rules c.rules) h.rules);
     settled = rw c.came (settled_append size (sub_settles t c place held) (ap (λ (n : ℕ). place + n) (sym size)) h.settled);
   }
 
@@ -181,8 +170,7 @@ module _ (old new : Set) (good_old : WellFormed old) (good_new : WellFormed new)
       one_reads t ts place h.0 (holds_left _ held) (one_size t h.0) (subs_read ts (place + length (cells_of t)) h.1 (next_place t ts place h.0 held))
 
   -- each subsection of new is where its cells begin
-  pub sub_held : (ts : List Sub) (place l : ℕ) (t : Sub) → slice_get ts l ≡ Some t → Facts ts → Holds numbers' place (flat_map carried_of ts)
-      → Holds numbers' (sub_place new place ts l) (carried_of t)
+  pub sub_held : (ts : List Sub) (place l : ℕ) (t : Sub) → slice_get ts l ≡ Some t → Facts ts → Holds numbers' place (flat_map carried_of ts) → Holds numbers' (sub_place new place ts l) (carried_of t)
   sub_held [] place l t is h held = absurd (cc)
   sub_held (u ∷ ts) place zero t is h held =
       let same : u ≡ t = cc in

@@ -1,9 +1,10 @@
 -- What fields and structures on both sides need, and positions that differ.
-use Rattle.vms_check_laws.proofs.Facade.{◌≡◌, ◌⊎◌, inl, inr, refl, ap, ℕ, zero, suc, ◌<◌, ◌≤◌, Bool, true, false, ◌==◌, List, [], ◌∷◌, length, get_or, Some}
+use Rattle.vms_check_laws.proofs.Facade.{◌≡◌, ◌⊎◌, inl, inr, refl, ℕ, zero, suc, ◌<◌, ◌≤◌, Bool, true, false, ◌==◌, List, [], ◌∷◌, length, get_or, Some}
 use Rattle.vms_check_laws.proofs.Facade.{None, arith, ℤ, pos, if◌then◌else◌, eqb-true, Item, Equal, Unused, Count, Counted, Formula, Field, Cell, Meaning}
 use Rattle.vms_check_laws.proofs.Facade.{no_meaning, item_cells, names_well, nobody, is_one, ItemBelow, Entry, position_from, same_place, is_covered, Comparer}
 use Rattle.vms_check_laws.proofs.Facade.{no_comparer, Carrier, no_carrier, Holds, FitsAt, Carries}
 use Rattle.vms_check_laws.proofs.Presence.{NamedRest, covers_unused}
+use Rattle.vms_check_laws.proofs.Linking.{Two}
 use Rattle.vms_check_laws.proofs.Pairing.{cells_in}
 use Rattle.vms_check_laws.proofs.PairLists.{Settled}
 
@@ -29,8 +30,7 @@ later_old i p q (e ∷ es) lt h =
 pub at_or_later : (i j p : ℕ) (e f : Entry) (es fs : List Entry) → same_place (position_from p (e ∷ es) i) (position_from p (f ∷ fs) j) ≡ true
     → ((e.index ≡ i) × (f.index ≡ j)) ⊎ (((f.index == j) ≡ false) × (same_place (position_from (suc p) es i) (position_from (suc p) fs j) ≡ true))
 at_or_later i j p e f es fs h = by _ _ refl refl h where
-  by : (c d : Bool) → (e.index == i) ≡ c → (f.index == j) ≡ d
-      → same_place (if c then Some p else position_from (suc p) es i) (if d then Some p else position_from (suc p) fs j) ≡ true
+  by : (c d : Bool) → (e.index == i) ≡ c → (f.index == j) ≡ d → same_place (if c then Some p else position_from (suc p) es i) (if d then Some p else position_from (suc p) fs j) ≡ true
       → ((e.index ≡ i) × (f.index ≡ j)) ⊎ (((f.index == j) ≡ false) × (same_place (position_from (suc p) es i) (position_from (suc p) fs j) ≡ true))
   by true true x y k = inl (eqb-true e.index i x, eqb-true f.index j y)
   by true false x y k = absurd (later_new j p (suc p) fs (omega arith) k)
@@ -49,12 +49,24 @@ by_less P step (suc k) j lt = step j (λ i less. by_less P step k i (omega arith
 pub record Table (ks : List Comparer) (cs : List Carrier) (ms ns : List Meaning) (numbers numbers' : List ℤ) (below below' : ℕ) : Type 0 where
   pub sized : (j i k : ℕ) → j < below' → length (get_or cs j no_carrier i numbers k) ≡ length (get_or (cells_in ns) j [])
   pub carried : (i j : ℕ) → i < below → j < below' → get_or ks j no_comparer i ≡ None → (x y : ℕ) → FitsAt (get_or (cells_in ms) i []) numbers x
-      → Holds numbers' y (get_or cs j no_carrier i numbers x)
-      → Carries numbers ((get_or ms i no_meaning).slots numbers x) numbers' ((get_or ns j no_meaning).slots numbers' y)
+      → Holds numbers' y (get_or cs j no_carrier i numbers x) → Carries numbers ((get_or ms i no_meaning).slots numbers x) numbers' ((get_or ns j no_meaning).slots numbers' y)
   -- what isn't in the bytes is at its default
   pub settled : (i j : ℕ) → i < below → j < below' → get_or ks j no_comparer i ≡ None → (x y : ℕ) → FitsAt (get_or (cells_in ms) i []) numbers x
-      → Holds numbers' y (get_or cs j no_carrier i numbers x)
-      → Settled ((get_or ns j no_meaning).slots numbers' y) y (get_or (cells_in ns) j []) (get_or cs j no_carrier i numbers x)
+      → Holds numbers' y (get_or cs j no_carrier i numbers x) → Settled ((get_or ns j no_meaning).slots numbers' y) y (get_or (cells_in ns) j []) (get_or cs j no_carrier i numbers x)
+
+-- both sides with their numbers: the older's from `at` on, and the newer's from `at'` on
+pub record Sides : Type 0 where
+  pub two : Two
+  pub cs : List Carrier
+  pub ms : List Meaning
+  pub ns : List Meaning
+  pub numbers : List ℤ
+  pub numbers' : List ℤ
+  pub at : ℕ
+  pub at' : ℕ
+  pub below : ℕ
+  pub below' : ℕ
+  pub table : Table two.ks cs ms ns numbers numbers' below below'
 
 -- constants and unused bytes are single
 abbrev pub IsSingle : Item → Count → Type 0

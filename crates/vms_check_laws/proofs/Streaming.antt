@@ -22,12 +22,10 @@ pub record FoundDevice (devices : List Device) (name : List ℕ) (instance j : �
   pub name_is : device.desc.name ≡ name
   pub instance_is : device.instance ≡ instance
 
-pub found_device : (k : ℕ) (devices : List Device) (name : List ℕ) (instance r : ℕ) → find_device k devices name instance ≡ Some r
-    → (j : ℕ) × (r ≡ k + j) × FoundDevice devices name instance j
+pub found_device : (k : ℕ) (devices : List Device) (name : List ℕ) (instance r : ℕ) → find_device k devices name instance ≡ Some r → (j : ℕ) × (r ≡ k + j) × FoundDevice devices name instance j
 found_device k [] name instance r h = absurd (cc)
 found_device k (d ∷ devices) name instance r h =
-    let choice : (c : Bool) → (bytes_eq d.desc.name name && d.instance == instance) ≡ c → (if c then Some k else find_device
-    (suc k) devices name instance) ≡ Some r
+    let choice : (c : Bool) → (bytes_eq d.desc.name name && d.instance == instance) ≡ c → (if c then Some k else find_device (suc k) devices name instance) ≡ Some r
     → (j : ℕ) × (r ≡ k + j) × FoundDevice (d ∷ devices) name instance j = elim [
       | true ↦ λ e g.
           let same : k ≡ r = cc in
@@ -49,8 +47,7 @@ found_some (Some k) h = (k, refl)
 abbrev pub compared : Set → Set → ℕ → Device → Option Mismatch
 compared old new i d = compare_device old new i d (paired_device old new d) (slice_get new.devices (index (paired_device old new d)))
 
-module _ (old new : Set) (good_old : WellFormed old)
-    (all_in : first_answer (λ i d. failing_pair ((2, is_in new d) ∷ []) (here (parts.Device i)) (here parts.Set)) 0 old.devices ≡ None) where
+module _ (old new : Set) (good_old : WellFormed old) (all_in : first_answer (λ i d. failing_pair ((2, is_in new d) ∷ []) (here (parts.Device i)) (here parts.Set)) 0 old.devices ≡ None) where
   -- the device of new that has the name and instance of old's device i
   pub record Pair (i : ℕ) (d : Device) : Type 0 where
     pub number : ℕ
@@ -97,10 +94,8 @@ device_order new (d ∷ devices) = index (find_device 0 new.devices d.desc.name 
 pub device_stands : DeviceLaw
 device_stands old new good_old good_new i k d e paired image id saved lt =
     let p = or_else_none (failing_pair ((4, is_version_of e.desc d.desc.version) ∷ []) (here (parts.Device i)) (here (parts.Device k))) _ paired.rules in
-    let q = or_else_none (comparing old new d.desc e.desc d.desc.version (parts.Device i) (parts.Device k))
-    (first_answer (compare_subs old new i k e) 0 d.subs) p.1 in
-    section_whole old new good_old good_new i k d e paired.in_old paired.in_new q.1 image saved (parts.Device i) (parts.Device k) q.0
-    ((passes 4 (is_version_of e.desc d.desc.version) [] (here (parts.Device i)) (here (parts.Device k)) p.0).0) paired.names paired.instances id lt
+    let q = or_else_none (comparing old new d.desc e.desc d.desc.version (parts.Device i) (parts.Device k)) (first_answer (compare_subs old new i k e) 0 d.subs) p.1 in
+    section_whole old new good_old good_new i k d e paired.in_old paired.in_new q.1 image saved (parts.Device i) (parts.Device k) q.0 ((passes 4 (is_version_of e.desc d.desc.version) [] (here (parts.Device i)) (here (parts.Device k)) p.0).0) paired.names paired.instances id lt
 
 module _ (old new : Set) (good_old : WellFormed old) (good_new : WellFormed new) (none : Compatible old new) where
   -- what the rules on sets give
@@ -117,29 +112,21 @@ module _ (old new : Set) (good_old : WellFormed old) (good_new : WellFormed new)
       let q = or_else_none (first_answer (λ i d. failing_pair ((2, is_in new d) ∷ []) (here (parts.Device i)) (here parts.Set)) 0 old.devices) _ p.1 in
       let r = or_else_none (first_answer (λ i d. failing_pair ((3, is_in old d) ∷ []) (here parts.Set) (here (parts.Device i))) 0 new.devices)
       (first_answer (λ i d. compared old new i d) 0 old.devices) q.1 in
-      record {
-        machines = (passes 1 (list_all (is_one_of new.machines) old.machines) [] (here parts.Set)
-            (here parts.Set) p.0).0;
-        olds = q.0;
-        news = r.0;
-        devices = r.1;
-      }
+      record { machines = (passes 1 (list_all (is_one_of new.machines) old.machines) [] (here parts.Set) (here parts.Set) p.0).0; olds = q.0; news = r.0; devices = r.1 }
 
   -- each device of old is one of new
   pub all_in : first_answer (λ i d. failing_pair ((2, is_in new d) ∷ []) (here (parts.Device i)) (here parts.Set)) 0 old.devices ≡ None
   all_in = rules.olds
 
   -- and no rule fails of the two
-  compared_none : (i : ℕ) (d : Device) → slice_get old.devices i ≡ Some d → (p : Pair old new good_old all_in i d)
-      → compare_device old new i d (Some p.number) (Some p.device) ≡ None
+  compared_none : (i : ℕ) (d : Device) → slice_get old.devices i ≡ Some d → (p : Pair old new good_old all_in i d) → compare_device old new i d (Some p.number) (Some p.device) ≡ None
   compared_none i d e p =
       let z : i ≡ 0 + i = omega arith in
       sym p.compared_is ∙ ap (λ (n : ℕ). compared old new n d) z ∙ none_at (λ i d. compared old new i d) 0 old.devices i d rules.devices e
 
   -- ---- each of new's devices has one section
 
-  order_has : (ds : List Device) (i k : ℕ) (d : Device) → slice_get ds i ≡ Some d → find_device 0 new.devices d.desc.name d.instance ≡ Some k
-      → Among k (device_order new ds)
+  order_has : (ds : List Device) (i k : ℕ) (d : Device) → slice_get ds i ≡ Some d → find_device 0 new.devices d.desc.name d.instance ≡ Some k → Among k (device_order new ds)
   order_has [] i k d e h = absurd (cc)
   order_has (x ∷ ds) zero k d e h =
       let same : x ≡ d = cc in
@@ -151,8 +138,7 @@ module _ (old new : Set) (good_old : WellFormed old) (good_new : WellFormed new)
       let x = from_map (λ (d : Device). false) new.devices k false waits in
       let e = x.0 in
       let h = none_at (λ i d. failing_pair ((3, is_in old d) ∷ []) (here parts.Set) (here (parts.Device i))) 0 new.devices k e rules.news x.1 in
-      let is : is_found (find_device 0 old.devices e.desc.name e.instance) ≡ true =
-      (passes 3 (is_in old e) [] (here parts.Set) (here (parts.Device (0 + k))) h).0 in
+      let is : is_found (find_device 0 old.devices e.desc.name e.instance) ≡ true = (passes 3 (is_in old e) [] (here parts.Set) (here (parts.Device (0 + k))) h).0 in
       let r = found_some _ is in
       let f = found_device 0 old.devices e.desc.name e.instance r.0 r.1 in
       let d = f.2.device in
@@ -161,8 +147,7 @@ module _ (old new : Set) (good_old : WellFormed old) (good_new : WellFormed new)
       ∙ device_found new good_new k e x.1 in
       order_has old.devices f.0 k d f.2.stands found
 
-  order_waits : (i : ℕ) (ds : List Device) → ((j : ℕ) → slice_get old.devices (i + j) ≡ slice_get ds j)
-      → Wait (map (λ (d : Device). false) new.devices) (device_order new ds)
+  order_waits : (i : ℕ) (ds : List Device) → ((j : ℕ) → slice_get old.devices (i + j) ≡ slice_get ds j) → Wait (map (λ (d : Device). false) new.devices) (device_order new ds)
   order_waits i [] h = tt
   order_waits i (d ∷ ds) h =
       let p = pair old new good_old all_in i d (at_first (slice_get old.devices) i h) in (
@@ -179,8 +164,7 @@ module _ (old new : Set) (good_old : WellFormed old) (good_new : WellFormed new)
       (sym (ap index p.found) ∙ same ∙ ap index q.found) p.stands q.stands (back old new good_old all_in i d e p) (back old new good_old all_in i' d' e' q) in
       absurd (omega arith)
 
-  one_apart : (i i' : ℕ) (d : Device) (ds : List Device) → i < i' → slice_get old.devices i ≡ Some d
-      → ((j : ℕ) → slice_get old.devices (i' + j) ≡ slice_get ds j)
+  one_apart : (i i' : ℕ) (d : Device) (ds : List Device) → i < i' → slice_get old.devices i ≡ Some d → ((j : ℕ) → slice_get old.devices (i' + j) ≡ slice_get ds j)
       → NotIn (index (find_device 0 new.devices d.desc.name d.instance)) (device_order new ds)
   one_apart i i' d [] lt e h = tt
   one_apart i i' d (d' ∷ ds) lt e h = (
@@ -205,8 +189,7 @@ module _ (old new : Set) (good_old : WellFormed old) (good_new : WellFormed new)
         → slice_get (carried old new images) p.number ≡ Some (carried_device old new d p.device (get_or images i (no_image old new)))
     unfolding carried
     image_at i d e p =
-        at_map (λ e. carried_at old new images e (find_device 0 old.devices e.desc.name e.instance)
-        (slice_get old.devices (index (find_device 0 old.devices e.desc.name e.instance)))) new.devices p.number p.device p.stands
+        at_map (λ e. carried_at old new images e (find_device 0 old.devices e.desc.name e.instance) (slice_get old.devices (index (find_device 0 old.devices e.desc.name e.instance)))) new.devices p.number p.device p.stands
         ∙ ap (λ (r : Option ℕ). Some (carried_at old new images p.device r (slice_get old.devices (index r)))) (back old new good_old all_in i d e p)
         ∙ ap (λ (r : Option Device). Some (carried_at old new images p.device (Some i) r)) e
 
@@ -224,13 +207,11 @@ module _ (old new : Set) (good_old : WellFormed old) (good_new : WellFormed new)
         let front = written_section old d im i in
         let image_is : slice_get (carried old new images) p.number ≡ Some (carried_device old new d p.device im) =
         image_at i d e p ∙ ap (λ (m : Image). Some (carried_device old new d p.device m)) im_is in
-        let paired : ArePaired old new i p.number d p.device =
-        record { in_old = e; in_new = p.stands; names = sym p.name_is; instances = sym p.instance_is; rules = compared_none i d e p } in
+        let paired : ArePaired old new i p.number d p.device = record { in_old = e; in_new = p.stands; names = sym p.name_is; instances = sym p.instance_is; rules = compared_none i d e p } in
         let at_number : HasSection new true p.number (slice_get new.devices p.number) (slice_get (carried old new images) p.number) front =
         rw p.stands
         (rw image_is (i, device_stands old new good_old good_new i p.number d p.device paired im i (saved old d im (ready 0 d im refl refl)) (omega arith))) in
-        let here_section = subst (λ (k : ℕ). HasSection new true k (slice_get new.devices k) (slice_get (carried old new images) k) front)
-        (sym (ap index p.found)) at_number in (
+        let here_section = subst (λ (k : ℕ). HasSection new true k (slice_get new.devices k) (slice_get (carried old new images) k) front) (sym (ap index p.found)) at_number in (
           front,
           (written_sections old (suc i) ds ims),
           here_section,
@@ -242,8 +223,7 @@ module _ (old new : Set) (good_old : WellFormed old) (good_new : WellFormed new)
         )
 
 module _ (old new : Set) (good_old : WellFormed old) (good_new : WellFormed new) (none : Compatible old new) where
-  configured : (machine : Option (List ℕ)) → IfSome machine (λ m. is_one_of old.machines m ≡ true)
-      → IsConfiguration new.machines machine (optional configuration machine)
+  configured : (machine : Option (List ℕ)) → IfSome machine (λ m. is_one_of old.machines m ≡ true) → IsConfiguration new.machines machine (optional configuration machine)
   configured None h = refl
   configured (Some name) h =
       let r = rules old new good_old good_new none in
@@ -253,8 +233,7 @@ module _ (old new : Set) (good_old : WellFormed old) (good_new : WellFormed new)
   unfolding carried
   one_each images = length-map new.devices _
 
-  stream : (machine text : Option (List ℕ)) (images : List Image) → IfSome machine (λ m. is_one_of old.machines m ≡ true)
-      → IfSome text (λ t. length t ≤ longest_text)
+  stream : (machine text : Option (List ℕ)) (images : List Image) → IfSome machine (λ m. is_one_of old.machines m ≡ true) → IfSome text (λ t. length t ≤ longest_text)
       → AreReady old images → IsStream new new.machines (written old machine images text) machine (carried old new images) text
   stream machine text images named short ready = record {
     named = optional configuration machine;

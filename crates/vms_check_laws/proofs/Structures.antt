@@ -2,12 +2,12 @@
 use Rattle.vms_check_laws.proofs.Facade.{◌≡◌, ℕ, suc, ◌+◌, ◌<◌, ◌≤◌, Bool, List, [], ◌∷◌, length, get_or, Option, Some, None, refl, sym, ap, ◌∙◌, arith, ℤ}
 use Rattle.vms_check_laws.proofs.Facade.{length-append, Item, Num, Equal, Unused, Struct, Formula, Field, Desc, no_desc, Cell, Meaning, no_meaning, meanings}
 use Rattle.vms_check_laws.proofs.Facade.{field_cells, cells_from, desc_cells, numbers_of, is_steady_in, first_at, first_long, ItemBelow, FieldsBelow}
-use Rattle.vms_check_laws.proofs.Facade.{struct_slots, struct_cells_at, presence, Entry, present, Comparer, no_comparer, comparer_of, comparers, compare_desc}
+use Rattle.vms_check_laws.proofs.Facade.{struct_slots, struct_cells_at, presence, Entry, Comparer, no_comparer, comparer_of, comparers, compare_desc}
 use Rattle.vms_check_laws.proofs.Facade.{Carrier, no_carrier, carrier_of, carriers, carry_desc, carry_from, carry_next, entries_left, Holds, FitsAt, Carries}
 use Rattle.vms_spec.specs.declared.Part.TheVariants as parts
 use Rattle.vms_check_laws.proofs.Pairing.{cells_in}
 use Rattle.vms_check_laws.proofs.PairLists.{Settled}
-use Rattle.vms_check_laws.proofs.Linking.{defaults_size, carry_field_size}
+use Rattle.vms_check_laws.proofs.Linking.{Two, defaults_size, carry_field_size}
 use Rattle.vms_check_laws.proofs.Premises.{Table, NewFields, RulesNamed, by_less, OldFields}
 use Rattle.vms_check_laws.proofs.Descriptions.{desc_reads}
 use Rattle.vms_check_laws.proofs.Counts.{OldPlains, old_fields}
@@ -50,8 +50,7 @@ item_further j k (Struct i) le h = omega arith
 
 pub plains_further : (j k : ℕ) (all fs : List Field) → j ≤ k → OldPlains j all fs → OldPlains k all fs
 plains_further j k all [] le h = tt
-plains_further j k all (f ∷ fs) le h =
-    (record { item = item_further j k f.item le h.0.item; single = h.0.single; count = h.0.count }, plains_further j k all fs le h.1)
+plains_further j k all (f ∷ fs) le h = (record { item = item_further j k f.item le h.0.item; single = h.0.single; count = h.0.count }, plains_further j k all fs le h.1)
 
 abbrev pub OldStructs : List Desc → Type 0
 OldStructs olds = (i : ℕ) → i < length olds → OldStruct i (get_or olds i no_desc)
@@ -62,8 +61,7 @@ NewStructs news = (j : ℕ) → j < length news → NewStruct j (get_or news j n
 -- ---- the rows of the tables, one more and the earlier ones
 
 module _ (x y : List (List Cell)) (olds news : List Desc) where
-  pub comparer_at : (k j : ℕ) → j < k
-      → get_or (comparers x y olds news k) j no_comparer ≡ comparer_of (comparers x y olds news j) x y olds j (get_or news j no_desc)
+  pub comparer_at : (k j : ℕ) → j < k → get_or (comparers x y olds news k) j no_comparer ≡ comparer_of (comparers x y olds news j) x y olds j (get_or news j no_desc)
   comparer_at k j lt =
       let row = λ (earlier : List Comparer) (d : Desc). comparer_of earlier x y olds (length earlier) d in
       first_at row news no_comparer k j lt ∙ ap (λ (q : ℕ). comparer_of (comparers x y olds news j) x y olds q (get_or news j no_desc)) (first_long row news j)
@@ -77,15 +75,12 @@ module _ (x y : List (List Cell)) (olds news : List Desc) where
     Below k = (j : ℕ) → j < k → P j (get_or (comparers x y olds news k) j no_comparer) (get_or (carriers x y olds news k) j no_carrier)
 
     abbrev pub Next : ℕ → Type 0
-    Next k =
-        P k (comparer_of (comparers x y olds news k) x y olds k (get_or news k no_desc))
-        (carrier_of (carriers x y olds news k) x y olds (get_or news k no_desc))
+    Next k = P k (comparer_of (comparers x y olds news k) x y olds k (get_or news k no_desc)) (carrier_of (carriers x y olds news k) x y olds (get_or news k no_desc))
 
     pub each_structure : ((k : ℕ) → k < length news → Below k → Next k) → (k : ℕ) → k ≤ length news → Below k
     each_structure step k le j lt =
         rw (comparer_at k j lt, carrier_at k j lt)
-        (by_less (λ m. m < length news → Next m)
-        (λ m before less. step m less (λ i lt. rw (comparer_at m i lt, carrier_at m i lt) (before i lt (omega arith)))) k j lt (omega arith))
+        (by_less (λ m. m < length news → Next m) (λ m before less. step m less (λ i lt. rw (comparer_at m i lt, carrier_at m i lt) (before i lt (omega arith)))) k j lt (omega arith))
 
 -- structure i of old with structure k of new, the next one, if no rule fails at them
 module _ (olds news : List Desc) (numbers : List ℤ) (k i p : ℕ) where
@@ -98,13 +93,11 @@ module _ (olds news : List Desc) (numbers : List ℤ) (k i p : ℕ) where
   pub record Beside : Type 0 where
     pub below : FieldsBelow i old_one.fields
     pub below' : FieldsBelow k new_one.fields
-    pub none : compare_desc (rules_to olds news k) (cells_of olds) (cells_of news) old_one new_one old_one.version new_one.version
-        (parts.Struct i) (parts.Struct k) ≡ None
+    pub none : compare_desc (rules_to olds news k) (cells_of olds) (cells_of news) old_one new_one old_one.version new_one.version (parts.Struct i) (parts.Struct k) ≡ None
     pub fits : FitsAt (desc_cells (cells_of olds) old_one) numbers p
     pub old : OldFields (length olds) (λ j. numbers_of (cells_of olds) old_one numbers p j) old_one.fields
 
-  pub beside : OldStructs olds → NewStructs news → k < length news → i < length olds
-      → comparer_of (rules_to olds news k) (cells_of olds) (cells_of news) olds k new_one i ≡ None
+  pub beside : OldStructs olds → NewStructs news → k < length news → i < length olds → comparer_of (rules_to olds news k) (cells_of olds) (cells_of news) olds k new_one i ≡ None
       → FitsAt (get_or (cells_of olds) i []) numbers p → Beside
   beside old new lt lt_i none fits =
       let below = plain_below i old_one.fields old_one.fields (old i lt_i).fields in
@@ -128,31 +121,25 @@ module _ (olds news : List Desc) (numbers numbers' : List ℤ) where
     own i = numbers_of (cells_of olds) a numbers at i
 
     next_size : (i : ℕ) (g : Field) (pr : Option (Option Formula)) (es : List Entry) → ItemBelow k g.item
-        → length (carry_next (carries_to olds news k) (cells_of olds) (cells_of news) numbers own v at b.fields i g pr es) ≡ length
-        (field_cells (cells_of news) b.fields i g)
+        → length (carry_next (carries_to olds news k) (cells_of olds) (cells_of news) numbers own v at b.fields i g pr es) ≡ length (field_cells (cells_of news) b.fields i g)
     next_size i g None es lt = defaults_size _
     next_size i g (Some rest) [] lt = defaults_size _
     next_size i g (Some rest) (e ∷ es) lt =
-        carry_field_size (rules_to olds news k) a b v w (parts.Struct 0) (parts.Struct 0) (λ _. None) (λ _. None) (carries_to olds news k) (cells_of olds)
-        (cells_of news) numbers numbers' own at 0 k table.sized e b.fields i g lt
+        let two : Two = record { ks = rules_to olds news k; a = a; b = b; v = v; w = w; part = parts.Struct 0; part' = parts.Struct 0; o = λ _. None; n = λ _. None } in
+        carry_field_size two (carries_to olds news k) (cells_of olds) (cells_of news) numbers numbers' own at 0 k table.sized e b.fields i g lt
 
     from_size : (i : ℕ) (gs : List Field) (es : List Entry) → FieldsBelow k gs
-        → length (carry_from (carries_to olds news k) (cells_of olds) (cells_of news) numbers own v w at b.fields i gs es) ≡ length
-        (cells_from (cells_of news) b.fields i gs)
+        → length (carry_from (carries_to olds news k) (cells_of olds) (cells_of news) numbers own v w at b.fields i gs es) ≡ length (cells_from (cells_of news) b.fields i gs)
     from_size i [] es lt = refl
     from_size i (g ∷ gs) es lt =
         let pr = presence w g.test g.since in
-        let more =
-        carry_from (carries_to olds news k) (cells_of olds) (cells_of news) numbers own v w at b.fields (suc i) gs
-        (entries_left (carries_to olds news k) (cells_of olds) (cells_of news) numbers pr es) in
+        let more = carry_from (carries_to olds news k) (cells_of olds) (cells_of news) numbers own v w at b.fields (suc i) gs (entries_left (carries_to olds news k) (cells_of olds) (cells_of news) numbers pr es) in
         length-append (carry_next (carries_to olds news k) (cells_of olds) (cells_of news) numbers own v at b.fields i g pr es) more
         ∙ ap (λ (n : ℕ). n + length more) (next_size i g pr es lt.0)
-        ∙ ap (λ (n : ℕ). length (field_cells (cells_of news) b.fields i g) + n)
-        (from_size (suc i) gs (entries_left (carries_to olds news k) (cells_of olds) (cells_of news) numbers pr es) lt.1)
+        ∙ ap (λ (n : ℕ). length (field_cells (cells_of news) b.fields i g) + n) (from_size (suc i) gs (entries_left (carries_to olds news k) (cells_of olds) (cells_of news) numbers pr es) lt.1)
         ∙ sym (length-append (field_cells (cells_of news) b.fields i g) (cells_from (cells_of news) b.fields (suc i) gs))
 
-    pub carry_desc_size : FieldsBelow k b.fields
-        → length (carry_desc (carries_to olds news k) (cells_of olds) (cells_of news) numbers v w a b at) ≡ length (desc_cells (cells_of news) b)
+    pub carry_desc_size : FieldsBelow k b.fields → length (carry_desc (carries_to olds news k) (cells_of olds) (cells_of news) numbers v w a b at) ≡ length (desc_cells (cells_of news) b)
     carry_desc_size lt = from_size 0 b.fields _ lt
 
   module _ (old : OldStructs olds) (new : NewStructs news) where
@@ -179,19 +166,12 @@ module _ (olds news : List Desc) (numbers numbers' : List ℤ) where
         let table = table_of k rows in
         let below = new_below k (is_steady_in b) b.fields (new k lt).fields in
         record {
-          sized = λ i p. carry_desc_size k table (get_or olds i no_desc) b (get_or olds i no_desc).version b.version p below ∙ sym
-              (ap length (struct_cells_at news (length news) k lt below));
+          sized = λ i p. carry_desc_size k table (get_or olds i no_desc) b (get_or olds i no_desc).version b.version p below ∙ sym (ap length (struct_cells_at news (length news) k lt below));
           reads = λ i lt_i none p q fits held.
               let a = get_or olds i no_desc in
               let z = beside olds news numbers k i p old new lt lt_i none fits in
-              rw (
-                struct_slots olds (length olds) i numbers p lt_i z.below,
-                struct_slots news (length news) k numbers' q lt below,
-                struct_cells_at news
-                    (length news) k lt below,
-              )
-              (desc_reads (rules_to olds news k) (carries_to olds news k) (meanings_of olds) (meanings_of news) a b a.version b.version (parts.Struct i)
-              (parts.Struct k) numbers numbers' p q (length olds) k table z.none z.old (new k lt).fields z.fits held (new k lt).rules);
+              rw (struct_slots olds (length olds) i numbers p lt_i z.below, struct_slots news (length news) k numbers' q lt below, struct_cells_at news (length news) k lt below)
+              (desc_reads (rules_to olds news k) (carries_to olds news k) (meanings_of olds) (meanings_of news) a b a.version b.version (parts.Struct i) (parts.Struct k) numbers numbers' p q (length olds) k table z.none z.old (new k lt).fields z.fits held (new k lt).rules);
         }
 
     pub tables : (k : ℕ) → k ≤ length news → KnownTable k

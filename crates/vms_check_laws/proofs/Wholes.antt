@@ -1,7 +1,7 @@
 -- A device with subsections: what the older set writes is a section of the newer with the carried image.
 use Rattle.vms_check_laws.proofs.Facade.{◌≡◌, ◌⊎◌, inl, inr, ℕ, zero, suc, ◌+◌, ◌<◌, true, false, List, ◌∷◌, ◌++◌, length, map, get_or, Option, Some, None}
 use Rattle.vms_check_laws.proofs.Facade.{refl, sym, ap, ◌∙◌, subst, arith, ℤ, pos, [], flat_map, slice_get, Part, first_answer, Sub, Device, Set, Slot, no_cell}
-use Rattle.vms_check_laws.proofs.Facade.{struct_cells, desc_cells, device_cells, Image, IsVersionOf, zeroed, own_slots, own_cells, sub_slots, sub_place}
+use Rattle.vms_check_laws.proofs.Facade.{struct_cells, desc_cells, device_cells, Image, zeroed, own_slots, own_cells, sub_slots, sub_place}
 use Rattle.vms_check_laws.proofs.Facade.{came_slots, has_cell, IsSection, SubSpells, SubsSpell, ComesOnce, sub_head, section_head, foot, written_subs}
 use Rattle.vms_check_laws.proofs.Facade.{written_section, find_sub, index, is_version_of, WellFormed, comparing, compare_sub, compare_subs, carrying}
 use Rattle.vms_check_laws.proofs.Facade.{carried_sub, carried_device, defaults, sub_came, sub_found, defaults_at, version_is, rules_append, IsSaved, Holds}
@@ -36,13 +36,11 @@ pub record SubPair (e : Device) (s : Sub) : Type 0 where
   pub stands : slice_get e.subs number ≡ Some sub
   pub name_is : sub.desc.name ≡ s.desc.name
 
-module _ (old new : Set) (good_old : WellFormed old) (good_new : WellFormed new) (i k : ℕ) (d e : Device) (at_i : slice_get old.devices i ≡ Some d)
-    (at_k : slice_get new.devices k ≡ Some e)
+module _ (old new : Set) (good_old : WellFormed old) (good_new : WellFormed new) (i k : ℕ) (d e : Device) (at_i : slice_get old.devices i ≡ Some d) (at_k : slice_get new.devices k ≡ Some e)
     (none : first_answer (compare_subs old new i k e) 0 d.subs ≡ None) (image : Image) (ready : IsSaved old d image) where
   sub_pair : (j : ℕ) (s : Sub) → slice_get d.subs j ≡ Some s → SubPair e s
   sub_pair j s at_j = by_found _ refl (none_at _ 0 d.subs j s none at_j) where
-    by_found : (r : Option ℕ) → find_sub 0 e.subs s.desc.name ≡ r
-        → compare_sub old new i k (0 + j) s (find_sub 0 e.subs s.desc.name) (slice_get e.subs (index (find_sub 0 e.subs s.desc.name))) ≡ None → SubPair e s
+    by_found : (r : Option ℕ) → find_sub 0 e.subs s.desc.name ≡ r → compare_sub old new i k (0 + j) s (find_sub 0 e.subs s.desc.name) (slice_get e.subs (index (find_sub 0 e.subs s.desc.name))) ≡ None → SubPair e s
     by_found None h c = let bad : compare_sub old new i k (0 + j) s None (slice_get e.subs 0) ≡ None = rw (h) at c in absurd (cc)
     by_found (Some r) h c =
         let f = found_sub e.subs s.desc.name r h in
@@ -69,15 +67,13 @@ module _ (old new : Set) (good_old : WellFormed old) (good_new : WellFormed new)
   back : (j : ℕ) (s : Sub) → slice_get d.subs j ≡ Some s → (p : SubPair e s) → find_sub 0 d.subs p.sub.desc.name ≡ Some j
   back j s at_j p = rw p.name_is (sub_found old good_old i j d s at_i at_j)
 
-  abbrev came_here : (j : ℕ) (s : Sub) (v : ℕ) (at_j : slice_get d.subs j ≡ Some s) → slice_get image.came j ≡ Some (Some v) → (p : SubPair e s)
-      → Came old new good_old good_new d e image numbers' came p.sub
+  abbrev came_here : (j : ℕ) (s : Sub) (v : ℕ) (at_j : slice_get d.subs j ≡ Some s) → slice_get image.came j ≡ Some (Some v) → (p : SubPair e s) → Came old new good_old good_new d e image numbers' came p.sub
   came_here j s v at_j at_came p =
       came_is old new good_old good_new i k d e at_i at_k none image ready numbers' j p.number s p.sub v at_j p.stands (sym p.name_is) at_came (back j s at_j p)
 
   module _ (held : Holds numbers' (own_cells new e) rest) where
     one_spell : (j : ℕ) (s : Sub) (v : ℕ) (at_j : slice_get d.subs j ≡ Some s) (at_came : slice_get image.came j ≡ Some (Some v)) (p : SubPair e s)
-        → SubSpells new e image' p.number (slice_get e.subs p.number) (slice_get image'.came p.number)
-        (sub_head s.desc.name v ++ zeroed image.numbers (sub_slots old s v image.numbers (sub_place old (own_cells old d) d.subs j)))
+        → SubSpells new e image' p.number (slice_get e.subs p.number) (slice_get image'.came p.number) (sub_head s.desc.name v ++ zeroed image.numbers (sub_slots old s v image.numbers (sub_place old (own_cells old d) d.subs j)))
     one_spell j s v at_j at_came p =
         let c = came_here j s v at_j at_came p in
         let body = zeroed image.numbers (sub_slots old s v image.numbers (sub_place old (own_cells old d) d.subs j)) in
@@ -88,10 +84,8 @@ module _ (old new : Set) (good_old : WellFormed old) (good_new : WellFormed new)
         (rw (at_map came e.subs p.number p.sub p.stands ∙ ap Some c.came)
         (body, spells, ap (λ (name : List ℕ). sub_head name v ++ body) (sym p.name_is)))
 
-    spell_subs : (j place : ℕ) (subs : List Sub) (cs : List (Option ℕ)) → ((m : ℕ) → slice_get d.subs (j + m) ≡ slice_get subs m)
-        → ((m : ℕ) → slice_get image.came (j + m) ≡ slice_get cs m)
-        → ((m : ℕ) → sub_place old (own_cells old d) d.subs (j + m) ≡ sub_place old place subs m)
-        → SubsSpell new e image' (sub_order e subs cs) (written_subs old d image place subs cs)
+    spell_subs : (j place : ℕ) (subs : List Sub) (cs : List (Option ℕ)) → ((m : ℕ) → slice_get d.subs (j + m) ≡ slice_get subs m) → ((m : ℕ) → slice_get image.came (j + m) ≡ slice_get cs m)
+        → ((m : ℕ) → sub_place old (own_cells old d) d.subs (j + m) ≡ sub_place old place subs m) → SubsSpell new e image' (sub_order e subs cs) (written_subs old d image place subs cs)
     spell_subs j place [] cs h h' h'' = refl
     spell_subs j place (s ∷ subs) [] h h' h'' = refl
     spell_subs j place (s ∷ subs) (None ∷ cs) h h' h'' =
@@ -102,8 +96,7 @@ module _ (old new : Set) (good_old : WellFormed old) (good_new : WellFormed new)
     spell_subs j place (s ∷ subs) (Some v ∷ cs) h h' h'' =
         let at_j : slice_get d.subs j ≡ Some s = at_first (slice_get d.subs) j h in
         let p = sub_pair j s at_j in
-        let one = subst (λ (q : ℕ). SubSpells new e image' p.number (slice_get e.subs p.number) (slice_get image'.came p.number)
-        (sub_head s.desc.name v ++ zeroed image.numbers (sub_slots old s v image.numbers q))) (at_first (sub_place old (own_cells old d) d.subs) j h'')
+        let one = subst (λ (q : ℕ). SubSpells new e image' p.number (slice_get e.subs p.number) (slice_get image'.came p.number) (sub_head s.desc.name v ++ zeroed image.numbers (sub_slots old s v image.numbers q))) (at_first (sub_place old (own_cells old d) d.subs) j h'')
         (one_spell j s v at_j (at_first (slice_get image.came) j h') p) in (
           (sub_head s.desc.name v ++ (zeroed image.numbers (sub_slots old s v image.numbers place))),
           (written_subs old d image (place + length (desc_cells (struct_cells old) s.desc)) subs cs),
@@ -117,8 +110,7 @@ module _ (old new : Set) (good_old : WellFormed old) (good_new : WellFormed new)
 
   -- ---- each subsection that is present is there once
 
-  order_has : (subs : List Sub) (cs : List (Option ℕ)) (j l v : ℕ) (s : Sub) → slice_get subs j ≡ Some s → slice_get cs j ≡ Some (Some v)
-      → index (find_sub 0 e.subs s.desc.name) ≡ l → Among l (sub_order e subs cs)
+  order_has : (subs : List Sub) (cs : List (Option ℕ)) (j l v : ℕ) (s : Sub) → slice_get subs j ≡ Some s → slice_get cs j ≡ Some (Some v) → index (find_sub 0 e.subs s.desc.name) ≡ l → Among l (sub_order e subs cs)
   order_has (x ∷ subs) (Some u ∷ cs) zero l v s h h' is =
       let same : x ≡ s = cc in
       inl (sym (ap (λ (y : Sub). index (find_sub 0 e.subs y.desc.name)) same ∙ is))
@@ -141,15 +133,13 @@ module _ (old new : Set) (good_old : WellFormed old) (good_new : WellFormed new)
       let t = f.0 in
       let go : (r : Option ℕ) → find_sub 0 d.subs t.desc.name ≡ r → Among l (sub_order e d.subs image.came) = elim [
         | None ↦ λ is.
-            let bad : sub_came old new None (slice_get image.came 0) ≡ Some v =
-            ap (λ (r : Option ℕ). sub_came old new r (slice_get image.came (index r))) (sym is) ∙ f.2 in
+            let bad : sub_came old new None (slice_get image.came 0) ≡ Some v = ap (λ (r : Option ℕ). sub_came old new r (slice_get image.came (index r))) (sym is) ∙ f.2 in
             absurd (cc)
         | Some r ↦ λ is.
             let g = found_sub d.subs t.desc.name r is in
             let s = g.sub in
             let at_j = g.there in
-            let came_j : sub_came old new (Some r) (slice_get image.came r) ≡ Some v =
-            ap (λ (q : Option ℕ). sub_came old new q (slice_get image.came (index q))) (sym is) ∙ f.2 in
+            let came_j : sub_came old new (Some r) (slice_get image.came r) ≡ Some v = ap (λ (q : Option ℕ). sub_came old new q (slice_get image.came (index q))) (sym is) ∙ f.2 in
             let at_came = came_from _ r v came_j in
             let found : find_sub 0 e.subs s.desc.name ≡ Some l =
             ap (λ (n : List ℕ). find_sub 0 e.subs n) g.name_is ∙ sub_found new good_new k l e t at_k f.1 in
@@ -157,8 +147,7 @@ module _ (old new : Set) (good_old : WellFormed old) (good_new : WellFormed new)
       ] in
       go (find_sub 0 d.subs t.desc.name) refl
 
-  order_within : (j : ℕ) (subs : List Sub) (cs : List (Option ℕ)) → ((m : ℕ) → slice_get d.subs (j + m) ≡ slice_get subs m)
-      → ((m : ℕ) → slice_get image.came (j + m) ≡ slice_get cs m) → Come image'.came (sub_order e subs cs)
+  order_within : (j : ℕ) (subs : List Sub) (cs : List (Option ℕ)) → ((m : ℕ) → slice_get d.subs (j + m) ≡ slice_get subs m) → ((m : ℕ) → slice_get image.came (j + m) ≡ slice_get cs m) → Come image'.came (sub_order e subs cs)
   order_within j [] cs h h' = tt
   order_within j (s ∷ subs) [] h h' = tt
   order_within j (s ∷ subs) (None ∷ cs) h h' =
@@ -173,8 +162,7 @@ module _ (old new : Set) (good_old : WellFormed old) (good_new : WellFormed new)
             (one_on (slice_get image.came) j h'),
       )
 
-  two_apart : (j j' : ℕ) (s s' : Sub) → j < j' → slice_get d.subs j ≡ Some s → slice_get d.subs j' ≡ Some s'
-      → index (find_sub 0 e.subs s.desc.name) ≡ index (find_sub 0 e.subs s'.desc.name) → ⊥
+  two_apart : (j j' : ℕ) (s s' : Sub) → j < j' → slice_get d.subs j ≡ Some s → slice_get d.subs j' ≡ Some s' → index (find_sub 0 e.subs s.desc.name) ≡ index (find_sub 0 e.subs s'.desc.name) → ⊥
   two_apart j j' s s' lt h h' same =
       let p = sub_pair j s h in
       let q = sub_pair j' s' h' in
@@ -182,8 +170,7 @@ module _ (old new : Set) (good_old : WellFormed old) (good_new : WellFormed new)
       (sym (ap index p.found) ∙ same ∙ ap index q.found) p.stands q.stands (back j s h p) (back j' s' h' q) in
       absurd (omega arith)
 
-  one_apart : (j j' : ℕ) (s : Sub) (subs : List Sub) (cs : List (Option ℕ)) → j < j' → slice_get d.subs j ≡ Some s
-      → ((m : ℕ) → slice_get d.subs (j' + m) ≡ slice_get subs m) → NotIn (index (find_sub 0 e.subs s.desc.name)) (sub_order e subs cs)
+  one_apart : (j j' : ℕ) (s : Sub) (subs : List Sub) (cs : List (Option ℕ)) → j < j' → slice_get d.subs j ≡ Some s → ((m : ℕ) → slice_get d.subs (j' + m) ≡ slice_get subs m) → NotIn (index (find_sub 0 e.subs s.desc.name)) (sub_order e subs cs)
   one_apart j j' s [] cs lt h h' = tt
   one_apart j j' s (x ∷ subs) [] lt h h' = tt
   one_apart j j' s (x ∷ subs) (None ∷ cs) lt h h' =
@@ -209,8 +196,7 @@ module _ (old new : Set) (good_old : WellFormed old) (good_new : WellFormed new)
 
   -- ---- the section
 
-  absent_default : (slots : List Slot) (c : ℕ) → (has_cell slots c ≡ true) ⊎ (get_or numbers' c (pos 0) ≡ get_or (defaults (device_cells new e)) c (pos 0))
-      → has_cell slots c ≡ false
+  absent_default : (slots : List Slot) (c : ℕ) → (has_cell slots c ≡ true) ⊎ (get_or numbers' c (pos 0) ≡ get_or (defaults (device_cells new e)) c (pos 0)) → has_cell slots c ≡ false
       → get_or numbers' c (pos 0) ≡ (get_or (device_cells new e) c no_cell).default
   absent_default slots c (inl has) absent = let bad : true ≡ false = sym has ∙ absent in absurd (cc)
   absent_default slots c (inr is) absent = is ∙ defaults_at _ c
@@ -225,8 +211,7 @@ module _ (old new : Set) (good_old : WellFormed old) (good_new : WellFormed new)
       let good_b = device_good new good_new k e at_k in
       let sub_cells = flat_map (λ s. desc_cells (struct_cells new) s.desc) e.subs in
       let same_v : comparing old new d.desc e.desc v part part' ≡ None = rw ready.version same in
-      let fits : FitsAt (desc_cells (struct_cells old) d.desc) numbers 0 =
-      fits_left (flat_map (λ s. desc_cells (struct_cells old) s.desc) d.subs) (fits_whole (device_cells old d) numbers ready.normal.cells) in
+      let fits : FitsAt (desc_cells (struct_cells old) d.desc) numbers 0 = fits_left (flat_map (λ s. desc_cells (struct_cells old) s.desc) d.subs) (fits_whole (device_cells old d) numbers ready.normal.cells) in
       let held_own : Holds numbers' 0 own = holds_left rest (holds_whole numbers') in
       let own_fit = part_fits old new good_old good_new d.desc e.desc v part part' good_a good_b same_v numbers 0 fits in
       let own_size = fit_length cells own own_fit in
@@ -246,13 +231,11 @@ module _ (old new : Set) (good_old : WellFormed old) (good_new : WellFormed new)
         normal = record {
           version = rw ready.version (version_is e.desc d.desc.version version);
           subs = subs.versions;
-          cells = (are_fit (device_cells new e) numbers'
-              (fit_append cells sub_cells own rest own_fit (subs_fit old new good_old good_new d e image numbers' came e.subs all_facts)));
+          cells = (are_fit (device_cells new e) numbers' (fit_append cells sub_cells own rest own_fit (subs_fit old new good_old good_new d e image numbers' came e.subs all_facts)));
           absent = λ c below absent.
               let z : 0 + c ≡ c = omega arith in
               absent_default (slots ++ more) c
-              (subst (λ (q : ℕ). (has_cell (slots ++ more) q ≡ true) ⊎ (get_or numbers' c (pos 0) ≡ get_or (defaults (device_cells new e)) c (pos 0))) z
-              (settled.each c below)) absent;
+              (subst (λ (q : ℕ). (has_cell (slots ++ more) q ≡ true) ⊎ (get_or numbers' c (pos 0) ≡ get_or (defaults (device_cells new e)) c (pos 0))) z (settled.each c below)) absent;
         };
         valid = rules_append slots more (carries.rules rules_old) subs.rules;
         body = body;
@@ -264,6 +247,5 @@ module _ (old new : Set) (good_old : WellFormed old) (good_new : WellFormed new)
             (from_zero (slice_get d.subs))
             (from_zero (slice_get image.came))
             (from_zero (sub_place old (own_cells old d) d.subs));
-        whole = ap (λ (name : List ℕ). section_head id name d.instance v ++ body ++ tail ++ foot id) names ∙ ap
-            (λ (i : ℕ). section_head id e.desc.name i v ++ body ++ tail ++ foot id) instances;
+        whole = ap (λ (name : List ℕ). section_head id name d.instance v ++ body ++ tail ++ foot id) names ∙ ap (λ (i : ℕ). section_head id e.desc.name i v ++ body ++ tail ++ foot id) instances;
       }
