@@ -1,26 +1,26 @@
 -- What is carried of a description, cell by cell, and of structures, each by the earlier ones.
-use Rattle.vms_check_laws.proofs.Facade.{◌≡◌, ◌⊎◌, inl, inr, ℕ, zero, suc, ◌+◌, ◌*◌, ◌<◌, ◌≤◌, Bool, true, false, List, [], ◌∷◌, ◌++◌, length, get_or}
-use Rattle.vms_check_laws.proofs.Facade.{replicate, Option, Some, None, ℤ, pos, refl, sym, ap, ◌∙◌, arith, if◌then◌else◌, slice_get, cases_lt, eq-eqb, or-false}
-use Rattle.vms_check_laws.proofs.Facade.{Kind, Item, Num, Struct, Formula, Field, Desc, is_there, Cell, no_cell, Slot, Number, Rule, Meaning, no_meaning}
-use Rattle.vms_check_laws.proofs.Facade.{no_parent, times, counted, capacity_of, item_cells, item_size, field_cells, cells_from, desc_cells, elements_of}
-use Rattle.vms_check_laws.proofs.Facade.{item_slots, field_slots, slots_from, desc_slots, numbers_of, has_cell, size_same, field_size, elements_fit}
-use Rattle.vms_check_laws.proofs.Facade.{ItemBelow, FieldsBelow, AreCells, MeanAbove, IsAbove, item_above, items_above, field_above, MeanCells, item_are}
-use Rattle.vms_check_laws.proofs.Facade.{items_are, field_are, named_inside, skip_long, stands_behind, names_append, cells_in, presence, Entry, entry_of}
-use Rattle.vms_check_laws.proofs.Facade.{present_from, same_kind, Carrier, no_carrier, defaults, carry_item, carry_items, carry_field, carry_next, carry_from}
-use Rattle.vms_check_laws.proofs.Facade.{carry_desc, default_field, entries_left, Pairer, no_pairer, unpaired, item_partners, array_partners, field_partners}
-use Rattle.vms_check_laws.proofs.Facade.{fields_left, partners_from, desc_partners, Set, no_desc, meanings, struct_cells, WellFormed, first_at}
-use Rattle.vms_check_laws.proofs.Facade.{struct_slots, struct_cells_at, meanings_above, meanings_are, cells_first, carriers, carrying, pairer_of, pairers}
-use Rattle.vms_check_laws.proofs.Facade.{part_partners}
+use Rattle.vms_check_laws.proofs.Facade.{◌≡◌, ◌⊎◌, inl, inr, ℕ, zero, suc, ◌+◌, ◌*◌, ◌<◌, ◌≤◌, Bool, true, false, List, ◌∷◌, ◌++◌, length, get_or, replicate}
+use Rattle.vms_check_laws.proofs.Facade.{Option, Some, None, ℤ, pos, refl, sym, ap, ◌∙◌, arith, if◌then◌else◌, slice_get, cases_lt, eq-eqb, or-false, Kind}
+use Rattle.vms_check_laws.proofs.Facade.{Item, Num, Struct, Formula, Field, Desc, is_there, Cell, no_cell, Slot, Number, Rule, Meaning, no_meaning, no_parent}
+use Rattle.vms_check_laws.proofs.Facade.{times, counted, capacity_of, item_cells, item_size, field_cells, cells_from, desc_cells, elements_of, item_slots}
+use Rattle.vms_check_laws.proofs.Facade.{field_slots, slots_from, desc_slots, numbers_of, has_cell, size_same, field_size, elements_fit, ItemBelow, FieldsBelow}
+use Rattle.vms_check_laws.proofs.Facade.{AreCells, MeanAbove, IsAbove, item_above, field_above, MeanCells, item_are, field_are, named_inside, skip_long}
+use Rattle.vms_check_laws.proofs.Facade.{stands_behind, names_append, cells_in, presence, Entry, entry_of, present_from, same_kind, Carrier, no_carrier}
+use Rattle.vms_check_laws.proofs.Facade.{defaults, carry_item, carry_items, carry_field, carry_next, carry_from, carry_desc, default_field, entries_left}
+use Rattle.vms_check_laws.proofs.Facade.{Pairer, no_pairer, unpaired, item_partners, array_partners, field_partners, fields_left, partners_from, desc_partners}
+use Rattle.vms_check_laws.proofs.Facade.{Set, no_desc, meanings, struct_cells, WellFormed, first_at, struct_slots, struct_cells_at, meanings_above}
+use Rattle.vms_check_laws.proofs.Facade.{meanings_are, cells_first, carriers, carrying, pairer_of, pairers, part_partners, within, []}
 use Rattle.vms_check_laws.proofs.Presence.{there, presence_there}
-use Rattle.vms_check_laws.proofs.PairLists.{same_defaults, defaults_append, AreFrom, paired_none}
-use Rattle.vms_check_laws.proofs.PairFields.{Structs, item_paired, array_paired, struct_below, struct_is, tables}
-use Rattle.vms_check_laws.proofs.Goes.{Goes, IsWithin, goes_absent, goes_alone, goes_append}
+use Rattle.vms_check_laws.proofs.PairLists.{same_defaults, defaults_append, AreFrom, paired_none, one_cell, Goes, IsWithin, goes_absent, goes_alone}
+use Rattle.vms_check_laws.proofs.PairLists.{goes_append}
+use Rattle.vms_check_laws.proofs.PairDevices.{Structs, item_paired, array_paired, struct_below, struct_is, tables}
 use Rattle.vms_check_laws.proofs.Premises.{by_less}
-use Rattle.vms_check_laws.proofs.Structures.{carrier_at}
+use Rattle.vms_check_laws.proofs.Parts.{carrier_at}
 
 -- ---- slots are within their cells
 
-within_of : (at : ℕ) (cells : List Cell) (slots : List Slot) → IsAbove at slots → AreCells (replicate at no_cell ++ cells) slots → IsWithin at (length cells) slots
+within_of : (at : ℕ) (cells : List Cell) (slots : List Slot) → IsAbove at slots → AreCells (replicate at no_cell ++ cells) slots
+    → IsWithin at (length cells) slots
 within_of at cells slots above are = record {
   in_range = λ c e.
       (low c e (cases_lt c at), omega (arith, named_inside _ slots c are e, skip_long at cells));
@@ -29,13 +29,16 @@ within_of at cells slots above are = record {
   low c e (inl lt) = let f = above.below c lt in absurd (cc)
   low c e (inr le) = le
 
-module _ (structs : List Pairer) (cs : List Carrier) (ms : List Meaning) (y : List (List Cell)) (numbers : List ℤ) (k k' : ℕ) (above : MeanAbove ms) (means : MeanCells ms) where
+module _ (structs : List Pairer) (cs : List Carrier) (ms : List Meaning) (y : List (List Cell)) (numbers : List ℤ) (k k' : ℕ) (above : MeanAbove ms)
+    (means : MeanCells ms) where
   abbrev x : List (List Cell)
   x = cells_in ms
 
   -- what is known of the structures: the older ones with numbers below k and the newer ones with numbers below k'
   abbrev pub StructsGo : Type 0
-  StructsGo = (i j at at' : ℕ) → i < k → j < k' → Goes (get_or x i []) (get_or y j []) numbers ((get_or ms i no_meaning).slots numbers at) at at' (get_or structs i no_pairer j at') (get_or cs j no_carrier i numbers at)
+  StructsGo =
+      (i j at at' : ℕ) → i < k → j < k' → Goes (get_or x i []) (get_or y j []) numbers ((get_or ms i no_meaning).slots numbers at) at at'
+      (get_or structs i no_pairer j at') (get_or cs j no_carrier i numbers at)
 
   module _ (table : Structs structs x y k) (go : StructsGo) where
     item_within : (a : Item) (caps : List ℕ) (d : ℤ) (at : ℕ) → IsWithin at (length (item_cells x a caps d)) (item_slots ms a caps numbers at)
@@ -47,18 +50,18 @@ module _ (structs : List Pairer) (cs : List Carrier) (ms : List Meaning) (y : Li
 
     -- a pair of numbers
     one_goes : (l m : Kind) (caps caps' : List ℕ) (d d' : ℤ) (at at' : ℕ) (b : Bool) → same_kind l m ≡ b
-        → AreFrom (record { kind = l; capacities = caps; default = d } ∷ []) (record { kind = m; capacities = caps'; default = d' } ∷ []) at' ((if b then Some at' else None) ∷ [])
-        → IsWithin at 1 (Number at l caps ∷ [])
-        → Goes (record { kind = l; capacities = caps; default = d } ∷ []) (record { kind = m; capacities = caps'; default = d' } ∷ []) numbers (Number at l caps ∷ []) at at'
+        → AreFrom (one_cell l caps d) (one_cell m caps' d') at' ((if b then Some at' else None) ∷ []) → IsWithin at 1 (Number at l caps ∷ [])
+        → Goes (one_cell l caps d) (one_cell m caps' d') numbers (Number at l caps ∷ []) at at'
         ((if b then Some at' else None) ∷ []) (if b then get_or numbers at (pos 0) ∷ [] else d' ∷ [])
     one_goes l m caps caps' d d' at at' true same h w = record { paired = h; within = w; long = refl; taken = taken; other = other } where
-      taken : (c r : ℕ) → slice_get (Some at' ∷ []) c ≡ Some (Some (at' + r)) → has_cell (Number at l caps ∷ []) (at + c) ≡ true → get_or (get_or numbers at (pos 0) ∷ []) r (pos 0) ≡ get_or numbers (at + c) (pos 0)
+      taken : (c r : ℕ) → slice_get (Some at' ∷ []) c ≡ Some (Some (at' + r)) → has_cell (Number at l caps ∷ []) (at + c) ≡ true
+          → get_or (get_or numbers at (pos 0) ∷ []) r (pos 0) ≡ get_or numbers (at + c) (pos 0)
       taken zero zero e f = let z : at + 0 ≡ at = omega arith in rw z
       taken zero (suc r) e f = let is : at' ≡ at' + suc r = cc in absurd (omega arith)
       taken (suc c) r e f = absurd (cc)
 
       other : (r : ℕ) → r < 1 → ((c : ℕ) → slice_get (Some at' ∷ []) c ≡ Some (Some (at' + r)) → has_cell (Number at l caps ∷ []) (at + c) ≡ false)
-          → get_or (get_or numbers at (pos 0) ∷ []) r (pos 0) ≡ (get_or (record { kind = m; capacities = caps'; default = d' } ∷ []) r no_cell).default
+          → get_or (get_or numbers at (pos 0) ∷ []) r (pos 0) ≡ (get_or (one_cell m caps' d') r no_cell).default
       other r lt f =
           let k_is : at' ≡ at' + r = omega arith in
           let z : at + 0 ≡ at = omega arith in
@@ -68,7 +71,8 @@ module _ (structs : List Pairer) (cs : List Carrier) (ms : List Meaning) (y : Li
     one_goes l m caps caps' d d' at at' false same h w = goes_alone 1 refl w refl
 
     item_goes : (a b : Item) (caps caps' : List ℕ) (d d' : ℤ) (at at' : ℕ) → ItemBelow k a → ItemBelow k' b
-        → Goes (item_cells x a caps d) (item_cells y b caps' d') numbers (item_slots ms a caps numbers at) at at' (item_partners structs x y a b at') (carry_item cs x y numbers a b (defaults (item_cells y b [] d')) at)
+        → Goes (item_cells x a caps d) (item_cells y b caps' d') numbers (item_slots ms a caps numbers at) at at' (item_partners structs x y a b at')
+        (carry_item cs x y numbers a b (defaults (item_cells y b [] d')) at)
     item_goes (Num l) (Num m) caps caps' d d' at at' lt lt' =
         one_goes l m caps caps' d d' at at' _ refl (item_paired structs x y k table (Num l) (Num m) caps caps' d d' at' lt) (item_within (Num l) caps d at)
     item_goes (Struct i) (Struct j) caps caps' d d' at at' lt lt' = go i j at at' lt lt'
@@ -76,31 +80,24 @@ module _ (structs : List Pairer) (cs : List Carrier) (ms : List Meaning) (y : Li
 
     -- ---- a number of elements, of which the first n are in the bytes
 
-    carry_none : (a b : Item) (caps' : List ℕ) (d' : ℤ) (step m at q t : ℕ) → carry_items cs x y numbers a b (defaults (item_cells y b [] d')) step 0 m at ≡ defaults (times m (λ _. item_cells y b caps' d') q t)
+    carry_none : (a b : Item) (caps' : List ℕ) (d' : ℤ) (step m at q t : ℕ)
+        → carry_items cs x y numbers a b (defaults (item_cells y b [] d')) step 0 m at ≡ defaults (times m (λ _. item_cells y b caps' d') q t)
     carry_none a b caps' d' step zero at q t = refl
     carry_none a b caps' d' step (suc m) at q t =
-        rw (same_defaults y b [] caps' d', carry_none a b caps' d' step m at (q + t) t) (sym (defaults_append (item_cells y b caps' d') (times m (λ _. item_cells y b caps' d') (q + t) t)))
+        rw (same_defaults y b [] caps' d', carry_none a b caps' d' step m at (q + t) t)
+        (sym (defaults_append (item_cells y b caps' d') (times m (λ _. item_cells y b caps' d') (q + t) t)))
 
     array_goes : (a b : Item) (caps caps' : List ℕ) (d d' : ℤ) (most n m at at' p s q t : ℕ) → n ≤ most → ItemBelow k a → ItemBelow k' b
-        → Goes (times most (λ _. item_cells x a caps d) p s) (times m (λ _. item_cells y b caps' d') q t) numbers (times n (item_slots ms a caps numbers) at (item_size x a)) at at'
+        → Goes (times most (λ _. item_cells x a caps d) p s) (times m (λ _. item_cells y b caps' d') q t) numbers
+        (times n (item_slots ms a caps numbers) at (item_size x a)) at at'
         (array_partners structs x y a b most m at') (carry_items cs x y numbers a b (defaults (item_cells y b [] d')) (item_size x a) n m at)
     array_goes a b caps caps' d d' most zero m at at' p s q t le lt lt' =
         rw (carry_none a b caps' d' _ m at q t) (goes_absent (array_paired structs x y k table a b caps caps' d d' most m at' p q s t lt))
     array_goes a b caps caps' d d' zero (suc n) m at at' p s q t le lt lt' = absurd (omega arith)
     array_goes a b caps caps' d d' (suc most) (suc n) zero at at' p s q t le lt lt' =
         let e : item_size x a ≡ length (item_cells x a caps d) = sym (size_same x a caps d) in
-        goes_append (goes_alone {others = []} (item_size x a) e (item_within a caps d at) refl) (omega arith) (omega arith) (none_left a b caps caps' d d' most n (at + item_size x a) at' (p + s) s q t (omega arith) lt lt')
-      where
-        none_left : (a b : Item) (caps caps' : List ℕ) (d d' : ℤ) (most n at at' p s q t : ℕ) → n ≤ most → ItemBelow k a → ItemBelow k' b
-            → Goes (times most (λ _. item_cells x a caps d) p s) [] numbers (times n (item_slots ms a caps numbers) at (item_size x a)) at at' (array_partners structs x y a b most 0 at') []
-        none_left a b caps caps' d d' most n at at' p s q t le lt lt' = record {
-          paired = array_paired structs x y k table a b caps caps' d d' most 0 at' p q s t lt;
-          within = within_of at _ _ (items_above ms above a caps numbers n at _)
-              (items_are ms means a caps d _ most n at p s numbers le (stands_behind at _));
-          long = refl;
-          taken = λ c r e f. (let i = (array_paired structs x y k table a b caps caps' d d' most 0 at' p q s t lt).pairs c (at' + r) e in absurd (omega arith));
-          other = λ r l f. absurd (omega arith);
-        }
+        goes_append (goes_alone {others = []} (item_size x a) e (item_within a caps d at) refl) (omega arith) (omega arith)
+        (array_goes a b caps caps' d d' most n zero (at + item_size x a) at' (p + s) s q t (omega arith) lt lt')
     array_goes a b caps caps' d d' (suc most) (suc n) (suc m) at at' p s q t le lt lt' =
         goes_append (item_goes a b caps caps' d d' at at' lt lt') (omega (arith, sym (size_same x a caps d))) (omega (arith, sym (size_same y b caps' d')))
         (array_goes a b caps caps' d d' most n m (at + item_size x a) (at' + item_size y b) (p + s) s (q + t) t (omega arith) lt lt')
@@ -121,20 +118,21 @@ module _ (structs : List Pairer) (cs : List Carrier) (ms : List Meaning) (y : Li
       not_there i p f e =
           rw (presence_there f.test f.since v own no_parent ∙ ap (λ (o : Option (Option Formula)). there o v own no_parent) e)
 
-      -- two present fields of one position
-      pair_goes : (i i' p p' : ℕ) (f g : Field) (rest rest' : Option Formula) → ItemBelow k f.item → ItemBelow k' g.item
-          → Goes (field_cells x all i f) (field_cells y all' i' g) numbers (slots_of i p f) (at + p) (at' + p')
+      -- two present fields of one position, of the older of which so many elements are in the bytes
+      abbrev PairGoes : (i i' p p' : ℕ) → (f g : Field) → List Slot → ℕ → Type 0
+      PairGoes i i' p p' f g slots n =
+          Goes (field_cells x all i f) (field_cells y all' i' g) numbers slots (at + p) (at' + p')
           (array_partners structs x y f.item g.item (capacity_of f.count) (capacity_of g.count) (at' + p'))
-          (carry_field cs x y numbers own v at (record { index = i; place = p; field = f; rest = rest }) g)
-      pair_goes i i' p p' f g rest rest' lt lt' = by_there (is_there f.test f.since v own no_parent) where
-        by_there : (b : Bool)
-            → Goes (field_cells x all i f) (field_cells y all' i' g) numbers (if b then times (elements_of f.count own) (item_slots ms f.item (counted i all) numbers) (at + p) (item_size x f.item) else []) (at + p) (at' + p')
-            (array_partners structs x y f.item g.item (capacity_of f.count) (capacity_of g.count) (at' + p'))
-            (carry_items cs x y numbers f.item g.item (defaults (item_cells y g.item [] g.default)) (item_size x f.item) (if b then elements_of f.count own else 0) (capacity_of g.count) (at + p))
-        by_there true =
-            array_goes f.item g.item _ _ f.default g.default _ _ _ (at + p) _ 0 0 0 0 (elements_fit f.count own) lt lt'
-        by_there false =
-            array_goes f.item g.item _ _ f.default g.default _ 0 _ (at + p) _ 0 0 0 0 (omega arith) lt lt'
+          (carry_items cs x y numbers f.item g.item (defaults (item_cells y g.item [] g.default)) (item_size x f.item) n (capacity_of g.count) (at + p))
+
+      pair_goes : (i i' p p' : ℕ) (f g : Field) → ItemBelow k f.item → ItemBelow k' g.item
+          → PairGoes i i' p p' f g (slots_of i p f) (if is_there f.test f.since v own no_parent then elements_of f.count own else 0)
+      pair_goes i i' p p' f g lt lt' = by_there (is_there f.test f.since v own no_parent) where
+        by_there : (b : Bool) → PairGoes i i' p p' f g
+            (if b then times (elements_of f.count own) (item_slots ms f.item (counted i all) numbers) (at + p) (item_size x f.item) else [])
+            (if b then elements_of f.count own else 0)
+        by_there true = array_goes f.item g.item _ _ f.default g.default _ _ _ (at + p) _ 0 0 0 0 (elements_fit f.count own) lt lt'
+        by_there false = array_goes f.item g.item _ _ f.default g.default _ 0 _ (at + p) _ 0 0 0 0 (omega arith) lt lt'
 
       -- ---- all fields from one on, on each side
 
@@ -161,7 +159,8 @@ module _ (structs : List Pairer) (cs : List Carrier) (ms : List Meaning) (y : Li
 
       abbrev GoFrom : (i i' p p' : ℕ) → (fs gs : List Field) → Type 0
       GoFrom i i' p p' fs gs =
-          Goes (cells_from x all i fs) (cells_from y all' i' gs) numbers (slots_on i p fs) (at + p) (at' + p') (partners_on fs (news i' p' gs)) (carry_on i' gs (olds i p fs))
+          Goes (cells_from x all i fs) (cells_from y all' i' gs) numbers (slots_on i p fs) (at + p) (at' + p') (partners_on fs (news i' p' gs))
+          (carry_on i' gs (olds i p fs))
 
       abbrev RestGoes : ℕ → ℕ → List Field → Type 0
       RestGoes i p fs = (i' p' : ℕ) (gs : List Field) → FieldsBelow k' gs → GoFrom i i' p p' fs gs
@@ -175,18 +174,22 @@ module _ (structs : List Pairer) (cs : List Carrier) (ms : List Meaning) (y : Li
       no_olds : (i i' p p' : ℕ) (gs : List Field) → GoFrom i i' p p' [] gs
       no_olds i i' p p' [] = goes_absent (paired_none [] [] _ 0 refl)
       no_olds i i' p p' (g ∷ gs) = by_new (presence w g.test g.since) (no_olds i (suc i') p (p' + size_at' i' g) gs) where
-        by_new : (o : Option (Option Formula)) → Goes [] (cells_from y all' (suc i') gs) numbers [] (at + p) (at' + (p' + size_at' i' g)) [] (carry_on (suc i') gs [])
-            → Goes [] (cells_from y all' i' (g ∷ gs)) numbers [] (at + p) (at' + p') [] (carry_next cs x y numbers own v at all' i' g o [] ++ carry_on (suc i') gs (entries_left cs x y numbers o []))
+        by_new : (o : Option (Option Formula))
+            → Goes [] (cells_from y all' (suc i') gs) numbers [] (at + p) (at' + (p' + size_at' i' g)) [] (carry_on (suc i') gs [])
+            → Goes [] (cells_from y all' i' (g ∷ gs)) numbers [] (at + p) (at' + p') []
+            (carry_next cs x y numbers own v at all' i' g o [] ++ carry_on (suc i') gs (entries_left cs x y numbers o []))
         by_new None h = new_alone i' p p' g gs h
         by_new (Some rest) h = new_alone i' p p' g gs h
 
       -- a field of the older side only, before more
       old_alone : (i p p' : ℕ) (f : Field) (fs : List Field) {others : List Cell} {partners : List (Option ℕ)} {segment : List ℤ}
           → Goes (cells_from x all (suc i) fs) others numbers (slots_on (suc i) (p + size_at i f) fs) (at + (p + size_at i f)) (at' + p') partners segment
-          → Goes (cells_from x all i (f ∷ fs)) others numbers (slots_on i p (f ∷ fs)) (at + p) (at' + p') (unpaired (capacity_of f.count * item_size x f.item) ++ partners) segment
+          → Goes (cells_from x all i (f ∷ fs)) others numbers (slots_on i p (f ∷ fs)) (at + p) (at' + p')
+          (unpaired (capacity_of f.count * item_size x f.item) ++ partners) segment
       old_alone i p p' f fs h =
           let u : at + (p + size_at i f) ≡ (at + p) + size_at i f = omega arith in
-          goes_append (goes_alone {others = []} (capacity_of f.count * item_size x f.item) (sym (field_size x all i f)) (field_within i p f) refl) refl (omega arith) (rw u at h)
+          goes_append (goes_alone {others = []} (capacity_of f.count * item_size x f.item) (sym (field_size x all i f)) (field_within i p f) refl) refl
+          (omega arith) (rw u at h)
 
       -- a present field of the older side, before more
       module _ (i p : ℕ) (f : Field) (fs : List Field) (left : Option Formula) (lt : ItemBelow k f.item) (more : RestGoes (suc i) (p + size_at i f) fs) where
@@ -202,15 +205,17 @@ module _ (structs : List Pairer) (cs : List Carrier) (ms : List Meaning) (y : Li
             (field_partners structs x y f (Some left) es at' ++ partners_on fs (fields_left structs x y (Some left) es)) segment
 
         both : (i' p' : ℕ) (g : Field) (gs : List Field) (rest : Option Formula) → ItemBelow k' g.item → FieldsBelow k' gs
-            → With i' p' (g ∷ gs) (record { index = i'; place = p'; field = g; rest = rest } ∷ news (suc i') (p' + size_at' i' g) gs) (carry_field cs x y numbers own v at entry g ++ carry_on (suc i') gs later)
+            → With i' p' (g ∷ gs) (record { index = i'; place = p'; field = g; rest = rest } ∷ news (suc i') (p' + size_at' i' g) gs)
+            (carry_field cs x y numbers own v at entry g ++ carry_on (suc i') gs later)
         both i' p' g gs rest lt' below =
             let u : at + (p + size_at i f) ≡ (at + p) + size_at i f = omega arith in
-            goes_append (pair_goes i i' p p' f g left rest lt lt') refl (omega arith) (rw u at (more (suc i') (p' + size_at' i' g) gs below))
+            goes_append (pair_goes i i' p p' f g lt lt') refl (omega arith) (rw u at (more (suc i') (p' + size_at' i' g) gs below))
 
         with_present : (i' p' : ℕ) (gs : List Field) → FieldsBelow k' gs → With i' p' gs (news i' p' gs) (carry_on i' gs (entry ∷ later))
         with_present i' p' [] below = old_alone i p p' f fs (more i' p' [] tt)
         with_present i' p' (g ∷ gs) below = by_new (presence w g.test g.since) (with_present (suc i') (p' + size_at' i' g) gs below.1) where
-          by_new : (o : Option (Option Formula)) → With (suc i') (p' + size_at' i' g) gs (news (suc i') (p' + size_at' i' g) gs) (carry_on (suc i') gs (entry ∷ later))
+          by_new : (o : Option (Option Formula))
+              → With (suc i') (p' + size_at' i' g) gs (news (suc i') (p' + size_at' i' g) gs) (carry_on (suc i') gs (entry ∷ later))
               → With i' p' (g ∷ gs) (entry_of i' p' g o ++ news (suc i') (p' + size_at' i' g) gs)
               (carry_next cs x y numbers own v at all' i' g o (entry ∷ later) ++ carry_on (suc i') gs (entries_left cs x y numbers o (entry ∷ later)))
           by_new None h = new_alone i' p p' g gs h
@@ -232,14 +237,17 @@ module _ (structs : List Pairer) (cs : List Carrier) (ms : List Meaning) (y : Li
     -- ---- a description: its fields, and its validations, which have no cell
 
     pub desc_goes : (v w : ℕ) (a b : Desc) (at at' : ℕ) → FieldsBelow k a.fields → FieldsBelow k' b.fields
-        → Goes (desc_cells x a) (desc_cells y b) numbers (desc_slots ms a v numbers at) at at' (desc_partners structs x y v w a b at') (carry_desc cs x y numbers v w a b at)
+        → Goes (desc_cells x a) (desc_cells y b) numbers (desc_slots ms a v numbers at) at at' (desc_partners structs x y v w a b at')
+        (carry_desc cs x y numbers v w a b at)
     desc_goes v w a b at at' lt lt' =
         let z : at + 0 ≡ at = omega arith in
         let z' : at' + 0 ≡ at' = omega arith in
         more_rules _ (rw (z, z') at (fields_go a.fields b.fields v w (numbers_of x a numbers at) at at' 0 0 a.fields lt 0 0 b.fields lt'))
       where
-        more_rules : {slots : List Slot} (b' : Bool) → Goes (desc_cells x a) (desc_cells y b) numbers slots at at' (desc_partners structs x y v w a b at') (carry_desc cs x y numbers v w a b at)
-            → Goes (desc_cells x a) (desc_cells y b) numbers (slots ++ Rule b' ∷ []) at at' (desc_partners structs x y v w a b at') (carry_desc cs x y numbers v w a b at)
+        more_rules : {slots : List Slot} (b' : Bool)
+            → Goes (desc_cells x a) (desc_cells y b) numbers slots at at' (desc_partners structs x y v w a b at') (carry_desc cs x y numbers v w a b at)
+            → Goes (desc_cells x a) (desc_cells y b) numbers (slots ++ Rule b' ∷ []) at at' (desc_partners structs x y v w a b at')
+            (carry_desc cs x y numbers v w a b at)
         more_rules {slots} b' h = record {
           paired = h.paired;
           within = record { in_range = λ c e. h.within.in_range c (sym (same c) ∙ e) };
@@ -280,7 +288,8 @@ module _ (old new : Set) (good_old : WellFormed old) (good_new : WellFormed new)
 
   abbrev GoesAt : ℕ → ℕ → Type 0
   GoesAt i l = (j at at' : ℕ) → j < l
-      → Goes (get_or xs i []) (get_or y j []) numbers ((get_or ms i no_meaning).slots numbers at) at at' (pairer_of (pairers_to i) xs y es (get_or ds i no_desc) j at') (get_or (carriers_to l) j no_carrier i numbers at)
+      → Goes (get_or xs i []) (get_or y j []) numbers ((get_or ms i no_meaning).slots numbers at) at at'
+      (pairer_of (pairers_to i) xs y es (get_or ds i no_desc) j at') (get_or (carriers_to l) j no_carrier i numbers at)
 
   last : (m : ℕ) → m < length ds → ((l : ℕ) → l ≤ length es → Go m l) → (l : ℕ) → l ≤ length es → GoesAt m l
   last m lt h l le j at at' lt' =
@@ -288,7 +297,8 @@ module _ (old new : Set) (good_old : WellFormed old) (good_new : WellFormed new)
       let e = get_or es j no_desc in
       let below = struct_below old good_old m lt in
       rw (carrier_at xs y ds es l j lt', struct_slots ds (length ds) m numbers at lt below, struct_cells_at ds (length ds) m lt below, struct_is new good_new j)
-      (desc_goes _ _ ms y numbers m j (meanings_above ds _) (meanings_are ds _) (structs_in m (omega arith)) (h j (omega arith)) d.version e.version d e at at' below
+      (desc_goes _ _ ms y numbers m j (meanings_above ds _) (meanings_are ds _) (structs_in m (omega arith))
+      (h j (omega arith)) d.version e.version d e at at' below
       (struct_below new good_new j (omega arith)))
 
   pairer_at : (m i : ℕ) → i < m → get_or (pairers_to m) i no_pairer ≡ pairer_of (pairers_to i) xs y es (get_or ds i no_desc)
@@ -298,11 +308,13 @@ module _ (old new : Set) (good_old : WellFormed old) (good_new : WellFormed new)
   go_to m le l le' i j at at' lt lt' =
       rw (pairer_at m i lt)
       (by_less (λ i. i < length ds → (l : ℕ) → l ≤ length es → GoesAt i l)
-      (λ m before less. last m less (λ l le i j at at' lt lt'. rw (pairer_at m i lt) (before i lt (omega arith) l le j at at' lt'))) m i lt (omega arith) l le' j at at' lt')
+      (λ m before less. last m less (λ l le i j at at' lt lt'. rw (pairer_at m i lt) (before i lt (omega arith) l le j at at' lt'))) m i lt
+      (omega arith) l le' j at at' lt')
 
   -- two descriptions at one version
   pub part_goes : (v : ℕ) (a b : Desc) (at at' : ℕ) → FieldsBelow (length ds) a.fields → FieldsBelow (length es) b.fields
-      → Goes (desc_cells (struct_cells old) a) (desc_cells (struct_cells new) b) numbers (desc_slots ms a v numbers at) at at' (part_partners old new v a b at') (carrying old new numbers v a b at)
+      → Goes (desc_cells (struct_cells old) a) (desc_cells (struct_cells new) b) numbers (desc_slots ms a v numbers at) at at'
+      (part_partners old new v a b at') (carrying old new numbers v a b at)
   part_goes v a b at at' lt lt' =
       rw (← (cells_first ds _))
       (desc_goes _ _ ms y numbers _ _ (meanings_above ds _) (meanings_are ds _) (structs_in _ (omega arith))

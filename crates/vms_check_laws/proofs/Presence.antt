@@ -1,11 +1,12 @@
 -- A field is there exactly where what its presence at a version leaves of the test holds. The same remaining tests have the same truth
 -- where the numbers that they name are the same. Small facts of two descriptions: what covers, and how long numbers are.
 use Rattle.vms_check_laws.proofs.Facade.{◌≡◌, ℕ, Bool, true, false, Option, Some, None, refl, sym, ◌∙◌, nat_le, if◌then◌else◌, Formula, truth, is_there}
-use Rattle.vms_check_laws.proofs.Facade.{Reduced, Known, Open, reduced, left_of, presence, truth_of, reduced_holds, not, ◌&&◌, ◌||◌, ◌==◌, ap, bit_and}
-use Rattle.vms_check_laws.proofs.Facade.{and_parts, eqb-true, and_from, Rel, Eq, Ne, Lt, Ge, Own, Not, And, Or, compares, names_well, nobody, same_place}
-use Rattle.vms_check_laws.proofs.Facade.{same_test, same_rest, same_reduced, rel_number, IfOpen, IsByParts, open_reduced, zero, suc, ◌+◌, ◌*◌, List, ◌∷◌, ◌++◌}
-use Rattle.vms_check_laws.proofs.Facade.{length, get_or, arith, ℤ, pos, [], length-append, Kind, Item, Num, Equal, Unused, width, code, Count, One, Fixed}
-use Rattle.vms_check_laws.proofs.Facade.{Field, Number, Constant, times, zeroed, is_steady, is_num, is_one, has_no_test, length-code, is_covered, Holds}
+use Rattle.vms_check_laws.proofs.Facade.{Reduced, Known, Open, reduced, left_of, presence, truth_of, reduced_holds, not, ◌&&◌, ◌||◌, ◌==◌, bit_and, and_parts}
+use Rattle.vms_check_laws.proofs.Facade.{eqb-true, and_from, Rel, Eq, Ne, Lt, Ge, Own, Not, And, Or, compares, names_well, nobody, same_place, same_test}
+use Rattle.vms_check_laws.proofs.Facade.{same_rest, same_reduced, rel_number, IfOpen, IsByParts, open_reduced, zero, suc, ◌+◌, ◌*◌, List, ◌∷◌, ◌++◌, length}
+use Rattle.vms_check_laws.proofs.Facade.{get_or, arith, ℤ, pos, length-append, Kind, Item, Num, Equal, Unused, width, code, Count, One, Fixed, Field, Number}
+use Rattle.vms_check_laws.proofs.Facade.{Constant, times, zeroed, is_steady, is_num, is_one, has_no_test, length-code, is_covered, Holds, Filler}
+use Rattle.vms_check_laws.proofs.Facade.{length-replicate, replicate, ap, []}
 use Rattle.vms_spec.specs.Sets.{Cell}
 
 -- presence at a version, and then the remaining test, say whether a field is there
@@ -128,7 +129,8 @@ not_covered i c j covers number =
     absurd (cc)
 
 -- the bytes of n numbers
-pub numbers_length : (numbers : List ℤ) (kind : Kind) (caps : List ℕ) (n at step : ℕ) → length (zeroed numbers (times n (λ c. Number c kind caps ∷ []) at step)) ≡ n * width kind
+pub numbers_length : (numbers : List ℤ) (kind : Kind) (caps : List ℕ) (n at step : ℕ)
+    → length (zeroed numbers (times n (λ c. Number c kind caps ∷ []) at step)) ≡ n * width kind
 numbers_length numbers kind caps zero at step = omega arith
 numbers_length numbers kind caps (suc n) at step =
     length-append (code kind (get_or numbers at (pos 0))) _
@@ -137,6 +139,9 @@ numbers_length numbers kind caps (suc n) at step =
 
 pub constant_length : (numbers : List ℤ) (kind : Kind) (z : ℤ) → length (zeroed numbers (Constant kind z ∷ [])) ≡ width kind
 constant_length numbers kind z = length-append (code kind z) [] ∙ ap (λ (k : ℕ). k + 0) (length-code kind z) ∙ omega arith
+
+pub filler_length : (numbers : List ℤ) (n : ℕ) → length (zeroed numbers (Filler n ∷ [])) ≡ n
+filler_length numbers n = length-append (replicate n 0) [] ∙ ap (λ (k : ℕ). k + 0) (length-replicate n 0) ∙ omega arith
 
 -- a field that tests and counts may name
 pub record Steady (f : Field) : Type 0 where
@@ -157,7 +162,8 @@ no_rest : (b : Bool) (rest : Option Formula) → (if b then Some None else None)
 no_rest true rest h = cc
 no_rest false rest h = cc
 
-pub steady_rest : (w : ℕ) (test : Option Formula) (since : ℕ) (rest : Option Formula) → has_no_test test ≡ true → presence w test since ≡ Some rest → rest ≡ None
+pub steady_rest : (w : ℕ) (test : Option Formula) (since : ℕ) (rest : Option Formula) → has_no_test test ≡ true → presence w test since ≡ Some rest
+    → rest ≡ None
 steady_rest w None since rest h k = no_rest _ rest k
 steady_rest w (Some t) since rest h k = absurd (cc)
 
@@ -169,6 +175,7 @@ pub there_here : (v : ℕ) (test : Option Formula) (since : ℕ) (rest : Option 
     → is_there test since v own parent ≡ there (Some rest) v own parent
 there_here v test since rest own parent h = presence_there test since v own parent ∙ ap (λ (q : Option (Option Formula)). there q v own parent) h
 
-pub one_number : (c : Bool) (numbers' : List ℤ) (y : ℕ) (z d : ℤ) → c ≡ true → Holds numbers' y ((if c then z ∷ [] else d ∷ []) ++ []) → get_or numbers' (y + 0) (pos 0) ≡ z
+pub one_number : (c : Bool) (numbers' : List ℤ) (y : ℕ) (z d : ℤ) → c ≡ true → Holds numbers' y ((if c then z ∷ [] else d ∷ []) ++ [])
+    → get_or numbers' (y + 0) (pos 0) ≡ z
 one_number true numbers' y z d e h = h.each 0 (omega arith)
 one_number false numbers' y z d e h = absurd (cc)

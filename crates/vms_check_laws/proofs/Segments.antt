@@ -1,9 +1,9 @@
 -- Segments of numbers, and slots of one side whose bytes are those of the other's. Bytes of both sides at one front: if slots of the
 -- newer set are at the front of what the older set wrote, they take exactly the bytes that it wrote for its own slots.
-use Rattle.vms_check_laws.proofs.Facade.{◌≡◌, ℕ, suc, ◌+◌, List, ◌∷◌, ◌++◌, length, get_or, Bool, IsTrue, refl, sym, ◌∙◌, arith, append_assoc, ℤ, pos, []}
-use Rattle.vms_check_laws.proofs.Facade.{length-append, get_or_append_left, get_or-append-add, append-nil, Kind, Cell, no_cell, Slot, Number, Constant, Filler}
-use Rattle.vms_check_laws.proofs.Facade.{Rule, zeroed, RulesHold, Holds, FitsAt, Carries, rules_append, spells_append, ap, big_number, width, residue, code}
-use Rattle.vms_check_laws.proofs.Facade.{Spells, length-code, code_read, Aligns}
+use Rattle.vms_check_laws.proofs.Facade.{◌≡◌, ℕ, suc, ◌+◌, List, ◌∷◌, ◌++◌, length, get_or, Bool, IsTrue, refl, ◌∙◌, arith, append_assoc, ℤ, pos, length-append}
+use Rattle.vms_check_laws.proofs.Facade.{get_or_append_left, get_or-append-add, append-nil, Kind, Cell, no_cell, Slot, Number, Constant, Filler, Rule, zeroed}
+use Rattle.vms_check_laws.proofs.Facade.{RulesHold, Holds, FitsAt, Carries, rules_append, spells_append, ap, big_number, width, residue, code, Spells}
+use Rattle.vms_check_laws.proofs.Facade.{length-code, code_read, Aligns, sym, []}
 
 -- values from a place on
 pub at_first : {A : Type 0} (f : ℕ → A) (j : ℕ) {g : ℕ → A} → ((m : ℕ) → f (j + m) ≡ g m) → f j ≡ g 0
@@ -71,7 +71,8 @@ carries_append {x = x} {y = y} {a = a} {b = b} {c = c} {d = d} h k = record {
   rules = λ r. rules_append b d (h.rules (rules_left a c r)) (k.rules (rules_right a c r));
 }
 
-pub carries_number : (x y : List ℤ) (c d : ℕ) (k l : Kind) (p q : List ℕ) → k ≡ l → get_or x c (pos 0) ≡ get_or y d (pos 0) → Carries x (Number c k p ∷ []) y (Number d l q ∷ [])
+pub carries_number : (x y : List ℤ) (c d : ℕ) (k l : Kind) (p q : List ℕ) → k ≡ l → get_or x c (pos 0) ≡ get_or y d (pos 0)
+    → Carries x (Number c k p ∷ []) y (Number d l q ∷ [])
 carries_number x y c d k l p q e f = record { spells = ([], rw (f, e), refl); rules = λ h. h }
 
 pub carries_constant : (x y : List ℤ) (k l : Kind) (z u : ℤ) → k ≡ l → z ≡ u → Carries x (Constant k z ∷ []) y (Constant l u ∷ [])
@@ -96,11 +97,13 @@ apart (x ∷ xs) (y ∷ ys) r r' e h =
     (ap (λ (z : ℕ). z ∷ xs) heads ∙ ap (λ (l : List ℕ). y ∷ l) more.0, more.1)
 
 -- the bytes are the same
-pub same_bytes : (x : List ℤ) (a : List Slot) (y : List ℤ) (b : List Slot) → Aligns x a y b → (body r r' : List ℕ) → Spells y b body → body ++ r' ≡ zeroed x a ++ r → body ≡ zeroed x a
+pub same_bytes : (x : List ℤ) (a : List Slot) (y : List ℤ) (b : List Slot) → Aligns x a y b → (body r r' : List ℕ) → Spells y b body
+    → body ++ r' ≡ zeroed x a ++ r → body ≡ zeroed x a
 same_bytes x a y b al body r r' s h =
     (apart body _ r r' (omega (arith, ap length h, length-append body r', length-append (zeroed x a) r, ap length (al.rests body r r' s h))) h).0
 
-pub spells_split : (y : List ℤ) (b c : List Slot) (body : List ℕ) → Spells y (b ++ c) body → (front rest : List ℕ) × (body ≡ front ++ rest) × Spells y b front × Spells y c rest
+pub spells_split : (y : List ℤ) (b c : List Slot) (body : List ℕ) → Spells y (b ++ c) body
+    → (front rest : List ℕ) × (body ≡ front ++ rest) × Spells y b front × Spells y c rest
 spells_split y [] c body s = ([], body, refl, refl, s)
 spells_split y (Number k kind caps ∷ b) c body s =
     let t = spells_split y b c s.0 s.2 in
@@ -115,13 +118,15 @@ spells_split y (Filler n ∷ b) c body s =
 spells_split y (Rule r ∷ b) c body s = spells_split y b c body s
 
 -- the rest after the first of two parts
-pub behind_first : (x : List ℤ) (a c : List Slot) (front rest r r' : List ℕ) → (front ++ rest) ++ r' ≡ zeroed x (a ++ c) ++ r → front ++ (rest ++ r') ≡ zeroed x a ++ (zeroed x c ++ r)
+pub behind_first : (x : List ℤ) (a c : List Slot) (front rest r r' : List ℕ) → (front ++ rest) ++ r' ≡ zeroed x (a ++ c) ++ r
+    → front ++ (rest ++ r') ≡ zeroed x a ++ (zeroed x c ++ r)
 behind_first x a c front rest r r' h =
     sym (append_assoc front rest r') ∙ h ∙ ap (λ (l : List ℕ). l ++ r) (zeroed_append x a c) ∙ append_assoc (zeroed x a) (zeroed x c) r
 
 -- ---- slots
 
-aligns_sized : (x : List ℤ) (a : List Slot) (y : List ℤ) (b : List Slot) → ((body : List ℕ) → Spells y b body → length body ≡ length (zeroed x a)) → Aligns x a y b
+aligns_sized : (x : List ℤ) (a : List Slot) (y : List ℤ) (b : List Slot) → ((body : List ℕ) → Spells y b body → length body ≡ length (zeroed x a))
+    → Aligns x a y b
 aligns_sized x a y b long = record { rests = λ body r r' s h. (apart body _ r r' (long body s) h).1 }
 
 pub aligns_nil : (x y : List ℤ) → Aligns x [] y []

@@ -38,7 +38,7 @@ use Rattle.vms_counter_laws.proofs.Inverted.{else_some, one_rule, struct_no_devi
 use Rattle.vms_check_laws.proofs.Streaming.{Pair, pair, compared}
 use Rattle.vms_counter_laws.proofs.Devices.{Comes, comes}
 use Rattle.vms_counter_laws.proofs.Heads.{same_head}
-use Rattle.vms_check_laws.proofs.Linking.{Two}
+use Rattle.vms_check_laws.proofs.Premises.{Two}
 use Rattle.vms_counter_laws.proofs.Clashing.{present_fields, clashes}
 use Rattle.vms_counter_laws.proofs.Machines.{lacks, machine_untaken}
 

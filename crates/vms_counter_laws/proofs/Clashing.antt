@@ -17,8 +17,7 @@ use Rattle.vms_bodies.proofs.ReadyLaws.{is_same}
 use Rattle.vms_check.specs.declared.mismatch.Mismatch.{Mismatch}
 use Rattle.vms_check.specs.Reducing.{presence}
 use Rattle.vms_check.specs.Comparing.{Entry, Comparer, absent_hold, bound, compare_fields, entry_of, failing_pair, holds_as_much, is_covered, names_match, pair_rules, pair_structs, present_from, same_constant, same_count, same_item, same_rest, uncovered_rules}
-use Rattle.vms_check_laws.proofs.Pairing.{kinds_same}
-use Rattle.vms_check_laws.proofs.Linking.{Two}
+use Rattle.vms_check_laws.proofs.Premises.{kinds_same, Two}
 use Rattle.vms_check_laws.proofs.AlignedDescs.{Clash, Clashes, Differ}
 use Rattle.vms_counter_laws.proofs.Inverted.{else_some, one_rule, IsStruct, StructsWithin}
 
@@ -129,7 +128,8 @@ module _ (two : Two) (m : Mismatch) (twelve : m.rule ≡ 12) where
         let rest : e.rest ≡ None = cc in
         record { constants = d; rest = rest; rest' = no_left o n e.rest f.rest rest c.rest }
 
-    pub clashes : (es fs : List Entry) → AreFields a.fields v es → AreFields b.fields w fs → compare_fields ks a b v w part part' o n es fs ≡ Some m → Clashes two es fs
+    pub clashes : (es fs : List Entry) → AreFields a.fields v es → AreFields b.fields w fs → compare_fields ks a b v w part part' o n es fs ≡ Some m
+        → Clashes two es fs
     clashes [] [] known known' h = absurd (cc)
     clashes (e ∷ es) [] known known' h =
         let same : record { rule = 5; in_old = in_field part e.index; in_new = here part' } ≡ m = cc in
