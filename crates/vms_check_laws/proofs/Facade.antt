@@ -18,7 +18,7 @@ pub use Rattle.vms_kinds.specs.declared.Item.{Item}
 pub use Rattle.vms_kinds.specs.declared.Item.TheVariants.{Equal, Num, Struct, Unused}
 pub use Rattle.vms_kinds.specs.declared.Kind.{Kind}
 pub use Rattle.vms_kinds.specs.declared.Kind.TheVariants.{I16, I32, I64, I8, Timer, U16, U32, U64, U8}
-pub use Rattle.vms_spec.proofs.Faultless.{AllTrue, every_one, few_devices, machine_short, or_else_none}
+pub use Rattle.vms_spec.proofs.Faultless.{AllTrue, answers_none, every_one, few_devices, machine_short, or_else_none}
 pub use Rattle.vms_spec.proofs.KindLaws.{code_read, length-code}
 pub use Rattle.vms_spec.proofs.ListLaws.{all_right, or_second}
 pub use Rattle.vms_spec.proofs.NumberLaws.{same_number_is}

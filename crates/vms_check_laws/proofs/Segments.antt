@@ -1,9 +1,9 @@
 -- Segments of numbers, and slots of one side whose bytes are those of the other's. Bytes of both sides at one front: if slots of the
 -- newer set are at the front of what the older set wrote, they take exactly the bytes that it wrote for its own slots.
-use Rattle.vms_check_laws.proofs.Facade.{◌≡◌, ℕ, suc, ◌+◌, List, ◌∷◌, ◌++◌, length, get_or, Bool, IsTrue, refl, sym, ◌∙◌, arith, append_assoc, ℤ, pos, []}
-use Rattle.vms_check_laws.proofs.Facade.{length-append, get_or_append_left, get_or-append-add, append-nil, Kind, Cell, no_cell, Slot, Number, Constant, Filler}
-use Rattle.vms_check_laws.proofs.Facade.{Rule, zeroed, RulesHold, Holds, FitsAt, Carries, rules_append, spells_append, ap, big_number, width, residue, code}
-use Rattle.vms_check_laws.proofs.Facade.{Spells, length-code, code_read, Aligns}
+use Rattle.vms_check_laws.proofs.Facade.{◌≡◌, ℕ, suc, ◌+◌, List, ◌∷◌, ◌++◌, length, get_or, Bool, IsTrue, refl, ◌∙◌, arith, append_assoc, ℤ, pos, length-append}
+use Rattle.vms_check_laws.proofs.Facade.{get_or_append_left, get_or-append-add, append-nil, Kind, Cell, no_cell, Slot, Number, Constant, Filler, Rule, zeroed}
+use Rattle.vms_check_laws.proofs.Facade.{RulesHold, Holds, FitsAt, Carries, rules_append, spells_append, ap, big_number, width, residue, code, Spells}
+use Rattle.vms_check_laws.proofs.Facade.{length-code, code_read, Aligns, sym, []}
 
 -- values from a place on
 pub at_first : {A : Type 0} (f : ℕ → A) (j : ℕ) {g : ℕ → A} → ((m : ℕ) → f (j + m) ≡ g m) → f j ≡ g 0

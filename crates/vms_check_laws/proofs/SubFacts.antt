@@ -1,27 +1,14 @@
 -- What two well-formed sets without a mismatch give for each subsection of new.
-use Rattle.vms_check_laws.proofs.Facade.{◌≡◌, ◌⊎◌, inl, inr, ℕ, zero, suc, ◌+◌, ◌≤◌, true, List, ◌∷◌, length, get_or, Option, Some, None, refl, sym, ap, ◌∙◌}
-use Rattle.vms_check_laws.proofs.Facade.{subst, arith, ℤ, pos, nat_le, [], flat_map, slice_get, and_parts, leb-true, first_answer, Sub, Device, Set, Cell}
-use Rattle.vms_check_laws.proofs.Facade.{no_cell, struct_cells, desc_cells, device_cells, Image, FitsCell, FitCells, AreVersionsOf, RulesHold, own_slots}
-use Rattle.vms_check_laws.proofs.Facade.{own_cells, sub_slots, sub_place, came_slots, IsReady, ComeAsNeeded, find_sub, index, is_version_of, WellFormed, here}
-use Rattle.vms_check_laws.proofs.Facade.{failing_pair, comparing, compare_sub, compare_subs, carried_sub, carry_sub, sub_came, defaults, passes, sub_found}
-use Rattle.vms_check_laws.proofs.Facade.{IsSaved, FitsAt, or_else_none}
+use Rattle.vms_check_laws.proofs.Facade.{◌≡◌, ◌⊎◌, inl, inr, ℕ, zero, suc, ◌+◌, ◌≤◌, true, List, ◌∷◌, length, Option, Some, None, refl, ◌∙◌, arith, ℤ, nat_le}
+use Rattle.vms_check_laws.proofs.Facade.{flat_map, slice_get, and_parts, leb-true, first_answer, Sub, Device, Set, Cell, struct_cells, desc_cells, device_cells}
+use Rattle.vms_check_laws.proofs.Facade.{Image, FitCells, AreVersionsOf, RulesHold, own_slots, own_cells, sub_slots, sub_place, came_slots, IsReady}
+use Rattle.vms_check_laws.proofs.Facade.{ComeAsNeeded, find_sub, index, is_version_of, WellFormed, here, failing_pair, comparing, compare_sub, compare_subs}
+use Rattle.vms_check_laws.proofs.Facade.{carried_sub, sub_came, defaults, passes, sub_found, IsSaved, FitsAt, or_else_none, answers_none, within, sym, ap, []}
 use Rattle.vms_spec.specs.declared.Part.TheVariants as parts
+use Rattle.vms_check_laws.proofs.SubParts.{found as found_sub}
 use Rattle.vms_check_laws.proofs.Segments.{fits_left, fits_right, rules_left, rules_right, one_on, at_first, from_zero}
 use Rattle.vms_check_laws.proofs.Good.{sub_good}
 use Rattle.vms_check_laws.proofs.Parts.{good_cells, Came, Stayed, Facts}
-use Rattle.vms_check_laws.proofs.PairDevices.{found as found_sub}
-
--- where there is no first answer, the one on each has none
-pub none_at : {A B : Type 0} (f : ℕ → A → Option B) (i : ℕ) (xs : List A) (j : ℕ) (x : A) → first_answer f i xs ≡ None → slice_get xs j ≡ Some x
-    → f (i + j) x ≡ None
-none_at f i [] j x h e = absurd (cc)
-none_at f i (y ∷ xs) zero x h e =
-    let same : y ≡ x = cc in
-    let z : i ≡ i + 0 = omega arith in
-    rw (← same) (rw (← z) (or_else_none (f i y) (first_answer f (suc i) xs) h).0)
-none_at f i (y ∷ xs) (suc j) x h e =
-    let z : suc i + j ≡ i + suc j = omega arith in
-    rw (← z) (none_at f (suc i) xs j x (or_else_none (f i y) (first_answer f (suc i) xs) h).1 e)
 
 pub fits_whole : (cells : List Cell) (numbers : List ℤ) → FitCells cells numbers → FitsAt cells numbers 0
 fits_whole cells numbers h = record {
@@ -39,8 +26,7 @@ came_at (x ∷ subs) (None ∷ came) (suc j) s h e = came_at subs came j s h e
 came_at (x ∷ subs) (Some v ∷ came) (suc j) s h e = came_at subs came j s h.1 e
 
 pub come_version : (set : Set) (d : Device) (image : Image) (k : ℕ) (subs : List Sub) (came : List (Option ℕ)) (j : ℕ) (s : Sub) (v : ℕ)
-    → ComeAsNeeded set d image k subs came
-    → slice_get subs j ≡ Some s → slice_get came j ≡ Some (Some v) → v ≡ s.desc.version
+    → ComeAsNeeded set d image k subs came → slice_get subs j ≡ Some s → slice_get came j ≡ Some (Some v) → v ≡ s.desc.version
 come_version set d image k (x ∷ subs) [] j s v h e e' = absurd h
 come_version set d image k (x ∷ subs) (Some u ∷ came) zero s v h e e' =
     let same : x ≡ s = cc in
@@ -103,7 +89,7 @@ module _ (old new : Set) (good_old : WellFormed old) (good_new : WellFormed new)
       → (is_version_of t.desc s.desc.version ≡ true) × (comparing old new s.desc t.desc s.desc.version (parts.Sub i j) (parts.Sub k l) ≡ None)
   compared j l s t at_j at_l names =
       let z : 0 + j ≡ j = omega arith in
-      let at_s : compare_subs old new i k e j s ≡ None = rw (z) at (none_at _ 0 d.subs j s none at_j) in
+      let at_s : compare_subs old new i k e j s ≡ None = rw (z) at (answers_none _ 0 d.subs none j s at_j) in
       let found : find_sub 0 e.subs s.desc.name ≡ Some l =
       ap (λ (n : List ℕ). find_sub 0 e.subs n) names ∙ sub_found new good_new k l e t at_k at_l in
       let at_l' : compare_sub old new i k j s (Some l) (slice_get e.subs l) ≡ None = rw (found) at at_s in
@@ -130,11 +116,8 @@ module _ (old new : Set) (good_old : WellFormed old) (good_new : WellFormed new)
         place = sub_place old (own_cells old d) d.subs j;
         part = parts.Sub i j;
         part' = parts.Sub k l;
-        came = ap (λ (r : Option ℕ). sub_came old new r (slice_get image.came (index r))) found ∙ ap
-            (λ (r : Option (Option ℕ)). sub_came old new (Some j) r) at_came;
-        numbers = ap (λ (r : Option ℕ). carry_sub old new d image t r (slice_get d.subs (index r)) (slice_get image.came (index r))) found
-            ∙ ap (λ (r : Option Sub). carry_sub old new d image t (Some j) r (slice_get image.came j)) at_j
-            ∙ ap (λ (r : Option (Option ℕ)). carry_sub old new d image t (Some j) (Some s) r) at_came;
+        came = rw (found, at_came);
+        numbers = rw (found, at_j, at_came);
         good = sub_good old good_old i j d s at_i at_j;
         good' = sub_good new good_new k l e t at_k at_l;
         same = rw v_is c.1;
@@ -149,17 +132,11 @@ module _ (old new : Set) (good_old : WellFormed old) (good_new : WellFormed new)
   fact l t at_l = by_found _ refl where
     by_came : (j : ℕ) (s : Sub) (o : Option ℕ) → slice_get d.subs j ≡ Some s → s.desc.name ≡ t.desc.name → slice_get image.came j ≡ Some o
         → find_sub 0 d.subs t.desc.name ≡ Some j → FactOf t
-    by_came j s None at_j names at_came found = stayed l t at_l
-        (ap (λ (r : Option ℕ). sub_came old new r (slice_get image.came (index r))) found ∙ ap (λ (r : Option (Option ℕ)). sub_came old new (Some j) r) at_came)
-        (ap (λ (r : Option ℕ). carry_sub old new d image t r (slice_get d.subs (index r)) (slice_get image.came (index r))) found
-        ∙ ap (λ (r : Option Sub). carry_sub old new d image t (Some j) r (slice_get image.came j)) at_j
-        ∙ ap (λ (r : Option (Option ℕ)). carry_sub old new d image t (Some j) (Some s) r) at_came)
+    by_came j s None at_j names at_came found = stayed l t at_l (rw (found, at_came)) (rw (found, at_j, at_came))
     by_came j s (Some v) at_j names at_came found = inr (came_is j l s t v at_j at_l names at_came found)
 
     by_found : (r : Option ℕ) → find_sub 0 d.subs t.desc.name ≡ r → FactOf t
-    by_found None h = stayed l t at_l
-        (ap (λ (r : Option ℕ). sub_came old new r (slice_get image.came (index r))) h)
-        (ap (λ (r : Option ℕ). carry_sub old new d image t r (slice_get d.subs (index r)) (slice_get image.came (index r))) h)
+    by_found None h = stayed l t at_l (rw h) (rw h)
     by_found (Some r) h =
         let f = found_sub d.subs t.desc.name r h in
         let c = came_at d.subs image.came r f.sub ready.normal.subs f.there in

@@ -23,7 +23,7 @@ use Rattle.dev_images.specs.Images.{bare, image_of, needed_from}
 use Rattle.vms_check_laws.specs.SubCells.{IsCellOf}
 use Rattle.vms_convert.specs.Back.{IsBack, taken, whole}
 use Rattle.vms_check_laws.specs.Pairing.{ArePartners, AreOfKinds}
-use Rattle.vms_check_laws.proofs.PartOf.{own_or_sub}
+use Rattle.vms_check_laws.proofs.SubParts.{own_or_sub}
 use Rattle.vms_convert.proofs.NeededSame.{needed_same}
 use Rattle.dev_images.proofs.ReadyOf.{versions, needed}
 use Rattle.vms_convert.proofs.ImageOf.{all_subs, needed_comes}

@@ -17,7 +17,7 @@ use Rattle.vms_check.specs.Carrying.{carried, carried_at, carried_device, no_ima
 use Rattle.vms_check.specs.Comparing.{Compatible, failing_pair, is_found, is_in}
 use Rattle.vms_check.proofs.ListLaws.{passes}
 use Rattle.vms_check_laws.proofs.Streaming.{back, found_device, found_some, pair, rules, all_in}
-use Rattle.vms_check_laws.proofs.SubFacts.{none_at}
+use Rattle.vms_spec.proofs.Faultless.{answers_none}
 use Rattle.vms_check_laws.proofs.Wholes.{at_map}
 use Rattle.vms_convert.specs.Lost.{DifferAt, Loses, OfCell, numbers_in}
 use Rattle.vms_convert.specs.Returning.{FirstDifference}
@@ -114,7 +114,7 @@ module _ (to new : Set) (well_to : WellFormed to) (well_new : WellFormed new) (c
 
   pub older : (k : ℕ) (e : Device) → slice_get new.devices k ≡ Some e → Older k e
   older k e at =
-      let h = none_at (λ i d. failing_pair ((3, is_in to d) ∷ []) (here parts.Set) (here (parts.Device i))) 0 new.devices k e (rules to new well_to well_new compatible).news at in
+      let h = answers_none _ 0 new.devices (rules to new well_to well_new compatible).news k e at in
       let is : is_found (find_device 0 to.devices e.desc.name e.instance) ≡ true = (passes 3 (is_in to e) [] (here parts.Set) (here (parts.Device (0 + k))) h).0 in
       let r = found_some (find_device 0 to.devices e.desc.name e.instance) is in
       let f = found_device 0 to.devices e.desc.name e.instance r.0 r.1 in

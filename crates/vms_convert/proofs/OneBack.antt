@@ -11,7 +11,7 @@ use Rattle.dev_images.specs.Images.{image_of}
 use Rattle.vms_check_laws.specs.SubCells.{IsCellOf}
 use Rattle.vms_convert.specs.Back.{AreTaken, AreSettled, IsBack, taken}
 use Rattle.vms_convert.proofs.Known.{AllSound, image_known}
-use Rattle.vms_check_laws.proofs.PartOf.{own_or_sub}
+use Rattle.vms_check_laws.proofs.SubParts.{own_or_sub}
 
 module _ (to : Set) (structs : AreSound to.structs) (d : Device) (own : IsSound d.desc) (subs : AllSound to structs d.subs) (partners : List (Option ℕ)) where
   module _ (numbers a b : List ℤ) (p : AreTaken to d partners numbers a) (q : AreTaken to d partners numbers b) where

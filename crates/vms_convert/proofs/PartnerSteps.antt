@@ -12,7 +12,7 @@ use Rattle.vms_spec.specs.declared.Part.TheVariants as parts
 use Rattle.vms_desc.specs.Asks.{first_cell}
 use Rattle.vms_desc.specs.declared.set.DescSet.{DescSet}
 use Rattle.vms_desc.proofs.AskLaws.{few_cells, own_inside_device, sub_inside}
-use Rattle.vms_check_laws.proofs.PairFields.{struct_is}
+use Rattle.vms_check_laws.proofs.PairDevices.{struct_is}
 use Rattle.vms_spec.specs.declared.TheConstants.{MOST_ITEMS}
 use Rattle.vms_spec.proofs.Sizes.{field_size}
 use Rattle.vms_parts.specs.Sizes.{in_u32}

@@ -15,7 +15,7 @@ use Rattle.vms_spec.specs.WellFormed.{WellFormed}
 use Rattle.vms_check.specs.Carrying.{carried_device}
 use Rattle.vms_check.specs.Partners.{device_partners}
 use Rattle.vms_check_laws.specs.Pairing.{ArePartners, AreOfKinds}
-use Rattle.vms_check_laws.proofs.CarriedLaws.{carried_stands}
+use Rattle.vms_check_laws.proofs.GoesDevices.{carried_stands}
 use Rattle.vms_check_laws.proofs.PairDevices.{device_paired}
 use Rattle.vms_desc.specs.Described.{device_at}
 use Rattle.vms_desc.specs.Spots.{kinds_at}
