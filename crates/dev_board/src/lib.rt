@@ -13,7 +13,7 @@ mod saved;
 mod touch;
 mod wires;
 
-pub use cells::BoardCells;
+pub use cells::{BoardCells, DeviceCells};
 pub use devices::Devices;
 pub use event::{Answer, Event};
 pub use laws::{
