@@ -64,6 +64,17 @@ impl<R: Files + Drop> FileShelf<R> {
         }
     }
 
+    // Creates the new file. If an interrupted call left one of its name, that is removed before.
+    fn create_beside(&self, beside: &str) -> io::Result<R::File> {
+        match File::create_new(&self.rt, beside) {
+            Err(error) if error.kind() == ErrorKind::AlreadyExists => {
+                fs::remove_file(&self.rt, beside)?;
+                File::create_new(&self.rt, beside)
+            }
+            created => created,
+        }
+    }
+
     // Writes a new file beside the old one and renames it. After an error the new file is removed
     // and the old one is unchanged.
     fn replace(
@@ -73,9 +84,7 @@ impl<R: Files + Drop> FileShelf<R> {
         piece: &[u8],
         mode: Option<Permissions>,
     ) -> io::Result<()> {
-        // removes what an interrupted call left there
-        let _earlier = fs::remove_file(&self.rt, beside);
-        let mut file = File::create_new(&self.rt, beside)?;
+        let mut file = self.create_beside(beside)?;
         let replaced = fill(&mut file, piece, mode).and_then(|()| fs::rename(
             &self.rt, beside, path,
         ));
