@@ -1,5 +1,7 @@
--- Lists of keys, lists of answers of items, and the value of bytes.
-use Rattle.std.proofs.Common.{◌≡◌, ℕ, zero, suc, take, drop, false, List, ◌∷◌, ◌++◌, ◌&&◌, Bool, map, Ordering, Less, Equal, Greater, is_eq, refl, ap, ap₂, true, sym, ◌∙◌, [], ◌||◌, ◌+◌, subst, decimal, append_assoc, if◌then◌else◌, Some, None, Result, Ok, Err, IfOk, IsUtf8}
+-- Lists of keys, lists of answers of items, the value of bytes, and members one after the other.
+use Rattle.std.specs.Prelude.{MatchOption}
+use Rattle.std.proofs.lemmas.Option.{same_Some}
+use Rattle.std.proofs.Common.{◌≡◌, ℕ, zero, suc, take, drop, false, List, ◌∷◌, ◌++◌, ◌&&◌, Bool, map, Ordering, Less, Equal, Greater, is_eq, refl, ap, ap₂, true, sym, ◌∙◌, [], ◌||◌, ◌+◌, subst, decimal, append_assoc, if◌then◌else◌, Option, Some, None, is_some, Result, Ok, Err, IfOk, IsUtf8}
 use Rattle.std.proofs.lemmas.Map.Text.{is_eq-slice_cmp}
 use Rattle.std.proofs.lemmas.Slice.Eq.{bytes_eq-Decides}
 use Rattle.std.specs.Cmp.Lexicographic.{slice_cmp}
@@ -8,7 +10,8 @@ use Rattle.std.specs.List.{list_all, list_any}
 use Rattle.std.specs.Str.{bytes_eq, is_utf8}
 use Rattle.std.proofs.Math.Bool.{and-false, and_assoc, and_comm, and_self_left}
 use Rattle.std.specs.Borrow.{Bor}
-use Rattle.serde_json.specs.Data.{Data, Members, no_members, member, put, Items, no_items, item}
+use Rattle.serde_json.specs.Data.{Data, object, Members, no_members, member, put, Items, no_items, item}
+use Rattle.serde_json.specs.Find.{as_object}
 use Rattle.vms_json.specs.declared.node.Row.{Row}
 use Rattle.vms_json.specs.Nodes.{front, data_in, members_in, tree_view}
 use Rattle.vms_spec.specs.Streams.{is_one_of}
@@ -137,3 +140,14 @@ has_none text no_read = no_value_if text (is_utf8 text) refl no_read
 pub if_read : (bytes text : List ℕ) → text ≡ bytes → IsUtf8 bytes → (r : Result Tree NoNode) → IfOk r (λ v. read text ≡ Some (tree_view v)) → IfOk r (λ v. value_in bytes ≡ Some (tree_view v))
 if_read bytes text same utf8 (Ok v) e = has_value bytes (tree_view v) utf8 (ap read (sym same) ∙ e)
 if_read bytes text same utf8 (Err why) e = e
+
+-- ---- Members that are read one after the other.
+
+pub object_is : (d : Data) (ms : Members) → Some ms ≡ as_object d → d ≡ object ms
+object_is (object ns) ms e = ap object (sym (same_Some ms ns e))
+object_is _ ms e = absurd (cc)
+
+-- after the last one
+pub none_left : {A : Type 0} (o : Option A) (P : Type 0) (Q : A → Type 0) → is_some o ≡ false → MatchOption o P Q → P
+none_left None P Q e m = m
+none_left (Some a) P Q e m = absurd (cc)

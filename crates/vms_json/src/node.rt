@@ -1,5 +1,5 @@
 // JSON values as rows over their text.
-ghost use Rattle.std.specs.Prelude.{◌≡◌, ◌<◌, ◌≤◌, length, take, drop, MatchOption, OnSome, IsNone, option_map, option_and_then};
+ghost use Rattle.std.specs.Prelude.{◌≡◌, ◌<◌, ◌≤◌, length, take, drop, MatchOption, IfSome, OnSome, IsNone, option_map, option_and_then};
 ghost use Rattle.serde_json.specs.Data as Data;
 ghost use Rattle.serde_json.specs.Data.{no_items, item, put};
 ghost use Rattle.std.specs.Str.{bytes_eq};
@@ -259,6 +259,16 @@ impl<'t, 'a> Members<'t, 'a> {
         let parted = cut(rows);
         *self = Members { rows: parted.rest };
         Some((key, Node { rows: parted.first }))
+    }
+
+    /// Returns the next member's value, or `None` if there is no next member or it has another key.
+    #[inline(always)]
+    pub fn next_of(&mut self, key: &str) -> Option<Node<'t, 'a>>
+        ensures { IfSome result (λ v. (found : Data.Members)
+            → members_on self.old found ≡ members_on self.new (put key.now (view v) found)) }
+    {
+        let (name, value) = self.next()?;
+        if name == key { Some(value) } else { None }
     }
 }
 
