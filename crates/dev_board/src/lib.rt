@@ -2,9 +2,11 @@
 //! port.
 #![tactic(auto)]
 
+mod asks;
 mod cells;
 mod devices;
 mod event;
+mod kept;
 mod laws;
 mod misfit;
 mod parts;

@@ -93,7 +93,7 @@ impl Devices {
             serial: restore_serial(level, moment, cells)?,
         };
         if parts.lines_agree() {
-            Ok(Devices { parts })
+            Ok(Devices::of(parts))
         } else {
             Err(Misfit::LinesDisagree {
                 device: MASTER_DEVICE,

@@ -1,5 +1,6 @@
-use Rattle.std.proofs.Common.{◌≡◌, ◌∙◌, sym, ap, rules, Err}
+use Rattle.std.proofs.Common.{◌≡◌, ◌∙◌, sym, ap, subst, rules, Err, Ok}
 use Rattle.dev_board.specs.Saved.{timed}
+use Rattle.dev_board.specs.Sound.{IsSound}
 use Rattle.dev_board.proofs.RestoredLaws.{pit-refused, port-refused, lines-taken, lines-refused, found-devices, found-sound}
 use Rattle.dev_board.proofs.devices.Devices.of_cells.Goals as goal
 
@@ -25,15 +26,15 @@ invariant_of-parts g c =
 pub returns-then-lines_agree-clause-restored : goal.returns-then-lines_agree-clause-restored
 returns-then-lines_agree-clause-restored g c =
     let time = ap timed (sym c.moment_of.ensures) ∙ sym c.timed.ensures.moment ∙ c.in_ok-moment.was in
-    sym (lines-taken c.args.level (g.C.DeviceCells.cells c.args.cells.now) c.in_ok-moment.moment time c.in_ok-restore_pair.field-0 (sym c.restore_pair.ensures ∙ c.in_ok-restore_pair.was) c.in_ok-restore_pit.field-0 (sym c.restore_pit.ensures ∙ c.in_ok-restore_pit.was) c.in_ok-restore_serial.field-0 (sym c.restore_serial.ensures ∙ c.in_ok-restore_serial.was) (sym c.lines_agree.ensures ∙ c.if-lines_agree.true))
+    ap Ok c.of.ensures ∙ sym (lines-taken c.args.level (g.C.DeviceCells.cells c.args.cells.now) c.in_ok-moment.moment time c.in_ok-restore_pair.field-0 (sym c.restore_pair.ensures ∙ c.in_ok-restore_pair.was) c.in_ok-restore_pit.field-0 (sym c.restore_pit.ensures ∙ c.in_ok-restore_pit.was) c.in_ok-restore_serial.field-0 (sym c.restore_serial.ensures ∙ c.in_ok-restore_serial.was) (sym c.lines_agree.ensures ∙ c.if-lines_agree.true))
 
 pub returns-then-lines_agree-clause-sound : goal.returns-then-lines_agree-clause-sound
 returns-then-lines_agree-clause-sound g c =
     let time = ap timed (sym c.moment_of.ensures) ∙ sym c.timed.ensures.moment ∙ c.in_ok-moment.was in
-    found-sound c.args.level (g.C.DeviceCells.cells c.args.cells.now) c.in_ok-moment.moment time c.in_ok-restore_pair.field-0 (sym c.restore_pair.ensures ∙ c.in_ok-restore_pair.was) c.in_ok-restore_pit.field-0 (sym c.restore_pit.ensures ∙ c.in_ok-restore_pit.was) c.in_ok-restore_serial.field-0 (sym c.restore_serial.ensures ∙ c.in_ok-restore_serial.was) c.requires.level c.requires.cells (sym c.lines_agree.ensures ∙ c.if-lines_agree.true)
+    subst IsSound (sym c.of.ensures) (found-sound c.args.level (g.C.DeviceCells.cells c.args.cells.now) c.in_ok-moment.moment time c.in_ok-restore_pair.field-0 (sym c.restore_pair.ensures ∙ c.in_ok-restore_pair.was) c.in_ok-restore_pit.field-0 (sym c.restore_pit.ensures ∙ c.in_ok-restore_pit.was) c.in_ok-restore_serial.field-0 (sym c.restore_serial.ensures ∙ c.in_ok-restore_serial.was) c.requires.level c.requires.cells (sym c.lines_agree.ensures ∙ c.if-lines_agree.true))
 
-pub invariant_of-result : goal.invariant_of-result
-invariant_of-result g c =
+pub of-requires : goal.of-requires
+of-requires g c =
     let time = ap timed (sym c.moment_of.ensures) ∙ sym c.timed.ensures.moment ∙ c.in_ok-moment.was in
     found-sound c.args.level (g.C.DeviceCells.cells c.args.cells.now) c.in_ok-moment.moment time c.in_ok-restore_pair.field-0 (sym c.restore_pair.ensures ∙ c.in_ok-restore_pair.was) c.in_ok-restore_pit.field-0 (sym c.restore_pit.ensures ∙ c.in_ok-restore_pit.was) c.in_ok-restore_serial.field-0 (sym c.restore_serial.ensures ∙ c.in_ok-restore_serial.was) c.requires.level c.requires.cells (sym c.lines_agree.ensures ∙ c.if-lines_agree.true)
 
