@@ -1,6 +1,6 @@
 // The parts that the rows of the tables describe.
 ghost use Rattle.std.specs.Prelude.{◌≡◌, ◌++◌, map, option_map, IfOk, OnOk};
-ghost use Rattle.vms_fields.specs.Fields.{name_at, former_at, listed_at, fields_at};
+ghost use Rattle.vms_fields.specs.Fields.{name_at, former_at, field_of_row, listed_at, fields_at};
 ghost use Rattle.vms_spec.specs.Shipped.{numbers};
 ghost use Rattle.vms_parts.specs.Views.{formula, formula_in, field_of, desc_of, device_of, sub_of, set_of};
 ghost use Rattle.vms_shipped.specs.Rows.{listed_row, field_in, fields_in, all_in, desc_in, asked_in, needed_in, sub_in, device_in, set_in};
@@ -22,7 +22,7 @@ fn text(alloc: Global, bytes: &str) -> Result<Text, NoMemory>
 fn texts(alloc: Global, names: &[&str]) -> Result<Listed<Text>, NoMemory>
     ensures { IfOk result (λ made. made ≡ map (λ n. n.now) names.now) }
 {
-    let mut made = Vec::new(alloc);
+    let mut made = Vec::with_capacity(alloc, names.len())?;
     for name in names {
         made.push(text(alloc, name)?)?;
     }
@@ -105,6 +105,23 @@ fn names_at(
     }
 }
 
+// Returns the field of a row of a device's list at `version`.
+fn listed(alloc: Global, row: &Row, version: u32) -> Result<Field, NoMemory>
+    ensures { IfOk result (λ f. field_of f ≡ field_of_row version (listed_row row.now)) }
+{
+    let shape = &row.2;
+    let (name, former) = names_at(version, row.0, row.1, shape.named);
+    Ok(Field {
+        name: text(alloc, name)?,
+        former: texts(alloc, former)?,
+        item: Item::Num(shape.kind),
+        count: shape.count,
+        since: shape.since,
+        test: None,
+        default: shape.default,
+    })
+}
+
 // Appends the field of a row of a device's list to `fields`, if `version` has it in `part`.
 fn put_listed(
     alloc: Global,
@@ -116,19 +133,8 @@ fn put_listed(
     ensures { OnOk result (map field_of fields.new.items
         ≡ map field_of fields.old.items ++ listed_at version part (listed_row row.now)) }
 {
-    let (name, former, shape) = *row;
-    if shape.since <= version && shape.part == part {
-        let (name, former) = names_at(version, name, former, shape.named);
-        let row = FieldRow {
-            name,
-            former,
-            item: Item::Num(shape.kind),
-            count: shape.count,
-            since: shape.since,
-            default: shape.default,
-            ..BYTE
-        };
-        fields.push(field(alloc, &row)?)?;
+    if row.2.since <= version && row.2.part == part {
+        fields.push(listed(alloc, row, version)?)?;
     }
     Ok(())
 }
@@ -162,10 +168,23 @@ fn put(alloc: Global, fields: &mut Vec<Field>, rows: &Rows) -> Result<(), NoMemo
     }
 }
 
+// Returns a capacity for the fields of the rows. A device's list counts whole, whatever its version.
+fn most_fields(rows: &[Rows]) -> usize {
+    let mut most: usize = 0;
+    for row in rows {
+        most = most.saturating_add(match row {
+            Rows::Numbers(_, names) => names.len(),
+            Rows::One(_) => 1,
+            Rows::Of(rows, _, _) => rows.len(),
+        });
+    }
+    most
+}
+
 fn fields(alloc: Global, rows: &[Rows]) -> Result<Listed<Field>, NoMemory>
     ensures { IfOk result (λ fields. map field_of fields ≡ all_in rows.now) }
 {
-    let mut fields = Vec::new(alloc);
+    let mut fields = Vec::with_capacity(alloc, most_fields(rows))?;
     for row in rows {
         put(alloc, &mut fields, row)?;
     }
@@ -187,7 +206,7 @@ fn desc(alloc: Global, row: &DescRow) -> Result<Desc, NoMemory>
 fn descs(alloc: Global, rows: &[DescRow]) -> Result<Listed<Desc>, NoMemory>
     ensures { IfOk result (λ descs. map desc_of descs ≡ map desc_in rows.now) }
 {
-    let mut descs = Vec::new(alloc);
+    let mut descs = Vec::with_capacity(alloc, rows.len())?;
     for row in rows {
         descs.push(desc(alloc, row)?)?;
     }
@@ -219,7 +238,7 @@ fn sub(alloc: Global, row: &SubRow) -> Result<Sub, NoMemory>
 fn subs(alloc: Global, rows: &[SubRow]) -> Result<Listed<Sub>, NoMemory>
     ensures { IfOk result (λ subs. map sub_of subs ≡ map sub_in rows.now) }
 {
-    let mut subs = Vec::new(alloc);
+    let mut subs = Vec::with_capacity(alloc, rows.len())?;
     for row in rows {
         subs.push(sub(alloc, row)?)?;
     }
@@ -239,7 +258,7 @@ fn device(alloc: Global, row: &DeviceRow) -> Result<Device, NoMemory>
 fn devices(alloc: Global, rows: &[DeviceRow]) -> Result<Listed<Device>, NoMemory>
     ensures { IfOk result (λ devices. map device_of devices ≡ map device_in rows.now) }
 {
-    let mut devices = Vec::new(alloc);
+    let mut devices = Vec::with_capacity(alloc, rows.len())?;
     for row in rows {
         devices.push(device(alloc, row)?)?;
     }
