@@ -5,7 +5,7 @@ use Rattle.vms_spec.specs.Good.{IsFit}
 use Rattle.vms_spec.specs.Images.{Image}
 use Rattle.vms_spec.specs.Sets.{Set}
 use Rattle.vms_stream.specs.Streams.{Takes}
-use Rattle.vms_load.proofs.TakenImages.{taken_kept}
+use Rattle.vms_load.proofs.ExactLoads.{taken_kept}
 use Rattle.vms_selfdesc.specs.Tree.{described_text}
 use Rattle.vms_check.specs.Comparing.{Compatible, first_mismatch}
 use Rattle.vms_check.specs.declared.mismatch.Mismatch.{Mismatch}

@@ -24,15 +24,15 @@ use Rattle.vms_walk.specs.declared.step.WalkStep.TheVariants as steps
 use Rattle.vms_walk.specs.Steps.{steps_of, table, cells_in, spot_numbers, holds_at, spot_slots, slots_at, size_in, capacities_of, elements_slots, HasSpot, MayCome}
 use Rattle.vms_walk.specs.Runs.{run_of}
 use Rattle.std.proofs.lemmas.Result.{on_ok_weaker}
-use Rattle.vms_walk.proofs.Results.{err_is}
+use Rattle.vms_walk.proofs.Kept.{err_is}
 use Rattle.vms_walk.proofs.Runs.{run_steps}
 use Rattle.vms_walk.proofs.Walking.{room_at, least_again}
 use Rattle.vms_walk.proofs.Spots.{Next, next_field, field_needs, size_code, width_code, spot_room, struct_spot, struct_size, own_is}
 use Rattle.vms_walk.proofs.Local.{keeps_below, keeps_first, next_place, set_settled, part_sound}
 use Rattle.vms_walk.proofs.Going.{Laws, items_next, items_stop, items_may, field_slots_are, fields_next, fields_stop, fields_may, rule_next, rule_stop, rule_may, same_rule}
 use Rattle.vms_walk.proofs.fields.+walk.Given.{Over}
-use Rattle.vms_walk.proofs.fields.+walk.Goals as goal
 use Rattle.vms_walk.proofs.fields.+walk.Goals.{walk-After-field_cells-cell, walk-After-rules-arg-1, walk-After-walk_field-arg-1, walk_field-After-walk_row-arg-1, walk_struct-After-walk-arg-1}
+use Rattle.vms_walk.proofs.fields.+walk.Goals as goal
 
 laws_of : (g : Over) → Laws g.W.Cells.numbers g.W.Walker.goes g.W.Walker.stops
 laws_of g = record { more = g.met.W.Walker.more; after = g.met.W.Walker.stops_after; before = g.met.W.Walker.stops_before; keeps = g.met.W.Walker.keeps; stopped = g.met.W.Walker.keeps_stopped }
