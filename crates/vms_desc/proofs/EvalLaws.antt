@@ -2,6 +2,7 @@
 use Rattle.std.proofs.Common.{◌≡◌, ℕ, zero, suc, ◌+◌, ◌*◌, ◌<◌, ◌≤◌, List, [], ◌∷◌, length, length-append, get_or, take, map, min, refl, sym, ap, ◌∙◌, arith}
 use Rattle.std.proofs.Common.{Bool, true, ◌&&◌, Option, Some, None, ℤ}
 use Rattle.std.specs.List.{flat_map, slice_get}
+use Rattle.std.proofs.lemmas.Bool.{and_parts}
 use Rattle.std.proofs.lemmas.List.{map-append, take_min}
 use Rattle.std.proofs.lemmas.Simd.{map-map}
 use Rattle.std.proofs.Math.ListN.{get_or-map}
@@ -47,6 +48,11 @@ pub number_there : (fields : List CodeField) (k : ℕ) → is_number (slice_get 
 number_there [] k h = cc
 number_there (f ∷ fields) zero h = omega arith
 number_there (f ∷ fields) (suc k) h = omega (arith, number_there fields k h)
+
+pub number_num : (fields : List CodeField) (k : ℕ) (d : CodeField) → is_number (slice_get (map field_of fields) k) ≡ true → is_num (get_or fields k d).item ≡ true
+number_num [] k d h = cc
+number_num (f ∷ fields) zero d h = (and_parts (is_num f.item) _ h).0
+number_num (f ∷ fields) (suc k) d h = number_num fields k d h
 
 -- ---- the sizes of structures are the numbers of their cells
 

@@ -10,7 +10,7 @@ use Rattle.vms_parts.specs.Views.{field_of}
 use Rattle.vms_parts.proofs.Items.{get_map_at}
 use Rattle.vms_desc.specs.Numbers.{place_in}
 use Rattle.vms_desc.specs.declared.eval.Scope.{Scope}
-use Rattle.vms_desc.proofs.EvalLaws.{number_there}
+use Rattle.vms_desc.proofs.EvalLaws.{number_num, number_there}
 use Rattle.vms_desc.proofs.eval.number_at.Goals as goal
 
 -- the first cell of a field, in the code's form
@@ -30,6 +30,9 @@ bounds-scope-field g c =
 
 pub bounds-scope-field-2 : goal.bounds-scope-field-2
 bounds-scope-field-2 g c = number_there c.args.scope.now.fields.now c.args.field c.requires.asked
+
+pub kind_of-requires : goal.kind_of-requires
+kind_of-requires g c = number_num c.args.scope.now.fields.now c.args.field c.index-scope-field.result c.requires.asked
 
 pub number-requires : goal.number-requires
 number-requires g c =
