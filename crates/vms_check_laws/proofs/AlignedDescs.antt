@@ -140,11 +140,9 @@ module _ (sides : Sides) where
       → (body r r' : List ℕ) → Spells numbers' (NewSlots f) body → body ++ r' ≡ zeroed numbers (OldSlots e) ++ r → own e.index ≡ own' f.index
   pair_same e f known known' good is body r r' spells h =
       let q = named_pair sides e f known known' good is in
-      known.number
-      ∙ number_same f.field.item e.field.item f.field.count e.field.count _ _ _ _ _ _ _ _
+      known.number ∙ number_same f.field.item e.field.item f.field.count e.field.count _ _ _ _ _ _ _ _
       q.plain.item q.plain.count q.matched.item q.matched.count q.there_is
-      (known_there ns b.fields w numbers' at' f known' q.rest own' no_parent) body r r' spells h
-      ∙ sym known'.number
+      (known_there ns b.fields w numbers' at' f known' q.rest own' no_parent) body r r' spells h ∙ sym known'.number
 
   -- ---- position by position
 

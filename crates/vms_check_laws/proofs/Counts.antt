@@ -63,8 +63,7 @@ single_at cs all (f ∷ fs) i zero numbers at g e s fits =
     (record { number = get_or numbers at (pos 0); fits = first_fits cs f.item f.count _ f.default _ numbers at at_f.item at_f.count fits; is = refl }))
 single_at cs all (f ∷ fs) i (suc k) numbers at g e s fits =
     let z : suc i + k ≡ i + suc k = omega arith in
-    rw (← z)
-    (single_at cs all fs (suc i) k numbers (at + length (field_cells cs all i f)) g e s (fits_right _ fits))
+    rw (← z) (single_at cs all fs (suc i) k numbers (at + length (field_cells cs all i f)) g e s (fits_right _ fits))
 
 abbrev pub IsCounting : Item → Type 0
 IsCounting (Num U8) = Unit {0}
@@ -262,8 +261,7 @@ module _ (sides : Sides) where
       let first : ((if j == j && is_nothing (presence w g.test g.since) then nat_le n most else true) && absent_hold w j n gs) ≡ true = at_count in
       let at_true : ((if true && is_nothing (presence w g.test g.since) then nat_le n most else true) && absent_hold w j n gs) ≡ true =
       rw (eq-eqb j j refl) at first in
-      let at_none : (nat_le n most && absent_hold w j n gs) ≡ true =
-      rw (none) at at_true in
+      let at_none : (nat_le n most && absent_hold w j n gs) ≡ true = rw (none) at at_true in
       at_most_more z n most le (leb-true n most (and_parts (nat_le n most) (absent_hold w j n gs) at_none).0)
 
   absent_rest : (j n : ℕ) (g : Field) (gs : List Field) → absent_hold w j n (g ∷ gs) ≡ true → absent_hold w j n gs ≡ true

@@ -63,8 +63,7 @@ module _ (sides : Sides) (ok : ℕ → Bool) where
       → Carries numbers (Rule (all_hold a.validate v old_number) ∷ []) numbers' (Rule (all_hold b.validate w new_number) ∷ [])
   rule_carries h named agree =
       let every_is = (passes 15 (list_all (λ t. is_kept ks a b v w part part' o n (reduced w t)) b.validate) [] (here part) (here part') h).0 in
-      carries_rule numbers numbers' (all_hold a.validate v old_number) (all_hold b.validate w new_number)
-      (λ r. rules_hold b.validate named agree r every_is)
+      carries_rule numbers numbers' (all_hold a.validate v old_number) (all_hold b.validate w new_number) (λ r. rules_hold b.validate named agree r every_is)
 
 -- ---- whole descriptions
 

@@ -171,10 +171,8 @@ module _ (sides : Sides) where
       → Holds numbers' (at' + f.place) (one_field e f.field) → is_steady_in b f.index ≡ true → own e.index ≡ own' f.index
   pair_agrees e f known known' good held is =
       let h = named_pair e f known known' good is in
-      known.number
-      ∙ number_pair f.field.item e.field.item f.field.count e.field.count f.field.default _ (at + e.place)
-      (at' + f.place) h.plain.item h.plain.count h.matched.item h.matched.count h.there_is held
-      ∙ sym known'.number
+      known.number ∙ number_pair f.field.item e.field.item f.field.count e.field.count f.field.default _ (at + e.place)
+      (at' + f.place) h.plain.item h.plain.count h.matched.item h.matched.count h.there_is held ∙ sym known'.number
 
   pub agree_from : (i j p : ℕ) (es fs : List Entry) → Linked es fs → AreKnown ms a.fields v numbers at es → AreKnown ns b.fields w numbers' at' fs
       → is_steady_in b j ≡ true → same_place (position_from p es i) (position_from p fs j) ≡ true → own i ≡ own' j
@@ -230,8 +228,7 @@ module _ (sides : Sides) where
       (holds_right (fallback j d') held) in
       record {
         carries = carries_nil;
-        settled = settled_append
-            (defaults_size (item_cells news j [] d') ∙ size_same news j [] d' ∙ sym (size_same news j caps' d')) first refl more.settled;
+        settled = settled_append (defaults_size (item_cells news j [] d') ∙ size_same news j [] d' ∙ sym (size_same news j caps' d')) first refl more.settled;
       }
   items_read i j caps caps' d d' (suc m) (suc most) (suc most') p p' step step' x y pair constant le le' fits held =
       let sized = item_sized i j d' x pair.low' in
@@ -242,8 +239,7 @@ module _ (sides : Sides) where
       (holds_at (omega arith) (holds_right (one_item i j d' x) held)) in
       record {
         carries = carries_append first.carries more.carries;
-        settled = settled_append (sized ∙ sym (size_same news j caps' d')) first.settled
-            (omega arith) more.settled;
+        settled = settled_append (sized ∙ sym (size_same news j caps' d')) first.settled (omega arith) more.settled;
       }
 
   module _ (ok : ℕ → Bool) where
@@ -294,8 +290,7 @@ module _ (sides : Sides) where
       pair_by e f p covers items =
           let there_f = is_there f.field.test f.field.since w own' no_parent in
           let same : same_rest o n e.rest f.rest ≡ true → there e ≡ there_f = λ h.
-          there_here v e.field.test e.field.since e.rest own no_parent p.known.left
-          ∙ same_there o n ok own own' no_parent no_parent v w p.agree e.rest f.rest
+          there_here v e.field.test e.field.since e.rest own no_parent p.known.left ∙ same_there o n ok own own' no_parent no_parent v w p.agree e.rest f.rest
           (presence_named ok w f.field.test f.field.since f.rest p.new.test p.known'.left) h
           ∙ sym (there_here w f.field.test f.field.since f.rest own' no_parent p.known'.left) in
           let xs = old_slots (elements_of e.field.count own) e in

@@ -21,8 +21,7 @@ pub good_fields : (y : List (List Cell)) (k : ℕ) (all : List Field) (i : ℕ) 
     → FieldsBelow k gs → DefaultsGood all i gs → GoodCells (cells_from y all i gs)
 good_fields y k all i [] good below h = tt
 good_fields y k all i (g ∷ gs) good below h =
-    good_append _ _
-    (good_times _ _ 0 0 (good_item y k g.item _ g.default good below.0 h.0)) (good_fields y k all (suc i) gs good below.1 h.1)
+    good_append _ _ (good_times _ _ 0 0 (good_item y k g.item _ g.default good below.0 h.0)) (good_fields y k all (suc i) gs good below.1 h.1)
 
 -- what the older number fits, the newer's cell does
 abbrev Follows : (i j : Item) → (caps caps' : List ℕ) → Type 0

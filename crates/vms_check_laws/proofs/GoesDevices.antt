@@ -176,8 +176,7 @@ module _ (old new : Set) (good_old : WellFormed old) (good_new : WellFormed new)
             t = f.sub;
             at_l = f.there;
             name_is = names;
-            here = sym
-                (ap (λ (x : List (Option ℕ)). slice_get x c) (named_is s f.sub l f.there names)) ∙ h;
+            here = sym (ap (λ (x : List (Option ℕ)). slice_get x c) (named_is s f.sub l f.there names)) ∙ h;
           }
 
     taken_sub : (c k : ℕ) (w : StandsIn old (named_partners old new e) (own_cells old d) d.subs c (Some k)) → has (own_cells old d + c) ≡ true

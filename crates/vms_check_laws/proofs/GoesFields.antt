@@ -22,8 +22,7 @@ use Rattle.vms_check_laws.proofs.Parts.{carrier_at}
 within_of : (at : ℕ) (cells : List Cell) (slots : List Slot) → IsAbove at slots → AreCells (replicate at no_cell ++ cells) slots
     → IsWithin at (length cells) slots
 within_of at cells slots above are = record {
-  in_range = λ c e.
-      (low c e (cases_lt c at), omega (arith, named_inside _ slots c are e, skip_long at cells));
+  in_range = λ c e. (low c e (cases_lt c at), omega (arith, named_inside _ slots c are e, skip_long at cells));
 } where
   low : (c : ℕ) → has_cell slots c ≡ true → (c < at) ⊎ (at ≤ c) → at ≤ c
   low c e (inl lt) = let f = above.below c lt in absurd (cc)
@@ -42,9 +41,7 @@ module _ (structs : List Pairer) (cs : List Carrier) (ms : List Meaning) (y : Li
 
   module _ (table : Structs structs x y k) (go : StructsGo) where
     item_within : (a : Item) (caps : List ℕ) (d : ℤ) (at : ℕ) → IsWithin at (length (item_cells x a caps d)) (item_slots ms a caps numbers at)
-    item_within a caps d at =
-        within_of at _ _ (item_above ms above a caps numbers at)
-        (item_are ms means a caps d _ at numbers (stands_behind at _))
+    item_within a caps d at = within_of at _ _ (item_above ms above a caps numbers at) (item_are ms means a caps d _ at numbers (stands_behind at _))
 
     -- ---- one element that is in the bytes
 
@@ -115,8 +112,7 @@ module _ (structs : List Pairer) (cs : List Carrier) (ms : List Meaning) (y : Li
 
       -- a field that the older version doesn't have
       not_there : (i p : ℕ) (f : Field) → presence v f.test f.since ≡ None → slots_of i p f ≡ []
-      not_there i p f e =
-          rw (presence_there f.test f.since v own no_parent ∙ ap (λ (o : Option (Option Formula)). there o v own no_parent) e)
+      not_there i p f e = rw (presence_there f.test f.since v own no_parent ∙ ap (λ (o : Option (Option Formula)). there o v own no_parent) e)
 
       -- two present fields of one position, of the older of which so many elements are in the bytes
       abbrev PairGoes : (i i' p p' : ℕ) → (f g : Field) → List Slot → ℕ → Type 0

@@ -12,7 +12,7 @@ use Rattle.vms_check_laws.proofs.Facade.{device_partners}
 use Rattle.vms_check_laws.proofs.Premises.{kinds_same, by_less, fields_below}
 use Rattle.vms_check_laws.proofs.PairLists.{AreFrom, IsPair, paired_none, paired_append, paired_behind, paired_skip, one_cell, IsBehind, at_left, at_right}
 use Rattle.vms_check_laws.proofs.PairLists.{at_none, before_or_behind, IsOnce, Apart, once_append}
-use Rattle.vms_check_laws.proofs.SubParts.{found, part_in, part_number, one_part}
+use Rattle.vms_check_laws.proofs.SubParts.{found, part_in, part_number, one_part, StandsIn, all_long, stands_in}
 
 -- ---- the present fields of the other side are in its cells
 
@@ -185,20 +185,18 @@ module _ (old new : Set) (good_old : WellFormed old) (good_new : WellFormed new)
   abbrev place' : ℕ → ℕ
   place' l = sub_place new (own_cells new e) e.subs l
 
-  -- cell c of these and the newer one of number k, which is a cell of subsection l
-  pub record IsSubPair (cells : List Cell) (name : List ℕ) (c k : ℕ) : Type 0 where
+  -- cell c of a subsection and the newer one of number k, which is a cell of subsection l, of the same name
+  pub record IsSubPair (s : Sub) (c k : ℕ) : Type 0 where
     pub l : ℕ
     pub t : Sub
     pub there : slice_get e.subs l ≡ Some t
-    pub name_is : t.desc.name ≡ name
-    pub r : ℕ
-    pub is : k ≡ place' l + r
-    pub inside : r < sub_size new t
-    pub kind : (get_or cells c no_cell).kind ≡ (get_or (new_cells t) r no_cell).kind
+    pub name_is : t.desc.name ≡ s.desc.name
+    pub pair : IsPair (old_cells s) (new_cells t) (place' l) c k
+    pub open pair use *
 
   pub record OneSub (s : Sub) (partners : List (Option ℕ)) : Type 0 where
     pub long : length partners ≡ length (old_cells s)
-    pub pairs : (c k : ℕ) → slice_get partners c ≡ Some (Some k) → IsSubPair (old_cells s) s.desc.name c k
+    pub pairs : (c k : ℕ) → slice_get partners c ≡ Some (Some k) → IsSubPair s c k
     pub once : IsOnce partners
 
   no_sub : (s : Sub) → OneSub s (sub_partners old new e s None None)
@@ -219,98 +217,19 @@ module _ (old new : Set) (good_old : WellFormed old) (good_new : WellFormed new)
         (rw f.there
         (record {
           long = p.long;
-          pairs = λ c k g. let q = p.pairs c k g in record {
-            l = l;
-            t = f.sub;
-            there = f.there;
-            name_is = f.name_is;
-            r = q.r;
-            is = q.is;
-            inside = q.inside;
-            kind = q.kind;
-          };
+          pairs = λ c k g. record { l = l; t = f.sub; there = f.there; name_is = f.name_is; pair = p.pairs c k g };
           once = p.once;
         }))
 
-  -- a pair says only the kind of its older cell
-  at_kind : (cells cells' : List Cell) (name : List ℕ) (c c' k : ℕ) → IsSubPair cells name c k
-      → (get_or cells' c' no_cell).kind ≡ (get_or cells c no_cell).kind → IsSubPair cells' name c' k
-  at_kind cells cells' name c c' k x same =
-      record { l = x.l; t = x.t; there = x.there; name_is = x.name_is; r = x.r; is = x.is; inside = x.inside; kind = same ∙ x.kind }
-
-  -- ---- all subsections from one on
-
-  pub record SomeSub (subs : List Sub) (c k : ℕ) : Type 0 where
-    pub m : ℕ
-    pub sub : Sub
-    pub is : slice_get subs m ≡ Some sub
-    pub pair : IsSubPair (flat_map old_cells subs) sub.desc.name c k
-
-  pub record AllSubs (subs : List Sub) (partners : List (Option ℕ)) : Type 0 where
-    pub long : length partners ≡ length (flat_map old_cells subs)
-    pub pairs : (c k : ℕ) → slice_get partners c ≡ Some (Some k) → SomeSub subs c k
-    pub once : IsOnce partners
-
-  abbrev AreDistinct : List Sub → Type 0
-  AreDistinct subs = (m m' : ℕ) (s s' : Sub) → slice_get subs m ≡ Some s → slice_get subs m' ≡ Some s' → s.desc.name ≡ s'.desc.name → m ≡ m'
-
   -- two newer subsections that have one cell are one
-  names_of : (cells cells' : List Cell) (name name' : List ℕ) (c c' k : ℕ) → IsSubPair cells name c k → IsSubPair cells' name' c' k → name ≡ name'
-  names_of cells cells' name name' c c' k p q =
+  names_of : (s s' : Sub) (c c' k : ℕ) → IsSubPair s c k → IsSubPair s' c' k → s.desc.name ≡ s'.desc.name
+  names_of s s' c c' k p q =
       let same : p.l ≡ q.l = one_part new (own_cells new e) e.subs p.l q.l k p.t q.t p.there q.there (omega arith) (omega arith) (omega arith) (omega arith) in
       let subs_same : Some p.t ≡ Some q.t = sym p.there ∙ ap (slice_get e.subs) same ∙ q.there in
       let one : p.t ≡ q.t = cc in
       sym p.name_is ∙ ap (λ (u : Sub). u.desc.name) one ∙ q.name_is
 
-  module _ (s : Sub) (subs : List Sub) (p q : List (Option ℕ)) (distinct : AreDistinct (s ∷ subs)) (h : OneSub s p) (g : AllSubs subs q) where
-    left : (c k : ℕ) → c < length p → slice_get (p ++ q) c ≡ Some (Some k) → IsSubPair (old_cells s) s.desc.name c k
-    left c k lt f = h.pairs c k (sym (at_left p q c lt) ∙ f)
-
-    right : (c k : ℕ) (b : IsBehind (length p) c) → slice_get (p ++ q) c ≡ Some (Some k) → SomeSub subs b.more k
-    right c k b f = g.pairs b.more k (sym (at_right p q b.more) ∙ ap (slice_get (p ++ q)) (sym b.is) ∙ f)
-
-    apart : Apart p q
-    apart b c k lt behind f f' =
-        let z = right c k behind f' in
-        absurd (omega (arith, distinct 0 (suc z.m) s z.sub refl z.is (names_of _ _ s.desc.name z.sub.desc.name b behind.more k (left b k lt f) z.pair)))
-
-    pair_at : (c k : ℕ) → slice_get (p ++ q) c ≡ Some (Some k) → (c < length p) ⊎ IsBehind (length p) c → SomeSub (s ∷ subs) c k
-    pair_at c k f (inl lt) =
-        record {
-          m = 0;
-          sub = s;
-          is = refl;
-          pair = at_kind _ _ s.desc.name c c k (left c k lt f)
-              (ap (λ (u : Cell). u.kind) (get_or_append_left (old_cells s) (flat_map old_cells subs) no_cell c (omega arith)));
-        }
-    pair_at c k f (inr behind) =
-        let z = right c k behind f in
-        let place : c ≡ length (old_cells s) + behind.more = omega arith in
-        record {
-          m = suc z.m;
-          sub = z.sub;
-          is = z.is;
-          pair = at_kind _ _ z.sub.desc.name behind.more c k z.pair
-              (ap (λ (n : ℕ). (get_or (old_cells s ++ flat_map old_cells subs) n no_cell).kind) place
-              ∙ ap (λ (u : Cell). u.kind) (get_or-append-add (old_cells s) (flat_map old_cells subs) behind.more no_cell));
-        }
-
-    joined : AllSubs (s ∷ subs) (p ++ q)
-    joined =
-        record {
-          long = omega (arith, length-append p q, length-append (old_cells s) (flat_map old_cells subs));
-          pairs = λ c k f. pair_at c k f (before_or_behind _ c);
-          once = once_append p q h.once g.once apart;
-        }
-
-  all_subs : (subs : List Sub) → AreDistinct subs → ((m : ℕ) (s : Sub) → slice_get subs m ≡ Some s → OneSub s (named_partners old new e s))
-      → AllSubs subs (flat_map (named_partners old new e) subs)
-  all_subs [] distinct h = record { long = refl; pairs = λ c k f. absurd (cc); once = λ b c k f g. absurd (cc) }
-  all_subs (s ∷ subs) distinct h =
-      joined s subs _ _ distinct (h 0 s refl)
-      (all_subs subs (λ m m' t t' f f' n. omega (arith, distinct (suc m) (suc m') t t' f f' n)) (λ m t f. h (suc m) t f))
-
-  distinct : AreDistinct d.subs
+  distinct : (m m' : ℕ) (s s' : Sub) → slice_get d.subs m ≡ Some s → slice_get d.subs m' ≡ Some s' → s.desc.name ≡ s'.desc.name → m ≡ m'
   distinct m m' s s' f f' n =
       let same : Some m ≡ Some m' =
       sym (sub_found old good_old i m d s at_i f) ∙ ap (λ (name : List ℕ). find_sub 0 d.subs name) n ∙ sub_found old good_old i m' d s' at_i f' in
@@ -320,9 +239,6 @@ module _ (old new : Set) (good_old : WellFormed old) (good_new : WellFormed new)
 
   own : AreFrom (desc_cells (struct_cells old) d.desc) (desc_cells (struct_cells new) e.desc) 0 (part_partners old new d.desc.version d.desc e.desc 0)
   own = part_paired old new good_old good_new d.desc.version d.desc e.desc 0 (below_of _ d.desc _ (device_parts old good_old i d at_i).0)
-
-  others : AllSubs d.subs (flat_map (named_partners old new e) d.subs)
-  others = all_subs d.subs distinct (λ m s f. one_sub m s f)
 
   abbrev ps : List (Option ℕ)
   ps = part_partners old new d.desc.version d.desc e.desc 0
@@ -339,8 +255,35 @@ module _ (old new : Set) (good_old : WellFormed old) (good_new : WellFormed new)
   own_pair : (c k : ℕ) → c < length ps → slice_get (ps ++ qs) c ≡ Some (Some k) → IsPair xs us 0 c k
   own_pair c k lt f = own.pairs c k (sym (at_left ps qs c lt) ∙ f)
 
-  sub_pair : (c k : ℕ) (b : IsBehind (length ps) c) → slice_get (ps ++ qs) c ≡ Some (Some k) → SomeSub d.subs b.more k
-  sub_pair c k b f = others.pairs b.more k (sym (at_right ps qs b.more) ∙ rw b.is at f)
+  sized : (m : ℕ) (s : Sub) → slice_get d.subs m ≡ Some s → length (named_partners old new e s) ≡ sub_size old s
+  sized m s at = (one_sub m s at).long
+
+  -- the subsection that a cell is of, and its pair
+  record InSub (b k : ℕ) : Type 0 where
+    stands : StandsIn old (named_partners old new e) (own_cells old d) d.subs b (Some k)
+    pair : IsSubPair stands.sub stands.c k
+
+  in_sub : (b k : ℕ) → slice_get qs b ≡ Some (Some k) → InSub b k
+  in_sub b k f =
+      let w = stands_in old (named_partners old new e) (own_cells old d) d.subs b (Some k) sized f in
+      record { stands = w; pair = (one_sub w.m w.sub w.there).pairs w.c k w.here }
+
+  sub_pair : (c k : ℕ) (b : IsBehind (length ps) c) → slice_get (ps ++ qs) c ≡ Some (Some k) → InSub b.more k
+  sub_pair c k b f = in_sub b.more k (sym (at_right ps qs b.more) ∙ rw b.is at f)
+
+  once_in : IsOnce qs
+  once_in b c k f g =
+      let x = in_sub b k f in
+      let y = in_sub c k g in
+      let v = x.stands in
+      let w = y.stands in
+      let same : v.m ≡ w.m = distinct v.m w.m v.sub w.sub v.there w.there (names_of v.sub w.sub v.c w.c k x.pair y.pair) in
+      let subs_same : Some v.sub ≡ Some w.sub = sym v.there ∙ ap (slice_get d.subs) same ∙ w.there in
+      let one : v.sub ≡ w.sub = cc in
+      let here : slice_get (named_partners old new e w.sub) v.c ≡ Some (Some k) = rw one at v.here in
+      let cells_same : v.c ≡ w.c = (one_sub w.m w.sub w.there).once v.c w.c k here w.here in
+      let places : sub_place old (own_cells old d) d.subs v.m ≡ sub_place old (own_cells old d) d.subs w.m = ap (sub_place old (own_cells old d) d.subs) same in
+      omega arith
 
   kinds : (c k : ℕ) → slice_get (ps ++ qs) c ≡ Some (Some k) → (c < length ps) ⊎ IsBehind (length ps) c
       → (k < length (device_cells new e)) × ((get_or (device_cells old d) c no_cell).kind ≡ (get_or (device_cells new e) k no_cell).kind)
@@ -352,15 +295,23 @@ module _ (old new : Set) (good_old : WellFormed old) (good_new : WellFormed new)
       rw k_is (omega (arith, length-append us (flat_map new_cells e.subs)), rw (before, after) p.kind)
   kinds c k f (inr behind) =
       let z = sub_pair c k behind f in
+      let w = z.stands in
       let p = z.pair in
-      let h = part_in new new_cells (own_cells new e) e.subs p.l p.t (λ m s e. refl) p.there in
-      let c_is : c ≡ length xs + behind.more = omega (arith, own.long) in
-      let k_is : k ≡ length us + (h.q + p.r) = omega arith in
-      let before = get_or-append-add xs (flat_map old_cells d.subs) behind.more no_cell in
+      let h = part_in old old_cells (own_cells old d) d.subs w.m w.sub (λ m s e. refl) w.there in
+      let h' = part_in new new_cells (own_cells new e) e.subs p.l p.t (λ m s e. refl) p.there in
+      let c_is : c ≡ length xs + (h.q + w.c) = omega (arith, own.long) in
+      let k_is : k ≡ length us + (h'.q + p.r) = omega arith in
+      let before =
+      get_or-append-add xs (flat_map old_cells d.subs) (h.q + w.c) no_cell
+      ∙ part_number old old_cells (own_cells old d) d.subs w.m w.sub h no_cell w.c w.inside in
       let after =
-      get_or-append-add us (flat_map new_cells e.subs) (h.q + p.r) no_cell
-      ∙ part_number new new_cells (own_cells new e) e.subs p.l p.t h no_cell p.r p.inside in
-      rw (c_is, k_is) (omega (arith, length-append us (flat_map new_cells e.subs)), rw (before, after) p.kind)
+      get_or-append-add us (flat_map new_cells e.subs) (h'.q + p.r) no_cell
+      ∙ part_number new new_cells (own_cells new e) e.subs p.l p.t h' no_cell p.r p.inside in
+      let kind : (get_or (device_cells old d) (length xs + (h.q + w.c)) no_cell).kind ≡ (get_or (device_cells new e) (length us + (h'.q + p.r)) no_cell).kind =
+      rw (before, after) p.kind in (
+        omega (arith, length-append us (flat_map new_cells e.subs)),
+        ap (λ (n : ℕ). (get_or (device_cells old d) n no_cell).kind) c_is ∙ kind ∙ sym (ap (λ (n : ℕ). (get_or (device_cells new e) n no_cell).kind) k_is),
+      )
 
   apart_own : Apart ps qs
   apart_own b c k lt behind f g =
@@ -372,9 +323,9 @@ module _ (old new : Set) (good_old : WellFormed old) (good_new : WellFormed new)
   unfolding device_partners
   device_paired =
       record {
-        long = omega (arith, own.long, others.long, length-append ps qs, length-append xs (flat_map old_cells d.subs));
+        long = omega (arith, own.long, all_long old (named_partners old new e) d.subs sized, length-append ps qs, length-append xs (flat_map old_cells d.subs));
         kinds = λ c k f. kinds c k f (before_or_behind _ c);
-        once = once_append ps qs own.once others.once apart_own;
+        once = once_append ps qs own.once once_in apart_own;
       }
 
 pub partners_stand : PartnersLaw

@@ -278,18 +278,15 @@ module _ (cells_a cells_b others_a others_b : List Cell) (numbers : List ℤ) (x
   taken_at c r e f (inl lt) =
       let place : slice_get p c ≡ Some (Some (at' + r)) = sym (at_left p q c lt) ∙ e in
       let pair = h.paired.pairs c (at' + r) place in
-      get_or_append_left s t (pos 0) r (omega arith)
-      ∙ h.taken c r place (sym (has_first (at + c) (omega arith)) ∙ f)
+      get_or_append_left s t (pos 0) r (omega arith) ∙ h.taken c r place (sym (has_first (at + c) (omega arith)) ∙ f)
   taken_at c r e f (inr b) =
       let place : slice_get q b.more ≡ Some (Some (at' + r)) = sym (at_right p q b.more) ∙ ap (slice_get (p ++ q)) (sym b.is) ∙ e in
       let pair = g.paired.pairs b.more (at' + r) place in
       let r_is : r ≡ length s + pair.r = omega arith in
       let k_is : at' + r ≡ (at' + length others_a) + pair.r = omega arith in
       let c_is : at + c ≡ next + b.more = omega arith in
-      ap (λ (i : ℕ). get_or (s ++ t) i (pos 0)) r_is ∙ get_or-append-add s t pair.r (pos 0)
-      ∙ g.taken b.more pair.r (rw (← k_is) place)
-      (ap (has_cell ys) (sym c_is) ∙ sym (has_second (at + c) (omega arith)) ∙ f)
-      ∙ ap (λ (i : ℕ). get_or numbers i (pos 0)) (sym c_is)
+      ap (λ (i : ℕ). get_or (s ++ t) i (pos 0)) r_is ∙ get_or-append-add s t pair.r (pos 0) ∙ g.taken b.more pair.r (rw (← k_is) place)
+      (ap (has_cell ys) (sym c_is) ∙ sym (has_second (at + c) (omega arith)) ∙ f) ∙ ap (λ (i : ℕ). get_or numbers i (pos 0)) (sym c_is)
 
   other_at : (r : ℕ) → r < length (others_a ++ others_b) → ((c : ℕ) → HasIt c r → has_cell (xs ++ ys) (at + c) ≡ false)
       → (r < length others_a) ⊎ IsBehind (length others_a) r → get_or (s ++ t) r (pos 0) ≡ (get_or (others_a ++ others_b) r no_cell).default
@@ -306,8 +303,7 @@ module _ (cells_a cells_b others_a others_b : List Cell) (numbers : List ℤ) (x
       ∙ g.other b.more (omega (arith, length-append others_a others_b)) (λ c e.
       let k_is : (at' + length others_a) + b.more ≡ at' + r = omega arith in
       let c_is : at + (length p + c) ≡ next + c = omega arith in
-      ap (has_cell ys) (sym c_is) ∙ sym (has_second _ (omega arith))
-      ∙ f (length p + c) (at_right p q c ∙ rw (← k_is) e))
+      ap (has_cell ys) (sym c_is) ∙ sym (has_second _ (omega arith)) ∙ f (length p + c) (at_right p q c ∙ rw (← k_is) e))
       ∙ sym (ap (λ (x : Cell). x.default) (ap (λ (i : ℕ). get_or (others_a ++ others_b) i no_cell) b.is ∙ get_or-append-add others_a others_b b.more no_cell))
 
   runs_joined : Goes (cells_a ++ cells_b) (others_a ++ others_b) numbers (xs ++ ys) at at' (p ++ q) (s ++ t)

@@ -219,8 +219,7 @@ module _ (old new : Set) (good_old : WellFormed old) (good_new : WellFormed new)
 
   next_place : (t : Sub) (ts : List Sub) (place : ℕ) → Stayed t ⊎ Came t → Holds numbers' place (flat_map carried_of (t ∷ ts))
       → Holds numbers' (place + length (sub_cells t)) (flat_map carried_of ts)
-  next_place t ts place f held =
-      holds_at (ap (λ (n : ℕ). place + n) (one_size t f)) (holds_right _ held)
+  next_place t ts place f held = holds_at (ap (λ (n : ℕ). place + n) (one_size t f)) (holds_right _ held)
 
   -- what is read of the subsections from one on, whose cells begin at a place
   pub record SubsRead (ts : List Sub) (place : ℕ) : Type 0 where
@@ -235,8 +234,7 @@ module _ (old new : Set) (good_old : WellFormed old) (good_new : WellFormed new)
       record {
         versions = rw s.came h.versions;
         rules = rw s.came h.rules;
-        settled = rw s.came
-            (settled_append size first (ap (λ (n : ℕ). place + n) (sym size)) h.settled);
+        settled = rw s.came (settled_append size first (ap (λ (n : ℕ). place + n) (sym size)) h.settled);
       }
   one_reads t ts place (inr c) held size h =
       let r = sub_reads t c place held in

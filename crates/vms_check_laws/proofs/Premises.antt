@@ -7,7 +7,7 @@ use Rattle.vms_check_laws.proofs.Facade.{Unused, Count, Counted, Formula, Field,
 use Rattle.vms_check_laws.proofs.Facade.{Carrier, no_carrier, Holds, FitsAt, Carries, Aligns, FieldsBelow, Slot, is_earlier_in, slice_get, Num, Filler, Fixed}
 use Rattle.vms_check_laws.proofs.Facade.{Kind, One, ap, cells_from, elements_of, entry_of, eqb-true, field_cells, here, if◌then◌else◌, is_there, item_slots}
 use Rattle.vms_check_laws.proofs.Facade.{kind_of, no_parent, presence, present_from, residue, same_kind, slots_from, sym, width, zeroed, ◌*◌, ◌∙◌, ◌==◌, U8}
-use Rattle.vms_check_laws.proofs.Facade.{U16, U32, U64, I8, I16, I32, I64, Timer, no_field, field_slots, place_of, kind_number}
+use Rattle.vms_check_laws.proofs.Facade.{U16, U32, U64, I8, I16, I32, I64, Timer, no_field, field_slots, place_of, kind_number, get_or_from_slice_get}
 use Rattle.vms_spec.specs.Images.{FitCells as AreFit}
 use Rattle.vms_kinds.specs.declared.Kind.TheVariants.{Bool as Truth}
 use Rattle.vms_check_laws.proofs.Positioned.{if_is}
@@ -284,11 +284,6 @@ module _ (structs : List Meaning) (all : List Field) (v : ℕ) (own : ℕ → �
 
 -- ---- what is known of entries
 
-at_get : (fs : List Field) (k : ℕ) (f : Field) → slice_get fs k ≡ Some f → get_or fs k no_field ≡ f
-at_get [] k f h = cc
-at_get (g ∷ fs) zero f h = cc
-at_get (g ∷ fs) (suc k) f h = at_get fs k f h
-
 module _ (structs : List Meaning) (all : List Field) (v : ℕ) (numbers : List ℤ) (base : ℕ) where
   abbrev Whole : Type 0
   Whole = FitsAt (cells_from (cells_in structs) all 0 all) numbers base
@@ -315,7 +310,7 @@ module _ (structs : List Meaning) (all : List Field) (v : ℕ) (numbers : List �
 
   own_is : (i p : ℕ) (f : Field) → slice_get all i ≡ Some f → place i ≡ base + p
       → own_of i ≡ residue (width (kind_of f.item)) (get_or numbers (base + p) (pos 0))
-  own_is i p f h e = rw (at_get all i f h, e)
+  own_is i p f h e = rw (get_or_from_slice_get all i f no_field h, e)
 
   entry_known : (i p : ℕ) (f : Field) (pr : Option (Option Formula)) (es : List Entry) → presence v f.test f.since ≡ pr → slice_get all i ≡ Some f
       → place i ≡ base + p → (Whole → FitsAt (field_cells (cells_in structs) all i f) numbers (base + p)) → AreKnown es → AreKnown (entry_of i p f pr ++ es)

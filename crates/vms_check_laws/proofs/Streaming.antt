@@ -10,7 +10,7 @@ use Rattle.vms_check_laws.proofs.Facade.{trailer, optional, longest_text, writte
 use Rattle.vms_check_laws.proofs.Facade.{answers_none, ap, [], inl, sym}
 use Rattle.vms_spec.specs.declared.Part.TheVariants as parts
 use Rattle.vms_check_laws.proofs.SubFacts.{saved}
-use Rattle.vms_check_laws.proofs.Segments.{one_on, at_first, from_zero}
+use Rattle.vms_check_laws.proofs.Segments.{one_on, at_first, from_zero, RestAt}
 use Rattle.vms_check_laws.proofs.Wholes.{Among, NotIn, Apart, Wait, each_comes, found_same, section_whole, at_map, from_map}
 
 -- ---- devices by name and instance
@@ -153,15 +153,6 @@ module _ (old new : Set) (good_old : WellFormed old) (good_new : WellFormed new)
       let found : find_device 0 new.devices d.desc.name d.instance ≡ Some k = rw (f.2.name_is, f.2.instance_is) (device_found new good_new k e x.1) in
       order_has old.devices f.0 k d f.2.stands found
 
-  order_waits : (i : ℕ) (ds : List Device) → ((j : ℕ) → slice_get old.devices (i + j) ≡ slice_get ds j)
-      → Wait (map (λ (d : Device). false) new.devices) (device_order new ds)
-  order_waits i [] h = tt
-  order_waits i (d ∷ ds) h =
-      let p = pair old new good_old all_in i d (at_first (slice_get old.devices) i h) in (
-        rw (ap index p.found) (at_map (λ (d : Device). false) new.devices p.number p.device p.stands),
-        order_waits (suc i) ds (one_on (slice_get old.devices) i h),
-      )
-
   two_apart : (i i' : ℕ) (d d' : Device) → i < i' → slice_get old.devices i ≡ Some d → slice_get old.devices i' ≡ Some d'
       → index (find_device 0 new.devices d.desc.name d.instance) ≡ index (find_device 0 new.devices d'.desc.name d'.instance) → ⊥
   two_apart i i' d d' lt e e' same =
@@ -172,23 +163,30 @@ module _ (old new : Set) (good_old : WellFormed old) (good_new : WellFormed new)
       absurd (omega arith)
 
   one_apart : (i i' : ℕ) (d : Device) (ds : List Device) → i < i' → slice_get old.devices i ≡ Some d
-      → ((j : ℕ) → slice_get old.devices (i' + j) ≡ slice_get ds j) → NotIn (index (find_device 0 new.devices d.desc.name d.instance)) (device_order new ds)
+      → RestAt old.devices i' ds → NotIn (index (find_device 0 new.devices d.desc.name d.instance)) (device_order new ds)
   one_apart i i' d [] lt e h = tt
   one_apart i i' d (d' ∷ ds) lt e h = (
     λ same. two_apart i i' d d' lt e (at_first (slice_get old.devices) i' h) same,
     one_apart i (suc i') d ds (omega arith) e (one_on (slice_get old.devices) i' h),
   )
 
-  order_apart : (i : ℕ) (ds : List Device) → ((j : ℕ) → slice_get old.devices (i + j) ≡ slice_get ds j) → Apart (device_order new ds)
-  order_apart i [] h = tt
-  order_apart i (d ∷ ds) h =
-      let more : (j : ℕ) → slice_get old.devices (suc i + j) ≡ slice_get ds j = one_on (slice_get old.devices) i h in
-      (one_apart i (suc i) d ds (omega arith) (at_first (slice_get old.devices) i h) more, order_apart (suc i) ds more)
+  -- no device has come yet, and none comes twice
+  order_of : (i : ℕ) (ds : List Device) → RestAt old.devices i ds
+      → Wait (map (λ (d : Device). false) new.devices) (device_order new ds) × Apart (device_order new ds)
+  order_of i [] h = (tt, tt)
+  order_of i (d ∷ ds) h =
+      let at = at_first (slice_get old.devices) i h in
+      let p = pair old new good_old all_in i d at in
+      let rest : RestAt old.devices (suc i) ds = one_on (slice_get old.devices) i h in
+      let more = order_of (suc i) ds rest in (
+        (rw (ap index p.found) (at_map (λ (d : Device). false) new.devices p.number p.device p.stands), more.0),
+        (one_apart i (suc i) d ds (omega arith) at rest, more.1),
+      )
 
   pub each_once : EachOnce (map (λ (d : Device). false) new.devices) (device_order new old.devices)
   each_once =
-      let all : (j : ℕ) → slice_get old.devices (0 + j) ≡ slice_get old.devices j = from_zero (slice_get old.devices) in
-      each_comes _ _ (order_apart 0 old.devices all) (order_waits 0 old.devices all) each_new
+      let order = order_of 0 old.devices (from_zero (slice_get old.devices)) in
+      each_comes _ _ order.1 order.0 each_new
 
   module _ (images : List Image) where
     -- the image of new's device is old's of this name, carried
@@ -202,7 +200,7 @@ module _ (old new : Set) (good_old : WellFormed old) (good_new : WellFormed new)
         ∙ ap (λ (r : Option Device). Some (carried_at old new images p.device (Some i) r)) e
 
     -- each section of old, in old's order
-    pub spell : (i : ℕ) (ds : List Device) (ims : List Image) → length ims ≡ length ds → ((j : ℕ) → slice_get old.devices (i + j) ≡ slice_get ds j)
+    pub spell : (i : ℕ) (ds : List Device) (ims : List Image) → length ims ≡ length ds → RestAt old.devices i ds
         → ((j : ℕ) → get_or images (i + j) (no_image old new) ≡ get_or ims j (no_image old new))
         → ((j : ℕ) (d : Device) (image : Image) → slice_get ds j ≡ Some d → slice_get ims j ≡ Some image → IsReady old d image)
         → i + length ds ≤ 4294967296 → SectionsSpell new true (carried old new images) (device_order new ds) (written_sections old i ds ims)

@@ -1,12 +1,13 @@
 -- What two well-formed sets without a mismatch give for each subsection of new.
-use Rattle.vms_check_laws.proofs.Facade.{◌≡◌, ◌⊎◌, inl, inr, ℕ, zero, suc, ◌+◌, ◌≤◌, true, List, ◌∷◌, length, Option, Some, None, refl, ◌∙◌, arith, ℤ, nat_le}
-use Rattle.vms_check_laws.proofs.Facade.{flat_map, slice_get, and_parts, leb-true, first_answer, Sub, Device, Set, Cell, struct_cells, desc_cells, device_cells}
-use Rattle.vms_check_laws.proofs.Facade.{Image, FitCells, AreVersionsOf, RulesHold, own_slots, own_cells, sub_slots, sub_place, came_slots, IsReady}
-use Rattle.vms_check_laws.proofs.Facade.{ComeAsNeeded, find_sub, index, is_version_of, WellFormed, here, failing_pair, comparing, compare_sub, compare_subs}
-use Rattle.vms_check_laws.proofs.Facade.{carried_sub, sub_came, defaults, passes, sub_found, IsSaved, FitsAt, or_else_none, answers_none, within, sym, ap, []}
+use Rattle.vms_check_laws.proofs.Facade.{◌≡◌, ◌⊎◌, inl, inr, ℕ, zero, suc, ◌+◌, ◌≤◌, true, List, ◌∷◌, Option, Some, None, refl, ◌∙◌, arith, ℤ, nat_le, flat_map}
+use Rattle.vms_check_laws.proofs.Facade.{slice_get, and_parts, leb-true, first_answer, Sub, Device, Set, Cell, struct_cells, desc_cells, device_cells, Image}
+use Rattle.vms_check_laws.proofs.Facade.{FitCells, AreVersionsOf, RulesHold, own_slots, own_cells, sub_slots, sub_place, came_slots, IsReady, ComeAsNeeded}
+use Rattle.vms_check_laws.proofs.Facade.{find_sub, index, is_version_of, WellFormed, here, failing_pair, comparing, compare_sub, compare_subs, carried_sub}
+use Rattle.vms_check_laws.proofs.Facade.{sub_came, defaults, passes, sub_found, IsSaved, FitsAt, or_else_none, answers_none, sym, ap, [], rules_split}
+use Rattle.vms_check_laws.proofs.Facade.{sub_size}
 use Rattle.vms_spec.specs.declared.Part.TheVariants as parts
 use Rattle.vms_check_laws.proofs.SubParts.{found as found_sub}
-use Rattle.vms_check_laws.proofs.Segments.{fits_left, fits_right, rules_left, rules_right, one_on, at_first, from_zero}
+use Rattle.vms_check_laws.proofs.Segments.{fits_left, fits_right, one_on, at_first, from_zero, RestAt}
 use Rattle.vms_check_laws.proofs.Good.{sub_good}
 use Rattle.vms_check_laws.proofs.Parts.{good_cells, Came, Stayed, Facts}
 
@@ -51,25 +52,21 @@ pub sub_fits : (set : Set) (numbers : List ℤ) (place : ℕ) (subs : List Sub) 
 sub_fits set numbers place [] j s h e = absurd (cc)
 sub_fits set numbers place (x ∷ subs) zero s h e =
     let same : x ≡ s = cc in
-    rw (← same)
-    (fits_left _ h)
+    rw (← same) (fits_left _ h)
 sub_fits set numbers place (x ∷ subs) (suc j) s h e =
-    sub_fits set numbers (place + length (desc_cells (struct_cells set) x.desc)) subs j s
-    (fits_right (desc_cells (struct_cells set) x.desc) h) e
+    sub_fits set numbers (place + sub_size set x) subs j s (fits_right (desc_cells (struct_cells set) x.desc) h) e
 
 pub sub_rules_hold : (set : Set) (d : Device) (numbers : List ℤ) (place : ℕ) (subs : List Sub) (came : List (Option ℕ)) (j : ℕ) (s : Sub) (v : ℕ)
     → RulesHold (came_slots set d numbers place subs came)
     → slice_get subs j ≡ Some s → slice_get came j ≡ Some (Some v) → RulesHold (sub_slots set s v numbers (sub_place set place subs j))
+sub_rules_hold set d numbers place (x ∷ subs) (None ∷ came) (suc j) s v h e e' = sub_rules_hold set d numbers (place + sub_size set x) subs came j s v h e e'
 sub_rules_hold set d numbers place (x ∷ subs) (Some u ∷ came) zero s v h e e' =
     let same : x ≡ s = cc in
     let same' : u ≡ v = cc in
-    let one = rules_left (sub_slots set x u numbers place) (came_slots set d numbers (place + length (desc_cells (struct_cells set) x.desc)) subs came) h in
-    rw (← same) (rw (← same') one)
-sub_rules_hold set d numbers place (x ∷ subs) (None ∷ came) (suc j) s v h e e' =
-    sub_rules_hold set d numbers (place + length (desc_cells (struct_cells set) x.desc)) subs came j s v h e e'
+    rw (← same) (rw (← same') (rules_split (sub_slots set x u numbers place) (came_slots set d numbers (place + sub_size set x) subs came) h).0)
 sub_rules_hold set d numbers place (x ∷ subs) (Some u ∷ came) (suc j) s v h e e' =
-    sub_rules_hold set d numbers (place + length (desc_cells (struct_cells set) x.desc)) subs came j s v
-    (rules_right (sub_slots set x u numbers place) (came_slots set d numbers (place + length (desc_cells (struct_cells set) x.desc)) subs came) h) e e'
+    sub_rules_hold set d numbers (place + sub_size set x) subs came j s v
+    (rules_split (sub_slots set x u numbers place) (came_slots set d numbers (place + sub_size set x) subs came) h).1 e e'
 sub_rules_hold set d numbers place _ _ _ s v h e e' = absurd (cc)
 
 module _ (old new : Set) (good_old : WellFormed old) (good_new : WellFormed new) (i k : ℕ) (d e : Device) (at_i : slice_get old.devices i ≡ Some d)
@@ -90,8 +87,7 @@ module _ (old new : Set) (good_old : WellFormed old) (good_new : WellFormed new)
   compared j l s t at_j at_l names =
       let z : 0 + j ≡ j = omega arith in
       let at_s : compare_subs old new i k e j s ≡ None = rw (z) at (answers_none _ 0 d.subs none j s at_j) in
-      let found : find_sub 0 e.subs s.desc.name ≡ Some l =
-      ap (λ (n : List ℕ). find_sub 0 e.subs n) names ∙ sub_found new good_new k l e t at_k at_l in
+      let found : find_sub 0 e.subs s.desc.name ≡ Some l = ap (λ (n : List ℕ). find_sub 0 e.subs n) names ∙ sub_found new good_new k l e t at_k at_l in
       let at_l' : compare_sub old new i k j s (Some l) (slice_get e.subs l) ≡ None = rw (found) at at_s in
       let at_t : compare_sub old new i k j s (Some l) (Some t) ≡ None = rw (at_l) at at_l' in
       let p = or_else_none (failing_pair ((14, is_version_of t.desc s.desc.version) ∷ []) (here (parts.Sub i j)) (here (parts.Sub k l))) _ at_t in
@@ -108,8 +104,7 @@ module _ (old new : Set) (good_old : WellFormed old) (good_new : WellFormed new)
       let z : 0 + own_cells old d ≡ own_cells old d = omega arith in
       let whole : FitsAt (device_cells old d) image.numbers 0 = fits_whole (device_cells old d) image.numbers ready.normal.cells in
       let subs_fit : FitsAt (flat_map (λ u. desc_cells (struct_cells old) u.desc) d.subs) image.numbers (own_cells old d) =
-      rw (← z)
-      (fits_right (desc_cells (struct_cells old) d.desc) whole) in
+      rw (← z) (fits_right (desc_cells (struct_cells old) d.desc) whole) in
       record {
         sub = s;
         version = v;
@@ -123,8 +118,8 @@ module _ (old new : Set) (good_old : WellFormed old) (good_new : WellFormed new)
         same = rw v_is c.1;
         fits = sub_fits old image.numbers (own_cells old d) d.subs j s subs_fit at_j;
         rules = sub_rules_hold old d image.numbers (own_cells old d) d.subs image.came j s v
-            (rules_right (own_slots old d image.version image.numbers)
-            (came_slots old d image.numbers (own_cells old d) d.subs image.came) ready.valid) at_j at_came;
+            (rules_split (own_slots old d image.version image.numbers)
+            (came_slots old d image.numbers (own_cells old d) d.subs image.came) ready.valid).1 at_j at_came;
         within = (low, high);
       }
 
@@ -142,7 +137,7 @@ module _ (old new : Set) (good_old : WellFormed old) (good_new : WellFormed new)
         let c = came_at d.subs image.came r f.sub ready.normal.subs f.there in
         by_came r f.sub c.0 f.there f.name_is c.1 h
 
-  facts_from : (l : ℕ) (ts : List Sub) → ((m : ℕ) → slice_get e.subs (l + m) ≡ slice_get ts m) → Facts old new good_old good_new d e image numbers' came_of ts
+  facts_from : (l : ℕ) (ts : List Sub) → RestAt e.subs l ts → Facts old new good_old good_new d e image numbers' came_of ts
   facts_from l [] h = tt
   facts_from l (t ∷ ts) h = (fact l t (at_first (slice_get e.subs) l h), facts_from (suc l) ts (one_on (slice_get e.subs) l h))
 

@@ -126,10 +126,10 @@ pub has_part : (set : Set) (d : Device) (numbers : List ℤ) (from : ℕ) (subs 
 has_part set d numbers from [] came c e = cc
 has_part set d numbers from (s ∷ subs) [] c e = cc
 has_part set d numbers from (s ∷ subs) (None ∷ came) c e =
-    let h = has_part set d numbers (from + length (desc_cells (struct_cells set) s.desc)) subs came c e in
+    let h = has_part set d numbers (from + sub_size set s) subs came c e in
     record { j = suc h.j; sub = h.sub; version = h.version; there = h.there; is_come = h.is_come; has = h.has }
 has_part set d numbers from (s ∷ subs) (Some v ∷ came) c e =
-    let next = from + length (desc_cells (struct_cells set) s.desc) in
+    let next = from + sub_size set s in
     elim (or_split (has_cell (sub_slots set s v numbers from) c) _
     (sym (names_append (sub_slots set s v numbers from) (came_slots set d numbers next subs came) c) ∙ e)) [
       | inl f ↦ record { j = 0; sub = s; version = v; there = refl; is_come = refl; has = f }
@@ -152,8 +152,7 @@ pub one_part : (set : Set) (from : ℕ) (subs : List Sub) (i j c : ℕ) (s t : S
     → sub_place set from subs i ≤ c → c < sub_place set from subs i + sub_size set s
     → sub_place set from subs j ≤ c → c < sub_place set from subs j + sub_size set t → i ≡ j
 one_part set from subs i j c s t e f low high low' high' =
-    one_number i j
-    (λ lt. omega (arith, places_apart set from subs i j s e lt)) (λ lt. omega (arith, places_apart set from subs j i t f lt))
+    one_number i j (λ lt. omega (arith, places_apart set from subs i j s e lt)) (λ lt. omega (arith, places_apart set from subs j i t f lt))
 
 -- ---- each cell
 

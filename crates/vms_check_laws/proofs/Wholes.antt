@@ -6,9 +6,10 @@ use Rattle.vms_check_laws.proofs.Facade.{get_or, subst, arith, ℤ, pos, flat_ma
 use Rattle.vms_check_laws.proofs.Facade.{device_cells, Image, zeroed, own_slots, own_cells, sub_slots, sub_place, came_slots, has_cell, IsSection, SubSpells}
 use Rattle.vms_check_laws.proofs.Facade.{SubsSpell, sub_head, section_head, foot, written_subs, written_section, find_sub, index, is_version_of, WellFormed}
 use Rattle.vms_check_laws.proofs.Facade.{comparing, compare_sub, compare_subs, carrying, carried_sub, carried_device, defaults, sub_came, sub_found}
-use Rattle.vms_check_laws.proofs.Facade.{defaults_at, version_is, rules_append, IsSaved, Holds, FitsAt, answers_none}
+use Rattle.vms_check_laws.proofs.Facade.{defaults_at, version_is, rules_append, IsSaved, Holds, FitsAt, answers_none, at_set, rules_split, slice_get_within}
+use Rattle.vms_check_laws.proofs.Facade.{sub_size}
 use Rattle.vms_check_laws.proofs.SubParts.{found as found_sub}
-use Rattle.vms_check_laws.proofs.Segments.{holds_left, holds_right, holds_at, fits_left, rules_left, one_on, at_first, from_zero}
+use Rattle.vms_check_laws.proofs.Segments.{holds_left, holds_right, holds_at, fits_left, one_on, at_first, from_zero, RestAt}
 use Rattle.vms_check_laws.proofs.PairLists.{Settled, settled_append}
 use Rattle.vms_check_laws.proofs.Premises.{fit_append, fit_length, are_fit}
 use Rattle.vms_check_laws.proofs.Good.{device_good}
@@ -27,11 +28,6 @@ abbrev pub Apart : List ℕ → Type 0
 Apart [] = Unit {0}
 Apart (a ∷ rest) = NotIn a rest × Apart rest
 
-at_set : {A : Type 0} (xs : List A) (k : ℕ) (x y : A) → slice_get xs k ≡ Some y → slice_get (slice_set xs k x) k ≡ Some x
-at_set [] k x y h = cc
-at_set (z ∷ xs) zero x y h = refl
-at_set (z ∷ xs) (suc k) x y h = at_set xs k x y h
-
 -- two that are found back are one where their numbers are
 pub found_same : {A : Type 0} (xs : List A) (back : A → Option ℕ) (n n' i i' : ℕ) (x x' : A) → n ≡ n' → slice_get xs n ≡ Some x → slice_get xs n' ≡ Some x'
     → back x ≡ Some i → back x' ≡ Some i' → i ≡ i'
@@ -48,7 +44,7 @@ still xs j k order done x y e ne h covers = by (k == j) refl
   where
     by : (b : Bool) → (k == j) ≡ b → Among k order
     by true s =
-        let gone = at_set xs j done y e in
+        let gone = at_set xs j done (slice_get_within xs j y e) in
         let here : slice_get (slice_set xs j done) j ≡ Some x = ap (slice_get (slice_set xs j done)) (sym (eqb-true k j s)) ∙ h in
         absurd (ne cc)
     by false s =
@@ -172,45 +168,7 @@ module _ (old new : Set) (good_old : WellFormed old) (good_new : WellFormed new)
   came_here j s v at_j at_came p =
       came_is old new good_old good_new i k d e at_i at_k none image ready numbers' j p.number s p.sub v at_j p.stands (sym p.name_is) at_came (back j s at_j p)
 
-  module _ (held : Holds numbers' (own_cells new e) rest) where
-    one_spell : (j : ℕ) (s : Sub) (v : ℕ) (at_j : slice_get d.subs j ≡ Some s) (at_came : slice_get image.came j ≡ Some (Some v)) (p : SubPair e s)
-        → SubSpells new e image' p.number (slice_get e.subs p.number) (slice_get image'.came p.number)
-        (sub_head s.desc.name v ++ zeroed image.numbers (sub_slots old s v image.numbers (sub_place old (own_cells old d) d.subs j)))
-    one_spell j s v at_j at_came p =
-        let c = came_here j s v at_j at_came p in
-        let body = zeroed image.numbers (sub_slots old s v image.numbers (sub_place old (own_cells old d) d.subs j)) in
-        let held_t = sub_held old new good_old good_new d e image numbers' came e.subs _ p.number p.sub p.stands all_facts held in
-        let spells = (sub_reads old new good_old good_new d e image numbers' came p.sub c _ held_t).carries.spells in
-        let bytes = sub_head s.desc.name v ++ body in
-        rw p.stands
-        (rw (at_map came e.subs p.number p.sub p.stands ∙ ap Some c.came)
-        (body, spells, ap (λ (name : List ℕ). sub_head name v ++ body) (sym p.name_is)))
-
-    spell_subs : (j place : ℕ) (subs : List Sub) (cs : List (Option ℕ)) → ((m : ℕ) → slice_get d.subs (j + m) ≡ slice_get subs m)
-        → ((m : ℕ) → slice_get image.came (j + m) ≡ slice_get cs m) → ((m : ℕ) → sub_place old (own_cells old d) d.subs (j + m) ≡ sub_place old place subs m)
-        → SubsSpell new e image' (sub_order e subs cs) (written_subs old d image place subs cs)
-    spell_subs j place [] cs h h' h'' = refl
-    spell_subs j place (s ∷ subs) [] h h' h'' = refl
-    spell_subs j place (s ∷ subs) (None ∷ cs) h h' h'' =
-        spell_subs (suc j) (place + length (desc_cells (struct_cells old) s.desc)) subs cs
-        (one_on (slice_get d.subs) j h) (one_on (slice_get image.came) j h') (one_on (sub_place old (own_cells old d) d.subs) j h'')
-    spell_subs j place (s ∷ subs) (Some v ∷ cs) h h' h'' =
-        let at_j : slice_get d.subs j ≡ Some s = at_first (slice_get d.subs) j h in
-        let p = sub_pair j s at_j in
-        let one =
-        subst (λ (q : ℕ). SubSpells new e image' p.number (slice_get e.subs p.number) (slice_get image'.came p.number)
-        (sub_head s.desc.name v ++ zeroed image.numbers (sub_slots old s v image.numbers q)))
-        (at_first (sub_place old (own_cells old d) d.subs) j h'')
-        (one_spell j s v at_j (at_first (slice_get image.came) j h') p) in (
-          (sub_head s.desc.name v ++ (zeroed image.numbers (sub_slots old s v image.numbers place))),
-          (written_subs old d image (place + length (desc_cells (struct_cells old) s.desc)) subs cs),
-          rw (← (sym (ap index p.found))) one,
-          spell_subs (suc j) (place + length (desc_cells (struct_cells old) s.desc)) subs cs
-              (one_on (slice_get d.subs) j h) (one_on (slice_get image.came) j h') (one_on (sub_place old (own_cells old d) d.subs) j h''),
-          refl,
-        )
-
-  -- ---- each subsection that is present is there once
+  -- ---- each subsection that is present is there once, and spelled
 
   order_has : (subs : List Sub) (cs : List (Option ℕ)) (j l v : ℕ) (s : Sub) → slice_get subs j ≡ Some s → slice_get cs j ≡ Some (Some v)
       → index (find_sub 0 e.subs s.desc.name) ≡ l → Among l (sub_order e subs cs)
@@ -239,22 +197,6 @@ module _ (old new : Set) (good_old : WellFormed old) (good_new : WellFormed new)
       ] in
       go (find_sub 0 d.subs t.desc.name) refl
 
-  order_within : (j : ℕ) (subs : List Sub) (cs : List (Option ℕ)) → ((m : ℕ) → slice_get d.subs (j + m) ≡ slice_get subs m)
-      → ((m : ℕ) → slice_get image.came (j + m) ≡ slice_get cs m) → Come image'.came (sub_order e subs cs)
-  order_within j [] cs h h' = tt
-  order_within j (s ∷ subs) [] h h' = tt
-  order_within j (s ∷ subs) (None ∷ cs) h h' =
-      order_within (suc j) subs cs (one_on (slice_get d.subs) j h)
-      (one_on (slice_get image.came) j h')
-  order_within j (s ∷ subs) (Some v ∷ cs) h h' =
-      let at_j : slice_get d.subs j ≡ Some s = at_first (slice_get d.subs) j h in
-      let p = sub_pair j s at_j in
-      let c = came_here j s v at_j (at_first (slice_get image.came) j h') p in (
-        (v, ap (λ (n : ℕ). slice_get image'.came n) (sym (sym (ap index p.found))) ∙ (at_map came e.subs p.number p.sub p.stands ∙ ap Some c.came)),
-        order_within (suc j) subs cs (one_on (slice_get d.subs) j h)
-            (one_on (slice_get image.came) j h'),
-      )
-
   two_apart : (j j' : ℕ) (s s' : Sub) → j < j' → slice_get d.subs j ≡ Some s → slice_get d.subs j' ≡ Some s'
       → index (find_sub 0 e.subs s.desc.name) ≡ index (find_sub 0 e.subs s'.desc.name) → ⊥
   two_apart j j' s s' lt h h' same =
@@ -265,29 +207,74 @@ module _ (old new : Set) (good_old : WellFormed old) (good_new : WellFormed new)
       absurd (omega arith)
 
   one_apart : (j j' : ℕ) (s : Sub) (subs : List Sub) (cs : List (Option ℕ)) → j < j' → slice_get d.subs j ≡ Some s
-      → ((m : ℕ) → slice_get d.subs (j' + m) ≡ slice_get subs m) → NotIn (index (find_sub 0 e.subs s.desc.name)) (sub_order e subs cs)
+      → RestAt d.subs j' subs → NotIn (index (find_sub 0 e.subs s.desc.name)) (sub_order e subs cs)
   one_apart j j' s [] cs lt h h' = tt
   one_apart j j' s (x ∷ subs) [] lt h h' = tt
-  one_apart j j' s (x ∷ subs) (None ∷ cs) lt h h' =
-      one_apart j (suc j') s subs cs (omega arith) h (one_on (slice_get d.subs) j' h')
+  one_apart j j' s (x ∷ subs) (None ∷ cs) lt h h' = one_apart j (suc j') s subs cs (omega arith) h (one_on (slice_get d.subs) j' h')
   one_apart j j' s (x ∷ subs) (Some u ∷ cs) lt h h' = (
     λ same. two_apart j j' s x lt h (at_first (slice_get d.subs) j' h') same,
     one_apart j (suc j') s subs cs (omega arith) h (one_on (slice_get d.subs) j' h'),
   )
 
-  order_apart : (j : ℕ) (subs : List Sub) (cs : List (Option ℕ)) → ((m : ℕ) → slice_get d.subs (j + m) ≡ slice_get subs m) → Apart (sub_order e subs cs)
-  order_apart j [] cs h = tt
-  order_apart j (s ∷ subs) [] h = tt
-  order_apart j (s ∷ subs) (None ∷ cs) h = order_apart (suc j) subs cs (one_on (slice_get d.subs) j h)
-  order_apart j (s ∷ subs) (Some u ∷ cs) h =
-      let more : (m : ℕ) → slice_get d.subs (suc j + m) ≡ slice_get subs m = one_on (slice_get d.subs) j h in
-      (one_apart j (suc j) s subs cs (omega arith) (at_first (slice_get d.subs) j h) more, order_apart (suc j) subs cs more)
+  module _ (held : Holds numbers' (own_cells new e) rest) where
+    one_spell : (j : ℕ) (s : Sub) (v : ℕ) (at_j : slice_get d.subs j ≡ Some s) (at_came : slice_get image.came j ≡ Some (Some v)) (p : SubPair e s)
+        → SubSpells new e image' p.number (slice_get e.subs p.number) (slice_get image'.came p.number)
+        (sub_head s.desc.name v ++ zeroed image.numbers (sub_slots old s v image.numbers (sub_place old (own_cells old d) d.subs j)))
+    one_spell j s v at_j at_came p =
+        let c = came_here j s v at_j at_came p in
+        let body = zeroed image.numbers (sub_slots old s v image.numbers (sub_place old (own_cells old d) d.subs j)) in
+        let held_t = sub_held old new good_old good_new d e image numbers' came e.subs _ p.number p.sub p.stands all_facts held in
+        let spells = (sub_reads old new good_old good_new d e image numbers' came p.sub c _ held_t).carries.spells in
+        let bytes = sub_head s.desc.name v ++ body in
+        rw p.stands
+        (rw (at_map came e.subs p.number p.sub p.stands ∙ ap Some c.came)
+        (body, spells, ap (λ (name : List ℕ). sub_head name v ++ body) (sym p.name_is)))
 
-  each_once : ComesOnce image'.came (sub_order e d.subs image.came)
-  each_once =
-      let all : (m : ℕ) → slice_get d.subs (0 + m) ≡ slice_get d.subs m = from_zero (slice_get d.subs) in
-      let all' : (m : ℕ) → slice_get image.came (0 + m) ≡ slice_get image.came m = from_zero (slice_get image.came) in
-      comes_once image'.came _ (order_apart 0 d.subs image.came all) (order_within 0 d.subs image.came all all') each_come
+    -- the subsections from one on: their bytes, and each that is present once
+    record Walk (subs : List Sub) (cs : List (Option ℕ)) (place : ℕ) : Type 0 where
+      spells : SubsSpell new e image' (sub_order e subs cs) (written_subs old d image place subs cs)
+      within : Come image'.came (sub_order e subs cs)
+      apart : Apart (sub_order e subs cs)
+
+    walk : (j place : ℕ) (subs : List Sub) (cs : List (Option ℕ)) → RestAt d.subs j subs → RestAt image.came j cs
+        → ((m : ℕ) → sub_place old (own_cells old d) d.subs (j + m) ≡ sub_place old place subs m) → Walk subs cs place
+    walk j place [] cs h h' h'' = record { spells = refl; within = tt; apart = tt }
+    walk j place (s ∷ subs) [] h h' h'' = record { spells = refl; within = tt; apart = tt }
+    walk j place (s ∷ subs) (None ∷ cs) h h' h'' =
+        let more = walk (suc j) (place + sub_size old s) subs cs
+        (one_on (slice_get d.subs) j h) (one_on (slice_get image.came) j h') (one_on (sub_place old (own_cells old d) d.subs) j h'') in
+        record { spells = more.spells; within = more.within; apart = more.apart }
+    walk j place (s ∷ subs) (Some v ∷ cs) h h' h'' =
+        let next = place + sub_size old s in
+        let rest_subs : RestAt d.subs (suc j) subs = one_on (slice_get d.subs) j h in
+        let more = walk (suc j) next subs cs rest_subs (one_on (slice_get image.came) j h') (one_on (sub_place old (own_cells old d) d.subs) j h'') in
+        let at_j : slice_get d.subs j ≡ Some s = at_first (slice_get d.subs) j h in
+        let at_came = at_first (slice_get image.came) j h' in
+        let p = sub_pair j s at_j in
+        let c = came_here j s v at_j at_came p in
+        let one =
+        subst (λ (q : ℕ). SubSpells new e image' p.number (slice_get e.subs p.number) (slice_get image'.came p.number)
+        (sub_head s.desc.name v ++ zeroed image.numbers (sub_slots old s v image.numbers q)))
+        (at_first (sub_place old (own_cells old d) d.subs) j h'') (one_spell j s v at_j at_came p) in
+        record {
+          spells = (
+            (sub_head s.desc.name v ++ (zeroed image.numbers (sub_slots old s v image.numbers place))),
+            (written_subs old d image next subs cs),
+            rw (← (sym (ap index p.found))) one,
+            more.spells,
+            refl,
+          );
+          within = ((v, ap (λ (n : ℕ). slice_get image'.came n) (ap index p.found) ∙ at_map came e.subs p.number p.sub p.stands ∙ ap Some c.came), more.within);
+          apart = (one_apart j (suc j) s subs cs (omega arith) at_j rest_subs, more.apart);
+        }
+
+    walked : Walk d.subs image.came (own_cells old d)
+    walked =
+        walk 0 (own_cells old d) d.subs image.came (from_zero (slice_get d.subs)) (from_zero (slice_get image.came))
+        (from_zero (sub_place old (own_cells old d) d.subs))
+
+    each_once : ComesOnce image'.came (sub_order e d.subs image.came)
+    each_once = comes_once image'.came _ walked.apart walked.within each_come
 
   -- ---- the section
 
@@ -318,7 +305,7 @@ module _ (old new : Set) (good_old : WellFormed old) (good_new : WellFormed new)
       let more = came_slots new e numbers' (own_cells new e) e.subs image'.came in
       let subs = subs_read old new good_old good_new d e image numbers' came e.subs (own_cells new e) all_facts held_rest in
       let settled : Settled (slots ++ more) 0 (device_cells new e) numbers' = settled_append own_size own_reads.settled (sym place_is) subs.settled in
-      let rules_old = rules_left (own_slots old d v numbers) (came_slots old d numbers (own_cells old d) d.subs image.came) ready.valid in
+      let rules_old = (rules_split (own_slots old d v numbers) (came_slots old d numbers (own_cells old d) d.subs image.came) ready.valid).0 in
       let body = zeroed numbers (own_slots old d v numbers) in
       let tail = written_subs old d image (own_cells old d) d.subs image.came in
       record {
@@ -338,10 +325,9 @@ module _ (old new : Set) (good_old : WellFormed old) (good_new : WellFormed new)
         body = body;
         own = own_reads.carries.spells;
         order = sub_order e d.subs image.came;
-        each_once = each_once;
+        each_once = each_once held_rest;
         tail = tail;
-        subs = spell_subs held_rest 0 (own_cells old d) d.subs image.came
-            (from_zero (slice_get d.subs)) (from_zero (slice_get image.came)) (from_zero (sub_place old (own_cells old d) d.subs));
+        subs = (walked held_rest).spells;
         whole = ap (λ (name : List ℕ). section_head id name d.instance v ++ body ++ tail ++ foot id) names
             ∙ ap (λ (i : ℕ). section_head id e.desc.name i v ++ body ++ tail ++ foot id) instances;
       }

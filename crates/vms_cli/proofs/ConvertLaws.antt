@@ -12,7 +12,7 @@ use Rattle.vms_check.specs.declared.mismatch.Mismatch.{Mismatch}
 use Rattle.vms_convert.specs.Calls.{IsStreamFor}
 use Rattle.vms_convert.specs.Laws.{AreRecastOf, Converts as StaysSo}
 use Rattle.vms_convert.proofs.Converts.{converts_stand, ready}
-use Rattle.vms_convert.proofs.RecastAt.{newest_kinds}
+use Rattle.vms_convert.proofs.RecastLaws.{newest_kinds}
 use Rattle.vms_commands.specs.Fetching.{word_set}
 use Rattle.vms_commands.specs.Outcomes.{Outcome, done}
 use Rattle.vms_commands.specs.SetWords.{SetWord}

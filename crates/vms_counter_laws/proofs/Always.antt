@@ -37,10 +37,9 @@ use Rattle.vms_counter_laws.specs.Laws.{IsPlain, AlwaysShown, OfMachine, OfVersi
 use Rattle.vms_counter_laws.proofs.Inverted.{else_some, one_rule, struct_no_device, tables_within, IsDevice, OfDevice, of_device, Version as OfItsVersion, Own, Below, IsWithin, part_within, DeviceFails, device_fails, machine_fails}
 use Rattle.vms_check_laws.proofs.Streaming.{Pair, pair, compared}
 use Rattle.vms_counter_laws.proofs.Devices.{Comes, comes}
-use Rattle.vms_counter_laws.proofs.Heads.{same_head}
+use Rattle.vms_counter_laws.proofs.Machines.{same_head, lacks, machine_untaken}
 use Rattle.vms_check_laws.proofs.Premises.{Two}
 use Rattle.vms_counter_laws.proofs.Clashing.{present_fields, clashes}
-use Rattle.vms_counter_laws.proofs.Machines.{lacks, machine_untaken}
 
 module _ (old new : Set) (good_old : WellFormed old) (good_new : WellFormed new) (heads_old : FitsHeads old) (heads : FitsHeads new) (ready : AreReady old (default_images old)) where
   abbrev images : List Image
