@@ -155,12 +155,17 @@ fn a_store_keeps_permissions_and_links(rt: HostRuntime) -> Result<(), Fail> {
     assert!(rt; shelf.store("a", b"old").is_ok());
     rt.set_permissions("modes/a", Permissions::from_mode(0o640))?;
     rt.symlink("a", "modes/link")?;
+    keeps_kinds(&rt, alloc, &mut shelf)?;
+    Ok(())
+}
+
+fn keeps_kinds<R: Abort + Files, H: Shelf>(rt: &R, alloc: Global, shelf: &mut H) -> io::Result<()> {
     assert!(rt; shelf.store("a", b"new").is_ok());
     let mode = rt.metadata("modes/a")?.permissions().mode();
     assert_eq!(rt; mode & 0o777, 0o640);
     assert!(rt; shelf.store("link", b"last").is_ok());
     assert!(rt; rt.symlink_metadata("modes/link")?.is_symlink());
-    assert!(rt; gives(alloc, &mut shelf, "a", 4, b"last"));
+    assert!(rt; gives(alloc, shelf, "a", 4, b"last"));
     Ok(())
 }
 
