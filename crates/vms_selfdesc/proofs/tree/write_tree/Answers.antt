@@ -1,6 +1,7 @@
-use Rattle.std.proofs.Common.{refl, map}
+use Rattle.std.proofs.Common.{Bool, refl, map, subst}
 use Rattle.vms_desc.specs.Described.{described}
 use Rattle.vms_image.specs.Typed.{state_of}
+use Rattle.vms_selfdesc.specs.Drafts.{Adds}
 use Rattle.vms_selfdesc.specs.Tree.{device_trees}
 use Rattle.vms_selfdesc.specs.declared.draft.Draft.{Draft}
 use Rattle.vms_selfdesc.proofs.Trees.{whole_lays}
@@ -10,6 +11,8 @@ pub returns : goal.returns
 returns c =
     let set = described c.args.set.now in
     let trees = device_trees set set.devices (map state_of c.args.images.now) in
+    let a = c.args.draft.now in
     let wrote = c.write_devices.new.draft in
     let end : Draft = record { text = c.push-2.new.self; path = wrote.path; later = wrote.later } in
-    whole_lays c.args.draft.now c.push.new.self wrote end trees c.push.ensures (rw c.requires.first at c.write_devices.ensures) c.push-2.ensures refl
+    let adds = subst (λ (b : Bool). Adds (record { text = c.push.new.self; path = a.path; later = b }) wrote trees) c.requires.first c.write_devices.ensures in
+    whole_lays a c.push.new.self wrote end trees c.push.ensures adds c.push-2.ensures refl
