@@ -7,7 +7,7 @@ use Rattle.vms_convert.proofs.Facade.{AreOfKinds, Pair, pair, all_in, IsBack, Is
 use Rattle.vms_convert.proofs.Facade.{OfCell, OfDevice, OfMachine, first_cell, numbers_in}
 use Rattle.vms_convert.proofs.BackNormal.{gives_long}
 use Rattle.vms_convert.proofs.HasBack.{extend, has_back}
-use Rattle.vms_convert.proofs.LostLaws.{Older, older, older_pair, there_is, there_long}
+use Rattle.vms_convert.proofs.LostLaws.{Older, older, older_pair, there_is, there_long, no_device}
 use Rattle.vms_convert.proofs.RecastLaws.{recast_long}
 use Rattle.vms_convert.proofs.Converts.{given_carried}
 use Rattle.vms_convert.proofs.ReturnsLaws.{at_more}
@@ -69,9 +69,6 @@ either_valid (Rule true ∷ slots) = go (either_valid slots) where
 either_valid (Number c kind capacities ∷ slots) = either_valid slots
 either_valid (Constant kind z ∷ slots) = either_valid slots
 either_valid (Filler n ∷ slots) = either_valid slots
-
-abbrev no_device : Device
-no_device = device_at (record { machines = []; structs = []; devices = [] }) 0
 
 module _ (to new : Set) (fit : IsFit to) (well : WellFormed new) (compatible : Compatible to new) where
   -- ---- an image of each device

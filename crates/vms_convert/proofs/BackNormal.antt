@@ -1,6 +1,6 @@
 -- The image of numbers has come as needed.
-use Rattle.vms_convert.proofs.Facade.{◌≡◌, ℕ, zero, suc, ◌+◌, ◌≤◌, Bool, true, cond, List, [], ◌∷◌, Some, None, refl, ap, ◌∙◌, arith, ◌⊎◌, inl, inr, ◌<◌}
-use Rattle.vms_convert.proofs.Facade.{length, get_or, map, Option, ℤ, pos, sym, subst, false, if◌then◌else◌, ◌||◌, length-set, ◌==◌, ◌++◌, slice_set, slice_get}
+use Rattle.vms_convert.proofs.Facade.{◌≡◌, ℕ, zero, suc, ◌+◌, ◌≤◌, Bool, true, List, [], ◌∷◌, Some, None, refl, ap, ◌∙◌, arith, ◌⊎◌, inl, inr, ◌<◌, length}
+use Rattle.vms_convert.proofs.Facade.{get_or, map, Option, ℤ, pos, sym, subst, false, if◌then◌else◌, ◌||◌, length-set, ◌==◌, ◌++◌, slice_set, slice_get}
 use Rattle.vms_convert.proofs.Facade.{leb-true, eqb-true, eq-eqb, or_parts, get_or-map, get_or-set_other, get_or-set_same, map-append, length-map, Sub, Device}
 use Rattle.vms_convert.proofs.Facade.{Set, Image, FitsCell, IsNormal, has_cell, image_slots, own_slots, own_cells, came_slots, sub_slots, is_needed}
 use Rattle.vms_convert.proofs.Facade.{ComeAsNeeded, needed_from, bare, image_of, AreSubs, versions, needed, within_all, Kind, InRange, exceeds, Cell, no_cell}
@@ -8,26 +8,13 @@ use Rattle.vms_convert.proofs.Facade.{Slot, device_cells, WellFormed, FitsHeads,
 use Rattle.vms_convert.proofs.Facade.{sub_size, sub_place_up, parts_together, part_apart, part_place, well_good, device_parts, sub_clean, IsCellOf, IsBack}
 use Rattle.vms_convert.proofs.Facade.{taken, whole, ArePartners, AreOfKinds, own_or_sub, Typed, WalkStep, changed, Changes, changed_append, AreTargets}
 use Rattle.vms_convert.proofs.Facade.{give_partner, give_step, device_partners, IsCarried, steps_of, step_of, false_from_ne_true, its_in, one_part, or_split}
-use Rattle.vms_convert.proofs.Facade.{Number}
+use Rattle.vms_convert.proofs.Facade.{Number, at_map, get_or_from_slice_get}
 use Rattle.vms_walk.specs.declared.step.WalkStep.TheVariants.{Number as Step}
-use Rattle.vms_convert.proofs.Settling.{needed_same}
+use Rattle.vms_convert.proofs.Settling.{comes_at, needed_same}
 
 pub all_subs : (subs : List Sub) → ((j : ℕ) (s : Sub) → slice_get subs j ≡ Some s → s.desc.minimum ≤ s.desc.version) → AreSubs subs
 all_subs [] h = tt
 all_subs (s ∷ subs) h = (h 0 s refl, all_subs subs (λ j t e. h (suc j) t e))
-
--- one that is needed has come
-pub needed_comes : (set : Set) (d : Device) (image : Image) (i j : ℕ) (s : Sub) (subs : List Sub) → slice_get subs j ≡ Some s
-    → is_needed set d image s (i + j) ≡ true → slice_get (needed_from set d image i subs) j ≡ Some (Some s.desc.version)
-needed_comes set d image i j s [] e n = absurd (cc)
-needed_comes set d image i zero s (t ∷ subs) e n =
-    let same : t ≡ s = cc in
-    let z : i ≡ i + 0 = omega arith in
-    let here : is_needed set d image t i ≡ true = ap (λ (u : Sub). is_needed set d image u i) same ∙ ap (λ (k : ℕ). is_needed set d image s k) z ∙ n in
-    ap (λ (b : Bool). Some (cond b (Some t.desc.version) None)) here ∙ ap (λ (u : Sub). Some (Some u.desc.version)) same
-needed_comes set d image i (suc j) s (t ∷ subs) e n =
-    let z : suc i + j ≡ i + suc j = omega arith in
-    needed_comes set d image (suc i) j s subs e (ap (λ (k : ℕ). is_needed set d image s k) z ∙ n)
 
 -- ---- What comes back is normal, whatever numbers of the right kinds it is made of, and has come as needed.
 
@@ -116,8 +103,7 @@ module _ (to : Set) (well : WellFormed to) (heads : FitsHeads to) (i : ℕ) (d :
     -- a cell that is in no part of the whole image was not taken
     left : (c : ℕ) → c < length cells → in_own now c ≡ false → in_subs now all_came c ≡ false → get_or now c (pos 0) ≡ default_at c
     left c lt a b =
-        back.are_taken.each c lt
-        ∙ ap (λ (has : Bool). taken numbers (get_or cells c no_cell) has (get_or partners c None))
+        back.are_taken.each c lt ∙ ap (λ (has : Bool). taken numbers (get_or cells c no_cell) has (get_or partners c None))
         (names_append (own_slots to d d.desc.version now) (came_slots to d now (own_cells to d) d.subs all_came) c ∙ ap
         (λ (x : Bool). x || in_subs now all_came c) a ∙ b)
 
@@ -130,20 +116,9 @@ module _ (to : Set) (well : WellFormed to) (heads : FitsHeads to) (i : ℕ) (d :
 
     absent_own : (c : ℕ) → c < length cells → c < own_cells to d → in_own then_ c ≡ false → get_or then_ c (pos 0) ≡ default_at c
     absent_own c lt own none =
-        back.settled.own c own
-        ∙ left c lt (ap (λ (xs : List Slot). has_cell xs c)
+        back.settled.own c own ∙ left c lt (ap (λ (xs : List Slot). has_cell xs c)
         (sym (its_same to d.desc d.desc.version 0 good.structs (good.devices i d there) now then_ same_own)) ∙ none)
         (none_else c _ (λ j s v e f. its_below to s.desc v (part_place to d j) now c (omega (arith, sub_place_up to (own_cells to d) d.subs j))))
-
-    -- each part of the whole image came at its version
-    version_at : (subs : List Sub) (j v : ℕ) (s : Sub) → slice_get subs j ≡ Some s → slice_get (map (λ (s : Sub). Some s.desc.version) subs) j ≡ Some (Some v)
-        → v ≡ s.desc.version
-    version_at [] j v s e f = absurd (cc)
-    version_at (t ∷ subs) zero v s e f =
-        let a : t ≡ s = cc in
-        let b : t.desc.version ≡ v = cc in
-        sym b ∙ ap (λ (u : Sub). u.desc.version) a
-    version_at (t ∷ subs) (suc j) v s e f = version_at subs j v s e f
 
     -- it isn't in a part other than the cell's own
     other_part : (c j : ℕ) (s : Sub) → IsCellOf to d j s c → in_sub s s.desc.version now j c ≡ false → (j' : ℕ) (s' : Sub) (v : ℕ)
@@ -153,7 +128,8 @@ module _ (to : Set) (well : WellFormed to) (heads : FitsHeads to) (i : ℕ) (d :
         let same : j' ≡ j = one_part to (own_cells to d) d.subs j' j c s' s e h.is range.0 range.1 h.low h.high in
         let subs_same : Some s' ≡ Some s = sym e ∙ ap (slice_get d.subs) same ∙ h.is in
         let one : s' ≡ s = cc in
-        let v_is : v ≡ s'.desc.version = version_at d.subs j' v s' e f in
+        let versions : Some (Some v) ≡ Some (Some s'.desc.version) = sym f ∙ at_map (λ (s : Sub). Some s.desc.version) d.subs j' s' e in
+        let v_is : v ≡ s'.desc.version = cc in
         let here : in_sub s s.desc.version now j c ≡ true = rw (v_is, one, same) at has in
         let bad : true ≡ false = sym here ∙ before in
         cc
@@ -166,15 +142,14 @@ module _ (to : Set) (well : WellFormed to) (heads : FitsHeads to) (i : ℕ) (d :
         let low = h.low in
         let z : j ≡ 0 + j = omega arith in
         let still : is_needed to d (bare d then_) s j ≡ true = needed_same to well i d there j s e (whole d now) (bare d then_) same_own same ∙ n in
-        let came = needed_comes to d (bare d then_) 0 j s d.subs e (ap (λ (k : ℕ). is_needed to d (bare d then_) s k) (sym z) ∙ still) in
+        let comes_here : is_needed to d (bare d then_) s (0 + j) ≡ true = rw (← z) still in
+        let came = comes_at to d (bare d then_) d.subs 0 j s e ∙ ap (λ (b : Bool). Some (if b then Some s.desc.version else None)) comes_here in
         let here : in_sub s s.desc.version then_ j c ≡ false =
         part_apart to d then_ (λ xs. has_cell xs c ≡ false) (none_in_both c) (own_cells to d) d.subs came_back none j s s.desc.version e came in
         let before : in_sub s s.desc.version now j c ≡ false =
         ap (λ (xs : List Slot). has_cell xs c)
-        (sym (its_same to s.desc s.desc.version (part_place to d j) good.structs (good.subs i j d s there e) now then_ same))
-        ∙ here in
-        same.same c low h.high
-        ∙ left c lt (its_above to d.desc d.desc.version 0 now c (omega (arith, sub_place_up to (own_cells to d) d.subs j)))
+        (sym (its_same to s.desc s.desc.version (part_place to d j) good.structs (good.subs i j d s there e) now then_ same)) ∙ here in
+        same.same c low h.high ∙ left c lt (its_above to d.desc d.desc.version 0 now c (omega (arith, sub_place_up to (own_cells to d) d.subs j)))
         (none_else c _ (λ j' s' v e' f. false_from_ne_true _ (other_part c j s h before j' s' v e' f)))
 
     absent : (c : ℕ) → c < length cells → has_cell (image_slots to d (image_of to d then_)) c ≡ false → get_or then_ c (pos 0) ≡ default_at c
@@ -314,11 +289,6 @@ module _ (partners : List (Option ℕ)) (numbers : List ℤ) where
 
 -- ---- a whole device
 
-back : (partners : List (Option ℕ)) (c k : ℕ) → slice_get partners c ≡ Some (Some k) → get_or partners c None ≡ Some k
-back [] c k e = cc
-back (p ∷ partners) zero k e = cc
-back (p ∷ partners) (suc c) k e = back partners c k e
-
 -- from defaults on
 pub given_all : (old new : Set) (d e : Device) (image : Image) → ArePartners (device_cells old d) (device_cells new e) (device_partners old new d e)
     → IsCarried old new d e image (gives (device_partners old new d e) image.numbers (image_slots old d image) (map (λ c. c.default) (device_cells new e)))
@@ -332,7 +302,7 @@ given_all old new d e image paired =
       taken = λ c k f h.
           let inside = (paired.kinds c k f).0 in
           given_some partners image.numbers (λ b c' k' x y. paired.once b c' k' (at_get partners b k' x) (at_get partners c' k' y)) slots c k before
-          (omega arith) (back partners c k f) h;
+          (omega arith) (get_or_from_slice_get partners c (Some k) None f) h;
       other = λ k lt none.
           given_none partners image.numbers slots before k (λ c f. none c (at_get partners c k f))
           ∙ get_or-map (λ (c : Cell). c.default) (device_cells new e) k no_cell;

@@ -80,8 +80,7 @@ module _ (ms : List Meaning) (h : MeanKnown ms) (above : MeanAbove ms) where
               ap (λ (b : Bool). has_cell (if b then times (elements_of f.count now) (item_slots ms f.item caps k) cell size else []) c)
               (there_same d.fields i v f.since before now same f.test sound.test)
               ∙ ap (λ (m : ℕ). has_cell (if there then times m (item_slots ms f.item caps k) cell size else []) c)
-              (elements_same d.fields i before now same f.count sound.count)
-              ∙ (either c there _ _ known).is;
+              (elements_same d.fields i before now same f.count sound.count) ∙ (either c there _ _ known).is;
         }
   ]
 
@@ -278,10 +277,8 @@ module _ (to : Set) (structs : AreSound to.structs) (d : Device) (own : IsSound 
   module _ (numbers a b : List ℤ) (p : AreTaken to d partners numbers a) (q : AreTaken to d partners numbers b) where
     one_cell : (c : ℕ) → c < length (device_cells to d) → SameBelow c a b → get_or b c (pos 0) ≡ get_or a c (pos 0)
     one_cell c lt s =
-        q.each c lt
-        ∙ ap (λ (has : Bool). taken numbers (get_or (device_cells to d) c no_cell) has (get_or partners c None))
-        (image_known to structs d own subs d.desc.version (map (λ s. Some s.desc.version) d.subs) c a b s)
-        ∙ sym (p.each c lt)
+        q.each c lt ∙ ap (λ (has : Bool). taken numbers (get_or (device_cells to d) c no_cell) has (get_or partners c None))
+        (image_known to structs d own subs d.desc.version (map (λ s. Some s.desc.version) d.subs) c a b s) ∙ sym (p.each c lt)
 
     below : (m : ℕ) → m ≤ length (device_cells to d) → SameBelow m a b
     below zero le = record { same = λ c lt. absurd (omega arith) }

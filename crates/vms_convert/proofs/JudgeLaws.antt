@@ -7,11 +7,8 @@ use Rattle.vms_convert.proofs.Facade.{all_in, AreBack, IsPairAt, recast_each, Ar
 use Rattle.vms_convert.proofs.Facade.{first_of, IsValidAt, Loses, OfDevice, OfMachine, first_cell, numbers_in, AreReturned, AreReturnedTo, IsFirstLost, Loss}
 use Rattle.vms_convert.proofs.Facade.{LostCell}
 use Rattle.vms_convert.proofs.Converts.{back_stands}
-use Rattle.vms_convert.proofs.LostLaws.{all_carried, cell_lost}
+use Rattle.vms_convert.proofs.LostLaws.{all_carried, cell_lost, no_device}
 use Rattle.vms_convert.proofs.RecastLaws.{newest_kinds, recast_long}
-
-abbrev no_device : Device
-no_device = device_at (record { machines = []; structs = []; devices = [] }) 0
 
 module _ (to new : Set) (wanted : List (List ℤ)) (images : List Typed) (lost : Option LostCell)
     (returned : AreReturnedTo to new wanted (length to.devices) images lost) where
@@ -142,8 +139,7 @@ module _ (to : Set) (images : List Typed) (writable : AreWritable to images) (na
 -- what is first invalid of images in the newest set, as it is named elsewhere
 pub invalid_by : (to new : Set) (images : List Typed) (s : Set) (o found : Option ℕ) → s ≡ new → FirstInvalid to s (map state_of images) found → found ≡ o
     → FirstInvalid to new (map state_of images) o
-invalid_by to new images s o found set_is h same =
-    rw (← same, ← set_is) h
+invalid_by to new images s o found set_is h same = rw (← same, ← set_is) h
 
 same_first : (numbers : List ℤ) (cells : List Cell) → length numbers ≡ length cells → first_cell numbers ≡ first_of cells
 same_first [] [] e = refl

@@ -11,6 +11,9 @@ use Rattle.vms_check_laws.proofs.Streaming.{rules}
 use Rattle.vms_convert.specs.Returns.{IsEarlier}
 use Rattle.vms_convert.proofs.HasBack.{extend}
 
+abbrev pub no_device : Device
+no_device = device_at (record { machines = []; structs = []; devices = [] }) 0
+
 module _ (to new : Set) (wanted : List (List ℤ)) where
   same_partner : (i k l : ℕ) → ArePaired to new i k → ArePaired to new i l → k ≡ l
   same_partner i k l p q = let same : Some k ≡ Some l = sym p.found ∙ q.found in cc
@@ -121,9 +124,6 @@ module _ (to new : Set) (well_to : WellFormed to) (well_new : WellFormed new) (c
             ap (λ (n : List ℕ). find_device 0 new.devices n f.2.device.instance) f.2.name_is
             ∙ ap (λ (n : ℕ). find_device 0 new.devices e.desc.name n) f.2.instance_is ∙ device_found new well_new k e at;
       }
-
-  abbrev no_device : Device
-  no_device = device_at (record { machines = []; structs = []; devices = [] }) 0
 
   pub older_pair : (k : ℕ) (e : Device) (at : slice_get new.devices k ≡ Some e) (o : Older k e) → ArePaired to new o.i k
   older_pair k e at o =

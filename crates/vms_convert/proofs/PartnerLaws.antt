@@ -166,8 +166,7 @@ module _ (y : List (List Cell)) (all : List Field) (w : ℕ) where
 
   pub entries_found : (i p : ℕ) → i < length all → (h : IsThere (state_at i))
       → entries_on i p ≡ record { index = i; place = p; field = at_number i; rest = h.rest } ∷ entries_on (i + 1) (p + size_at i)
-  entries_found i p lt h =
-      entries_here i p lt ∙ ap (λ (o : Option (Option Formula)). entry_of i p (at_number i) o ++ entries_on (i + 1) (p + size_at i)) h.is
+  entries_found i p lt h = entries_here i p lt ∙ ap (λ (o : Option (Option Formula)). entry_of i p (at_number i) o ++ entries_on (i + 1) (p + size_at i)) h.is
 
   pub entries_end : (i p : ℕ) → length all ≤ i → entries_on i p ≡ []
   entries_end i p le = ap (present_from y all w i p) (drop_all i all le)

@@ -126,8 +126,7 @@ module _ (s t : Side) (k : ℕ) (lt : k < length (desc_on s).fields) (few : HasF
         start = h.start;
         so_far = put_left before (replicate n None) (partners_left s t (k + 1) next) after (partners_left s t k start) (all_put put)
             (ap (λ (es : List Entry). left es k) (sym h.same ∙ none) ∙ left_alone (table old new) (struct_cells old) (struct_cells new)
-            (desc_on s).fields s.version k lt e
-            ∙ ap (λ (es : List Entry). replicate n None ++ left es (k + 1)) (sym none));
+            (desc_on s).fields s.version k lt e ∙ ap (λ (es : List Entry). replicate n None ++ left es (k + 1)) (sym none));
       }
 
   pub both_pair : (start next more : Start) → IsNextStart t start next → next.field < length (desc_on t).fields → IsBehind t next more
@@ -221,8 +220,7 @@ all_elements a i first at before after end e =
     let older = described a.sets.old.now in
     let newer = described a.sets.new.now in
     let none : elements_left a i at ≡ [] =
-    array_end (table older newer) (struct_cells older) (struct_cells newer) a.one.item a.other.item (a.one.count - i) (a.other.count - i) at
-    (omega arith) in
+    array_end (table older newer) (struct_cells older) (struct_cells newer) a.one.item a.other.item (a.one.count - i) (a.other.count - i) at (omega arith) in
     sym (append-nil after) ∙ ap (λ (l : List (Option ℕ)). after ++ l) (sym none) ∙ e
 
 -- ---- parts of devices, and structures

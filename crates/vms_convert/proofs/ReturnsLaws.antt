@@ -1,15 +1,15 @@
 -- One device more is brought to the older set.
 use Rattle.vms_convert.proofs.Facade.{◌≡◌, ◌⊎◌, inl, inr, ℕ, zero, suc, ◌+◌, ◌<◌, List, [], ◌∷◌, ◌++◌, length, length-append, get_or, map, Option, Some, None}
 use Rattle.vms_convert.proofs.Facade.{ℤ, refl, sym, ap, ◌∙◌, subst, arith, Bool, true, false, ◌&&◌, if◌then◌else◌, ◌≤◌, slice_set, take, length-map, map-append}
-use Rattle.vms_convert.proofs.Facade.{take_more_set, slice_get-get_or, slice_get_within, slice_get, take-length, find_device, Device, Set, WellFormed, Image}
+use Rattle.vms_convert.proofs.Facade.{take_more_set, slice_get-get_or, slice_get_within, slice_get, take-length, find_device, Set, WellFormed, Image}
 use Rattle.vms_convert.proofs.Facade.{default_image, device_at, IsImageOf, Typed, state_of, AreImagesOf, default_at, typed, Compatible, device_partners}
 use Rattle.vms_convert.proofs.Facade.{found_device, pair, all_in, IsBack, IsReturned, ArePaired, AreReturnedTo, IsFirstLost, AreReturned, IsRecastFor, LostCell}
 use Rattle.vms_convert.proofs.Facade.{Kind, kinds_at, at_map, is_port, wants_arrays, recast, AreFresh, AreRoutes, IsRoute, recast_room, Route, first}
-use Rattle.vms_convert.proofs.Facade.{device_cells, set_4, AreOfKinds, AreKept, NEWEST, IsPortCells, kinds, recast_each, numbers_in}
+use Rattle.vms_convert.proofs.Facade.{device_cells, set_4, AreOfKinds, AreKept, NEWEST, IsPortCells, kinds, recast_each, numbers_in, at_other}
 use Rattle.std.proofs.lemmas.List.{length-set}
 use Rattle.vms_convert.specs.Returns.{IsEarlier}
 use Rattle.vms_convert.proofs.BringLaws.{there}
-use Rattle.vms_convert.proofs.LostLaws.{lost_next}
+use Rattle.vms_convert.proofs.LostLaws.{lost_next, no_device}
 use Rattle.vms_convert.proofs.RecastLaws.{newest_kinds, port_cells, port_is, recast_at}
 
 pub at_more : {A : Type 0} (xs : List A) (x : A) (i : ℕ) (y : A) → slice_get (xs ++ x ∷ []) i ≡ Some y → (slice_get xs i ≡ Some y) ⊎ ((i ≡ length xs) × (x ≡ y))
@@ -58,9 +58,6 @@ module _ (to new : Set) (wanted : List (List ℤ)) where
           rw (← e.1, ← same, ← at) is.back
 
 -- ---- the newest set's device of a name
-
-abbrev no_device : Device
-no_device = device_at (record { machines = []; structs = []; devices = [] }) 0
 
 pub pair_found : (to new : Set) (i k : ℕ) → i < length to.devices → find_device 0 new.devices (device_at to i).desc.name (device_at to i).instance ≡ Some k
     → ArePaired to new i k
@@ -135,11 +132,7 @@ pub record Midway (to new : Set) (wanted : List (List ℤ)) (n : ℕ) (routes : 
   pub brought : AreReturnedTo to new wanted n (take n images) lost
 
 set_above : {A : Type 0} (xs : List A) (n i : ℕ) (x y : A) → n < i → slice_get (slice_set xs n x) i ≡ Some y → slice_get xs i ≡ Some y
-set_above [] n i x y lt e = e
-set_above (z ∷ xs) zero zero x y lt e = absurd (omega arith)
-set_above (z ∷ xs) zero (suc i) x y lt e = e
-set_above (z ∷ xs) (suc n) zero x y lt e = e
-set_above (z ∷ xs) (suc n) (suc i) x y lt e = set_above xs n i x y (omega arith) e
+set_above xs n i x y lt e = sym (at_other xs n i x (λ same. absurd (omega arith))) ∙ e
 
 module _ (to new : Set) (wanted : List (List ℤ)) where
   pub midway_first : (routes : List Route) (images : List Typed) → AreRoutes to new (length to.devices) routes → AreFresh to images

@@ -5,7 +5,7 @@ use Rattle.vms_convert.proofs.Facade.{ltb-true, ltb-false, slice_get_within, wid
 use Rattle.vms_convert.proofs.Facade.{Sub, Device, Set, truth, compares, no_field, kind_of, place_of, numbers_of, desc_cells, struct_cells, no_cell}
 use Rattle.vms_convert.proofs.Facade.{device_cells, Image, own_cells, is_needed, is_steady, is_steady_in, names_well, WellFormed, IsEarlier, place_up}
 use Rattle.vms_convert.proofs.Facade.{place_below, place_end, sub_size, sub_place_up, places_apart, at_other, part_place, SameIn, earlier, sub_clean, bare}
-use Rattle.vms_convert.proofs.Facade.{needed_from, IsCellOf, AreSettled, whole, IsBack, at_set, same_lists, IsAtVersions}
+use Rattle.vms_convert.proofs.Facade.{needed_from, IsCellOf, AreSettled, whole, IsBack, at_set, same_lists, IsAtVersions, at_map, length-map}
 use Rattle.vms_spec.specs.Sets.{Cell}
 use Rattle.vms_spec.specs.Layout.{Cell as OneCell}
 
@@ -156,20 +156,8 @@ module _ (set : Set) (d : Device) (image : Image) where
     pub done : (i : ℕ) (s : Sub) → i < j → slice_get subs i ≡ Some s → slice_get came i ≡ Some (comes i s)
     pub left : (i : ℕ) (s : Sub) → j ≤ i → slice_get subs i ≡ Some s → slice_get came i ≡ Some None
 
-  abbrev none_came : List Sub → List (Option ℕ)
-  none_came subs = map (λ s. None) subs
-
-  none_at : (subs : List Sub) (i : ℕ) (s : Sub) → slice_get subs i ≡ Some s → slice_get (none_came subs) i ≡ Some None
-  none_at [] i s e = absurd (cc)
-  none_at (t ∷ subs) zero s e = refl
-  none_at (t ∷ subs) (suc i) s e = none_at subs i s e
-
-  none_long : (subs : List Sub) → length (none_came subs) ≡ length subs
-  none_long [] = refl
-  none_long (s ∷ subs) = ap suc (none_long subs)
-
   pub marked_none : (subs : List Sub) → MarkedTo subs 0 (map (λ s. None) subs)
-  marked_none subs = record { long = none_long subs; done = λ i s lt e. absurd (omega arith); left = λ i s le e. none_at subs i s e }
+  marked_none subs = record { long = length-map subs _; done = λ i s lt e. absurd (omega arith); left = λ i s le e. at_map (λ s. None) subs i s e }
 
   -- the last of those up to j
   at_last : (subs : List Sub) (i j : ℕ) (t s : Sub) → i ≡ j → slice_get subs i ≡ Some t → slice_get subs j ≡ Some s → (b : Bool)
@@ -203,13 +191,13 @@ module _ (set : Set) (d : Device) (image : Image) where
 
   -- ---- all of them
 
-  needed_at : (subs : List Sub) (i j : ℕ) (s : Sub) → slice_get subs j ≡ Some s → slice_get (needed_from set d image i subs) j ≡ Some (comes (i + j) s)
-  needed_at [] i j s e = absurd (cc)
-  needed_at (t ∷ subs) i zero s e =
+  pub comes_at : (subs : List Sub) (i j : ℕ) (s : Sub) → slice_get subs j ≡ Some s → slice_get (needed_from set d image i subs) j ≡ Some (comes (i + j) s)
+  comes_at [] i j s e = absurd (cc)
+  comes_at (t ∷ subs) i zero s e =
       let one : t ≡ s = cc in
       let z : i ≡ i + 0 = omega arith in
       ap (λ (u : Sub). Some (comes i u)) one ∙ ap (λ (k : ℕ). Some (comes k s)) z
-  needed_at (t ∷ subs) i (suc j) s e = let z : suc i + j ≡ i + suc j = omega arith in needed_at subs (suc i) j s e ∙ ap (λ (k : ℕ). Some (comes k s)) z
+  comes_at (t ∷ subs) i (suc j) s e = let z : suc i + j ≡ i + suc j = omega arith in comes_at subs (suc i) j s e ∙ ap (λ (k : ℕ). Some (comes k s)) z
 
   pub needed_long : (subs : List Sub) (i : ℕ) → length (needed_from set d image i subs) ≡ length subs
   needed_long [] i = refl
@@ -223,7 +211,7 @@ module _ (set : Set) (d : Device) (image : Image) where
       one : (i : ℕ) → (s : Sub) × (slice_get subs i ≡ Some s) → slice_get came i ≡ slice_get (needed_from set d image 0 subs) i
       one i p =
           let z : i ≡ 0 + i = omega arith in
-          h.done i p.0 (omega (arith, slice_get_within subs i p.0 p.1)) p.1 ∙ ap (λ (k : ℕ). Some (comes k p.0)) z ∙ sym (needed_at subs 0 i p.0 p.1)
+          h.done i p.0 (omega (arith, slice_get_within subs i p.0 p.1)) p.1 ∙ ap (λ (k : ℕ). Some (comes k p.0)) z ∙ sym (comes_at subs 0 i p.0 p.1)
 
 -- ---- What comes back is at its set's versions.
 
@@ -233,12 +221,9 @@ version_if false v w e = cc
 
 needed_version : (set : Set) (d : Device) (image : Image) (i j : ℕ) (subs : List Sub) (s : Sub) (v : ℕ) → slice_get subs j ≡ Some s
     → slice_get (needed_from set d image i subs) j ≡ Some (Some v) → v ≡ s.desc.version
-needed_version set d image i j [] s v e f = cc
-needed_version set d image i zero (t ∷ subs) s v e f =
-    let same : t ≡ s = cc in
-    let here : (if is_needed set d image t i then Some t.desc.version else None) ≡ Some v = cc in
-    version_if (is_needed set d image t i) t.desc.version v here ∙ ap (λ (u : Sub). u.desc.version) same
-needed_version set d image i (suc j) (t ∷ subs) s v e f = needed_version set d image (suc i) j subs s v e f
+needed_version set d image i j subs s v e f =
+    let is : Some (comes set d image (i + j) s) ≡ Some (Some v) = sym (comes_at set d image subs i j s e) ∙ f in
+    version_if (is_needed set d image s (i + j)) s.desc.version v cc
 
 pub back_versions : (to : Set) (d : Device) (partners : List (Option ℕ)) (numbers : List ℤ) (image : Image) → IsBack to d partners numbers image
     → IsAtVersions d image

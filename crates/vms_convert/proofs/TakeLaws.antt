@@ -7,7 +7,7 @@ use Rattle.vms_convert.proofs.Facade.{device_cells, own_cells, own_slots, sub_sl
 use Rattle.vms_convert.proofs.Facade.{part_place, image_are, sub_size, sub_place_up, SameBelow, SameIn, exceeds, AreCells, least_of, steps_of, capacities_of}
 use Rattle.vms_convert.proofs.Facade.{step_of, exceeds_least, taken, AreTaken, whole, changed, changed_append, Changes, put_partner, put_step, AreSources}
 use Rattle.vms_convert.proofs.Facade.{Keeps, WalkStep, has_step_of, put_keeps, takes_keeps, Kind, Typed, InRange, U8, FitsHeads, own_cell_count, device_at}
-use Rattle.vms_convert.proofs.Facade.{is_well_formed, desc_at, kinds_at, good_of, ArePut, ArePutAt, append-nil, take_all}
+use Rattle.vms_convert.proofs.Facade.{is_well_formed, desc_at, kinds_at, good_of, ArePut, ArePutAt, append-nil, take_all, at_map}
 use Rattle.vms_spec.specs.declared.Part.TheVariants as parts
 use Rattle.vms_desc.specs.Asks.{first_cell}
 
@@ -192,11 +192,6 @@ module _ (set : Set) (structs : AreSound set.structs) (d : Device) (own : IsSoun
       ap (λ (l : List WalkStep). changed (put_step partners source) l now) (map-append step_of xs ys)
       ∙ changed_append (put_step partners source) (steps_of xs) (steps_of ys) now
 
-  came_at : (subs : List Sub) (j : ℕ) (s : Sub) → slice_get subs j ≡ Some s → slice_get (all_came subs) j ≡ Some (Some s.desc.version)
-  came_at [] j s e = absurd (cc)
-  came_at (t ∷ subs) zero s e = let one : t ≡ s = cc in ap (λ (u : Sub). Some (Some u.desc.version)) one
-  came_at (t ∷ subs) (suc j) s e = came_at subs j s e
-
   -- one subsection more
   pub taken_next : (before n m : List ℤ) (j : ℕ) (s : Sub) → slice_get d.subs j ≡ Some s → n ≡ puts (first_slots set d (all_came d.subs) j n) before
       → m ≡ puts (sub_slots set s s.desc.version m (part_place set d j)) n → m ≡ puts (first_slots set d (all_came d.subs) (suc j) m) before
@@ -207,7 +202,8 @@ module _ (set : Set) (structs : AreSound set.structs) (d : Device) (own : IsSoun
       record { same = λ c lt. keeps.same c (has_step_of its c ∙ its_below set s.desc s.desc.version (part_place set d j) m c lt) } in
       let still = first_same set structs d own sound n m (all_came d.subs) j below in
       more ∙ ap (puts its) (first ∙ ap (λ (l : List Slot). puts l before) (sym still)) ∙ sym (puts_more (first_slots set d (all_came d.subs) j m) its before)
-      ∙ sym (ap (λ (l : List Slot). puts l before) (first_next set d (all_came d.subs) j s (Some s.desc.version) m e (came_at d.subs j s e)))
+      ∙ sym (ap (λ (l : List Slot). puts l before)
+      (first_next set d (all_came d.subs) j s (Some s.desc.version) m e (at_map (λ (s : Sub). Some s.desc.version) d.subs j s e)))
 
   -- all of them, from defaults on
   pub all_taken : (n : List ℤ) (j : ℕ) → j ≡ length d.subs → n ≡ puts (first_slots set d (all_came d.subs) j n) (map (λ c. c.default) (device_cells set d))

@@ -49,5 +49,4 @@ returns-clause-puts c =
     let inside = sub_inside set c.args.device c.args.sub c.requires.sub in
     let few = few_cells set c.args.set.now.well_formed c.args.device in
     put_all set c.args.device c.args.sub c.first_cell-first.result c.loop-cell.cell c.args.image.now.numbers c.loop-cell.image.numbers
-    c.first_cell-first.ensures
-    (omega (arith, c.first_cell-first.ensures, c.loop-cell-test.false, c.loop-cell.auto.cell-end)) c.loop-cell.invariant.put
+    c.first_cell-first.ensures (omega (arith, c.first_cell-first.ensures, c.loop-cell-test.false, c.loop-cell.auto.cell-end)) c.loop-cell.invariant.put

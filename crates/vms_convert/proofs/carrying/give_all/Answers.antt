@@ -18,12 +18,9 @@ loop-sub-init c =
     let image = c.args.gift.image.now in
     let ps = c.args.gift.partners.now in
     let target = c.args.target.now in
-    c.give_part.ensures
-    ∙ ap (λ (p : PartAt). record target {
-      numbers = changed (give_step ps image.numbers)
-          (steps_of (spot_slots (described c.args.set.now) p image.numbers)) target.numbers;
-    }) c.own_part.ensures
-    ∙ ap (λ (l : List ℤ). record target { numbers = l })
+    c.give_part.ensures ∙ ap (λ (p : PartAt). record target {
+      numbers = changed (give_step ps image.numbers) (steps_of (spot_slots (described c.args.set.now) p image.numbers)) target.numbers;
+    }) c.own_part.ensures ∙ ap (λ (l : List ℤ). record target { numbers = l })
     (gave_own (described c.args.set.now) c.args.device c.requires.device (state_of image) c.requires.of.subs c.requires.version ps target.numbers)
 
 pub give_sub-requires-clause-targets : goal.give_sub-requires-clause-targets
@@ -60,7 +57,6 @@ returns c =
     let set = described c.args.set.now in
     let image = c.args.gift.image.now in
     let target = c.args.target.now in
-    c.loop-sub.invariant
-    ∙ ap (λ (l : List ℤ). record target { numbers = l })
+    c.loop-sub.invariant ∙ ap (λ (l : List ℤ). record target { numbers = l })
     (gave_all set c.args.device c.requires.device (state_of image) c.requires.of.subs c.requires.version c.args.gift.partners.now target.numbers c.loop-sub.sub
     (omega (arith, c.loop-sub-test.false, c.sub_count-sub-end.ensures)) (omega (arith, c.loop-sub.auto.sub-end, c.sub_count-sub-end.ensures)))

@@ -98,8 +98,7 @@ pair_present-returns-in_ok-put_unpaired t c =
     let before = c.args.partners.now.items in
     let end : length (desc_on c.args.new).fields ≤ c.args.found.field = omega (arith, c.if-found-field_count.false, c.field_count.ensures) in
     alone_pairs c.args.old c.args.new c.args.number c.requires.field c.requires.few before c.put_unpaired.new.partners.items c.args.found c.args.found
-    c.requires.found end c.requires.there
-    (c.in_ok-put_unpaired.ensures ∙ ap (λ (m : ℕ). before ++ replicate m None) c.field_cells.ensures)
+    c.requires.found end c.requires.there (c.in_ok-put_unpaired.ensures ∙ ap (λ (m : ℕ). before ++ replicate m None) c.field_cells.ensures)
 
 -- ---- structures
 

@@ -10,8 +10,7 @@ subs_are c = ap (λ (l : List CodeSub). map sub_of l) c.as_slice.ensures ∙ ap 
 
 found : (c : After-find_sub) → c.find_sub.result ≡ find_sub 0 (device_at (described c.args.new.now) c.args.in_new).subs c.as_bytes-name.result.now
 found c =
-    c.find_sub.ensures
-    ∙ ap (λ (l : List Sub). find_sub 0 l c.as_bytes-name.result.now)
+    c.find_sub.ensures ∙ ap (λ (l : List Sub). find_sub 0 l c.as_bytes-name.result.now)
     (ap (λ (l : List CodeSub). map sub_of l) c.as_slice.ensures ∙ ap (λ (d : Device). d.subs) c.device.ensures)
 
 -- the subsection that was found
