@@ -4,6 +4,7 @@ pub mod ClockLaws
 pub mod ClockStreams
 pub mod FamilyBytes
 pub mod FamilyLaws
+pub mod Front
 pub mod IsaBytes
 pub mod IsaLaws
 pub mod IsaStreams

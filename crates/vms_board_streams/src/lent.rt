@@ -20,7 +20,8 @@ impl<'a> Lent<'a> {
 
     /// Returns a source of `bytes`.
     pub fn new(bytes: &'a [u8]) -> Self
-        ensures { rest result ≡ bytes.now }
+        ensures left { rest result ≡ bytes.now }
+        ensures given { ⟦<Lent<'a> as Source>⟧.given result ≡ 0 }
     {
         Lent {
             bytes,

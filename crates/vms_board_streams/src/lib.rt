@@ -14,4 +14,4 @@ pub use laws::{
 };
 pub use lent::Lent;
 pub use memory::{STREAM_ROOM, restore_from, stream_of};
-pub use sets::{KeptSets, stream_by};
+pub use sets::{KeptSets, bare_by, stream_by};

@@ -1,11 +1,11 @@
 // The sets of a family that saves have used, kept for later saves.
-ghost use Rattle.std.specs.Prelude.{◌≡◌, ◌≤◌, IfOk, IfSome};
+ghost use Rattle.std.specs.Prelude.{◌≡◌, ◌≤◌, None, IfOk, IfSome};
 ghost use Rattle.vms_board.specs.Family.{MaySaveIn};
-ghost use Rattle.vms_board.specs.Saving.{saved_stream};
+ghost use Rattle.vms_board.specs.Saving.{saved_stream, stream_with};
 ghost use Rattle.vms_board_streams.specs.Sets.{AreOf, IsOf};
 ghost use Rattle.vms_desc.specs.Described.{described};
 
-use crate::memory::{stream_of, stream_under};
+use crate::memory::{bare_of, bare_under, stream_of, stream_under};
 use std::alloc::Global;
 use vms_board::{Machine, MachineBoard, NoMemory};
 use vms_desc::DescSet;
@@ -93,6 +93,41 @@ pub fn stream_by<M: Machine>(
     }
     let own = M::set(alloc, set)?;
     let stream = stream_under(alloc, board, set, &own)?;
+    sets.keep::<M>(set, own)?;
+    Ok(stream)
+}
+
+/// Returns the stream of `board` without a description, and keeps the set for later saves.
+///
+/// If the set is in `sets`, it isn't made again.
+///
+/// # Errors
+///
+/// [`NoMemory`] if memory runs out.
+///
+/// # Requires
+///
+/// `set` is a number from the board's to the newest, and `sets` are of the board's family.
+pub fn bare_by<M: Machine>(
+    alloc: Global,
+    board: &MachineBoard<M>,
+    set: u8,
+    sets: &mut KeptSets,
+) -> Result<Vec<u8>, NoMemory>
+    requires may { MaySaveIn M.family board.now.state set }
+    requires sets { AreOf M.family sets.old }
+    ensures stream { let bytes = stream_with M.family set board.now.state None in
+        IfOk result (λ stream. stream.items ≡ bytes) }
+    ensures sets { AreOf M.family sets.new }
+{
+    if set == M::newest() {
+        return bare_of(alloc, board, set);
+    }
+    if let Some(own) = sets.find::<M>(set) {
+        return bare_under(alloc, board, set, own);
+    }
+    let own = M::set(alloc, set)?;
+    let stream = bare_under(alloc, board, set, &own)?;
     sets.keep::<M>(set, own)?;
     Ok(stream)
 }
