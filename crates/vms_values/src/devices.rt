@@ -10,6 +10,7 @@ use crate::Values;
 use crate::cursor::Lines;
 use crate::fault::LineFault;
 use crate::judge::{BadLine, judge_device};
+use crate::line::Line;
 use crate::machine::read_machine;
 use crate::read::{bad, push_image, read_section};
 use crate::subsections::read_subs;
@@ -20,11 +21,13 @@ use vms_image::Image;
 use vms_spec::ValuesReason;
 use vms_walk::PartAt;
 
-/// The rest of a text, and the first bad line of the second pass so far.
-#[derive(Clone, Copy, Drop)]
+/// The rest of a text, the first bad line of the second pass so far, and the one line in which all
+/// paths are put together.
+#[derive(Drop)]
 struct Reading<'a> {
     lines: Lines<'a>,
     judged: Option<BadLine>,
+    path: Line,
 }
 
 /// Reads the lines of a values text of `set`, in both passes.
@@ -41,6 +44,7 @@ pub(crate) fn read_lines(alloc: Global, set: &DescSet, text: &[u8]) -> Result<Va
     let mut reading = Reading {
         lines: start.lines,
         judged: None,
+        path: Line::new(),
     };
     let images = read_images(alloc, set, &mut reading)?;
     if !reading.lines.rest.is_empty() {
@@ -132,8 +136,8 @@ fn read_device<'a>(
         version: taken.image.version(),
         base: 0,
     };
-    read_part(set, own, taken)?;
-    read_subs(set, device, taken, sub_lines)?;
+    read_part(set, own, &mut reading.path, taken)?;
+    read_subs(set, device, &mut reading.path, taken, sub_lines)?;
     reading.lines = taken.lines;
     if reading.judged.is_none() {
         reading.judged = judge_device(set, device, &taken.image, line, sub_lines);

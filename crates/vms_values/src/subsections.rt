@@ -18,6 +18,7 @@ ghost use Rattle.vms_values.specs.SubsTaken.{line_said, SubPassed, sub_read, Sub
 
 use crate::cursor::Lines;
 use crate::fault::LineFault;
+use crate::line::Line;
 use crate::read::{bad, pass};
 use crate::taken::{Taken, read_part};
 use crate::text::is_joined;
@@ -28,7 +29,8 @@ use vms_spec::ValuesReason;
 use vms_walk::PartAt;
 use vms_words::next_line;
 
-/// Reads the subsections of `device`, and appends their line numbers to `lines`.
+/// Reads the subsections of `device`, and appends their line numbers to `lines`. `path` is for the
+/// paths of lines.
 ///
 /// # Errors
 ///
@@ -37,6 +39,7 @@ use vms_words::next_line;
 pub(crate) fn read_subs(
     set: &DescSet,
     device: u32,
+    path: &mut Line,
     taken: &mut Taken,
     lines: &mut Vec<usize>,
 ) -> Result<(), LineFault>
@@ -51,7 +54,7 @@ pub(crate) fn read_subs(
 {
     for sub in 0..set.sub_count(device) {
         push_line(lines, taken.lines.line)?;
-        read_sub(set, device, sub, taken)?;
+        read_sub(set, device, sub, path, taken)?;
     }
     Ok(())
 }
@@ -65,7 +68,13 @@ fn push_line(lines: &mut Vec<usize>, line: usize) -> Result<(), NoMemory>
 }
 
 // Reads the line and the numbers of a subsection.
-fn read_sub(set: &DescSet, device: u32, sub: u32, taken: &mut Taken) -> Result<(), LineFault>
+fn read_sub(
+    set: &DescSet,
+    device: u32,
+    sub: u32,
+    path: &mut Line,
+    taken: &mut Taken,
+) -> Result<(), LineFault>
     requires device { IsOfDevice (described set.now) device (state_of taken.old.image) }
     requires kinds { taken.old.image.kinds ≡ kinds_at (described set.now) device }
     requires is_sub { sub < length (device_at (described set.now) device).subs }
@@ -83,7 +92,7 @@ fn read_sub(set: &DescSet, device: u32, sub: u32, taken: &mut Taken) -> Result<(
         version: described.desc.version,
         base: set.first_cell(part),
     };
-    read_part(set, spot, taken)
+    read_part(set, spot, path, taken)
 }
 
 // Reads the line of a subsection, and returns the version at which it came, if it did.

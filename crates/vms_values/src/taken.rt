@@ -51,12 +51,17 @@ struct Run<'a> {
     present: bool,
 }
 
-/// Reads the lines of the part at `spot`.
+/// Reads the lines of the part at `spot`. `path` is for the paths of the lines.
 ///
 /// # Errors
 ///
 /// - [`LineFault::Bad`]: the first line that is refused, and why.
-pub(crate) fn read_part(set: &DescSet, spot: PartAt, taken: &mut Taken) -> Result<(), LineFault>
+pub(crate) fn read_part(
+    set: &DescSet,
+    spot: PartAt,
+    path: &mut Line,
+    taken: &mut Taken,
+) -> Result<(), LineFault>
     requires spot { HasSpot (described set.now) spot taken.old.image.numbers }
     requires kinds { let cells = part_cells (described set.now) spot.part in
         AreKinds taken.old.image.kinds spot.base cells }
@@ -66,7 +71,8 @@ pub(crate) fn read_part(set: &DescSet, spot: PartAt, taken: &mut Taken) -> Resul
         Reaches (whole (place_of taken.old)) (place_of taken.new) result }
     ensures kept { IsKept taken.old.image taken.new.image }
 {
-    read_under(set, spot, &mut Line::new(), true, taken)
+    path.cut(0);
+    read_under(set, spot, path, true, taken)
 }
 
 // Reads the lines of a part, or of one element of a structure, under `path`. `present` is whether
