@@ -5,10 +5,10 @@ ghost use Rattle.vmstate_c.specs.Calls.{Leaves, words_of, file_of, file_over};
 ghost use Rattle.vmstate_c.specs.Folders.{held_of};
 
 use crate::folder::Folder;
-use crate::growing::Growing;
 use crate::request::{Bytes, File, Request};
 use std::alloc::Global;
 use std::str;
+use vms_board_streams::Growing;
 use vms_cli::{Words, vmstate};
 use vms_io::{MemSource, NoMemory};
 
@@ -45,7 +45,7 @@ pub(crate) fn call(alloc: Global, request: &Request<'_>) -> Result<Ended, NoMemo
     let mut out = Growing::new(alloc);
     let mut notes = Growing::new(alloc);
     let status = vmstate(alloc, &words, &mut input, &mut out, &mut notes, &mut folder);
-    if out.is_wanting() || notes.is_wanting() {
+    if out.has_failed() || notes.has_failed() {
         return Err(NoMemory);
     }
     Ok(Ended {

@@ -8,7 +8,6 @@
 mod border;
 mod call;
 mod folder;
-mod growing;
 /// Laws of all calls.
 pub mod laws;
 mod request;

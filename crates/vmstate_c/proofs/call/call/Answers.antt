@@ -1,7 +1,5 @@
-use Rattle.std.proofs.Common.{rules, sym, ap, ℕ, Some, ◌∙◌, refl}
+use Rattle.std.proofs.Common.{rules, sym, ap, ℕ, List, Some, ◌∙◌, refl}
 use Rattle.vms_io.specs.Memory.{Supply, is_empty, empty_is}
-use Rattle.std.specs.declared.alloc.Global.{Global}
-use Rattle.std.specs.declared.vec.Vec.{Vec}
 use Rattle.vms_io.specs.Supplies.{supply}
 use Rattle.vmstate_c.specs.Folders.{held_of}
 use Rattle.vmstate_c.proofs.CallLemmas.{leaves, input-is, sink-is}
@@ -16,12 +14,12 @@ returns c =
     (sink-is _ _ c.new-out.ensures.bytes c.new-out.ensures.faults)
     (sink-is _ _ c.new-notes.ensures.bytes c.new-notes.ensures.faults)
     c.vmstate-status.ensures
-    (ap (λ (v : Vec ℕ Global). Some v.items) (sym c.into_bytes.ensures))
-    (ap (λ (v : Vec ℕ Global). Some v.items) (sym c.into_bytes-2.ensures))
+    (ap (λ (l : List ℕ). Some l) (sym c.into_bytes.ensures))
+    (ap (λ (l : List ℕ). Some l) (sym c.into_bytes-2.ensures))
     refl
     record {
       input = c.vmstate-status.new.input.quiet (empty_is c.vmstate-status.new.input.failing.items (c.vmstate-status.ensures.stands.input.promise ∙ ap (λ (s : Supply). is_empty s.failing) c.new-input.ensures ∙ ap is_empty c.new-2.ensures.items));
-      out = c.if-is_wanting.ensures;
-      notes = c.if-is_wanting-2.ensures;
+      out = c.if-has_failed.ensures;
+      notes = c.if-has_failed-2.ensures;
       shelf = refl;
     }
